@@ -31,8 +31,8 @@ SEARCH = (
     ("lw_search", "Reachability", "Visits"),
     ("lw_search", "Reachability", "ExceedsBudget"),
     ("lw_search", "Reachability", "HoldsOfCompiled"),
-    ("lw_whole", "CompleteLists", "ListsMachine"),
-    ("lw_listing", "Listings", "IsStrictlySorted"),
+    ("lw_tso_caches", "CompleteLists", "ListsMachine"),
+    ("lw_outcome_map", "Listings", "IsStrictlySorted"),
     ("lw_beyond", "Requests", "IsListedBy"),
 )
 COMMAND = (
@@ -45,7 +45,7 @@ FORMS = ("lw_tso", "LockPhases", "OutcomeInPhases"), ("lw_axiomatic", "Halves", 
 LATER_SITTINGS = tuple(f"## The {it} sitting" for it in ("second", "third", "fourth", "fifth", "sixth", "seventh"))
 # The public functions whose contracts a sitting is about, by the file that has them; all of a file if none is named.
 CONTRACTS = (
-    (("lw_bench/src/answers.rt", ("answer",)),),
+    (("lw_bench/src/render.rt", ("answer",)),),
     (("lw_axiomatic/src/laws.rt", ()),),
     (),
     (),

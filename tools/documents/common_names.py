@@ -29,7 +29,7 @@ HEAD = "-- What proofs cite of std, of lower crates and of this crate's definiti
 STD = "Rattle.std.proofs.Common"
 PASSES = re.compile(r"^(?:unfoldable )?pub use ([\w.+'-]+)\.\{([^}]*)\}", re.M)
 # Crates whose proofs name too little for a file of their own, or that nobody's proofs stand on.
-WITHOUT = ("lw", "lw_test_reader", "lw_whole", "lw_source", "lw_listing", "lw_arena", "lw_library")
+WITHOUT = ("lw", "lw_test_reader", "lw_tso_caches", "lw_source", "lw_outcome_map", "lw_arena", "lw_library")
 
 
 def read(path):

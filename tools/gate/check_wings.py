@@ -26,14 +26,14 @@ MEANING = (
     "lw_tso",
     "lw_fence",
     "lw_orders",
-    "lw_listing",
-    "lw_choices",
-    "lw_whole",
+    "lw_outcome_map",
+    "lw_paths",
+    "lw_tso_caches",
     "lw_finals",
     "lw_report",
     "lw_search",
 )
-READING = ("lw_text", "lw_cells", "lw_source", "lw_x86")
+READING = ("lw_text", "lw_statements", "lw_source", "lw_x86")
 ABOVE = ("lw_bench", "lw", "lw_arena", "lw_library", "lw_axiomatic", "lw_beyond", "beyond")
 # The crates of lists of any size, and what does without them.
 SEARCHING = ("lw_search", "lw_beyond", "beyond")

@@ -5,7 +5,7 @@ ghost use Rattle.lw_arena.specs.Ownership.{block_token};
 
 use crate::block::{Block, Memory};
 use crate::shelf::Shelf;
-use crate::sizes::{CLASSES, UNIT, class_of, units_of};
+use crate::sizes::{CLASSES, UNIT, class_units, size_class};
 use std::alloc::{AllocError, Allocator};
 use std::array;
 use std::cell::Cell;
@@ -34,8 +34,8 @@ impl Arena {
         if UNIT < align || (isize::MAX as usize) < size {
             return None;
         }
-        let class = class_of(size);
-        let units = units_of(class);
+        let class = size_class(size);
+        let units = class_units(class);
         match self.take_spare(class, units) {
             Some(block) => Some(block),
             None => self.take_new(units),
@@ -78,8 +78,8 @@ impl Arena {
     fn give(&self, block: Block, size: usize)
         requires { (block.units ≡ block_units size) × (size < 2 ^ 63) }
     {
-        let class = class_of(size);
-        let units = units_of(class);
+        let class = size_class(size);
+        let units = class_units(class);
         if let Some(place) = self.shelves.get(class) {
             let shelf = match place.replace(None) {
                 Some(shelf) => shelf,

@@ -9,7 +9,7 @@ pub(crate) const UNIT: usize = 16;
 pub(crate) const CLASSES: usize = 60;
 
 /// The class of the block for so many bytes.
-pub(crate) fn class_of(size: usize) -> usize
+pub(crate) fn size_class(size: usize) -> usize
     requires { size < 2 ^ 63 }
     ensures class { result ≡ block_class size }
     ensures bound { result < 60 }
@@ -19,7 +19,7 @@ pub(crate) fn class_of(size: usize) -> usize
 }
 
 /// The units of a block of this class.
-pub(crate) fn units_of(class: usize) -> usize
+pub(crate) fn class_units(class: usize) -> usize
     requires { class < 60 }
     ensures units { result ≡ 2 ^ class }
     ensures some { 1 ≤ result }

@@ -4,18 +4,19 @@
 use Rattle.lw_axiomatic.proofs.Common.{Co, ◌≡◌, ℕ, suc, ◌+◌, ◌*◌, ◌<◌, ◌≤◌, ◌⊎◌, ◌||◌, inl, inr, Bool, true}
 use Rattle.lw_axiomatic.proofs.Common.{false, Option, Some, None, refl, sym, ap, ap₂, subst, arith}
 use Rattle.lw_axiomatic.proofs.Common.{if◌then◌else◌, true≢false, option_map_or, cases_Bool, cases_eq}
-use Rattle.lw_axiomatic.proofs.Common.{cases_order, cond-true, cond-false, or_left, or_right, code_of}
-use Rattle.lw_axiomatic.proofs.Common.{Contains, Operation, or_cases, waits, writes, x86, ProgramTest}
-use Rattle.lw_axiomatic.proofs.Common.{IsWellFormedProgram, KeepsAxioms, MemoryEvent, Execution, reads, does}
-use Rattle.lw_axiomatic.proofs.Common.{IsEvent, Writes, Po, Rf, Fr, Ppo, IsSequential}
-use Rattle.lw_axiomatic.proofs.EventKinds.{there, low}
+use Rattle.lw_axiomatic.proofs.Common.{cases_order, cond-true, cond-false, or_left, or_right, thread_code}
+use Rattle.lw_axiomatic.proofs.Common.{Contains, Operation, or_cases, needs_empty_buffer, writes}
+use Rattle.lw_axiomatic.proofs.Common.{x86_language, X86Test, IsWellFormedProgram, SatisfiesAxioms}
+use Rattle.lw_axiomatic.proofs.Common.{MemoryEvent, Execution, reads, operation_is, IsEvent, Writes, Po, Rf}
+use Rattle.lw_axiomatic.proofs.Common.{Fr, Ppo, IsSequentiallyConsistent}
+use Rattle.lw_axiomatic.proofs.EventKinds.{write_or_load, low}
 use Rattle.lw_axiomatic.proofs.Timing.{anchor, anchor_above, anchor_least}
 use Rattle.lw_axiomatic.proofs.EventLists.{event}
 use Rattle.lw_litmus.specs.Operations as operations
 
 -- what waits for an empty store buffer is a fence, or reads and writes
 waits_kind : (q : Option Operation)
-    → option_map_or waits q false ≡ true
+    → option_map_or needs_empty_buffer q false ≡ true
     → (option_map_or operations.is_fence q false ≡ true)
     ⊎ ((option_map_or reads q false ≡ true) × (option_map_or writes q false ≡ true))
 waits_kind None w = absurd (true≢false (sym w))
@@ -24,16 +25,16 @@ waits_kind (Some o) w = elim (or_cases (operations.is_fence o) _ w) [
   | inr locked ↦ inr (or_right (operations.is_load o) _ locked, or_right (operations.is_store o) _ locked)
 ]
 
-module _ {test : ProgramTest} {x : Execution} (ok : IsWellFormedProgram test) (axioms : KeepsAxioms test x) where
+module _ {test : X86Test} {x : Execution} (ok : IsWellFormedProgram test) (axioms : SatisfiesAxioms test x) where
   abbrev is : (Operation → Bool) → MemoryEvent → Bool
-  is = does x86 test
+  is = operation_is x86_language test
 
   -- an event's number in global happens-before: the rank that the axiom gives
   abbrev pub g : MemoryEvent → ℕ
   g = axioms.happens_before.0
 
   -- of two events in preserved program order the second has the greater number in global happens-before
-  kept : (a b : MemoryEvent) → Ppo x86 test x a b → g a < g b
+  kept : (a b : MemoryEvent) → Ppo x86_language test x a b → g a < g b
   kept a b p = axioms.happens_before.1 a b (inl p)
 
   -- what is behind an event that reads, in its thread, has a greater number in global happens-before
@@ -49,14 +50,14 @@ module _ {test : ProgramTest} {x : Execution} (ok : IsWellFormedProgram test) (a
   kept_fence a b po f = kept a b (po, or_right (is reads a) _ (or_right (is writes b) _ f))
 
   -- an event that waits for an empty store buffer has a greater number in global happens-before than all before it in its thread
-  pub behind_waiting : (a f : MemoryEvent) → Po x a f → is waits f ≡ true → g a < g f
+  pub behind_waiting : (a f : MemoryEvent) → Po x a f → is needs_empty_buffer f ≡ true → g a < g f
   behind_waiting a f po w = elim (waits_kind _ w) [
     | inl fence ↦ kept_fence a f po (or_right (is operations.is_fence a) _ fence)
     | inr locked ↦ kept_writing a f po locked.1
   ]
 
   -- an event that waits for an empty store buffer has a lower number in global happens-before than all behind it in its thread
-  pub before_waiting : (f b : MemoryEvent) → Po x f b → is waits f ≡ true → g f < g b
+  pub before_waiting : (f b : MemoryEvent) → Po x f b → is needs_empty_buffer f ≡ true → g f < g b
   before_waiting f b po w = elim (waits_kind _ w) [
     | inl fence ↦ kept_fence f b po (or_left (is operations.is_fence f) _ fence)
     | inr locked ↦ kept_reading f b po locked.0
@@ -82,7 +83,7 @@ module _ {test : ProgramTest} {x : Execution} (ok : IsWellFormedProgram test) (a
 
   -- an event's anchored number: the greatest top of the events of its thread up to itself
   abbrev pub anchored : MemoryEvent → ℕ
-  anchored e = anchor (top e.thread) (code_of x.paths e.thread) e.position
+  anchored e = anchor (top e.thread) (thread_code x.paths e.thread) e.position
 
   -- an event's rank: by its anchored number, and among equal ones by its position
   abbrev pub rank : MemoryEvent → ℕ
@@ -91,19 +92,19 @@ module _ {test : ProgramTest} {x : Execution} (ok : IsWellFormedProgram test) (a
   -- program order goes up by the ranks
   pub po_up : (a b : MemoryEvent) → Po x a b → rank a < rank b
   po_up a b po =
-      let le : anchored a ≤ anchored b = anchor_least (top a.thread) (code_of x.paths a.thread) a.position (anchored b) (λ k c le.
-      subst (λ t. Contains (code_of x.paths t) k → top t k ≤ anchored b) (sym po.2)
-      (λ d. anchor_above (top b.thread) (code_of x.paths b.thread) b.position k d (omega (arith, le, po.3))) c) in
+      let le : anchored a ≤ anchored b =
+      anchor_least (top a.thread) (thread_code x.paths a.thread) a.position (anchored b) (λ k c le.
+      subst (λ t. Contains (thread_code x.paths t) k → top t k ≤ anchored b) (sym po.2)
+      (λ d. anchor_above (top b.thread) (thread_code x.paths b.thread) b.position k d (omega (arith, le, po.3))) c) in
       omega (arith, le, po.3)
 
   -- the anchored number of an access is at least its own top
   pub above : (e : MemoryEvent) → IsEvent x e → accesses e ≡ true → suc (g e) ≤ anchored e
-  above e there a =
-      omega (
-        arith,
-        top_access e a,
-        anchor_above (top e.thread) (code_of x.paths e.thread) e.position e.position there (omega arith),
-      )
+  above e there a = omega (
+    arith,
+    top_access e a,
+    anchor_above (top e.thread) (thread_code x.paths e.thread) e.position e.position there (omega arith),
+  )
 
   -- where all accesses before an access in its thread have lower numbers, its anchored number is at most its own top
   pub own : (e : MemoryEvent)
@@ -112,7 +113,7 @@ module _ {test : ProgramTest} {x : Execution} (ok : IsWellFormedProgram test) (a
       → ((k : MemoryEvent) → Po x k e → accesses k ≡ true → g k < g e)
       → anchored e ≤ suc (g e)
   own e there a each =
-      anchor_least (top e.thread) (code_of x.paths e.thread) e.position (suc (g e))
+      anchor_least (top e.thread) (thread_code x.paths e.thread) e.position (suc (g e))
       (λ k c le. elim (cases_Bool (accesses (event e.thread k))) [
         | inl h ↦ elim (cases_eq k e.position) [
           | inl same ↦
@@ -137,14 +138,19 @@ module _ {test : ProgramTest} {x : Execution} (ok : IsWellFormedProgram test) (a
   writing_accesses e w = or_right (is reads e) _ w
 
   -- of a write and an access with a greater number in global happens-before, the access has the greater rank
-  from_write : (w e : MemoryEvent) (l : ℕ) → Writes x86 test x w l → IsEvent x e → accesses e ≡ true → g w < g e → rank w < rank e
+  from_write : (w e : MemoryEvent) (l : ℕ)
+      → Writes x86_language test x w l
+      → IsEvent x e
+      → accesses e ≡ true
+      → g w < g e
+      → rank w < rank e
   from_write w e l writing there a less =
       omega (arith, own_write w writing.0 writing.2, above e there a, less, low test ok w l writing.1)
 
   -- reads-from goes up by the ranks
-  pub rf_up : (w r : MemoryEvent) → Rf x86 test x w r → rank w < rank r
+  pub rf_up : (w r : MemoryEvent) → Rf x86_language test x w r → rank w < rank r
   rf_up w r (l, writing, reading, from) =
-      let rf : Rf x86 test x w r = (l, writing, reading, from) in
+      let rf : Rf x86_language test x w r = (l, writing, reading, from) in
       elim (cases_eq w.thread r.thread) [
         | inr far ↦
             from_write w r l writing reading.0 (reading_accesses r reading.2) (axioms.happens_before.1 w r (inr (inl (rf, far))))
@@ -162,9 +168,9 @@ module _ {test : ProgramTest} {x : Execution} (ok : IsWellFormedProgram test) (a
       ]
 
   -- a read from the own thread reads what is before it
-  pub rf_own : (w r : MemoryEvent) → Rf x86 test x w r → w.thread ≡ r.thread → Po x w r
+  pub rf_own : (w r : MemoryEvent) → Rf x86_language test x w r → w.thread ≡ r.thread → Po x w r
   rf_own w r (l, writing, reading, from) one =
-      let rf : Rf x86 test x w r = (l, writing, reading, from) in
+      let rf : Rf x86_language test x w r = (l, writing, reading, from) in
       elim (cases_order w.position r.position) [
         | inl index_in ↦
             absurd (let same : w ≡ r = ap₂ event one index_in in
@@ -178,9 +184,9 @@ module _ {test : ProgramTest} {x : Execution} (ok : IsWellFormedProgram test) (a
       ]
 
   -- from-reads within a thread go up by the ranks
-  pub fr_own : (r w : MemoryEvent) → Fr x86 test x r w → r.thread ≡ w.thread → rank r < rank w
+  pub fr_own : (r w : MemoryEvent) → Fr x86_language test x r w → r.thread ≡ w.thread → rank r < rank w
   fr_own r w (l, reading, writing, differ, before) one =
-      let fr : Fr x86 test x r w = (l, reading, writing, differ, before) in
+      let fr : Fr x86_language test x r w = (l, reading, writing, differ, before) in
       elim (cases_order r.position w.position) [
         | inl index_in ↦ absurd (differ (ap₂ event one index_in))
         | inr (inl less) ↦ po_up r w (reading.0, writing.0, one, less)
@@ -192,7 +198,7 @@ module _ {test : ProgramTest} {x : Execution} (ok : IsWellFormedProgram test) (a
       ]
 
   -- from-reads of a read whose anchored number is at most its own top go up by the ranks
-  pub fr_when : (r w : MemoryEvent) → Fr x86 test x r w → anchored r ≤ suc (g r) → rank r < rank w
+  pub fr_when : (r w : MemoryEvent) → Fr x86_language test x r w → anchored r ≤ suc (g r) → rank r < rank w
   fr_when r w fr stands = omega (
     arith,
     stands,
@@ -202,11 +208,12 @@ module _ {test : ProgramTest} {x : Execution} (ok : IsWellFormedProgram test) (a
   )
 
   -- coherence order goes up by the ranks
-  pub co_up : (w v : MemoryEvent) → Co x86 test x w v → rank w < rank v
+  pub co_up : (w v : MemoryEvent) → Co x86_language test x w v → rank w < rank v
   co_up w v co = from_write w v co.0 co.1 co.2.0 (writing_accesses v co.2.2) (axioms.happens_before.1 w v (inr (inr (inl co))))
 
   -- where all from-reads go up by the ranks, the execution is sequentially consistent
-  pub sequential_if : ((r w : MemoryEvent) → Fr x86 test x r w → rank r < rank w) → IsSequential x86 test x
+  pub sequential_if : ((r w : MemoryEvent) → Fr x86_language test x r w → rank r < rank w)
+      → IsSequentiallyConsistent x86_language test x
   sequential_if fr_up = (
     rank,
     λ a b. elim [

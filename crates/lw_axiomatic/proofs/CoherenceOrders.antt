@@ -1,16 +1,16 @@
 -- Coherence order as a relation, and by ranks.
 use Rattle.lw_axiomatic.proofs.Common.{◌≡◌, ◌↔◌, ℕ, zero, suc, ◌<◌, inl, inr, Bool, true, sym, ap, ◌∙◌, subst}
-use Rattle.lw_axiomatic.proofs.Common.{arith, nat_lt, cases_order, lt-ltb, ltb-true, same_Some, Final, x86}
-use Rattle.lw_axiomatic.proofs.Common.{ProgramTest, Acyclic, IsCandidate, IsCoherenceOrder, Walk, HasNoCycle}
-use Rattle.lw_axiomatic.proofs.Common.{MemoryEvent, Execution, Writes, location}
-use Rattle.lw_axiomatic.proofs.Decisions.{Decided, decided_as, decided_located, decided_three, decided_writes}
-use Rattle.lw_axiomatic.proofs.Decisions.{decided_true, same_event}
+use Rattle.lw_axiomatic.proofs.Common.{arith, nat_lt, cases_order, lt-ltb, ltb-true, same_Some, FinalState}
+use Rattle.lw_axiomatic.proofs.Common.{x86_language, X86Test, Acyclic, IsCandidate, IsCoherenceOrder, Walk}
+use Rattle.lw_axiomatic.proofs.Common.{HasNoCycle, MemoryEvent, Execution, Writes, location}
+use Rattle.lw_axiomatic.proofs.Decisions.{Decidable, decided_as, decided_located, decided_three}
+use Rattle.lw_axiomatic.proofs.Decisions.{decided_writes, decided_true, same_event}
 use Rattle.lw_axiomatic.proofs.Numberings.{numbering}
 
 -- the ranks of a candidate put the writes of each location in order
-pub ranks_are_an_order : (test : ProgramTest) (x : Execution) (o : Final)
-    → IsCandidate x86 test x o
-    → IsCoherenceOrder x86 test x (λ w v. nat_lt (x.co w) (x.co v))
+pub ranks_are_an_order : (test : X86Test) (x : Execution) (o : FinalState)
+    → IsCandidate x86_language test x o
+    → IsCoherenceOrder x86_language test x (λ w v. nat_lt (x.co w) (x.co v))
 ranks_are_an_order test x o candidate = record {
   irreflexive = λ w l writing before. omega (arith, ltb-true (x.co w) (x.co w) before);
   transitive = λ u v w l wu wv ww first second.
@@ -23,24 +23,25 @@ ranks_are_an_order test x o candidate = record {
 }
 
 -- and each such order has ranks
-module _ (test : ProgramTest) (x : Execution) (before : MemoryEvent → MemoryEvent → Bool)
-    (order : IsCoherenceOrder x86 test x before) where
+module _ (test : X86Test) (x : Execution) (before : MemoryEvent → MemoryEvent → Bool)
+    (order : IsCoherenceOrder x86_language test x before) where
   abbrev Precedes : MemoryEvent → MemoryEvent → Type 0
-  Precedes w v = (l : ℕ) × Writes x86 test x w l × Writes x86 test x v l × (before w v ≡ true)
+  Precedes w v = (l : ℕ) × Writes x86_language test x w l × Writes x86_language test x v l × (before w v ≡ true)
 
-  decided : (w v : MemoryEvent) → Decided (Precedes w v)
+  decided : (w v : MemoryEvent) → Decidable (Precedes w v)
   decided w v =
       decided_as (λ h. (h.0, h.1.0, h.1.1, h.1.2)) (λ h. (h.0, (h.1, h.2, h.3)))
-      (decided_located (location x86 test w) (λ l. Writes x86 test x w l × Writes x86 test x v l × (before w v ≡ true))
-      (λ l h. h.0.1)
-      (λ l. decided_three (decided_writes x86 test x w l) (decided_writes x86 test x v l) (decided_true (before w v))))
+      (decided_located (location x86_language test w)
+      (λ l. Writes x86_language test x w l × Writes x86_language test x v l × (before w v ≡ true)) (λ l h. h.0.1) (λ l.
+      decided_three (decided_writes x86_language test x w l) (decided_writes x86_language test x v l)
+      (decided_true (before w v))))
 
   along : (n : ℕ) (w v : MemoryEvent) → Walk Precedes (suc n) w v → Precedes w v
   along zero w v (c, step, same) = subst (Precedes w) same step
   along (suc n) w v (c, (l, ww, wc, first), walk) =
       let rest : Precedes c v = along n c v walk in
       let one : rest.0 ≡ l = same_Some rest.0 l (sym rest.1.1 ∙ wc.1) in
-      let wv : Writes x86 test x v l = subst (Writes x86 test x v) one rest.2 in
+      let wv : Writes x86_language test x v l = subst (Writes x86_language test x v) one rest.2 in
       (l, ww, wv, order.transitive w c v l ww wc wv first rest.3)
 
   none : HasNoCycle Precedes
@@ -51,7 +52,10 @@ module _ (test : ProgramTest) (x : Execution) (before : MemoryEvent → MemoryEv
 
   -- a coherence order has ranks, by which one write of a location is before another exactly where the order says so
   pub order_has_ranks : (rank : MemoryEvent → ℕ)
-      × ((w v : MemoryEvent) (l : ℕ) → Writes x86 test x w l → Writes x86 test x v l → (before w v ≡ true) ↔ (rank w < rank v))
+      × ((w v : MemoryEvent) (l : ℕ)
+      → Writes x86_language test x w l
+      → Writes x86_language test x v l
+      → (before w v ≡ true) ↔ (rank w < rank v))
   order_has_ranks = (
     acyclic.0,
     λ w v l ww wv. (

@@ -1,19 +1,21 @@
 -- A test with a triangular race has a data race: the load and the write at the end of the triangle.
-use Rattle.lw_axiomatic.proofs.Common.{◌≡◌, ℕ, List, [], ◌∷◌, ◌++◌, ap, subst, sym, ◌∙◌, or_left, ProgramTest}
-use Rattle.lw_axiomatic.proofs.Common.{x86, x86_operation, is_load, is_store, Instr, Interleaved, IsStep, Ran}
-use Rattle.lw_axiomatic.proofs.Common.{IsNext, RanQuietly, HasTriangularRace}
-use Rattle.lw_axiomatic.specs.DataRaces.{HasDataRace, is_plain}
+use Rattle.lw_axiomatic.proofs.Common.{◌≡◌, ℕ, List, [], ◌∷◌, ◌++◌, ap, subst, sym, ◌∙◌, or_left, X86Test}
+use Rattle.lw_axiomatic.proofs.Common.{x86_language, x86_operation, is_load, is_store, Instr, Interleaved}
+use Rattle.lw_axiomatic.proofs.Common.{IsStep, InterleavedRunsTo, IsNext, RunsToWithoutBarrier}
+use Rattle.lw_axiomatic.proofs.Common.{HasTriangularRace, HasDataRace, is_plain}
 
-module _ (test : ProgramTest) where
-  ran-quiet : (q : ℕ) (order : List ℕ) (s end : Interleaved) → RanQuietly test q order s end → Ran x86 test.threads order s end
+module _ (test : X86Test) where
+  ran-quiet : (q : ℕ) (order : List ℕ) (s end : Interleaved)
+      → RunsToWithoutBarrier test q order s end
+      → InterleavedRunsTo x86_language test.threads order s end
   ran-quiet q [] s end same = same
   ran-quiet q (t ∷ order) s end run = (run.0, run.1, ran-quiet q order run.0 end run.3)
 
   ran-append : (order more : List ℕ) (s mid end : Interleaved)
-      → Ran x86 test.threads order s mid
-      → Ran x86 test.threads more mid end
-      → Ran x86 test.threads (order ++ more) s end
-  ran-append [] more s mid end same run = subst (λ z. Ran x86 test.threads more z end) same run
+      → InterleavedRunsTo x86_language test.threads order s mid
+      → InterleavedRunsTo x86_language test.threads more mid end
+      → InterleavedRunsTo x86_language test.threads (order ++ more) s end
+  ran-append [] more s mid end same run = subst (λ z. InterleavedRunsTo x86_language test.threads more z end) same run
   ran-append (t ∷ order) more s mid end first run = (first.0, first.1, ran-append order more first.0 mid end first.2 run)
 
   next-plain : (l t : ℕ) (s : Interleaved) → IsNext test is_load l t s → IsNext test is_plain l t s

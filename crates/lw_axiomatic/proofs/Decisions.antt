@@ -1,60 +1,61 @@
 -- The relations of an execution's events can be decided.
 use Rattle.lw_axiomatic.proofs.Common.{◌≡◌, ℕ, ◌<◌, ◌⊎◌, inl, inr, Bool, true, Option, Some, None, refl, sym}
 use Rattle.lw_axiomatic.proofs.Common.{ap, ap₂, ◌∙◌, subst, arith, List, [], ◌∷◌, Contains, true≢false}
-use Rattle.lw_axiomatic.proofs.Common.{ForSome, cases_Bool, cases_lt, cases_eq, none-some, same_Some, code_of}
-use Rattle.lw_axiomatic.proofs.Common.{none_in, Contains-here, Contains-there, Contains-cons, Language, Test}
-use Rattle.lw_axiomatic.proofs.Common.{MemoryEvent, Execution, IsEvent, Po, reads, does, location, Reads}
-use Rattle.lw_axiomatic.proofs.Common.{Writes, Rf, Co, Fr, PoLoc, Ppo, Rfe}
+use Rattle.lw_axiomatic.proofs.Common.{ForSome, cases_Bool, cases_lt, cases_eq, none-some, same_Some}
+use Rattle.lw_axiomatic.proofs.Common.{thread_code, not-Contains-nil, Contains-head, Contains-tail}
+use Rattle.lw_axiomatic.proofs.Common.{Contains-cons, Language, Test, MemoryEvent, Execution, IsEvent, Po}
+use Rattle.lw_axiomatic.proofs.Common.{reads, operation_is, location, Reads, Writes, Rf, Co, Fr, PoLoc, Ppo}
+use Rattle.lw_axiomatic.proofs.Common.{Rfe}
 use Rattle.lw_litmus.specs.Operations as operations
 
 -- a statement of which it is known that it holds, or that it does not
-abbrev pub Decided : Type 0 → Type 0
-Decided P = P ⊎ (P → ⊥)
+abbrev pub Decidable : Type 0 → Type 0
+Decidable P = P ⊎ (P → ⊥)
 
 -- of two that can be decided, whether one holds can be decided
-pub decided_or : {P Q : Type 0} → Decided P → Decided Q → Decided (P ⊎ Q)
+pub decided_or : {P Q : Type 0} → Decidable P → Decidable Q → Decidable (P ⊎ Q)
 decided_or (inl p) d = inl (inl p)
 decided_or (inr not) (inl q) = inl (inr q)
 decided_or (inr not) (inr never) = inr (λ h. elim h [ inl p ↦ not p | inr q ↦ never q ])
 
 -- of two that can be decided, whether both hold can be decided
-pub decided_and : {P Q : Type 0} → Decided P → Decided Q → Decided (P × Q)
+pub decided_and : {P Q : Type 0} → Decidable P → Decidable Q → Decidable (P × Q)
 decided_and (inl p) (inl q) = inl (p, q)
 decided_and (inl p) (inr not) = inr (λ h. not h.1)
 decided_and (inr not) d = inr (λ h. not h.0)
 
 -- of three that can be decided, whether all hold can be decided
-pub decided_three : {P Q R : Type 0} → Decided P → Decided Q → Decided R → Decided (P × Q × R)
+pub decided_three : {P Q R : Type 0} → Decidable P → Decidable Q → Decidable R → Decidable (P × Q × R)
 decided_three (inl p) (inl q) (inl r) = inl (p, q, r)
 decided_three (inl p) (inl q) (inr not) = inr (λ h. not h.2)
 decided_three (inl p) (inr not) d = inr (λ h. not h.1)
 decided_three (inr not) d e = inr (λ h. not h.0)
 
 -- whether something does not hold can be decided where that it holds can
-decided_not : {P : Type 0} → Decided P → Decided (P → ⊥)
+decided_not : {P : Type 0} → Decidable P → Decidable (P → ⊥)
 decided_not (inl p) = inr (λ not. not p)
 decided_not (inr not) = inl not
 
 -- what comes to the same as something that can be decided can be decided
-pub decided_as : {P Q : Type 0} → (P → Q) → (Q → P) → Decided P → Decided Q
+pub decided_as : {P Q : Type 0} → (P → Q) → (Q → P) → Decidable P → Decidable Q
 decided_as to from (inl p) = inl (to p)
 decided_as to from (inr not) = inr (λ q. not (from q))
 
 -- whether a number is less than another can be decided
-pub decided_less : (a b : ℕ) → Decided (a < b)
+pub decided_less : (a b : ℕ) → Decidable (a < b)
 decided_less a b = elim (cases_lt a b) [ inl l ↦ inl l | inr ge ↦ inr (λ l. omega (arith, l, ge)) ]
 
 -- whether a test passes can be decided
-pub decided_true : (b : Bool) → Decided (b ≡ true)
+pub decided_true : (b : Bool) → Decidable (b ≡ true)
 decided_true b = elim (cases_Bool b) [ inl t ↦ inl t | inr f ↦ inr (λ t. true≢false (sym t ∙ f)) ]
 
 -- whether an optional number is this one can be decided
-pub decided_number : (o : Option ℕ) (l : ℕ) → Decided (o ≡ Some l)
+pub decided_number : (o : Option ℕ) (l : ℕ) → Decidable (o ≡ Some l)
 decided_number None l = inr (λ e. none-some l e)
 decided_number (Some m) l = elim (cases_eq m l) [ inl e ↦ inl (ap Some e) | inr ne ↦ inr (λ e. ne (same_Some m l e)) ]
 
 -- whether two events are one can be decided
-pub same_event : (a b : MemoryEvent) → Decided (a ≡ b)
+pub same_event : (a b : MemoryEvent) → Decidable (a ≡ b)
 same_event a b = elim (cases_eq a.thread b.thread) [
   | inl threads ↦ elim (cases_eq a.position b.position) [
     | inl positions ↦ inl (ap₂ (λ t j. record { thread = t; position = j }) threads positions)
@@ -64,17 +65,17 @@ same_event a b = elim (cases_eq a.thread b.thread) [
 ]
 
 -- whether an optional event is this one can be decided
-decided_event : (o : Option MemoryEvent) (e : MemoryEvent) → Decided (o ≡ Some e)
+decided_event : (o : Option MemoryEvent) (e : MemoryEvent) → Decidable (o ≡ Some e)
 decided_event None e = inr (λ same. none-some e same)
 decided_event (Some v) e = elim (same_event v e) [ inl is ↦ inl (ap Some is) | inr ne ↦ inr (λ same. ne (same_Some v e same)) ]
 
 -- whether a position is on a path can be decided
-pub decided_in : (path : List ℕ) (j : ℕ) → Decided (Contains path j)
-decided_in [] j = inr (λ c. none_in j c)
+pub decided_in : (path : List ℕ) (j : ℕ) → Decidable (Contains path j)
+decided_in [] j = inr (λ c. not-Contains-nil j c)
 decided_in (k ∷ path) j = elim (cases_eq k j) [
-  | inl e ↦ inl (Contains-here k j path e)
+  | inl e ↦ inl (Contains-head k j path e)
   | inr ne ↦ elim (decided_in path j) [
-    | inl c ↦ inl (Contains-there k j path c)
+    | inl c ↦ inl (Contains-tail k j path c)
     | inr not ↦ inr (λ c. elim (Contains-cons k j path c) [ inl e ↦ ne e | inr r ↦ not r ])
   ]
 ]
@@ -82,25 +83,25 @@ decided_in (k ∷ path) j = elim (cases_eq k j) [
 -- whether something holds of some location, where it can hold of one location alone
 pub decided_located : (o : Option ℕ) (P : ℕ → Type 0)
     → ((l : ℕ) → P l → o ≡ Some l)
-    → ((l : ℕ) → Decided (P l))
-    → Decided ((l : ℕ) × P l)
+    → ((l : ℕ) → Decidable (P l))
+    → Decidable ((l : ℕ) × P l)
 decided_located None P each decide = inr (λ h. none-some h.0 (each h.0 h.1))
 decided_located (Some l) P each decide =
     elim (decide l) [ inl p ↦ inl (l, p) | inr not ↦ inr (λ h. not (subst P (sym (same_Some l h.0 (each h.0 h.1))) h.1)) ]
 
 module _ (x : Execution) where
-  decided_of_it : (e : MemoryEvent) → Decided (IsEvent x e)
-  decided_of_it e = decided_in (code_of x.paths e.thread) e.position
+  decided_of_it : (e : MemoryEvent) → Decidable (IsEvent x e)
+  decided_of_it e = decided_in (thread_code x.paths e.thread) e.position
 
   -- program order can be decided
-  pub decided_po : (a b : MemoryEvent) → Decided (Po x a b)
+  pub decided_po : (a b : MemoryEvent) → Decidable (Po x a b)
   decided_po a b =
       decided_as (λ h. (h.0, h.1, h.2.0, h.2.1)) (λ h. (h.0, h.1, (h.2, h.3)))
       (decided_three (decided_of_it a) (decided_of_it b)
       (decided_and (cases_eq a.thread b.thread) (decided_less a.position b.position)))
 
   -- what v reads from is before w
-  decided_before : (o : Option MemoryEvent) (w : MemoryEvent) → Decided (ForSome o (λ v. x.co v < x.co w))
+  decided_before : (o : Option MemoryEvent) (w : MemoryEvent) → Decidable (ForSome o (λ v. x.co v < x.co w))
   decided_before None w = inl (λ v is. absurd (none-some v is))
   decided_before (Some u) w = elim (decided_less (x.co u) (x.co w)) [
     | inl l ↦ inl (λ v is. subst (λ (z : MemoryEvent). x.co z < x.co w) (same_Some u v is) l)
@@ -108,18 +109,19 @@ module _ (x : Execution) where
   ]
 
 module _ {S : Type 0} (language : Language S) (test : Test S) (x : Execution) where
-  decided_reads : (e : MemoryEvent) (l : ℕ) → Decided (Reads language test x e l)
+  decided_reads : (e : MemoryEvent) (l : ℕ) → Decidable (Reads language test x e l)
   decided_reads e l =
-      decided_three (decided_of_it x e) (decided_number (location language test e) l) (decided_true (does language test reads e))
+      decided_three (decided_of_it x e) (decided_number (location language test e) l)
+      (decided_true (operation_is language test reads e))
 
   -- whether an event writes a location can be decided
-  pub decided_writes : (e : MemoryEvent) (l : ℕ) → Decided (Writes language test x e l)
+  pub decided_writes : (e : MemoryEvent) (l : ℕ) → Decidable (Writes language test x e l)
   decided_writes e l =
       decided_three (decided_of_it x e) (decided_number (location language test e) l)
-      (decided_true (does language test operations.writes e))
+      (decided_true (operation_is language test operations.writes e))
 
   -- reads-from can be decided
-  pub decided_rf : (w r : MemoryEvent) → Decided (Rf language test x w r)
+  pub decided_rf : (w r : MemoryEvent) → Decidable (Rf language test x w r)
   decided_rf w r =
       decided_as (λ h. (h.0, h.1.0, h.1.1, h.1.2)) (λ h. (h.0, (h.1, h.2, h.3)))
       (decided_located (location language test w)
@@ -127,7 +129,7 @@ module _ {S : Type 0} (language : Language S) (test : Test S) (x : Execution) wh
       (λ l. decided_three (decided_writes w l) (decided_reads r l) (decided_event (x.rf r) w)))
 
   -- coherence order can be decided
-  pub decided_co : (w v : MemoryEvent) → Decided (Co language test x w v)
+  pub decided_co : (w v : MemoryEvent) → Decidable (Co language test x w v)
   decided_co w v =
       decided_as (λ h. (h.0, h.1.0, h.1.1, h.1.2)) (λ h. (h.0, (h.1, h.2, h.3)))
       (decided_located (location language test w)
@@ -135,7 +137,7 @@ module _ {S : Type 0} (language : Language S) (test : Test S) (x : Execution) wh
       (λ l. decided_three (decided_writes w l) (decided_writes v l) (decided_less (x.co w) (x.co v))))
 
   -- from-reads can be decided
-  pub decided_fr : (r w : MemoryEvent) → Decided (Fr language test x r w)
+  pub decided_fr : (r w : MemoryEvent) → Decidable (Fr language test x r w)
   decided_fr r w =
       decided_as (λ h. (h.0, h.1.0, h.1.1, h.1.2.0, h.1.2.1)) (λ h. (h.0, (h.1, h.2, (h.3, h.4))))
       (decided_located (location language test r)
@@ -145,7 +147,7 @@ module _ {S : Type 0} (language : Language S) (test : Test S) (x : Execution) wh
       (decided_and (decided_not (same_event r w)) (decided_before x (x.rf r) w))))
 
   -- program order on one location can be decided
-  pub decided_po_loc : (a b : MemoryEvent) → Decided (PoLoc language test x a b)
+  pub decided_po_loc : (a b : MemoryEvent) → Decidable (PoLoc language test x a b)
   decided_po_loc a b =
       decided_as (λ h. (h.1.0, h.0, h.1.1, h.1.2)) (λ h. (h.1, (h.0, h.2, h.3)))
       (decided_located (location language test a)
@@ -154,9 +156,9 @@ module _ {S : Type 0} (language : Language S) (test : Test S) (x : Execution) wh
       (decided_number (location language test b) l)))
 
   -- preserved program order can be decided
-  pub decided_ppo : (a b : MemoryEvent) → Decided (Ppo language test x a b)
+  pub decided_ppo : (a b : MemoryEvent) → Decidable (Ppo language test x a b)
   decided_ppo a b = decided_and (decided_po x a b) (decided_true _)
 
   -- reads-from between two threads can be decided
-  pub decided_rfe : (w r : MemoryEvent) → Decided (Rfe language test x w r)
+  pub decided_rfe : (w r : MemoryEvent) → Decidable (Rfe language test x w r)
   decided_rfe w r = decided_and (decided_rf w r) (decided_not (cases_eq w.thread r.thread))

@@ -1,7 +1,8 @@
 -- The machine's outcomes over flat memory are those that the axioms allow.
-use Rattle.lw_axiomatic.proofs.Common.{ℕ, List, length, sym, subst, Final, IsOutcomeOf, x86, ProgramTest}
-use Rattle.lw_axiomatic.proofs.Common.{IsWellFormedProgram, flat, IsChoice, ChoiceOutcome, Execution}
-use Rattle.lw_axiomatic.proofs.Common.{IsCandidate, IsAllowed, IsTimed, HasTimes}
+use Rattle.lw_axiomatic.proofs.Common.{ℕ, List, length, sym, subst, FinalState, HasOutcomeShape, x86_language}
+use Rattle.lw_axiomatic.proofs.Common.{X86Test, IsWellFormedProgram, flat_memory, IsPathAssignment}
+use Rattle.lw_axiomatic.proofs.Common.{IsX86ChoiceOutcome, Execution, IsCandidate, IsAllowed}
+use Rattle.lw_axiomatic.proofs.Common.{HasConsistentTimes, HasTimes}
 use Rattle.lw_axiomatic.proofs.Timed.{keeps_axioms}
 use Rattle.lw_axiomatic.proofs.Timing.{has_times}
 use Rattle.lw_axiomatic.proofs.ToMachine.{stays_and_ends}
@@ -10,22 +11,25 @@ use Rattle.lw_axiomatic.proofs.TimeOrder as by
 use Rattle.lw_axiomatic.proofs.FromMachine as from
 
 -- an outcome to which the machine runs along an order of the items of a choice of paths, as lw_finals has it
-abbrev pub OfChoice : ProgramTest → Final → Type 0
-OfChoice test o = (paths : List (List ℕ)) × IsChoice x86 test.threads paths × ChoiceOutcome flat test test.head.init_words paths o
+abbrev pub OfChoice : X86Test → FinalState → Type 0
+OfChoice test o =
+    (paths : List (List ℕ))
+    × IsPathAssignment x86_language test.threads paths
+    × IsX86ChoiceOutcome flat_memory test test.head.init_words paths o
 
-module _ {test : ProgramTest} (ok : IsWellFormedProgram test) {o : Final} where
+module _ {test : X86Test} (ok : IsWellFormedProgram test) {o : FinalState} where
   -- an outcome to which the machine runs along an order of a choice's items is allowed by the axioms
-  pub allowed : IsOutcomeOf test.head.threads (length test.head.locs) o → OfChoice test o → IsAllowed test o
+  pub allowed : HasOutcomeShape test.head.threads (length test.head.locs) o → OfChoice test o → IsAllowed test o
   allowed of_test (paths, choice, c) =
       let given : KeptOrder test paths = record { ok = ok; choice = choice; order = c.order; keeps = c.keeps } in
       let x : Execution = from.x given c.run.end c.run.ran in
-      let timed : IsTimed test x (done given) (reached given) = from.timed given c.run.end c.run.ran in
+      let timed : HasConsistentTimes test x (done given) (reached given) = from.timed given c.run.end c.run.ran in
       record {
         execution = x;
         candidate =
-            subst (IsCandidate x86 test x) (sym c.run.is)
+            subst (IsCandidate x86_language test x) (sym c.run.is)
             (from.candidate given c.run.end c.run.ran c.run.final
-            (subst (IsOutcomeOf test.head.threads (length test.head.locs)) c.run.is of_test));
+            (subst (HasOutcomeShape test.head.threads (length test.head.locs)) c.run.is of_test));
         axioms = keeps_axioms ok timed;
       }
 

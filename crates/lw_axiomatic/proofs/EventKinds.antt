@@ -2,11 +2,12 @@
 use Rattle.lw_axiomatic.proofs.Common.{◌≡◌, ℕ, ◌<◌, ◌≤◌, ◌⊎◌, inl, inr, Bool, true, false, Option, Some, None}
 use Rattle.lw_axiomatic.proofs.Common.{refl, sym, subst, arith, [], List, slice_get, length, true≢false}
 use Rattle.lw_axiomatic.proofs.Common.{option_and_then, option_map, option_map_or, cases_lt, get_or_past}
-use Rattle.lw_axiomatic.proofs.Common.{All-get_or, none-some, slice_get_past, code_of, Instr, Operation, Load}
-use Rattle.lw_axiomatic.proofs.Common.{Store, Set, Sum, Compare, Fence, Branch, location_of, or_cases}
-use Rattle.lw_axiomatic.proofs.Common.{or_right, is_store, is_load, is_locked, waits, writes, x86}
-use Rattle.lw_axiomatic.proofs.Common.{x86_operation, ProgramTest, IsThread, IsWellFormedProgram, MemoryEvent}
-use Rattle.lw_axiomatic.proofs.Common.{reads, does, location, locked_located}
+use Rattle.lw_axiomatic.proofs.Common.{All-get_or, none-some, slice_get_past, thread_code, Instr, Operation}
+use Rattle.lw_axiomatic.proofs.Common.{Load, Store, Set, Sum, Compare, Fence, Branch, location_of, or_cases}
+use Rattle.lw_axiomatic.proofs.Common.{or_right, is_store, is_load, is_locked, needs_empty_buffer, writes}
+use Rattle.lw_axiomatic.proofs.Common.{x86_language, x86_operation, X86Test, IsWellFormedThread}
+use Rattle.lw_axiomatic.proofs.Common.{IsWellFormedProgram, MemoryEvent, reads, operation_is, location}
+use Rattle.lw_axiomatic.proofs.Common.{locked_located}
 use Rattle.lw_litmus.specs.Operations as operations
 
 -- where all operations of the kind P pass the test Q, or all fail it, so does the operation of an event of that kind
@@ -49,18 +50,18 @@ store_or_reads (Some o) e =
 -- an operation that writes is a store, or waits for an empty store buffer
 store_or_waits : (q : Option Operation)
     → option_map_or writes q false ≡ true
-    → (option_map_or is_store q false ≡ true) ⊎ (option_map_or waits q false ≡ true)
+    → (option_map_or is_store q false ≡ true) ⊎ (option_map_or needs_empty_buffer q false ≡ true)
 store_or_waits None e = absurd (true≢false (sym e))
 store_or_waits (Some o) e =
     elim (or_cases (is_store o) _ e) [ inl store ↦ inl store | inr locked ↦ inr (or_right (operations.is_fence o) _ locked) ]
 
 -- a store does not wait for an empty store buffer
-pub store_waits_none : (o : Operation) → is_store o ≡ true → waits o ≡ false
+pub store_waits_none : (o : Operation) → is_store o ≡ true → needs_empty_buffer o ≡ false
 store_waits_none (Store x v) e = refl
 store_waits_none _ e = absurd (true≢false (sym e))
 
 -- a fence waits for an empty store buffer
-fence_waits : (o : Operation) → operations.is_fence o ≡ true → waits o ≡ true
+fence_waits : (o : Operation) → operations.is_fence o ≡ true → needs_empty_buffer o ≡ true
 fence_waits Fence e = refl
 fence_waits _ e = absurd (true≢false (sym e))
 
@@ -104,9 +105,9 @@ load_located _ e = absurd (true≢false (sym e))
 pub reads_located : (o : Operation) → reads o ≡ true → (l : ℕ) × (location_of o ≡ Some l)
 reads_located o e = elim (or_cases (is_load o) _ e) [ inl load ↦ load_located o load | inr locked ↦ locked_located o locked ]
 
-module _ (test : ProgramTest) where
+module _ (test : X86Test) where
   abbrev is : (Operation → Bool) → MemoryEvent → Bool
-  is = does x86 test
+  is = operation_is x86_language test
 
   -- an event that reads is no store
   pub read_is_no_store : (e : MemoryEvent) → is reads e ≡ true → is is_store e ≡ false
@@ -129,16 +130,16 @@ module _ (test : ProgramTest) where
   write_stores_or_reads e = store_or_reads _
 
   -- an event that writes is a store, or waits for an empty store buffer
-  pub write_stores_or_waits : (e : MemoryEvent) → is writes e ≡ true → (is is_store e ≡ true) ⊎ (is waits e ≡ true)
+  pub write_stores_or_waits : (e : MemoryEvent) → is writes e ≡ true → (is is_store e ≡ true) ⊎ (is needs_empty_buffer e ≡ true)
   write_stores_or_waits e = store_or_waits _
 
   -- an event that is a store does not wait for an empty store buffer
-  pub store_waits_not : (e : MemoryEvent) → is is_store e ≡ true → is waits e ≡ false
-  store_waits_not e = kind_of is_store waits false store_waits_none _
+  pub store_waits_not : (e : MemoryEvent) → is is_store e ≡ true → is needs_empty_buffer e ≡ false
+  store_waits_not e = kind_of is_store needs_empty_buffer false store_waits_none _
 
   -- an event that is a fence waits for an empty store buffer
-  pub fence_waits_there : (e : MemoryEvent) → is operations.is_fence e ≡ true → is waits e ≡ true
-  fence_waits_there e = kind_of operations.is_fence waits true fence_waits _
+  pub fence_waits_there : (e : MemoryEvent) → is operations.is_fence e ≡ true → is needs_empty_buffer e ≡ true
+  fence_waits_there e = kind_of operations.is_fence needs_empty_buffer true fence_waits _
 
   -- an event that is a load reads
   pub load_reads_there : (e : MemoryEvent) → is is_load e ≡ true → is reads e ≡ true
@@ -157,26 +158,28 @@ module _ (test : ProgramTest) where
   load_writes_nothing e = kind_of is_load writes false load_no_writes _
 
   -- an event that has a location writes there, or is a load
-  pub there : (e : MemoryEvent) (l : ℕ) → location x86 test e ≡ Some l → (is writes e ≡ true) ⊎ (is is_load e ≡ true)
-  there e l at = writes_or_loads _ l at
+  pub write_or_load : (e : MemoryEvent) (l : ℕ)
+      → location x86_language test e ≡ Some l
+      → (is writes e ≡ true) ⊎ (is is_load e ≡ true)
+  write_or_load e l at = writes_or_loads _ l at
 
   -- the code of a well-formed test's thread has at most 32 instructions
-  pub short_code : IsWellFormedProgram test → (t : ℕ) → length (code_of test.threads t) ≤ 32
+  pub short_code : IsWellFormedProgram test → (t : ℕ) → length (thread_code test.threads t) ≤ 32
   short_code ok t = elim (cases_lt t (length test.threads)) [
     | inl h ↦
-        (let thread : IsThread x86 (length test.head.locs) (code_of test.threads t) =
-        All-get_or (IsThread x86 (length test.head.locs)) test.threads t [] h ok.code in
+        (let thread : IsWellFormedThread x86_language (length test.head.locs) (thread_code test.threads t) =
+        All-get_or (IsWellFormedThread x86_language (length test.head.locs)) test.threads t [] h ok.code in
         thread.short)
     | inr h ↦
-        (let none : code_of test.threads t ≡ [] = get_or_past test.threads t [] h in
+        (let none : thread_code test.threads t ≡ [] = get_or_past test.threads t [] h in
         subst (λ (code : List Instr). length code ≤ 32) (sym none) (omega arith))
   ]
 
   -- an event that has a location stands at a position below 32
-  pub low : IsWellFormedProgram test → (e : MemoryEvent) (l : ℕ) → location x86 test e ≡ Some l → e.position < 32
-  low ok e l at = elim (cases_lt e.position (length (code_of test.threads e.thread))) [
-    | inl h ↦ (let short : length (code_of test.threads e.thread) ≤ 32 = short_code ok e.thread in omega (arith, h, short))
-    | inr h ↦ absurd (nothing (slice_get (code_of test.threads e.thread) e.position) (slice_get_past _ e.position h) at)
+  pub low : IsWellFormedProgram test → (e : MemoryEvent) (l : ℕ) → location x86_language test e ≡ Some l → e.position < 32
+  low ok e l at = elim (cases_lt e.position (length (thread_code test.threads e.thread))) [
+    | inl h ↦ (let short : length (thread_code test.threads e.thread) ≤ 32 = short_code ok e.thread in omega (arith, h, short))
+    | inr h ↦ absurd (nothing (slice_get (thread_code test.threads e.thread) e.position) (slice_get_past _ e.position h) at)
   ]
     where
       nothing : (o : Option Instr) → o ≡ None → option_and_then location_of (option_map x86_operation o) ≡ Some l → ⊥

@@ -2,9 +2,9 @@
 use Rattle.lw_axiomatic.proofs.Common.{sym, ◌≡◌, ℕ, zero, suc, ◌+◌, ◌≤◌, ◌⊎◌, inl, inr, refl, ap, subst}
 use Rattle.lw_axiomatic.proofs.Common.{arith, List, [], ◌∷◌, ◌++◌, Contains, map, cases_lt, get_or_past}
 use Rattle.lw_axiomatic.proofs.Common.{Contains-append_left, Contains-append_right, Contains-append_cases}
-use Rattle.lw_axiomatic.proofs.Common.{code_of, none_in, Contains-here, Contains-there, Contains-cons}
-use Rattle.lw_axiomatic.proofs.Common.{Contains-map, from_map, MemoryEvent}
-use Rattle.lw_axiomatic.proofs.Decisions.{Decided}
+use Rattle.lw_axiomatic.proofs.Common.{thread_code, not-Contains-nil, Contains-head, Contains-tail}
+use Rattle.lw_axiomatic.proofs.Common.{Contains-cons, Contains-map, from_map, MemoryEvent}
+use Rattle.lw_axiomatic.proofs.Decisions.{Decidable}
 
 -- the event of a statement, by its thread and its position
 abbrev pub event : ℕ → ℕ → MemoryEvent
@@ -18,9 +18,10 @@ events_from t (path ∷ paths) = map (event t) path ++ events_from (suc t) paths
 -- where the first of the paths is thread t's, each event on them is in their list
 pub listed : (t k u : ℕ) (paths : List (List ℕ)) (j : ℕ)
     → u ≡ t + k
-    → Contains (code_of paths k) j
+    → Contains (thread_code paths k) j
     → Contains (events_from t paths) (event u j)
-listed t k u [] j at c = absurd (none_in j (subst (λ (path : List ℕ). Contains path j) (get_or_past [] k [] (omega arith)) c))
+listed t k u [] j at c =
+    absurd (not-Contains-nil j (subst (λ (path : List ℕ). Contains path j) (get_or_past [] k [] (omega arith)) c))
 listed t zero u (path ∷ paths) j at c =
     let same : t ≡ u = omega (arith, at) in
     Contains-append_left (map (event t) path) (events_from (suc t) paths) (event u j)
@@ -32,8 +33,8 @@ listed t (suc k) u (path ∷ paths) j at c =
 -- each event in the list is at a position of one of the paths
 from_listed : (t : ℕ) (paths : List (List ℕ)) (e : MemoryEvent)
     → Contains (events_from t paths) e
-    → (k : ℕ) × (e.thread ≡ t + k) × Contains (code_of paths k) e.position
-from_listed t [] e c = absurd (none_in e c)
+    → (k : ℕ) × (e.thread ≡ t + k) × Contains (thread_code paths k) e.position
+from_listed t [] e c = absurd (not-Contains-nil e c)
 from_listed t (path ∷ paths) e c = elim (Contains-append_cases (map (event t) path) (events_from (suc t) paths) e c) [
   | inl h ↦
       (let m = from_map (event t) path e h in
@@ -48,12 +49,12 @@ module _ (rank : MemoryEvent → ℕ) where
   IsFirstOf events e = Contains events e × ((f : MemoryEvent) → Contains events f → rank e ≤ rank f)
 
   first_in : (events : List MemoryEvent) → ((f : MemoryEvent) → Contains events f → ⊥) ⊎ ((e : MemoryEvent) × IsFirstOf events e)
-  first_in [] = inl (λ f c. none_in f c)
+  first_in [] = inl (λ f c. not-Contains-nil f c)
   first_in (e ∷ events) = elim (first_in events) [
     | inl none ↦ inr (
       e,
       (
-        Contains-here e e events refl,
+        Contains-head e e events refl,
         λ f c. elim (Contains-cons e f events c) [ inl same ↦ omega (arith, ap rank same) | inr rest ↦ absurd (none f rest) ],
       ),
     )
@@ -61,7 +62,7 @@ module _ (rank : MemoryEvent → ℕ) where
       | inl less ↦ inr (
         e,
         (
-          Contains-here e e events refl,
+          Contains-head e e events refl,
           λ f c. elim (Contains-cons e f events c) [
             | inl same ↦ omega (arith, ap rank same)
             | inr rest ↦ omega (arith, less, first.1 f rest)
@@ -71,7 +72,7 @@ module _ (rank : MemoryEvent → ℕ) where
       | inr ge ↦ inr (
         g,
         (
-          Contains-there e g events first.0,
+          Contains-tail e g events first.0,
           λ f c. elim (Contains-cons e f events c) [ inl same ↦ omega (arith, ge, ap rank same) | inr rest ↦ first.1 f rest ],
         ),
       )
@@ -80,12 +81,12 @@ module _ (rank : MemoryEvent → ℕ) where
 
   -- an event of the paths of which none of them has a lower rank
   pub record IsFirst (paths : List (List ℕ)) (e : MemoryEvent) : Type 0 where
-    pub there : Contains (code_of paths e.thread) e.position
-    pub least : (f : MemoryEvent) → Contains (code_of paths f.thread) f.position → rank e ≤ rank f
+    pub there : Contains (thread_code paths e.thread) e.position
+    pub least : (f : MemoryEvent) → Contains (thread_code paths f.thread) f.position → rank e ≤ rank f
 
   -- paths have no event, or one of them is the first by ranks
   pub first_of : (paths : List (List ℕ))
-      → ((f : MemoryEvent) → Contains (code_of paths f.thread) f.position → ⊥) ⊎ ((e : MemoryEvent) × IsFirst paths e)
+      → ((f : MemoryEvent) → Contains (thread_code paths f.thread) f.position → ⊥) ⊎ ((e : MemoryEvent) × IsFirst paths e)
   first_of paths = elim (first_in (events_from 0 paths)) [
     | inl none ↦ inl (λ f c. none f (listed 0 f.thread f.thread paths f.position (omega arith) c))
     | inr (e, first) ↦
@@ -94,7 +95,7 @@ module _ (rank : MemoryEvent → ℕ) where
         inr (
           e,
           record {
-            there = subst (λ k. Contains (code_of paths k) e.position) same g.2;
+            there = subst (λ k. Contains (thread_code paths k) e.position) same g.2;
             least = λ f c. first.1 f (listed 0 f.thread f.thread paths f.position (omega arith) c);
           },
         ))
@@ -102,13 +103,13 @@ module _ (rank : MemoryEvent → ℕ) where
 
 -- ---- the first of those that are such
 
-module _ (rank : MemoryEvent → ℕ) (P : MemoryEvent → Type 0) (decide : (e : MemoryEvent) → Decided (P e)) where
+module _ (rank : MemoryEvent → ℕ) (P : MemoryEvent → Type 0) (decide : (e : MemoryEvent) → Decidable (P e)) where
   abbrev IsLeast : List MemoryEvent → MemoryEvent → Type 0
   IsLeast events e = P e × ((f : MemoryEvent) → Contains events f → P f → rank e ≤ rank f)
 
   least_in : (events : List MemoryEvent)
       → ((f : MemoryEvent) → Contains events f → P f → ⊥) ⊎ ((e : MemoryEvent) × IsLeast events e)
-  least_in [] = inl (λ f c p. none_in f c)
+  least_in [] = inl (λ f c p. not-Contains-nil f c)
   least_in (e ∷ events) = elim (least_in events) [
     | inl none ↦ elim (decide e) [
       | inl p ↦ inr (
@@ -156,8 +157,8 @@ module _ (rank : MemoryEvent → ℕ) (P : MemoryEvent → Type 0) (decide : (e 
 
   -- where P can be decided: no event of the paths has P, or of those that have it one has the lowest rank
   pub least_event : (paths : List (List ℕ))
-      → ((f : MemoryEvent) → Contains (code_of paths f.thread) f.position → P f → ⊥)
-      ⊎ ((e : MemoryEvent) × P e × ((f : MemoryEvent) → Contains (code_of paths f.thread) f.position → P f → rank e ≤ rank f))
+      → ((f : MemoryEvent) → Contains (thread_code paths f.thread) f.position → P f → ⊥)
+      ⊎ ((e : MemoryEvent) × P e × ((f : MemoryEvent) → Contains (thread_code paths f.thread) f.position → P f → rank e ≤ rank f))
   least_event paths = elim (least_in (events_from 0 paths)) [
     | inl none ↦ inl (λ f c. none f (listed 0 f.thread f.thread paths f.position (omega arith) c))
     | inr (e, first) ↦ inr (e, first.0, λ f c. first.1 f (listed 0 f.thread f.thread paths f.position (omega arith) c))

@@ -6,34 +6,36 @@ use Rattle.lw_axiomatic.proofs.Common.{subst, arith, slice_get, slice_set, Conta
 use Rattle.lw_axiomatic.proofs.Common.{slice_index, slice_index_or, option_map, option_and_then}
 use Rattle.lw_axiomatic.proofs.Common.{option_map_or, cases_eq, get_or_past, get_or-set_same}
 use Rattle.lw_axiomatic.proofs.Common.{get_or-set_other, length-map, All-get_or, none-some, same_Some}
-use Rattle.lw_axiomatic.proofs.Common.{slice_get_within, get_or_from_slice_get, slice_get-map, got_set_same}
-use Rattle.lw_axiomatic.proofs.Common.{got_set_other, get_some, got_map, Final, IsOutcomeOf, code_of}
-use Rattle.lw_axiomatic.proofs.Common.{follows_within, none_in, Contains-here, Contains-there, Contains-cons}
-use Rattle.lw_axiomatic.proofs.Common.{GoesUp, goes_up_in, path_up, forward_of, Operation, Follows}
-use Rattle.lw_axiomatic.proofs.Common.{location_of, writes, Test, IsThread, IsStatement, Goes, IsReadFrom}
-use Rattle.lw_axiomatic.proofs.Common.{IsLast, MemoryEvent, Execution, IsEvent, does, location, Reads, Writes}
-use Rattle.lw_axiomatic.proofs.Common.{InSequence, IsSequentialOutcome, ThreadState, first_state, state_after}
-use Rattle.lw_axiomatic.proofs.Common.{word_written, AllByRecursion, registers, Language, IsWellFormed}
-use Rattle.lw_axiomatic.proofs.Common.{Interleaved, word_found, words_after, IsStep, Ran, IsEnd, start}
+use Rattle.lw_axiomatic.proofs.Common.{slice_get_within, get_or_from_slice_get, slice_get-map, get-set_same}
+use Rattle.lw_axiomatic.proofs.Common.{get-set_other, get_some, get-map, FinalState, HasOutcomeShape}
+use Rattle.lw_axiomatic.proofs.Common.{thread_code, follows_within, not-Contains-nil, Contains-head}
+use Rattle.lw_axiomatic.proofs.Common.{Contains-tail, Contains-cons, IsAscendingFrom}
+use Rattle.lw_axiomatic.proofs.Common.{IsAscendingFrom-lower_bound, path_up, forward_of, Operation}
+use Rattle.lw_axiomatic.proofs.Common.{IsFlowSuccessor, location_of, writes, Test, IsWellFormedThread}
+use Rattle.lw_axiomatic.proofs.Common.{IsWellFormedStatement, ThreadExecutes, IsReadFrom, IsLast, MemoryEvent}
+use Rattle.lw_axiomatic.proofs.Common.{Execution, IsEvent, operation_is, location, Reads, Writes, ScOrder}
+use Rattle.lw_axiomatic.proofs.Common.{IsScOutcome, ThreadState, first_state, state_after, word_written}
+use Rattle.lw_axiomatic.proofs.Common.{AllByRecursion, registers, Language, IsWellFormed, Interleaved}
+use Rattle.lw_axiomatic.proofs.Common.{read_value, words_after, IsStep, InterleavedRunsTo, IsEnd, start}
 use Rattle.lw_axiomatic.proofs.Common.{InterleavingOutcome}
-use Rattle.lw_axiomatic.proofs.Decisions.{Decided, same_event, decided_located, decided_and, decided_number}
+use Rattle.lw_axiomatic.proofs.Decisions.{Decidable, same_event, decided_located, decided_and, decided_number}
 use Rattle.lw_axiomatic.proofs.Decisions.{decided_true}
 use Rattle.lw_axiomatic.proofs.Paths.{goes_path, state_leads}
 use Rattle.lw_axiomatic.proofs.Indices.{in_list}
 use Rattle.lw_axiomatic.proofs.StepStates.{memory_case, found_there, registers_stay}
 
 -- of two, the first where a decided statement holds, else the second
-abbrev pick : {P X : Type 0} → Decided P → X → X → X
+abbrev pick : {P X : Type 0} → Decidable P → X → X → X
 pick (inl p) a b = a
 pick (inr not) a b = b
 
 -- where the decided statement holds, the first of the two is picked
-picked : {P X : Type 0} (d : Decided P) (a b : X) → P → pick d a b ≡ a
+picked : {P X : Type 0} (d : Decidable P) (a b : X) → P → pick d a b ≡ a
 picked (inl p) a b h = refl
 picked (inr not) a b h = absurd (not h)
 
 -- where the decided statement does not hold, the second of the two is picked
-not_picked : {P X : Type 0} (d : Decided P) (a b : X) → (P → ⊥) → pick d a b ≡ b
+not_picked : {P X : Type 0} (d : Decidable P) (a b : X) → (P → ⊥) → pick d a b ≡ b
 not_picked (inl p) a b h = absurd (h p)
 not_picked (inr not) a b h = refl
 
@@ -60,19 +62,19 @@ module _ {S : Type 0} (language : Language S) where
       → Contains path h
       → (y.read (record { thread = t; position = h }) ≡ x.read (record { thread = t; position = h }))
       × (y.written (record { thread = t; position = h }) ≡ x.written (record { thread = t; position = h })))
-      → Goes language x t code path s end
-      → Goes language y t code path s end
+      → ThreadExecutes language x t code path s end
+      → ThreadExecutes language y t code path s end
   goes_same x y t code [] s end same goes = goes
   goes_same x y t code (h ∷ path) s end same (at, i, got, writes_word, rest) =
       let e : MemoryEvent = record { thread = t; position = h } in
-      let here = same h (Contains-here h h path refl) in (
+      let here = same h (Contains-head h h path refl) in (
         at,
         i,
         got,
         λ w. here.1 ∙ (writes_word w ∙ ap (word_written (language.operation_of i) s.regs) (sym here.0)),
-        subst (λ v. Goes language y t code path (state_after (language.operation_of i) s v) end) (sym here.0)
+        subst (λ v. ThreadExecutes language y t code path (state_after (language.operation_of i) s v) end) (sym here.0)
             (goes_same x y t code path (state_after (language.operation_of i) s (x.read e)) end
-            (λ k c. same k (Contains-there h k path c)) rest),
+            (λ k c. same k (Contains-tail h k path c)) rest),
       )
 
 module _ {S : Type 0} {language : Language S} {test : Test S} (ok : IsWellFormed language test) where
@@ -80,7 +82,7 @@ module _ {S : Type 0} {language : Language S} {test : Test S} (ok : IsWellFormed
   abbrev empty_path : List S → List ℕ
   empty_path code = []
 
-  empty_paths : (program : List (List S)) (t : ℕ) → code_of (map empty_path program) t ≡ []
+  empty_paths : (program : List (List S)) (t : ℕ) → thread_code (map empty_path program) t ≡ []
   empty_paths [] t = get_or_past [] t [] (omega arith)
   empty_paths (code ∷ program) zero = refl
   empty_paths (code ∷ program) (suc t) = empty_paths program t
@@ -96,28 +98,28 @@ module _ {S : Type 0} {language : Language S} {test : Test S} (ok : IsWellFormed
   pub record IsGood (s : Interleaved) : Type 0 where
     pub many : length s.threads ≡ length test.threads
     pub size : length s.words ≡ length test.head.locs
-    pub within : (t : ℕ) (th : ThreadState) → slice_get s.threads t ≡ Some th → th.position ≤ length (code_of test.threads t)
+    pub within : (t : ℕ) (th : ThreadState) → slice_get s.threads t ≡ Some th → th.position ≤ length (thread_code test.threads t)
     pub six : (t : ℕ) (th : ThreadState) → slice_get s.threads t ≡ Some th → length th.regs ≡ registers
 
   -- the rest of a run from a state is an execution with this outcome
-  record IsLater (s : Interleaved) (o : Final) : Type 0 where
+  record IsLater (s : Interleaved) (o : FinalState) : Type 0 where
     x : Execution
     many : length x.paths ≡ length test.threads
     threads : (t : ℕ) (th : ThreadState)
         → slice_get s.threads t ≡ Some th
         → (end : ThreadState)
-        × Goes language x t (code_of test.threads t) (code_of x.paths t) th end
+        × ThreadExecutes language x t (thread_code test.threads t) (thread_code x.paths t) th end
         × (slice_index_or o.regs t [] ≡ end.regs)
     rf : (r : MemoryEvent) (l : ℕ) → Reads language test x r l → IsReadFrom language (with_words s.words) x r l (x.rf r)
     co : (w v : MemoryEvent) (l : ℕ) → Writes language test x w l → Writes language test x v l → x.co w ≡ x.co v → w ≡ v
     words : (l : ℕ) → IsLast language (with_words s.words) x l (slice_index o.words l)
     rank : MemoryEvent → ℕ
-    up : (a b : MemoryEvent) → InSequence language test x a b → rank a < rank b
+    up : (a b : MemoryEvent) → ScOrder language test x a b → rank a < rank b
 
   -- ---- at the end there is nothing left
 
   -- the registers and the words of memory that a state ends with
-  abbrev pub outcome_of : Interleaved → Final
+  abbrev pub outcome_of : Interleaved → FinalState
   outcome_of s = record { regs = map (λ (th : ThreadState). th.regs) s.threads; words = s.words }
 
   at_end : (s : Interleaved) → IsEnd language test.threads s → IsGood s → IsLater s (outcome_of s)
@@ -126,7 +128,7 @@ module _ {S : Type 0} {language : Language S} {test : Test S} (ok : IsWellFormed
     many = length-map test.threads empty_path;
     threads = λ t th at. (
       th,
-      subst (λ path. Goes language none t (code_of test.threads t) path th th) (sym (empty_paths test.threads t))
+      subst (λ path. ThreadExecutes language none t (thread_code test.threads t) path th th) (sym (empty_paths test.threads t))
           (ended t th at, refl),
       get_or_from_slice_get (map (λ (z : ThreadState). z.regs) s.threads) t th.regs [] (regs_got t th at),
     );
@@ -145,16 +147,16 @@ module _ {S : Type 0} {language : Language S} {test : Test S} (ok : IsWellFormed
       none : Execution
       none = record { paths = map empty_path test.threads; read = λ e. 0; written = λ e. 0; rf = λ e. None; co = λ e. 0 }
 
-      no_event : (e : MemoryEvent) → Contains (code_of (map empty_path test.threads) e.thread) e.position → ⊥
+      no_event : (e : MemoryEvent) → Contains (thread_code (map empty_path test.threads) e.thread) e.position → ⊥
       no_event e c =
-          none_in e.position (subst (λ (path : List ℕ). Contains path e.position) (empty_paths test.threads e.thread) c)
+          not-Contains-nil e.position (subst (λ (path : List ℕ). Contains path e.position) (empty_paths test.threads e.thread) c)
 
       regs_got : (t : ℕ) (th : ThreadState)
           → slice_get s.threads t ≡ Some th
           → slice_get (map (λ (z : ThreadState). z.regs) s.threads) t ≡ Some th.regs
       regs_got t th at = slice_get-map _ s.threads t ∙ ap (option_map (λ (z : ThreadState). z.regs)) at
 
-      ended : (t : ℕ) (th : ThreadState) → slice_get s.threads t ≡ Some th → th.position ≡ length (code_of test.threads t)
+      ended : (t : ℕ) (th : ThreadState) → slice_get s.threads t ≡ Some th → th.position ≡ length (thread_code test.threads t)
       ended t th at = omega (arith, final t th at, good.within t th at)
 
   -- ---- one step
@@ -170,15 +172,15 @@ module _ {S : Type 0} {language : Language S} {test : Test S} (ok : IsWellFormed
     e = event t j
 
     abbrev next : ThreadState
-    next = state_after op d.thread (word_found op s.words)
+    next = state_after op d.thread (read_value op s.words)
 
     abbrev found : ℕ
-    found = word_found op s.words
+    found = read_value op s.words
 
     abbrev left : ℕ
     left = word_written op d.thread.regs found
 
-    pub kind : (q : Operation → Bool) → does language test q e ≡ q op
+    pub kind : (q : Operation → Bool) → operation_is language test q e ≡ q op
     kind q = ap (λ o. option_map_or q (option_map language.operation_of o) false) d.at
 
     pub index_in : location language test e ≡ location_of op
@@ -188,24 +190,24 @@ module _ {S : Type 0} {language : Language S} {test : Test S} (ok : IsWellFormed
     in_test = omega (arith, slice_get_within s.threads t d.thread d.was, good.many)
 
     pub was_next : slice_get mid.threads t ≡ Some next
-    was_next = ap (λ (z : Interleaved). slice_get z.threads t) d.is ∙ got_set_same s.threads t next d.thread d.was
+    was_next = ap (λ (z : Interleaved). slice_get z.threads t) d.is ∙ get-set_same s.threads t next d.thread d.was
 
     pub others : (u : ℕ) → t ≢ u → slice_get mid.threads u ≡ slice_get s.threads u
-    others u ne = ap (λ (z : Interleaved). slice_get z.threads u) d.is ∙ got_set_other s.threads t u next ne
+    others u ne = ap (λ (z : Interleaved). slice_get z.threads u) d.is ∙ get-set_other s.threads t u next ne
 
-    pub leads : (j < next.position) × (next.position ≤ length (code_of test.threads t))
+    pub leads : (j < next.position) × (next.position ≤ length (thread_code test.threads t))
     leads =
-        follows_within language (code_of test.threads t) j next.position (forward_of language test ok t)
-        (subst (λ (o : Option S). Follows language o j next.position) (sym d.at) (state_leads op d.thread found))
+        follows_within language (thread_code test.threads t) j next.position (forward_of language test ok t)
+        (subst (λ (o : Option S). IsFlowSuccessor language o j next.position) (sym d.at) (state_leads op d.thread found))
 
     located : (l : ℕ) → location_of op ≡ Some l → l < length s.words
     located l at =
-        let thread : IsThread language (length test.head.locs) (code_of test.threads t) =
-        All-get_or (IsThread language (length test.head.locs)) test.threads t [] in_test ok.code in
-        let statement : IsStatement language (length test.head.locs) d.statement =
-        subst (IsStatement language (length test.head.locs))
-        (get_or_from_slice_get (code_of test.threads t) j d.statement d.statement d.at)
-        (thread.there j d.statement (slice_get_within (code_of test.threads t) j d.statement d.at)) in
+        let thread : IsWellFormedThread language (length test.head.locs) (thread_code test.threads t) =
+        All-get_or (IsWellFormedThread language (length test.head.locs)) test.threads t [] in_test ok.code in
+        let statement : IsWellFormedStatement language (length test.head.locs) d.statement =
+        subst (IsWellFormedStatement language (length test.head.locs))
+        (get_or_from_slice_get (thread_code test.threads t) j d.statement d.statement d.at)
+        (thread.there j d.statement (slice_get_within (thread_code test.threads t) j d.statement d.at)) in
         omega (arith, statement.0 l at, good.size)
 
     words_are : mid.words ≡ words_after op d.thread.regs s.words
@@ -213,7 +215,7 @@ module _ {S : Type 0} {language : Language S} {test : Test S} (ok : IsWellFormed
 
     -- it writes this location
     abbrev pub WritesHere : ℕ → Type 0
-    WritesHere l = (location language test e ≡ Some l) × (does language test writes e ≡ true)
+    WritesHere l = (location language test e ≡ Some l) × (operation_is language test writes e ≡ true)
 
     -- so the word there is its own, and all others are as they were
     pub new_word : (l : ℕ) → WritesHere l → slice_index mid.words l ≡ left
@@ -244,7 +246,7 @@ module _ {S : Type 0} {language : Language S} {test : Test S} (ok : IsWellFormed
         | inl same ↦
             (let is_next : next ≡ th =
             same_Some next th (sym was_next ∙ subst (λ k. slice_get mid.threads k ≡ Some th) (sym same) at) in
-            subst (λ k. th.position ≤ length (code_of test.threads k)) same
+            subst (λ k. th.position ≤ length (thread_code test.threads k)) same
             (omega (arith, leads.1, ap (λ (z : ThreadState). z.position) is_next)))
         | inr ne ↦ good.within u th (sym (others u ne) ∙ at)
       ];
@@ -260,14 +262,14 @@ module _ {S : Type 0} {language : Language S} {test : Test S} (ok : IsWellFormed
 
     -- ---- the execution with its event
 
-    module _ {o : Final} (later : IsLater mid o) where
+    module _ {o : FinalState} (later : IsLater mid o) where
       abbrev y : Execution
       y = later.x
 
-      decided_here : (l : Option ℕ) → Decided ((k : ℕ) × ((l ≡ Some k) × WritesHere k))
+      decided_here : (l : Option ℕ) → Decidable ((k : ℕ) × ((l ≡ Some k) × WritesHere k))
       decided_here l = decided_located l (λ k. (l ≡ Some k) × WritesHere k) (λ k h. h.0) (λ k.
           decided_and (decided_number l k)
-          (decided_and (decided_number (location language test e) k) (decided_true (does language test writes e))))
+          (decided_and (decided_number (location language test e) k) (decided_true (operation_is language test writes e))))
 
       abbrev from_it : MemoryEvent → Option MemoryEvent → Option MemoryEvent
       from_it r (Some v) = Some v
@@ -275,7 +277,7 @@ module _ {S : Type 0} {language : Language S} {test : Test S} (ok : IsWellFormed
 
       abbrev x : Execution
       x = record {
-        paths = slice_set y.paths t (j ∷ code_of y.paths t);
+        paths = slice_set y.paths t (j ∷ thread_code y.paths t);
         read = λ r. pick (same_event r e) found (y.read r);
         written = λ w. pick (same_event w e) left (y.written w);
         rf = λ r. pick (same_event r e) None (from_it r (y.rf r));
@@ -285,35 +287,35 @@ module _ {S : Type 0} {language : Language S} {test : Test S} (ok : IsWellFormed
       abbrev rank : MemoryEvent → ℕ
       rank a = pick (same_event a e) 0 (suc (later.rank a))
 
-      own_path : code_of x.paths t ≡ j ∷ code_of y.paths t
-      own_path = get_or-set_same y.paths t (j ∷ code_of y.paths t) [] (omega (arith, in_test, later.many))
+      own_path : thread_code x.paths t ≡ j ∷ thread_code y.paths t
+      own_path = get_or-set_same y.paths t (j ∷ thread_code y.paths t) [] (omega (arith, in_test, later.many))
 
-      other_path : (u : ℕ) → t ≢ u → code_of x.paths u ≡ code_of y.paths u
-      other_path u ne = get_or-set_other y.paths t u (j ∷ code_of y.paths t) [] (λ same. ne (sym same))
+      other_path : (u : ℕ) → t ≢ u → thread_code x.paths u ≡ thread_code y.paths u
+      other_path u ne = get_or-set_other y.paths t u (j ∷ thread_code y.paths t) [] (λ same. ne (sym same))
 
       -- its events
       first : IsEvent x e
-      first = subst (λ (path : List ℕ). Contains path j) (sym own_path) (Contains-here j j (code_of y.paths t) refl)
+      first = subst (λ (path : List ℕ). Contains path j) (sym own_path) (Contains-head j j (thread_code y.paths t) refl)
 
       old : (a : MemoryEvent) → IsEvent y a → IsEvent x a
       old a there = elim (cases_eq t a.thread) [
         | inl same ↦
-            subst (λ u. Contains (code_of x.paths u) a.position) same
+            subst (λ u. Contains (thread_code x.paths u) a.position) same
             (subst (λ (path : List ℕ). Contains path a.position) (sym own_path)
-            (Contains-there j a.position (code_of y.paths t)
-            (subst (λ u. Contains (code_of y.paths u) a.position) (sym same) there)))
+            (Contains-tail j a.position (thread_code y.paths t)
+            (subst (λ u. Contains (thread_code y.paths u) a.position) (sym same) there)))
         | inr ne ↦ subst (λ (path : List ℕ). Contains path a.position) (sym (other_path a.thread ne)) there
       ]
 
       is_old : (a : MemoryEvent) → IsEvent x a → (a ≡ e → ⊥) → IsEvent y a
       is_old a there differ = elim (cases_eq t a.thread) [
         | inl same ↦
-            (let on : Contains (j ∷ code_of y.paths t) a.position =
+            (let on : Contains (j ∷ thread_code y.paths t) a.position =
             subst (λ (path : List ℕ). Contains path a.position) own_path
-            (subst (λ u. Contains (code_of x.paths u) a.position) (sym same) there) in
-            elim (Contains-cons j a.position (code_of y.paths t) on) [
+            (subst (λ u. Contains (thread_code x.paths u) a.position) (sym same) there) in
+            elim (Contains-cons j a.position (thread_code y.paths t) on) [
               | inl index_in ↦ absurd (differ (ap₂ event (sym same) (sym index_in)))
-              | inr rest ↦ subst (λ u. Contains (code_of y.paths u) a.position) same rest
+              | inr rest ↦ subst (λ u. Contains (thread_code y.paths u) a.position) same rest
             ])
         | inr ne ↦ subst (λ (path : List ℕ). Contains path a.position) (other_path a.thread ne) there
       ]
@@ -322,12 +324,12 @@ module _ {S : Type 0} {language : Language S} {test : Test S} (ok : IsWellFormed
       ahead : (a : MemoryEvent) → IsEvent y a → a.thread ≡ t → j < a.position
       ahead a there same =
           let goes = later.threads t next was_next in
-          let up : GoesUp next.position (code_of y.paths t) =
-          path_up language (code_of test.threads t) next.position (code_of y.paths t) (forward_of language test ok t)
-          (goes_path language y t (code_of test.threads t) (code_of y.paths t) next goes.0 goes.1) in
+          let up : IsAscendingFrom next.position (thread_code y.paths t) =
+          path_up language (thread_code test.threads t) next.position (thread_code y.paths t) (forward_of language test ok t)
+          (goes_path language y t (thread_code test.threads t) (thread_code y.paths t) next goes.0 goes.1) in
           let low : next.position ≤ a.position =
-          goes_up_in next.position a.position (code_of y.paths t) up
-          (in_list (code_of y.paths t) a.position (subst (λ u. Contains (code_of y.paths u) a.position) same there)) in
+          IsAscendingFrom-lower_bound next.position a.position (thread_code y.paths t) up
+          (in_list (thread_code y.paths t) a.position (subst (λ u. Contains (thread_code y.paths u) a.position) same there)) in
           omega (arith, low, leads.0)
 
       differs : (a : MemoryEvent) → IsEvent y a → a ≡ e → ⊥
@@ -400,13 +402,14 @@ module _ {S : Type 0} {language : Language S} {test : Test S} (ok : IsWellFormed
           (λ h. not (subst WritesHere (same_Some h.0 l (sym h.1.0 ∙ at)) h.1.1)))
 
       -- what is written there, decided
-      here_or_not : (l : ℕ) → Decided (WritesHere l)
-      here_or_not l = decided_and (decided_number (location language test e) l) (decided_true (does language test writes e))
+      here_or_not : (l : ℕ) → Decidable (WritesHere l)
+      here_or_not l =
+          decided_and (decided_number (location language test e) l) (decided_true (operation_is language test writes e))
 
       -- ---- it is one
 
       goes_own : (end : ThreadState)
-          × Goes language x t (code_of test.threads t) (j ∷ code_of y.paths t) d.thread end
+          × ThreadExecutes language x t (thread_code test.threads t) (j ∷ thread_code y.paths t) d.thread end
           × (slice_index_or o.regs t [] ≡ end.regs)
       goes_own =
           let rest = later.threads t next was_next in (
@@ -416,9 +419,10 @@ module _ {S : Type 0} {language : Language S} {test : Test S} (ok : IsWellFormed
               d.statement,
               d.at,
               (λ w. written_first ∙ ap (word_written op d.thread.regs) (sym read_first)),
-              subst (λ (z : ThreadState). Goes language x t (code_of test.threads t) (code_of y.paths t) z rest.0)
+              subst
+                  (λ (z : ThreadState). ThreadExecutes language x t (thread_code test.threads t) (thread_code y.paths t) z rest.0)
                   (ap (state_after op d.thread) (sym read_first))
-                  (goes_same language y x t (code_of test.threads t) (code_of y.paths t) next rest.0
+                  (goes_same language y x t (thread_code test.threads t) (thread_code y.paths t) next rest.0
                   (λ h c. (read_other (event t h) (differs (event t h) c), written_other (event t h) (differs (event t h) c)))
                   rest.1),
             ),
@@ -428,7 +432,7 @@ module _ {S : Type 0} {language : Language S} {test : Test S} (ok : IsWellFormed
       threads_go : (u : ℕ) (th : ThreadState)
           → slice_get s.threads u ≡ Some th
           → (end : ThreadState)
-          × Goes language x u (code_of test.threads u) (code_of x.paths u) th end
+          × ThreadExecutes language x u (thread_code test.threads u) (thread_code x.paths u) th end
           × (slice_index_or o.regs u [] ≡ end.regs)
       threads_go u th at = elim (cases_eq t u) [
         | inl same ↦
@@ -437,19 +441,20 @@ module _ {S : Type 0} {language : Language S} {test : Test S} (ok : IsWellFormed
             let own = goes_own in
             subst (λ k.
             (end : ThreadState)
-            × Goes language x k (code_of test.threads k) (code_of x.paths k) th end
+            × ThreadExecutes language x k (thread_code test.threads k) (thread_code x.paths k) th end
             × (slice_index_or o.regs k [] ≡ end.regs)) same (
               own.0,
-              subst (λ (path : List ℕ). Goes language x t (code_of test.threads t) path th own.0) (sym own_path)
-                  (subst (λ (z : ThreadState). Goes language x t (code_of test.threads t) (j ∷ code_of y.paths t) z own.0) is_own
-                  own.1),
+              subst (λ (path : List ℕ). ThreadExecutes language x t (thread_code test.threads t) path th own.0) (sym own_path)
+                  (subst (λ (z : ThreadState).
+                  ThreadExecutes language x t (thread_code test.threads t) (j ∷ thread_code y.paths t) z own.0) is_own own.1),
               own.2,
             ))
         | inr ne ↦
             (let rest = later.threads u th (others u ne ∙ at) in (
               rest.0,
-              subst (λ (path : List ℕ). Goes language x u (code_of test.threads u) path th rest.0) (sym (other_path u ne))
-                  (goes_same language y x u (code_of test.threads u) (code_of y.paths u) th rest.0 (λ h c. (
+              subst (λ (path : List ℕ). ThreadExecutes language x u (thread_code test.threads u) path th rest.0)
+                  (sym (other_path u ne))
+                  (goes_same language y x u (thread_code test.threads u) (thread_code y.paths u) th rest.0 (λ h c. (
                     read_other (event u h) (λ e_is. ne (sym (ap (λ (z : MemoryEvent). z.thread) e_is))),
                     written_other (event u h) (λ e_is. ne (sym (ap (λ (z : MemoryEvent). z.thread) e_is))),
                   )) rest.1),
@@ -508,7 +513,7 @@ module _ {S : Type 0} {language : Language S} {test : Test S} (ok : IsWellFormed
           )
           | inr not ↦ inl (
             (λ f wf. elim (same_event f e) [
-              | inl fe ↦ not (ap (location language test) (sym fe) ∙ wf.1, ap (does language test writes) (sym fe) ∙ wf.2)
+              | inl fe ↦ not (ap (location language test) (sym fe) ∙ wf.1, ap (operation_is language test writes) (sym fe) ∙ wf.2)
               | inr nf ↦ never f (old_writes f l wf nf)
             ]),
             is ∙ old_word l not,
@@ -526,7 +531,7 @@ module _ {S : Type 0} {language : Language S} {test : Test S} (ok : IsWellFormed
       ]
 
       -- nothing comes before its event
-      none_before : (a : MemoryEvent) → InSequence language test x a e → ⊥
+      none_before : (a : MemoryEvent) → ScOrder language test x a e → ⊥
       none_before a (inl po) = elim (same_event a e) [
         | inl same ↦ omega (arith, po.3, ap (λ (z : MemoryEvent). z.position) same)
         | inr differ ↦ omega (arith, po.3, ahead a (is_old a po.0 differ) po.2)
@@ -540,11 +545,7 @@ module _ {S : Type 0} {language : Language S} {test : Test S} (ok : IsWellFormed
           by_source None from = omega (arith, each e (rf_it a l differ from reading.1 (writing.1, writing.2)), co_first e refl)
 
       -- and the others are as they were
-      as_before : (a b : MemoryEvent)
-          → (a ≡ e → ⊥)
-          → (b ≡ e → ⊥)
-          → InSequence language test x a b
-          → InSequence language test y a b
+      as_before : (a b : MemoryEvent) → (a ≡ e → ⊥) → (b ≡ e → ⊥) → ScOrder language test x a b → ScOrder language test y a b
       as_before a b na nb (inl po) = inl (is_old a po.0 na, is_old b po.1 nb, po.2, po.3)
       as_before a b na nb (inr (inl (l, writing, reading, from))) =
           inr (inl (l, old_writes a l writing na, old_reads b l reading nb, by_source (y.rf b) refl))
@@ -568,9 +569,9 @@ module _ {S : Type 0} {language : Language S} {test : Test S} (ok : IsWellFormed
             omega (arith, each v (rf_some a v na from), co_other v (differs v is.0.0), co_other b nb)),
       )))
 
-      goes_up : (a b : MemoryEvent) → InSequence language test x a b → rank a < rank b
+      goes_up : (a b : MemoryEvent) → ScOrder language test x a b → rank a < rank b
       goes_up a b r = elim (same_event b e) [
-        | inl be ↦ absurd (none_before a (subst (InSequence language test x a) be r))
+        | inl be ↦ absurd (none_before a (subst (ScOrder language test x a) be r))
         | inr nb ↦ elim (same_event a e) [
           | inl ae ↦ omega (arith, number_first a ae, number_other b nb)
           | inr na ↦ omega (arith, number_other a na, number_other b nb, later.up a b (as_before a b na nb r))
@@ -580,7 +581,7 @@ module _ {S : Type 0} {language : Language S} {test : Test S} (ok : IsWellFormed
       with_first : IsLater s o
       with_first = record {
         x = x;
-        many = length-set y.paths t (j ∷ code_of y.paths t) ∙ later.many;
+        many = length-set y.paths t (j ∷ thread_code y.paths t) ∙ later.many;
         threads = threads_go;
         rf = reads_from;
         co = co_apart;
@@ -592,7 +593,7 @@ module _ {S : Type 0} {language : Language S} {test : Test S} (ok : IsWellFormed
   -- ---- the whole run
 
   later_of : (order : List ℕ) (s end : Interleaved)
-      → Ran language test.threads order s end
+      → InterleavedRunsTo language test.threads order s end
       → IsEnd language test.threads end
       → IsGood s
       → IsLater s (outcome_of end) × IsGood end
@@ -611,13 +612,13 @@ module _ {S : Type 0} {language : Language S} {test : Test S} (ok : IsWellFormed
     many = length-map test.head.init_regs first_state ∙ (ok.head.regs ∙ sym ok.as_many);
     size = ok.head.words;
     within = λ t th at.
-        (let g = got_map first_state test.head.init_regs t th at in omega (arith, ap (λ (z : ThreadState). z.position) g.2));
+        (let g = get-map first_state test.head.init_regs t th at in omega (arith, ap (λ (z : ThreadState). z.position) g.2));
     six = λ t th at.
-        (let g = got_map first_state test.head.init_regs t th at in
+        (let g = get-map first_state test.head.init_regs t th at in
         ap (λ (z : ThreadState). length z.regs) g.2 ∙ rows_in test.head.init_regs t g.0 ok.head.six g.1);
   }
 
-  of_its_test : (s : Interleaved) → IsGood s → IsOutcomeOf (length test.threads) (length test.head.locs) (outcome_of s)
+  of_its_test : (s : Interleaved) → IsGood s → HasOutcomeShape (length test.threads) (length test.head.locs) (outcome_of s)
   of_its_test s good = record {
     regs_of = length-map s.threads (λ (th : ThreadState). th.regs) ∙ good.many;
     six = all_rows s.threads good.six;
@@ -625,7 +626,7 @@ module _ {S : Type 0} {language : Language S} {test : Test S} (ok : IsWellFormed
   }
 
   -- an outcome of a run by interleaving is one of a sequentially consistent execution
-  pub sequential_outcome : (o : Final) → InterleavingOutcome language test o → IsSequentialOutcome language test o
+  pub sequential_outcome : (o : FinalState) → InterleavingOutcome language test o → IsScOutcome language test o
   sequential_outcome o (order, run) =
       let both = later_of order (start language test) run.end run.ran run.final good_start in
       let later : IsLater (start language test) o = subst (IsLater (start language test)) (sym run.is) both.0 in
@@ -635,19 +636,21 @@ module _ {S : Type 0} {language : Language S} {test : Test S} (ok : IsWellFormed
           as_many = later.many;
           threads = λ t l.
               (let g = get_some (start language test).threads t (omega (arith, l, good_start.many)) in
-              let from = got_map first_state test.head.init_regs t g.0 g.1 in
+              let from = get-map first_state test.head.init_regs t g.0 g.1 in
               let regs : slice_index_or test.head.init_regs t [] ≡ from.0 =
               get_or_from_slice_get test.head.init_regs t from.0 [] from.1 in
               let goes = later.threads t g.0 g.1 in (
                 goes.0,
-                subst (λ (z : ThreadState). Goes language later.x t (code_of test.threads t) (code_of later.x.paths t) z goes.0)
+                subst (λ (z : ThreadState).
+                    ThreadExecutes language later.x t (thread_code test.threads t) (thread_code later.x.paths t) z goes.0)
                     (from.2 ∙ ap first_state (sym regs)) goes.1,
                 goes.2,
               ));
           rf = later.rf;
           co = later.co;
           words = λ l lt. later.words l;
-          of_test = subst (IsOutcomeOf (length test.threads) (length test.head.locs)) (sym run.is) (of_its_test run.end both.1);
+          of_test =
+              subst (HasOutcomeShape (length test.threads) (length test.head.locs)) (sym run.is) (of_its_test run.end both.1);
         };
         sequential = (later.rank, later.up);
       }

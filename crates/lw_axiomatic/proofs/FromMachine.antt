@@ -9,18 +9,21 @@ use Rattle.lw_axiomatic.proofs.Common.{option_map_or, cases_Bool, cases_lt, case
 use Rattle.lw_axiomatic.proofs.Common.{and_from, and_parts, or_cases, or_left, or_right, lt-ltb, ltb-true}
 use Rattle.lw_axiomatic.proofs.Common.{nat_tests, length-map, length-set, none-some, same_Some}
 use Rattle.lw_axiomatic.proofs.Common.{slice_get_within, get_or_from_slice_get, slice_get-get_or}
-use Rattle.lw_axiomatic.proofs.Common.{slice_get-map, IsOutcomeOf, code_of, got_set_same, got_set_other}
-use Rattle.lw_axiomatic.proofs.Common.{get_some, cut_at, got_map, zip_passes, is_one, Instr, Operation}
-use Rattle.lw_axiomatic.proofs.Common.{writes, location_of, Leads, x86, x86_operation, Follows, ProgramTest}
-use Rattle.lw_axiomatic.proofs.Common.{flat, index_in, IsOrder, order_split, Item, follows_within}
-use Rattle.lw_axiomatic.proofs.Common.{Contains-map, from_map, Contains-here, Contains-there, Contains-cons}
-use Rattle.lw_axiomatic.proofs.Common.{none_in, In, item, slot_less, IsReal, real, GoesUp, goes_up_in}
-use Rattle.lw_axiomatic.proofs.Common.{path_up, MachineState, Processor, starting, machine_start}
-use Rattle.lw_axiomatic.proofs.Common.{machine_outcome, is_final, is_done, ItemsRan, CarriedOut, system_of}
-use Rattle.lw_axiomatic.proofs.Common.{Carried, carried, hold_first, waiting_first, ThreadState, first_state}
-use Rattle.lw_axiomatic.proofs.Common.{state_after, word_written, MemoryEvent, Execution, reads, does}
-use Rattle.lw_axiomatic.proofs.Common.{location, operation_at, IsEvent, Reads, Writes, Goes, IsReadFrom}
-use Rattle.lw_axiomatic.proofs.Common.{IsLast, IsCandidate, IsBefore, IsNewest, IsTimed}
+use Rattle.lw_axiomatic.proofs.Common.{slice_get-map, HasOutcomeShape, thread_code, get-set_same}
+use Rattle.lw_axiomatic.proofs.Common.{get-set_other, get_some, cut_at, get-map, zip_passes, is_same_location}
+use Rattle.lw_axiomatic.proofs.Common.{Instr, Operation, writes, location_of, IsSuccessor, x86_language}
+use Rattle.lw_axiomatic.proofs.Common.{x86_operation, IsFlowSuccessor, X86Test, flat_memory, index_in}
+use Rattle.lw_axiomatic.proofs.Common.{IsOrder, order_split, Item, follows_within, Contains-map, from_map}
+use Rattle.lw_axiomatic.proofs.Common.{Contains-head, Contains-tail, Contains-cons, not-Contains-nil}
+use Rattle.lw_axiomatic.proofs.Common.{IsMember, item, slot_less, IsItemOnPath, IsItemOnPath-of_member}
+use Rattle.lw_axiomatic.proofs.Common.{IsAscendingFrom, IsAscendingFrom-lower_bound, path_up, MachineState}
+use Rattle.lw_axiomatic.proofs.Common.{Processor, initial_processor, initial_machine_state, machine_outcome}
+use Rattle.lw_axiomatic.proofs.Common.{is_final, has_terminated, ItemsRunTo, X86ItemTransition}
+use Rattle.lw_axiomatic.proofs.Common.{x86_item_system, ItemStep, carried, hold_first, waiting_first}
+use Rattle.lw_axiomatic.proofs.Common.{ThreadState, first_state, state_after, word_written, MemoryEvent}
+use Rattle.lw_axiomatic.proofs.Common.{Execution, reads, operation_is, location, operation_at, IsEvent, Reads}
+use Rattle.lw_axiomatic.proofs.Common.{Writes, ThreadExecutes, IsReadFrom, IsLast, IsCandidate, IsBefore}
+use Rattle.lw_axiomatic.proofs.Common.{IsNewest, HasConsistentTimes}
 use Rattle.lw_axiomatic.proofs.StepCases.{StepCase, thread_of, seen, word_for, reads_seen}
 use Rattle.lw_axiomatic.proofs.Paths.{state_leads}
 use Rattle.lw_axiomatic.proofs.Indices.{KeptOrder, items, it, turn, turn_is, step_of, point_of, event_of_item}
@@ -52,14 +55,14 @@ module _ (time : MemoryEvent → ℕ) (test : MemoryEvent → Bool) where
   IsTopOf es (Some v) = IsTop es v
 
   newest_is : (es : List MemoryEvent) → IsTopOf es (newest_in es)
-  newest_is [] = λ w c e. none_in w c
+  newest_is [] = λ w c e. not-Contains-nil w c
   newest_is (e ∷ es) = by_rest (newest_in es) (newest_is es)
     where
       by_rest : (q : Option MemoryEvent) → IsTopOf es q → IsTopOf (e ∷ es) (if test e && is_newer e q then Some e else q)
       by_rest None none = elim (cases_Bool (test e)) [
         | inl f ↦
             subst (IsTopOf (e ∷ es)) (sym (cond-true (test e && true) (Some e) None (and_from (test e) true f refl))) (record {
-              among = Contains-here e e es refl;
+              among = Contains-head e e es refl;
               passes = f;
               most =
                   λ w c g. elim (Contains-cons e w es c) [ inl same ↦ omega (arith, ap time same) | inr r ↦ absurd (none w r g) ];
@@ -78,7 +81,7 @@ module _ (time : MemoryEvent → ℕ) (test : MemoryEvent → Bool) where
             (let both = and_parts (test e) (nat_lt (time v) (time e)) f in
             let less : time v < time e = ltb-true (time v) (time e) both.1 in
             subst (IsTopOf (e ∷ es)) (sym (cond-true (test e && nat_lt (time v) (time e)) (Some e) (Some v) f)) (record {
-              among = Contains-here e e es refl;
+              among = Contains-head e e es refl;
               passes = both.0;
               most = λ w c g. elim (Contains-cons e w es c) [
                 | inl same ↦ omega (arith, ap time same)
@@ -86,7 +89,7 @@ module _ (time : MemoryEvent → ℕ) (test : MemoryEvent → Bool) where
               ];
             }))
         | inr f ↦ subst (IsTopOf (e ∷ es)) (sym (cond-false (test e && nat_lt (time v) (time e)) (Some e) (Some v) f)) (record {
-          among = Contains-there e v es top.among;
+          among = Contains-tail e v es top.among;
           passes = top.passes;
           most = λ w c g. elim (Contains-cons e w es c) [
             | inl same ↦ elim (cases_lt (time v) (time e)) [
@@ -113,7 +116,7 @@ index_get (x ∷ xs) i l = elim (cases_eq x i) [
       ap (slice_get (x ∷ xs)) there ∙ index_get xs i (omega (arith, l, there)))
 ]
 
-module _ {test : ProgramTest} {paths : List (List ℕ)} (given : KeptOrder test paths) (end : MachineState (List ℕ)) where
+module _ {test : X86Test} {paths : List (List ℕ)} (given : KeptOrder test paths) (end : MachineState (List ℕ)) where
   abbrev event : ℕ → ℕ → MemoryEvent
   event t j = record { thread = t; position = j }
 
@@ -130,7 +133,7 @@ module _ {test : ProgramTest} {paths : List (List ℕ)} (given : KeptOrder test 
   reachedP = reached given
 
   abbrev Ran : List Item → MachineState (List ℕ) → MachineState (List ℕ) → Type 0
-  Ran = ItemsRan (system_of flat test test.head.init_words)
+  Ran = ItemsRunTo (x86_item_system flat_memory test test.head.init_words)
 
   -- ---- the states of a run
 
@@ -151,16 +154,17 @@ module _ {test : ProgramTest} {paths : List (List ℕ)} (given : KeptOrder test 
 
   carried_at : (done_items : List Item) (s e : MachineState (List ℕ)) (ran : Ran done_items s e) (k : ℕ) (a : Item)
       → slice_get done_items k ≡ Some a
-      → CarriedOut flat test.threads a (states_of done_items s e ran k) (states_of done_items s e ran (suc k))
+      → X86ItemTransition flat_memory test.threads a (states_of done_items s e ran k) (states_of done_items s e ran (suc k))
   carried_at [] s e ran k a got = absurd (none-some a got)
   carried_at (b ∷ done_items) s e ran zero a got =
-      subst (λ (z : Item). CarriedOut flat test.threads z s (states_of done_items ran.0 e ran.2 0)) (same_Some b a got)
-      (subst (CarriedOut flat test.threads b s) (sym (first_state_is done_items ran.0 e ran.2)) ran.1)
+      subst (λ (z : Item). X86ItemTransition flat_memory test.threads z s (states_of done_items ran.0 e ran.2 0))
+      (same_Some b a got)
+      (subst (X86ItemTransition flat_memory test.threads b s) (sym (first_state_is done_items ran.0 e ran.2)) ran.1)
   carried_at (b ∷ done_items) s e ran (suc k) a got = carried_at done_items ran.0 e ran.2 k a got
 
-  module _ (ran : Ran (map at given.order) (machine_start test test.head.init_words) end) where
+  module _ (ran : Ran (map at given.order) (initial_machine_state test test.head.init_words) end) where
     abbrev S : ℕ → MachineState (List ℕ)
-    S = states_of (map at given.order) (machine_start test test.head.init_words) end ran
+    S = states_of (map at given.order) (initial_machine_state test test.head.init_words) end ran
 
     -- ---- the execution
 
@@ -177,15 +181,16 @@ module _ {test : ProgramTest} {paths : List (List ℕ)} (given : KeptOrder test 
 
     abbrev is_source : MemoryEvent → MemoryEvent → Bool
     is_source r w =
-        does x86 test writes w
-        && (is_one (location x86 test w) (location x86 test r)
+        operation_is x86_language test writes w
+        && (is_same_location (location x86_language test w) (location x86_language test r)
         && (nat_lt (reachedP w) (doneP r) || ((w.thread == r.thread) && nat_lt w.position r.position)))
 
     abbrev pub x : Execution
     x = record {
       paths = paths;
-      read = λ e. read_of (operation_at x86 test e) (slice_get (S (doneP e)).processors e.thread) (S (doneP e)).memory;
-      written = λ e. written_of (operation_at x86 test e) (slice_get (S (doneP e)).processors e.thread) (S (doneP e)).memory;
+      read = λ e. read_of (operation_at x86_language test e) (slice_get (S (doneP e)).processors e.thread) (S (doneP e)).memory;
+      written =
+          λ e. written_of (operation_at x86_language test e) (slice_get (S (doneP e)).processors e.thread) (S (doneP e)).memory;
       rf = λ r. newest_in reachedP (is_source r) events;
       co = reachedP;
     }
@@ -199,37 +204,40 @@ module _ {test : ProgramTest} {paths : List (List ℕ)} (given : KeptOrder test 
     from_events : (w : MemoryEvent) → Contains events w → IsEvent x w
     from_events w c =
         let m = from_map (λ (a : Item). event a.thread a.position) its w c in
-        let re : IsReal x86 test.threads paths m.0 = places.real_of given m.0 m.1 in
-        subst (λ (z : MemoryEvent). Contains (code_of paths z.thread) z.position) m.2
-        (from_list (code_of paths m.0.thread) m.0.position re.on)
+        let re : IsItemOnPath x86_language test.threads paths m.0 = places.real_of given m.0 m.1 in
+        subst (λ (z : MemoryEvent). Contains (thread_code paths z.thread) z.position) m.2
+        (from_list (thread_code paths m.0.thread) m.0.position re.on)
 
-    is_one_same : (a b : Option ℕ) (l : ℕ) → b ≡ Some l → is_one a b ≡ true → a ≡ Some l
+    is_one_same : (a b : Option ℕ) (l : ℕ) → b ≡ Some l → is_same_location a b ≡ true → a ≡ Some l
     is_one_same None b l e f = absurd (true≢false (sym f))
     is_one_same (Some a) None l e f = absurd (none-some l e)
     is_one_same (Some a) (Some b) l e f = ap Some (eqb-true a b f ∙ same_Some b l e)
 
-    same_is_one : (a b : Option ℕ) (l : ℕ) → a ≡ Some l → b ≡ Some l → is_one a b ≡ true
+    same_is_one : (a b : Option ℕ) (l : ℕ) → a ≡ Some l → b ≡ Some l → is_same_location a b ≡ true
     same_is_one None b l e f = absurd (none-some l e)
     same_is_one (Some a) None l e f = absurd (none-some l f)
     same_is_one (Some a) (Some b) l e f = eq-eqb a b (same_Some a l e ∙ sym (same_Some b l f))
 
-    module _ (r : MemoryEvent) (l : ℕ) (reading : Reads x86 test x r l) where
-      to_source : (w : MemoryEvent) → Writes x86 test x w l → IsBefore x doneP reachedP w r → is_source r w ≡ true
+    module _ (r : MemoryEvent) (l : ℕ) (reading : Reads x86_language test x r l) where
+      to_source : (w : MemoryEvent) → Writes x86_language test x w l → IsBefore x doneP reachedP w r → is_source r w ≡ true
       to_source w writing before =
-          and_from (does x86 test writes w) _ writing.2
-          (and_from (is_one (location x86 test w) (location x86 test r)) _
-          (same_is_one (location x86 test w) (location x86 test r) l writing.1 reading.1) (elim before [
+          and_from (operation_is x86_language test writes w) _ writing.2
+          (and_from (is_same_location (location x86_language test w) (location x86_language test r)) _
+          (same_is_one (location x86_language test w) (location x86_language test r) l writing.1 reading.1) (elim before [
             | inl early ↦ or_left (nat_lt (reachedP w) (doneP r)) _ (lt-ltb (reachedP w) (doneP r) early)
             | inr po ↦
                 or_right (nat_lt (reachedP w) (doneP r)) _
                 (and_from (w.thread == r.thread) _ (eq-eqb w.thread r.thread po.2) (lt-ltb w.position r.position po.3))
           ]))
 
-      from_source : (w : MemoryEvent) → IsEvent x w → is_source r w ≡ true → Writes x86 test x w l × IsBefore x doneP reachedP w r
+      from_source : (w : MemoryEvent)
+          → IsEvent x w
+          → is_source r w ≡ true
+          → Writes x86_language test x w l × IsBefore x doneP reachedP w r
       from_source w there f =
-          let a = and_parts (does x86 test writes w) _ f in
-          let b = and_parts (is_one (location x86 test w) (location x86 test r)) _ a.1 in (
-            (there, is_one_same (location x86 test w) (location x86 test r) l reading.1 b.0, a.0),
+          let a = and_parts (operation_is x86_language test writes w) _ f in
+          let b = and_parts (is_same_location (location x86_language test w) (location x86_language test r)) _ a.1 in (
+            (there, is_one_same (location x86_language test w) (location x86_language test r) l reading.1 b.0, a.0),
             elim (or_cases (nat_lt (reachedP w) (doneP r)) _ b.1) [
               | inl early ↦ inl (ltb-true (reachedP w) (doneP r) early)
               | inr own ↦
@@ -247,7 +255,7 @@ module _ {test : ProgramTest} {paths : List (List ℕ)} (given : KeptOrder test 
       pub newest : IsNewest test x doneP reachedP r l (x.rf r)
       newest = newest_of (x.rf r) (newest_is reachedP (is_source r) events)
 
-    pub timed : IsTimed test x doneP reachedP
+    pub timed : HasConsistentTimes test x doneP reachedP
     timed = record {
       po = places.po_up given x refl;
       later = places.later given x refl;
@@ -266,7 +274,7 @@ module _ {test : ProgramTest} {paths : List (List ℕ)} (given : KeptOrder test 
     -- the item that has its turn at an index
     record TurnAt (k : ℕ) : Type 0 where
       now_at : Turn x given k
-      out : CarriedOut flat test.threads (at now_at.index) (S k) (S (suc k))
+      out : X86ItemTransition flat_memory test.threads (at now_at.index) (S k) (S (suc k))
 
     turn_at : (k i : ℕ) → slice_get given.order k ≡ Some i → TurnAt k
     turn_at k i got =
@@ -279,7 +287,7 @@ module _ {test : ProgramTest} {paths : List (List ℕ)} (given : KeptOrder test 
         record {
           now_at = record { index = i; below = split.0; index_is = index_i };
           out =
-              carried_at (map at given.order) (machine_start test test.head.init_words) end ran k (at i)
+              carried_at (map at given.order) (initial_machine_state test test.head.init_words) end ran k (at i)
               (slice_get-map at given.order k ∙ ap (option_map at) got);
         }
 
@@ -294,10 +302,10 @@ module _ {test : ProgramTest} {paths : List (List ℕ)} (given : KeptOrder test 
       abbrev j : ℕ
       j = (at ta.now_at.index).position
 
-      abbrev r : IsReal x86 test.threads paths (at ta.now_at.index)
-      r = real x86 test.threads paths ta.now_at.index ta.now_at.below
+      abbrev r : IsItemOnPath x86_language test.threads paths (at ta.now_at.index)
+      r = IsItemOnPath-of_member x86_language test.threads paths ta.now_at.index ta.now_at.below
 
-      abbrev c : Carried test.threads t j (at ta.now_at.index).is_drain (S k) (S (suc k))
+      abbrev c : ItemStep test.threads t j (at ta.now_at.index).is_drain (S k) (S (suc k))
       c = carried test.threads t j (at ta.now_at.index).is_drain (S k) (S (suc k)) ta.out
 
       item_turn : turn given (at ta.now_at.index) ≡ k
@@ -306,13 +314,13 @@ module _ {test : ProgramTest} {paths : List (List ℕ)} (given : KeptOrder test 
       done_now : (at ta.now_at.index).is_drain ≡ false → doneP (event t j) ≡ k
       done_now f = ap (λ b. turn given (item t j b)) (sym f) ∙ item_turn
 
-      operation_there : operation_at x86 test (event t j) ≡ Some (x86_operation r.statement)
+      operation_there : operation_at x86_language test (event t j) ≡ Some (x86_operation r.statement)
       operation_there = ap (option_map x86_operation) r.at
 
       read_is : (at ta.now_at.index).is_drain ≡ false
           → x.read (event t j) ≡ word_for (x86_operation r.statement) c.old.buffer (S k).memory
       read_is f =
-          ap (λ n. read_of (operation_at x86 test (event t j)) (slice_get (S n).processors t) (S n).memory) (done_now f)
+          ap (λ n. read_of (operation_at x86_language test (event t j)) (slice_get (S n).processors t) (S n).memory) (done_now f)
           ∙ (ap (λ q. read_of q (slice_get (S k).processors t) (S k).memory) operation_there
           ∙ ap (λ q. read_of (Some (x86_operation r.statement)) q (S k).memory) c.was)
 
@@ -320,14 +328,15 @@ module _ {test : ProgramTest} {paths : List (List ℕ)} (given : KeptOrder test 
           → x.written (event t j)
           ≡ word_written (x86_operation r.statement) c.old.regs (word_for (x86_operation r.statement) c.old.buffer (S k).memory)
       written_is f =
-          ap (λ n. written_of (operation_at x86 test (event t j)) (slice_get (S n).processors t) (S n).memory) (done_now f)
+          ap (λ n. written_of (operation_at x86_language test (event t j)) (slice_get (S n).processors t) (S n).memory)
+          (done_now f)
           ∙ (ap (λ q. written_of q (slice_get (S k).processors t) (S k).memory) operation_there
           ∙ ap (λ q. written_of (Some (x86_operation r.statement)) q (S k).memory) c.was)
 
-    initial_empty : (t : ℕ) (p : Processor) → slice_get (map starting test.head.init_regs) t ≡ Some p → p.buffer ≡ []
-    initial_empty t p got = ap (λ (q : Processor). q.buffer) (got_map starting test.head.init_regs t p got).2
+    initial_empty : (t : ℕ) (p : Processor) → slice_get (map initial_processor test.head.init_regs) t ≡ Some p → p.buffer ≡ []
+    initial_empty t p got = ap (λ (q : Processor). q.buffer) (get-map initial_processor test.head.init_regs t p got).2
 
-    inv_start : IsInv 0 (λ t. []) (machine_start test test.head.init_words)
+    inv_start : IsInv 0 (λ t. []) (initial_machine_state test test.head.init_words)
     inv_start = record {
       waiting = waiting_first test.threads (forward given) paths given.choice given.order;
       hold = hold_first test test.head.init_words;
@@ -339,8 +348,8 @@ module _ {test : ProgramTest} {paths : List (List ℕ)} (given : KeptOrder test 
     holds : (k : ℕ) → k ≤ length given.order → (W : ℕ → List ℕ) × IsInv k W (S k)
     holds zero le = (
       (λ t. []),
-      subst (IsInv 0 (λ t. [])) (sym (first_state_is (map at given.order) (machine_start test test.head.init_words) end ran))
-          inv_start,
+      subst (IsInv 0 (λ t. []))
+          (sym (first_state_is (map at given.order) (initial_machine_state test test.head.init_words) end ran)) inv_start,
     )
     holds (suc k) le =
         let before = holds k (omega (arith, le)) in
@@ -349,7 +358,7 @@ module _ {test : ProgramTest} {paths : List (List ℕ)} (given : KeptOrder test 
 
     -- ---- reads
 
-    reads_from : (e : MemoryEvent) (l : ℕ) → Reads x86 test x e l → IsReadFrom x86 test x e l (x.rf e)
+    reads_from : (e : MemoryEvent) (l : ℕ) → Reads x86_language test x e l → IsReadFrom x86_language test x e l (x.rf e)
     reads_from e l reading =
         let p : Placed given (step_of given e) = step_placed given e reading.0 in
         let k_low : index_in given.order p.index < length given.order =
@@ -358,7 +367,7 @@ module _ {test : ProgramTest} {paths : List (List ℕ)} (given : KeptOrder test 
       where
         by_item : (p : Placed given (step_of given e)) (ta : TurnAt (index_in given.order p.index))
             → index_in given.order p.index < length given.order
-            → IsReadFrom x86 test x e l (x.rf e)
+            → IsReadFrom x86_language test x e l (x.rf e)
         by_item p ta low =
             let one : ta.now_at.index ≡ p.index =
             places.same_number_at given ta.now_at.index p.index ta.now_at.below p.below ta.now_at.index_is in
@@ -369,8 +378,8 @@ module _ {test : ProgramTest} {paths : List (List ℕ)} (given : KeptOrder test 
             let k = index_in given.order p.index in
             let inv = holds (index_in given.order p.index) (omega (arith, low)) in
             let now = c (index_in given.order p.index) ta in
-            let reading_ta : Reads x86 test x (event (at ta.now_at.index).thread (at ta.now_at.index).position) l =
-            subst (λ z. Reads x86 test x z l) (sym is_e) reading in
+            let reading_ta : Reads x86_language test x (event (at ta.now_at.index).thread (at ta.now_at.index).position) l =
+            subst (λ z. Reads x86_language test x z l) (sym is_e) reading in
             let op_reads : reads (x86_operation (r (index_in given.order p.index) ta).statement) ≡ true =
             sym (ap (λ q. option_map_or reads q false) (operation_there (index_in given.order p.index) ta)) ∙ reading_ta.2 in
             let w =
@@ -399,7 +408,7 @@ module _ {test : ProgramTest} {paths : List (List ℕ)} (given : KeptOrder test 
             word_from : (q : Option MemoryEvent)
                 → IsNewest test x doneP reachedP e l q
                 → x.read e ≡ source_word x given l q
-                → IsReadFrom x86 test x e l q
+                → IsReadFrom x86_language test x e l q
             word_from None new is = is
             word_from (Some v) new is = (new.0, is)
 
@@ -407,7 +416,7 @@ module _ {test : ProgramTest} {paths : List (List ℕ)} (given : KeptOrder test 
 
     -- where no step of a thread has its turn, the thread stays as it is
     one_still : (k t : ℕ) (ta : TurnAt k)
-        → ((j : ℕ) → Contains (code_of paths t) j → doneP (event t j) ≡ k → ⊥)
+        → ((j : ℕ) → Contains (thread_code paths t) j → doneP (event t j) ≡ k → ⊥)
         → (p q : Processor)
         → slice_get (S k).processors t ≡ Some p
         → slice_get (S (suc k)).processors t ≡ Some q
@@ -416,13 +425,13 @@ module _ {test : ProgramTest} {paths : List (List ℕ)} (given : KeptOrder test 
       | inr ne ↦
           (let same : slice_get (S (suc k)).processors t ≡ slice_get (S k).processors t =
           ap (λ (z : MachineState (List ℕ)). slice_get z.processors t) (c k ta).is
-          ∙ got_set_other (S k).processors (at ta.now_at.index).thread t (c k ta).new ne in
+          ∙ get-set_other (S k).processors (at ta.now_at.index).thread t (c k ta).new ne in
           ap thread_of (same_Some q p (sym at_q ∙ (same ∙ at_p))))
       | inl own ↦ elim (cases_Bool (at ta.now_at.index).is_drain) [
         | inr f ↦
-            absurd (let on : Contains (code_of paths t) (at ta.now_at.index).position =
-            subst (λ u. Contains (code_of paths u) (at ta.now_at.index).position) own
-            (from_list (code_of paths (at ta.now_at.index).thread) (at ta.now_at.index).position (r k ta).on) in
+            absurd (let on : Contains (thread_code paths t) (at ta.now_at.index).position =
+            subst (λ u. Contains (thread_code paths u) (at ta.now_at.index).position) own
+            (from_list (thread_code paths (at ta.now_at.index).thread) (at ta.now_at.index).position (r k ta).on) in
             none (at ta.now_at.index).position on
             (ap (λ u. doneP (event u (at ta.now_at.index).position)) (sym own) ∙ done_now k ta f))
         | inl f ↦
@@ -432,7 +441,7 @@ module _ {test : ProgramTest} {paths : List (List ℕ)} (given : KeptOrder test 
             let new_at : slice_get (S (suc k)).processors t ≡ Some (c k ta).new =
             subst (λ u. slice_get (S (suc k)).processors u ≡ Some (c k ta).new) own
             (ap (λ (z : MachineState (List ℕ)). slice_get z.processors (at ta.now_at.index).thread) (c k ta).is
-            ∙ got_set_same (S k).processors (at ta.now_at.index).thread (c k ta).new (c k ta).old (c k ta).was) in
+            ∙ get-set_same (S k).processors (at ta.now_at.index).thread (c k ta).new (c k ta).old (c k ta).was) in
             let new_is : (c k ta).new ≡ q = same_Some (c k ta).new q (sym new_at ∙ at_q) in
             ap thread_of (sym new_is) ∙ (ap thread_of d.is ∙ ap thread_of old_is))
       ]
@@ -442,8 +451,8 @@ module _ {test : ProgramTest} {paths : List (List ℕ)} (given : KeptOrder test 
     many : (k : ℕ) → k ≤ length given.order → length (S k).processors ≡ length test.threads
     many zero le =
         ap (λ (z : MachineState (List ℕ)). length z.processors)
-        (first_state_is (map at given.order) (machine_start test test.head.init_words) end ran)
-        ∙ (length-map test.head.init_regs starting ∙ (given.ok.head.regs ∙ sym given.ok.as_many))
+        (first_state_is (map at given.order) (initial_machine_state test test.head.init_words) end ran)
+        ∙ (length-map test.head.init_regs initial_processor ∙ (given.ok.head.regs ∙ sym given.ok.as_many))
     many (suc k) le =
         let ta : TurnAt k = at_index k (omega (arith, le)) in
         ap (λ (z : MachineState (List ℕ)). length z.processors) (c k ta).is
@@ -452,7 +461,7 @@ module _ {test : ProgramTest} {paths : List (List ℕ)} (given : KeptOrder test 
     all_still : (n k t : ℕ)
         → t < length test.threads
         → k + n ≤ length given.order
-        → ((j : ℕ) → Contains (code_of paths t) j → k ≤ doneP (event t j) → doneP (event t j) < k + n → ⊥)
+        → ((j : ℕ) → Contains (thread_code paths t) j → k ≤ doneP (event t j) → doneP (event t j) < k + n → ⊥)
         → (p q : Processor)
         → slice_get (S k).processors t ≡ Some p
         → slice_get (S (k + n)).processors t ≡ Some q
@@ -472,7 +481,7 @@ module _ {test : ProgramTest} {paths : List (List ℕ)} (given : KeptOrder test 
         → t < length test.threads
         → k ≤ m
         → m ≤ length given.order
-        → ((j : ℕ) → Contains (code_of paths t) j → k ≤ doneP (event t j) → doneP (event t j) < m → ⊥)
+        → ((j : ℕ) → Contains (thread_code paths t) j → k ≤ doneP (event t j) → doneP (event t j) < m → ⊥)
         → (p q : Processor)
         → slice_get (S k).processors t ≡ Some p
         → slice_get (S m).processors t ≡ Some q
@@ -484,9 +493,9 @@ module _ {test : ProgramTest} {paths : List (List ℕ)} (given : KeptOrder test 
 
     module _ (t : ℕ) (in_test : t < length test.threads) (last : Processor)
         (last_at : slice_get (S (length given.order)).processors t ≡ Some last)
-        (past : length (code_of test.threads t) ≤ last.position) where
+        (past : length (thread_code test.threads t) ≤ last.position) where
       abbrev code : List Instr
-      code = code_of test.threads t
+      code = thread_code test.threads t
 
       -- a step of the thread that has its turn
       module _ (j m : ℕ) (ta : TurnAt m) (this : at ta.now_at.index ≡ item t j false) where
@@ -500,7 +509,7 @@ module _ {test : ProgramTest} {paths : List (List ℕ)} (given : KeptOrder test 
         position_at = ap (λ (a : Item). a.position) this
 
         instr_at : slice_get code j ≡ Some (r m ta).statement
-        instr_at = ap₂ (λ u h. slice_get (code_of test.threads u) h) (sym thread_is) (sym position_at) ∙ (r m ta).at
+        instr_at = ap₂ (λ u h. slice_get (thread_code test.threads u) h) (sym thread_is) (sym position_at) ∙ (r m ta).at
 
         old_at : slice_get (S m).processors t ≡ Some (c m ta).old
         old_at = ap (slice_get (S m).processors) (sym thread_is) ∙ (c m ta).was
@@ -509,7 +518,7 @@ module _ {test : ProgramTest} {paths : List (List ℕ)} (given : KeptOrder test 
         new_at =
             ap (slice_get (S (suc m)).processors) (sym thread_is)
             ∙ (ap (λ (z : MachineState (List ℕ)). slice_get z.processors (at ta.now_at.index).thread) (c m ta).is
-            ∙ got_set_same (S m).processors (at ta.now_at.index).thread (c m ta).new (c m ta).old (c m ta).was)
+            ∙ get-set_same (S m).processors (at ta.now_at.index).thread (c m ta).new (c m ta).old (c m ta).was)
 
         event_is : event (at ta.now_at.index).thread (at ta.now_at.index).position ≡ event t j
         event_is = ap₂ event thread_is position_at
@@ -536,13 +545,13 @@ module _ {test : ProgramTest} {paths : List (List ℕ)} (given : KeptOrder test 
 
           new_within : (c m ta).new.position ≤ length code
           new_within =
-              let leads : Leads (x86_operation (r m ta).statement) (thread_of p).position (c m ta).new.position =
-              subst (λ (z : ThreadState). Leads (x86_operation (r m ta).statement) (thread_of p).position z.position)
+              let leads : IsSuccessor (x86_operation (r m ta).statement) (thread_of p).position (c m ta).new.position =
+              subst (λ (z : ThreadState). IsSuccessor (x86_operation (r m ta).statement) (thread_of p).position z.position)
               (sym state_is) (state_leads (x86_operation (r m ta).statement) (thread_of p) (x.read (event t j))) in
-              let follows : Follows x86 (slice_get code j) j (c m ta).new.position =
-              subst (λ (o : Option Instr). Follows x86 o j (c m ta).new.position) (sym instr_at)
-              (subst (λ h. Leads (x86_operation (r m ta).statement) h (c m ta).new.position) position_is leads) in
-              (follows_within x86 code j (c m ta).new.position (forward given t) follows).1
+              let follows : IsFlowSuccessor x86_language (slice_get code j) j (c m ta).new.position =
+              subst (λ (o : Option Instr). IsFlowSuccessor x86_language o j (c m ta).new.position) (sym instr_at)
+              (subst (λ h. IsSuccessor (x86_operation (r m ta).statement) h (c m ta).new.position) position_is leads) in
+              (follows_within x86_language code j (c m ta).new.position (forward given t) follows).1
 
       -- the rest of its path leads on from a state
       abbrev GoesFrom : List ℕ → Type 0
@@ -551,10 +560,10 @@ module _ {test : ProgramTest} {paths : List (List ℕ)} (given : KeptOrder test 
           → k ≤ length given.order
           → slice_get (S k).processors t ≡ Some p
           → p.position ≤ length code
-          → GoesUp low rest
-          → ((j : ℕ) → In j rest → (k ≤ doneP (event t j)) × Contains (code_of paths t) j)
-          → ((j : ℕ) → Contains (code_of paths t) j → k ≤ doneP (event t j) → In j rest)
-          → Goes x86 x t code rest (thread_of p) (thread_of last)
+          → IsAscendingFrom low rest
+          → ((j : ℕ) → IsMember j rest → (k ≤ doneP (event t j)) × Contains (thread_code paths t) j)
+          → ((j : ℕ) → Contains (thread_code paths t) j → k ≤ doneP (event t j) → IsMember j rest)
+          → ThreadExecutes x86_language x t code rest (thread_of p) (thread_of last)
 
       goes : (rest : List ℕ) → GoesFrom rest
       goes [] k low p le at_p within up later all =
@@ -567,18 +576,19 @@ module _ {test : ProgramTest} {paths : List (List ℕ)} (given : KeptOrder test 
           by_turn (λ k low p. goes rest k low p) placed.index placed.below placed.is placed.index_is
         where
           -- the steps behind it have their turns later
-          behind : (h : ℕ) → In h rest → doneP (event t j) < doneP (event t h)
+          behind : (h : ℕ) → IsMember h rest → doneP (event t j) < doneP (event t h)
           behind h there =
               in_order given (item t j false) (item t h false) (step_placed given (event t j) (later j (inl refl)).1)
               (step_placed given (event t h) (later h (inr there)).1) refl
-              (slot_less false false j h (goes_up_in (suc j) h rest up.1 there)) (λ d. absurd (true≢false (sym d)))
+              (slot_less false false j h (IsAscendingFrom-lower_bound (suc j) h rest up.1 there))
+              (λ d. absurd (true≢false (sym d)))
 
           by_turn : GoesFrom rest
               → (i : ℕ)
               → i < length its
               → at i ≡ item t j false
               → doneP (event t j) ≡ index_in given.order i
-              → Goes x86 x t code (j ∷ rest) (thread_of p) (thread_of last)
+              → ThreadExecutes x86_language x t code (j ∷ rest) (thread_of p) (thread_of last)
           by_turn further i lt is turn_is_i =
               let m : ℕ = index_in given.order i in
               let low_m : index_in given.order i < length given.order = omega (arith, given.keeps.0.1 i lt, given.keeps.0.0) in
@@ -603,8 +613,8 @@ module _ {test : ProgramTest} {paths : List (List ℕ)} (given : KeptOrder test 
                 (r (index_in given.order i) ta).statement,
                 instr_at j (index_in given.order i) ta this,
                 (λ w. written_word j (index_in given.order i) ta this p unmoved),
-                subst (λ z. Goes x86 x t code rest z (thread_of last)) (state_is j (index_in given.order i) ta this p unmoved)
-                    rest_goes,
+                subst (λ z. ThreadExecutes x86_language x t code rest z (thread_of last))
+                    (state_is j (index_in given.order i) ta this p unmoved) rest_goes,
               )
 
     -- ---- so it is an execution with the outcome of its end
@@ -612,38 +622,42 @@ module _ {test : ProgramTest} {paths : List (List ℕ)} (given : KeptOrder test 
     at_end : S (length given.order) ≡ end
     at_end =
         ap S (sym (length-map given.order at))
-        ∙ last_state_is (map at given.order) (machine_start test test.head.init_words) end ran
+        ∙ last_state_is (map at given.order) (initial_machine_state test test.head.init_words) end ran
 
     module _ (final : IsTrue (is_final test.threads end))
-        (of_test : IsOutcomeOf test.head.threads (length test.head.locs) (machine_outcome flat end)) where
+        (of_test : HasOutcomeShape test.head.threads (length test.head.locs) (machine_outcome flat_memory end)) where
       thread_goes : (t : ℕ)
           → t < length test.threads
           → (last : ThreadState)
-          × Goes x86 x t (code_of test.threads t) (code_of paths t) (first_state (slice_index_or test.head.init_regs t [])) last
-          × (slice_index_or (machine_outcome flat end).regs t [] ≡ last.regs)
+          × ThreadExecutes x86_language x t (thread_code test.threads t) (thread_code paths t)
+          (first_state (slice_index_or test.head.init_regs t [])) last
+          × (slice_index_or (machine_outcome flat_memory end).regs t [] ≡ last.regs)
       thread_goes t lt =
           let p = get_some (S 0).processors t (omega (arith, lt, many 0 (omega arith))) in
           let q = get_some (S (length given.order)).processors t (omega (arith, lt, many (length given.order) (omega arith))) in
-          let at_start : slice_get (map starting test.head.init_regs) t ≡ Some p.0 =
+          let at_start : slice_get (map initial_processor test.head.init_regs) t ≡ Some p.0 =
           ap (λ (z : MachineState (List ℕ)). slice_get z.processors t)
-          (sym (first_state_is (map at given.order) (machine_start test test.head.init_words) end ran))
+          (sym (first_state_is (map at given.order) (initial_machine_state test test.head.init_words) end ran))
           ∙ p.1 in
-          let g = got_map starting test.head.init_regs t p.0 at_start in
+          let g = get-map initial_processor test.head.init_regs t p.0 at_start in
           let regs : slice_index_or test.head.init_regs t [] ≡ g.0 = get_or_from_slice_get test.head.init_regs t g.0 [] g.1 in
           let first : thread_of p.0 ≡ first_state (slice_index_or test.head.init_regs t []) =
           ap thread_of g.2 ∙ ap first_state (sym regs) in
           let end_q : slice_get end.processors t ≡ Some q.0 =
           ap (λ (z : MachineState (List ℕ)). slice_get z.processors t) (sym at_end) ∙ q.1 in
-          let code_at : slice_get test.threads t ≡ Some (code_of test.threads t) = slice_get-get_or test.threads t [] lt in
+          let code_at : slice_get test.threads t ≡ Some (thread_code test.threads t) = slice_get-get_or test.threads t [] lt in
           let done_q =
-          and_parts (nat_le (length (code_of test.threads t)) q.0.position) (length q.0.buffer == 0)
-          (zip_passes (λ p. is_done p.0 p.1) test.threads end.processors t (code_of test.threads t) q.0 final code_at end_q) in (
+          and_parts (nat_le (length (thread_code test.threads t)) q.0.position) (length q.0.buffer == 0)
+          (zip_passes (λ p. has_terminated p.0 p.1) test.threads end.processors t (thread_code test.threads t) q.0 final code_at
+          end_q) in (
             thread_of q.0,
-            subst (λ z. Goes x86 x t (code_of test.threads t) (code_of paths t) z (thread_of q.0)) first
-                (goes t lt q.0 q.1 (leb-true (length (code_of test.threads t)) q.0.position done_q.0) (code_of paths t) 0 0 p.0
-                (omega arith) p.1 (omega (arith, ap (λ (z : Processor). z.position) g.2))
-                (path_up x86 (code_of test.threads t) 0 (code_of paths t) (forward given t) (whole_path given t lt))
-                (λ j there. (omega arith, from_list (code_of paths t) j there)) (λ j on from. in_list (code_of paths t) j on)),
+            subst (λ z. ThreadExecutes x86_language x t (thread_code test.threads t) (thread_code paths t) z (thread_of q.0))
+                first
+                (goes t lt q.0 q.1 (leb-true (length (thread_code test.threads t)) q.0.position done_q.0) (thread_code paths t) 0
+                0 p.0 (omega arith) p.1 (omega (arith, ap (λ (z : Processor). z.position) g.2))
+                (path_up x86_language (thread_code test.threads t) 0 (thread_code paths t) (forward given t)
+                (whole_path given t lt)) (λ j there. (omega arith, from_list (thread_code paths t) j there))
+                (λ j on from. in_list (thread_code paths t) j on)),
             get_or_from_slice_get (map (λ (z : Processor). z.regs) end.processors) t q.0.regs []
                 (prefixes.regs_got end.processors t q.0 end_q),
           )
@@ -651,11 +665,11 @@ module _ {test : ProgramTest} {paths : List (List ℕ)} (given : KeptOrder test 
       reached_below : (e : MemoryEvent) → IsEvent x e → reachedP e < length given.order
       reached_below e there = omega (arith, turn_below given (point_of given e) (point_placed given e there), given.keeps.0.0)
 
-      last_is : (l w : ℕ) → LastBefore x given (length given.order) l w → IsLast x86 test x l w
+      last_is : (l w : ℕ) → LastBefore x given (length given.order) l w → IsLast x86_language test x l w
       last_is l w (inl (never, is)) = inl ((λ e writing. never e writing (reached_below e writing.0)), is)
       last_is l w (inr (e, writing, lt, last, is)) = inr (e, writing, (λ g wg. last g wg (reached_below g wg.0)), is)
 
-      pub candidate : IsCandidate x86 test x (machine_outcome flat end)
+      pub candidate : IsCandidate x86_language test x (machine_outcome flat_memory end)
       candidate = record {
         as_many = places.paths_as_many given;
         threads = thread_goes;
@@ -665,5 +679,7 @@ module _ {test : ProgramTest} {paths : List (List ℕ)} (given : KeptOrder test 
             last_is l (slice_index end.memory l)
             (subst (λ (z : MachineState (List ℕ)). LastBefore x given (length given.order) l (slice_index z.memory l)) at_end
             ((holds (length given.order) (omega arith)).1.memory l));
-        of_test = subst (λ n. IsOutcomeOf n (length test.head.locs) (machine_outcome flat end)) (sym given.ok.as_many) of_test;
+        of_test =
+            subst (λ n. HasOutcomeShape n (length test.head.locs) (machine_outcome flat_memory end)) (sym given.ok.as_many)
+            of_test;
       }

@@ -2,8 +2,9 @@
 -- thread by thread.
 use Rattle.lw_axiomatic.proofs.Common.{◌≡◌, ℕ, zero, suc, ◌+◌, ◌<◌, inl, inr, Bool, true, false}
 use Rattle.lw_axiomatic.proofs.Common.{if◌then◌else◌, List, [], ◌∷◌, ◌++◌, length, refl, sym, ap, ap₂, ◌∙◌}
-use Rattle.lw_axiomatic.proofs.Common.{subst, arith, Contains, cases_Bool, get_or_past, code_of, none_in}
-use Rattle.lw_axiomatic.proofs.Common.{Contains-here, Contains-there, Contains-cons, GoesUp, goes_up_in}
+use Rattle.lw_axiomatic.proofs.Common.{subst, arith, Contains, cases_Bool, get_or_past, thread_code}
+use Rattle.lw_axiomatic.proofs.Common.{not-Contains-nil, Contains-head, Contains-tail, Contains-cons}
+use Rattle.lw_axiomatic.proofs.Common.{IsAscendingFrom, IsAscendingFrom-lower_bound}
 use Rattle.lw_axiomatic.proofs.Indices.{in_list}
 
 -- ---- of one path
@@ -27,47 +28,47 @@ module _ (passes : ℕ → Bool) where
 
   -- what is in the front of a path is on the path, and passes
   in_front : (path : List ℕ) (j : ℕ) → Contains (front path) j → Contains path j × (passes j ≡ true)
-  in_front [] j c = absurd (none_in j c)
+  in_front [] j c = absurd (not-Contains-nil j c)
   in_front (h ∷ path) j c = elim (cases_Bool (passes h)) [
     | inl p ↦ elim (Contains-cons h j (front path) (rw p at c)) [
-      | inl e ↦ (Contains-here h j path e, ap passes (sym e) ∙ p)
-      | inr r ↦ (let rest = in_front path j r in (Contains-there h j path rest.0, rest.1))
+      | inl e ↦ (Contains-head h j path e, ap passes (sym e) ∙ p)
+      | inr r ↦ (let rest = in_front path j r in (Contains-tail h j path rest.0, rest.1))
     ]
-    | inr f ↦ absurd (none_in j (rw f at c))
+    | inr f ↦ absurd (not-Contains-nil j (rw f at c))
   ]
 
   -- where all passes that is before what passes, each position of a path that passes is in its front
   to_front : (low : ℕ) (path : List ℕ) (j : ℕ)
-      → GoesUp low path
+      → IsAscendingFrom low path
       → ((h k : ℕ) → Contains path h → Contains path k → h < k → passes k ≡ true → passes h ≡ true)
       → Contains path j
       → passes j ≡ true
       → Contains (front path) j
-  to_front low [] j up down c p = absurd (none_in j c)
+  to_front low [] j up down c p = absurd (not-Contains-nil j c)
   to_front low (h ∷ path) j up down c p = elim (Contains-cons h j path c) [
-    | inl e ↦ (let here : passes h ≡ true = ap passes e ∙ p in rw here (Contains-here h j (front path) e))
+    | inl e ↦ (let here : passes h ≡ true = ap passes e ∙ p in rw here (Contains-head h j (front path) e))
     | inr r ↦
-        (let less : h < j = goes_up_in (suc h) j path up.1 (in_list path j r) in
-        let here : passes h ≡ true = down h j (Contains-here h h path refl) c less p in
+        (let less : h < j = IsAscendingFrom-lower_bound (suc h) j path up.1 (in_list path j r) in
+        let here : passes h ≡ true = down h j (Contains-head h h path refl) c less p in
         rw here
-        (Contains-there h j (front path)
-        (to_front (suc h) path j up.1 (λ i k ci ck. down i k (Contains-there h i path ci) (Contains-there h k path ck)) r p)))
+        (Contains-tail h j (front path)
+        (to_front (suc h) path j up.1 (λ i k ci ck. down i k (Contains-tail h i path ci) (Contains-tail h k path ck)) r p)))
   ]
 
   -- the first that does not pass
   first_behind : (low : ℕ) (path : List ℕ) (j : ℕ)
-      → GoesUp low path
+      → IsAscendingFrom low path
       → Contains path j
       → passes j ≡ false
       → ((h : ℕ) → Contains path h → h < j → passes h ≡ true)
       → (more : List ℕ) × (tail path ≡ j ∷ more)
-  first_behind low [] j up c f before = absurd (none_in j c)
+  first_behind low [] j up c f before = absurd (not-Contains-nil j c)
   first_behind low (h ∷ path) j up c f before = elim (Contains-cons h j path c) [
     | inl e ↦ (let here : passes h ≡ false = ap passes e ∙ f in (path, rw here (ap (λ (k : ℕ). k ∷ path) e)))
     | inr r ↦
-        (let less : h < j = goes_up_in (suc h) j path up.1 (in_list path j r) in
-        let here : passes h ≡ true = before h (Contains-here h h path refl) less in
-        let rest = first_behind (suc h) path j up.1 r f (λ i ci. before i (Contains-there h i path ci)) in
+        (let less : h < j = IsAscendingFrom-lower_bound (suc h) j path up.1 (in_list path j r) in
+        let here : passes h ≡ true = before h (Contains-head h h path refl) less in
+        let rest = first_behind (suc h) path j up.1 r f (λ i ci. before i (Contains-tail h i path ci)) in
         (rest.0, rw here rest.1))
   ]
 
@@ -92,51 +93,62 @@ module _ (passes : ℕ → ℕ → Bool) where
   abbrev none : List (List ℕ)
   none = []
 
-  no_path : (k : ℕ) → code_of none k ≡ []
+  no_path : (k : ℕ) → thread_code none k ≡ []
   no_path k = get_or_past none k [] (omega arith)
 
   -- the front at k is that of the path at k, which is thread u's
-  pub front_at : (t k u : ℕ) (paths : List (List ℕ)) → u ≡ t + k → code_of (fronts t paths) k ≡ front (passes u) (code_of paths k)
+  pub front_at : (t k u : ℕ) (paths : List (List ℕ))
+      → u ≡ t + k
+      → thread_code (fronts t paths) k ≡ front (passes u) (thread_code paths k)
   front_at t k u [] e = no_path k ∙ sym (ap (front (passes u)) (no_path k))
   front_at t zero u (path ∷ paths) e = let same : t ≡ u = omega (arith, e) in ap (λ n. front (passes n) path) same
   front_at t (suc k) u (path ∷ paths) e = front_at (suc t) k u paths (omega (arith, e))
 
   -- the tail at k is that of the path at k, which is thread u's
-  pub tail_at : (t k u : ℕ) (paths : List (List ℕ)) → u ≡ t + k → code_of (tails t paths) k ≡ tail (passes u) (code_of paths k)
+  pub tail_at : (t k u : ℕ) (paths : List (List ℕ))
+      → u ≡ t + k
+      → thread_code (tails t paths) k ≡ tail (passes u) (thread_code paths k)
   tail_at t k u [] e = no_path k ∙ sym (ap (tail (passes u)) (no_path k))
   tail_at t zero u (path ∷ paths) e = let same : t ≡ u = omega (arith, e) in ap (λ n. tail (passes n) path) same
   tail_at t (suc k) u (path ∷ paths) e = tail_at (suc t) k u paths (omega (arith, e))
 
   -- a thread's path is its front and then its tail
-  pub parted_at : (t : ℕ) (paths : List (List ℕ)) → code_of paths t ≡ code_of (fronts 0 paths) t ++ code_of (tails 0 paths) t
+  pub parted_at : (t : ℕ) (paths : List (List ℕ))
+      → thread_code paths t ≡ thread_code (fronts 0 paths) t ++ thread_code (tails 0 paths) t
   parted_at t paths =
-      parted (passes t) (code_of paths t)
+      parted (passes t) (thread_code paths t)
       ∙ ap₂ (λ (a b : List ℕ). a ++ b) (sym (front_at 0 t t paths (omega arith))) (sym (tail_at 0 t t paths (omega arith)))
 
   -- what is in a front is on its path, and passes
   pub from_fronts : (t j : ℕ) (paths : List (List ℕ))
-      → Contains (code_of (fronts 0 paths) t) j
-      → Contains (code_of paths t) j × (passes t j ≡ true)
+      → Contains (thread_code (fronts 0 paths) t) j
+      → Contains (thread_code paths t) j × (passes t j ≡ true)
   from_fronts t j paths c =
-      in_front (passes t) (code_of paths t) j (subst (λ (path : List ℕ). Contains path j) (front_at 0 t t paths (omega arith)) c)
+      in_front (passes t) (thread_code paths t) j
+      (subst (λ (path : List ℕ). Contains path j) (front_at 0 t t paths (omega arith)) c)
 
   -- where on a thread's path all passes that is before what passes, each of its positions that passes is in its front
   pub to_fronts : (t j : ℕ) (paths : List (List ℕ))
-      → GoesUp 0 (code_of paths t)
-      → ((h k : ℕ) → Contains (code_of paths t) h → Contains (code_of paths t) k → h < k → passes t k ≡ true → passes t h ≡ true)
-      → Contains (code_of paths t) j
+      → IsAscendingFrom 0 (thread_code paths t)
+      → ((h k : ℕ)
+      → Contains (thread_code paths t) h
+      → Contains (thread_code paths t) k
+      → h < k
+      → passes t k ≡ true
+      → passes t h ≡ true)
+      → Contains (thread_code paths t) j
       → passes t j ≡ true
-      → Contains (code_of (fronts 0 paths) t) j
+      → Contains (thread_code (fronts 0 paths) t) j
   to_fronts t j paths up down c p =
       subst (λ (path : List ℕ). Contains path j) (sym (front_at 0 t t paths (omega arith)))
-      (to_front (passes t) 0 (code_of paths t) j up down c p)
+      (to_front (passes t) 0 (thread_code paths t) j up down c p)
 
   -- the first on a path that does not pass begins the tail
   pub tail_from : (t j : ℕ) (paths : List (List ℕ))
-      → GoesUp 0 (code_of paths t)
-      → Contains (code_of paths t) j
+      → IsAscendingFrom 0 (thread_code paths t)
+      → Contains (thread_code paths t) j
       → passes t j ≡ false
-      → ((h : ℕ) → Contains (code_of paths t) h → h < j → passes t h ≡ true)
-      → (more : List ℕ) × (code_of (tails 0 paths) t ≡ j ∷ more)
+      → ((h : ℕ) → Contains (thread_code paths t) h → h < j → passes t h ≡ true)
+      → (more : List ℕ) × (thread_code (tails 0 paths) t ≡ j ∷ more)
   tail_from t j paths up c f before =
-      let b = first_behind (passes t) 0 (code_of paths t) j up c f before in (b.0, tail_at 0 t t paths (omega arith) ∙ b.1)
+      let b = first_behind (passes t) 0 (thread_code paths t) j up c f before in (b.0, tail_at 0 t t paths (omega arith) ∙ b.1)

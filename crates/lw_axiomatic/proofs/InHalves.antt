@@ -3,12 +3,13 @@ use Rattle.lw_axiomatic.proofs.Common.{◌≡◌, ◌≢◌, ◌↔◌, ℕ, ◌
 use Rattle.lw_axiomatic.proofs.Common.{false, refl, sym, ap, ap₂, ◌∙◌, subst, arith, true≢false}
 use Rattle.lw_axiomatic.proofs.Common.{if◌then◌else◌, not, option_map_or, Option, Some, None, cases_Bool}
 use Rattle.lw_axiomatic.proofs.Common.{cases_eq, cases_order, or_left, or_right, or_cases, and_from}
-use Rattle.lw_axiomatic.proofs.Common.{and_parts, Final, Operation, is_load, is_store, is_locked, writes, x86}
-use Rattle.lw_axiomatic.proofs.Common.{ProgramTest, KeepsAxioms, IsAllowed, IsCandidate, MemoryEvent}
-use Rattle.lw_axiomatic.proofs.Common.{Execution, IsEvent, Po, reads, does, location, Reads, Writes, Fr, Ppo}
-use Rattle.lw_axiomatic.proofs.Common.{Half, IsHalf, HalfReads, HalfWrites, AreHalves, HalvesRf, HalvesCo}
-use Rattle.lw_axiomatic.proofs.Common.{HalvesFr, HalvesPoLoc, HalvesPpo, reads_first, writes_last, holds_all}
-use Rattle.lw_axiomatic.proofs.Common.{AreOfTwoThreads, KeepsAxiomsInHalves, IsAllowedInHalves}
+use Rattle.lw_axiomatic.proofs.Common.{and_parts, FinalState, Operation, is_load, is_store, is_locked, writes}
+use Rattle.lw_axiomatic.proofs.Common.{x86_language, X86Test, SatisfiesAxioms, IsAllowed, IsCandidate}
+use Rattle.lw_axiomatic.proofs.Common.{MemoryEvent, Execution, IsEvent, Po, reads, operation_is, location}
+use Rattle.lw_axiomatic.proofs.Common.{Reads, Writes, Fr, Ppo, Half, IsHalf, HalfReads, HalfWrites, AreHalves}
+use Rattle.lw_axiomatic.proofs.Common.{HalvesRf, HalvesCo, HalvesFr, HalvesPoLoc, HalvesPpo, reads_first}
+use Rattle.lw_axiomatic.proofs.Common.{writes_last, holds_all, AreOfTwoThreads, SatisfiesSplitAxioms}
+use Rattle.lw_axiomatic.proofs.Common.{IsAllowedBySplitAxioms}
 use Rattle.lw_axiomatic.proofs.Decisions.{same_event}
 use Rattle.lw_axiomatic.proofs.EventKinds.{load_no_writes}
 use Rattle.lw_litmus.specs.Operations as operations
@@ -34,9 +35,9 @@ is_not : (b : Bool) → b ≡ false → not b ≡ true
 is_not true e = absurd (true≢false e)
 is_not false e = refl
 
-module _ (test : ProgramTest) (x : Execution) where
+module _ (test : X86Test) (x : Execution) where
   abbrev is : (Operation → Bool) → MemoryEvent → Bool
-  is = does x86 test
+  is = operation_is x86_language test
 
   abbrev first : MemoryEvent → Half  -- an event, or a locked instruction's read; and an event, or a locked instruction's write
   first e = record { event = e; is_second = false }
@@ -50,15 +51,15 @@ module _ (test : ProgramTest) (x : Execution) where
   last_is : (e : MemoryEvent) → IsEvent x e → IsHalf test x (last e)
   last_is e there = (there, λ f. f)
 
-  reading : (e : MemoryEvent) (l : ℕ) → Reads x86 test x e l → HalfReads test x (first e) l
+  reading : (e : MemoryEvent) (l : ℕ) → Reads x86_language test x e l → HalfReads test x (first e) l
   reading e l r = (r, refl)
 
-  writing : (e : MemoryEvent) (l : ℕ) → Writes x86 test x e l → HalfWrites test x (last e) l
+  writing : (e : MemoryEvent) (l : ℕ) → Writes x86_language test x e l → HalfWrites test x (last e) l
   writing e l w = (w, refl)
 
   -- ---- from one event to two
 
-  module _ (axioms : KeepsAxioms test x) where
+  module _ (axioms : SatisfiesAxioms test x) where
     abbrev second : Bool → ℕ
     second b = if b then 1 else 0
 
@@ -86,7 +87,7 @@ module _ (test : ProgramTest) (x : Execution) where
       within a b (ia, ib, same, f, s) = omega (arith, ap rank same, second_false a.is_second f, second_true b.is_second s)
 
       -- a read that is not behind the write of its own instruction
-      fr_up : ((r w : MemoryEvent) → Fr x86 test x r w → rank r < rank w)
+      fr_up : ((r w : MemoryEvent) → Fr x86_language test x r w → rank r < rank w)
           → (r w : Half)
           → HalvesFr test x r w
           → doubled r < doubled w
@@ -122,7 +123,7 @@ module _ (test : ProgramTest) (x : Execution) where
     kept : (a b : Half)
         → Po x a.event b.event
         → (reads_first test x a || (writes_last test x b || (holds_all test x a || holds_all test x b))) ≡ true
-        → Ppo x86 test x a.event b.event
+        → Ppo x86_language test x a.event b.event
     kept a b po k = (
       po,
       elim (or_cases (reads_first test x a) _ k) [
@@ -177,7 +178,7 @@ module _ (test : ProgramTest) (x : Execution) where
           ap axioms.coherence.0 halves.2,
         )
 
-    pub in_halves : KeepsAxiomsInHalves test x
+    pub in_halves : SatisfiesSplitAxioms test x
     in_halves = record {
       coherence = (doubled axioms.coherence.0, coherence_in_halves);
       atomic = atomic;
@@ -186,7 +187,7 @@ module _ (test : ProgramTest) (x : Execution) where
 
   -- ---- and back: an event has the number of its last half
 
-  module _ {o : Final} (candidate : IsCandidate x86 test x o) (axioms : KeepsAxiomsInHalves test x) where
+  module _ {o : FinalState} (candidate : IsCandidate x86_language test x o) (axioms : SatisfiesSplitAxioms test x) where
     abbrev c : Half → ℕ
     c = axioms.coherence.0
 
@@ -198,7 +199,7 @@ module _ (test : ProgramTest) (x : Execution) where
     halves_of e there locked = (first_is e there, last_is e there, refl, refl, locked)
 
     -- the first is no later than the last
-    first_last_c : (e : MemoryEvent) (l : ℕ) → IsEvent x e → location x86 test e ≡ Some l → c (first e) ≤ c (last e)
+    first_last_c : (e : MemoryEvent) (l : ℕ) → IsEvent x e → location x86_language test e ≡ Some l → c (first e) ≤ c (last e)
     first_last_c e l there at = elim (cases_Bool (is is_locked e)) [
       | inl locked ↦
           (let less : c (first e) < c (last e) =
@@ -207,7 +208,7 @@ module _ (test : ProgramTest) (x : Execution) where
       | inr free ↦ omega (arith, ap (λ b. c (record { event = e; is_second = b })) free)
     ]
 
-    first_last_g : (e : MemoryEvent) (l : ℕ) → Reads x86 test x e l → g (first e) ≤ g (last e)
+    first_last_g : (e : MemoryEvent) (l : ℕ) → Reads x86_language test x e l → g (first e) ≤ g (last e)
     first_last_g e l r = elim (cases_Bool (is is_locked e)) [
       | inl locked ↦
           (let less : g (first e) < g (last e) =
@@ -218,9 +219,9 @@ module _ (test : ProgramTest) (x : Execution) where
     ]
 
     -- a locked instruction comes before a write, if its read does
-    from_locked : (r w : MemoryEvent) → Fr x86 test x r w → is is_locked r ≡ true → HalvesCo test x (last r) (last w)
+    from_locked : (r w : MemoryEvent) → Fr x86_language test x r w → is is_locked r ≡ true → HalvesCo test x (last r) (last w)
     from_locked r w (l, reads_l, writes_l, differ, before) locked =
-        let own : Writes x86 test x r l = (reads_l.0, reads_l.1, (locked_kinds _ locked).1) in
+        let own : Writes x86_language test x r l = (reads_l.0, reads_l.1, (locked_kinds _ locked).1) in
         let fr : HalvesFr test x (first r) (last w) = (l, reading r l reads_l, writing w l writes_l, before) in
         elim (cases_order (x.co r) (x.co w)) [
           | inl same ↦ absurd (differ (candidate.co r w l own writes_l same))
@@ -256,7 +257,7 @@ module _ (test : ProgramTest) (x : Execution) where
               ])
         ]
 
-    fr_c : (r w : MemoryEvent) → Fr x86 test x r w → c (last r) < c (last w)
+    fr_c : (r w : MemoryEvent) → Fr x86_language test x r w → c (last r) < c (last w)
     fr_c r w fr = elim (cases_Bool (is is_locked r)) [
       | inl locked ↦ axioms.coherence.1 (last r) (last w) (inr (inr (inl (from_locked r w fr locked))))
       | inr free ↦ omega (
@@ -266,7 +267,7 @@ module _ (test : ProgramTest) (x : Execution) where
       )
     ]
 
-    fr_g : (r w : MemoryEvent) → Fr x86 test x r w → g (last r) < g (last w)
+    fr_g : (r w : MemoryEvent) → Fr x86_language test x r w → g (last r) < g (last w)
     fr_g r w fr = elim (cases_Bool (is is_locked r)) [
       | inl locked ↦ axioms.happens_before.1 (last r) (last w) (inr (inr (inl (from_locked r w fr locked))))
       | inr free ↦ omega (
@@ -276,7 +277,7 @@ module _ (test : ProgramTest) (x : Execution) where
       )
     ]
 
-    ppo_g : (a b : MemoryEvent) → Ppo x86 test x a b → g (last a) < g (last b)
+    ppo_g : (a b : MemoryEvent) → Ppo x86_language test x a b → g (last a) < g (last b)
     ppo_g a b (po, k) = axioms.happens_before.1 (last a) (last b) (inl (
       inl (last_is a po.0, last_is b po.1, po),
       elim (or_cases (is reads a) _ k) [
@@ -311,7 +312,7 @@ module _ (test : ProgramTest) (x : Execution) where
           | inr free ↦ or_left (reads_first test x (last a)) _ (and_from (is reads a) _ r (is_not (is is_locked a) free))
         ]
 
-    pub from_halves : KeepsAxioms test x
+    pub from_halves : SatisfiesAxioms test x
     from_halves = record {
       coherence = (
         λ e. c (last e),
@@ -344,13 +345,13 @@ module _ (test : ProgramTest) (x : Execution) where
     }
 
 -- a candidate keeps the axioms with one event for a locked instruction exactly where it keeps them with two
-pub same_axioms : (test : ProgramTest) (x : Execution) (o : Final)
-    → IsCandidate x86 test x o
-    → KeepsAxioms test x ↔ KeepsAxiomsInHalves test x
+pub same_axioms : (test : X86Test) (x : Execution) (o : FinalState)
+    → IsCandidate x86_language test x o
+    → SatisfiesAxioms test x ↔ SatisfiesSplitAxioms test x
 same_axioms test x o candidate = (in_halves test x, from_halves test x candidate)
 
 -- both forms of the axioms allow the same outcomes
-pub same_outcomes : (test : ProgramTest) (o : Final) → IsAllowed test o ↔ IsAllowedInHalves test o
+pub same_outcomes : (test : X86Test) (o : FinalState) → IsAllowed test o ↔ IsAllowedBySplitAxioms test o
 same_outcomes test o = (
   λ a. record { execution = a.execution; candidate = a.candidate; axioms = in_halves test a.execution a.axioms },
   λ a. record { execution = a.execution; candidate = a.candidate; axioms = from_halves test a.execution a.candidate a.axioms },

@@ -2,11 +2,11 @@
 -- instruction of the shorter code has one index in the longer one, in the same order, and does the same to its thread there.
 use Rattle.lw_axiomatic.proofs.Common.{◌-◌, List, Instr, IsFencedCode, ℕ, slice_get, ◌≡◌, Some, EndsBlock}
 use Rattle.lw_axiomatic.proofs.Common.{◌<◌, length, ◌⊎◌, get_some, IsInserted, inl, ◌∙◌, ap, inr, arith, ◌≤◌}
-use Rattle.lw_axiomatic.proofs.Common.{◌+◌, zero, suc, cases_lt, cases_order, slice_get_within, in_blocks}
-use Rattle.lw_axiomatic.proofs.Common.{Operation, Bool, Branch, x86_operation, refl, location_of}
-use Rattle.lw_axiomatic.proofs.Common.{word_written, ThreadState, if◌then◌else◌, true, false, sym}
-use Rattle.lw_axiomatic.proofs.Common.{state_after, holds, IsInsertedAt, Guard, Zero, NotZero, Always, Je}
-use Rattle.lw_axiomatic.proofs.Common.{Jmp, Jne, Mfence}
+use Rattle.lw_axiomatic.proofs.Common.{◌+◌, zero, suc, cases_lt, cases_order, slice_get_within}
+use Rattle.lw_axiomatic.proofs.Common.{retarget_to_blocks, Operation, Bool, Branch, x86_operation, refl}
+use Rattle.lw_axiomatic.proofs.Common.{location_of, word_written, ThreadState, if◌then◌else◌, true, false}
+use Rattle.lw_axiomatic.proofs.Common.{sym, state_after, guard_holds, IsInsertedAt, Guard, Zero, NotZero}
+use Rattle.lw_axiomatic.proofs.Common.{Always, Je, Jmp, Jne, Mfence}
 
 -- ---- Indices.
 
@@ -115,7 +115,7 @@ module _ {code fenced : List Instr} (f : IsFencedCode code fenced) where
 
   -- The block of an instruction of the shorter code is a position there.
   pub block-in_range : (index : ℕ) → IsKeptAt index → f.block index < length code
-  block-in_range index kept = slice_get_within code (f.block index) (in_blocks f.block kept.instr) kept.ends.0
+  block-in_range index kept = slice_get_within code (f.block index) (retarget_to_blocks f.block kept.instr) kept.ends.0
 
   -- The index of the block of an instruction of the shorter code is the instruction's own.
   pub kept_index-block : (index : ℕ) → IsKeptAt index → kept_index (f.block index) ≡ index
@@ -127,48 +127,49 @@ module _ {code fenced : List Instr} (f : IsFencedCode code fenced) where
 
 module _ (block : ℕ → ℕ) where
   -- A test of operations that does not depend on the target of a branch has the same value on an instruction in both codes.
-  pub kind-in_blocks : (kind : Operation → Bool)
+  pub kind-retarget_to_blocks : (kind : Operation → Bool)
       → ((c : Guard) (to other : ℕ) → kind (Branch c to) ≡ kind (Branch c other))
       → (i : Instr)
-      → kind (x86_operation (in_blocks block i)) ≡ kind (x86_operation i)
-  kind-in_blocks kind jumps (Je to) = jumps Zero (block to) to
-  kind-in_blocks kind jumps (Jne to) = jumps NotZero (block to) to
-  kind-in_blocks kind jumps (Jmp to) = jumps Always (block to) to
-  kind-in_blocks kind jumps i = refl
+      → kind (x86_operation (retarget_to_blocks block i)) ≡ kind (x86_operation i)
+  kind-retarget_to_blocks kind jumps (Je to) = jumps Zero (block to) to
+  kind-retarget_to_blocks kind jumps (Jne to) = jumps NotZero (block to) to
+  kind-retarget_to_blocks kind jumps (Jmp to) = jumps Always (block to) to
+  kind-retarget_to_blocks kind jumps i = refl
 
   -- An instruction accesses the same location in both codes.
-  pub location-in_blocks : (i : Instr) → location_of (x86_operation (in_blocks block i)) ≡ location_of (x86_operation i)
-  location-in_blocks (Je to) = refl
-  location-in_blocks (Jne to) = refl
-  location-in_blocks (Jmp to) = refl
-  location-in_blocks i = refl
+  pub location-retarget_to_blocks : (i : Instr)
+      → location_of (x86_operation (retarget_to_blocks block i)) ≡ location_of (x86_operation i)
+  location-retarget_to_blocks (Je to) = refl
+  location-retarget_to_blocks (Jne to) = refl
+  location-retarget_to_blocks (Jmp to) = refl
+  location-retarget_to_blocks i = refl
 
   -- An instruction writes the same word in both codes.
-  pub word_written-in_blocks : (i : Instr) (regs : List ℕ) (w : ℕ)
-      → word_written (x86_operation (in_blocks block i)) regs w ≡ word_written (x86_operation i) regs w
-  word_written-in_blocks (Je to) regs w = refl
-  word_written-in_blocks (Jne to) regs w = refl
-  word_written-in_blocks (Jmp to) regs w = refl
-  word_written-in_blocks i regs w = refl
+  pub word_written-retarget_to_blocks : (i : Instr) (regs : List ℕ) (w : ℕ)
+      → word_written (x86_operation (retarget_to_blocks block i)) regs w ≡ word_written (x86_operation i) regs w
+  word_written-retarget_to_blocks (Je to) regs w = refl
+  word_written-retarget_to_blocks (Jne to) regs w = refl
+  word_written-retarget_to_blocks (Jmp to) regs w = refl
+  word_written-retarget_to_blocks i regs w = refl
 
   -- Returns the state of the thread in the shorter code.
   abbrev pub at_block : ThreadState → ThreadState
   at_block s = record s { position = block s.position }
 
   -- A branch of the longer code targets an index in the block that it targets in the shorter one.
-  target-in_blocks : (jumps : Bool) (to position : ℕ)
+  target-retarget_to_blocks : (jumps : Bool) (to position : ℕ)
       → block (position + 1) ≡ block position + 1
       → (if jumps then block to else (block position + 1)) ≡ block (if jumps then to else (position + 1))
-  target-in_blocks true to position next = refl
-  target-in_blocks false to position next = sym next
+  target-retarget_to_blocks true to position next = refl
+  target-retarget_to_blocks false to position next = sym next
 
   -- An instruction leaves the thread in the same state in both codes.
-  pub state_after-in_blocks : (i : Instr) (s : ThreadState) (w : ℕ)
+  pub state_after-retarget_to_blocks : (i : Instr) (s : ThreadState) (w : ℕ)
       → block (s.position + 1) ≡ block s.position + 1
-      → state_after (x86_operation (in_blocks block i)) (at_block s) w ≡ at_block (state_after (x86_operation i) s w)
-  state_after-in_blocks (Je to) s w next =
-      ap (λ p. record s { position = p }) (target-in_blocks (holds Zero s.regs s.zero_flag) to s.position next)
-  state_after-in_blocks (Jne to) s w next =
-      ap (λ p. record s { position = p }) (target-in_blocks (holds NotZero s.regs s.zero_flag) to s.position next)
-  state_after-in_blocks (Jmp to) s w next = refl
-  state_after-in_blocks i s w next = ap (λ p. record (state_after (x86_operation i) s w) { position = p }) (sym next)
+      → state_after (x86_operation (retarget_to_blocks block i)) (at_block s) w ≡ at_block (state_after (x86_operation i) s w)
+  state_after-retarget_to_blocks (Je to) s w next =
+      ap (λ p. record s { position = p }) (target-retarget_to_blocks (guard_holds Zero s.regs s.zero_flag) to s.position next)
+  state_after-retarget_to_blocks (Jne to) s w next =
+      ap (λ p. record s { position = p }) (target-retarget_to_blocks (guard_holds NotZero s.regs s.zero_flag) to s.position next)
+  state_after-retarget_to_blocks (Jmp to) s w next = refl
+  state_after-retarget_to_blocks i s w next = ap (λ p. record (state_after (x86_operation i) s w) { position = p }) (sym next)

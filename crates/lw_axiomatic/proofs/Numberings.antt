@@ -1,11 +1,11 @@
 -- Numberings and cycles: what goes up by ranks has no cycle; and a relation of finitely many events that can be decided and
 -- has no cycle goes up by some numbers.
 use Rattle.lw_axiomatic.proofs.Common.{◌≡◌, ℕ, zero, suc, ◌+◌, ◌*◌, ◌<◌, ◌≤◌, ◌⊎◌, inl, inr, refl, sym, ap}
-use Rattle.lw_axiomatic.proofs.Common.{◌∙◌, subst, arith, List, [], ◌∷◌, Contains, cases_lt, none_in}
-use Rattle.lw_axiomatic.proofs.Common.{Contains-here, Contains-there, Contains-cons, Acyclic, Walk}
-use Rattle.lw_axiomatic.proofs.Common.{HasNoCycle, MemoryEvent, Execution, IsEvent}
+use Rattle.lw_axiomatic.proofs.Common.{◌∙◌, subst, arith, List, [], ◌∷◌, Contains, cases_lt, not-Contains-nil}
+use Rattle.lw_axiomatic.proofs.Common.{Contains-head, Contains-tail, Contains-cons, Acyclic, Walk, HasNoCycle}
+use Rattle.lw_axiomatic.proofs.Common.{MemoryEvent, Execution, IsEvent}
 use Rattle.lw_axiomatic.proofs.EventLists.{events_from, listed}
-use Rattle.lw_axiomatic.proofs.Decisions.{Decided, decided_or, decided_and, same_event}
+use Rattle.lw_axiomatic.proofs.Decisions.{Decidable, decided_or, decided_and, same_event}
 
 -- ---- what goes up has no cycle
 
@@ -29,10 +29,10 @@ record Top (R : MemoryEvent → MemoryEvent → Type 0) (rank : MemoryEvent → 
 
 -- where the relation can be decided, there is such a least number above the ranks of the events that are in it to b
 top_of : (R : MemoryEvent → MemoryEvent → Type 0)
-    → ((a b : MemoryEvent) → Decided (R a b))
+    → ((a b : MemoryEvent) → Decidable (R a b))
     → (rank : MemoryEvent → ℕ) (b : MemoryEvent) (events : List MemoryEvent)
     → Top R rank b events
-top_of R decide rank b [] = record { top = 0; above = λ a c r. absurd (none_in a c); least = λ m each. omega arith }
+top_of R decide rank b [] = record { top = 0; above = λ a c r. absurd (not-Contains-nil a c); least = λ m each. omega arith }
 top_of R decide rank b (e ∷ events) =
     let rest : Top R rank b events = top_of R decide rank b events in
     elim (decide e b) [
@@ -43,7 +43,7 @@ top_of R decide rank b (e ∷ events) =
             | inl same ↦ omega (arith, low, ap rank same)
             | inr there ↦ rest.above a there r
           ];
-          least = λ m each. rest.least m (λ a c. each a (Contains-there e a events c));
+          least = λ m each. rest.least m (λ a c. each a (Contains-tail e a events c));
         }
         | inr high ↦ record {
           top = suc (rank e);
@@ -51,7 +51,7 @@ top_of R decide rank b (e ∷ events) =
             | inl same ↦ omega (arith, ap rank same)
             | inr there ↦ omega (arith, high, rest.above a there r)
           ];
-          least = λ m each. omega (arith, each e (Contains-here e e events refl) first);
+          least = λ m each. omega (arith, each e (Contains-head e e events refl) first);
         }
       ]
       | inr not ↦ record {
@@ -60,7 +60,7 @@ top_of R decide rank b (e ∷ events) =
           | inl same ↦ absurd (not (subst (λ (z : MemoryEvent). R z b) (sym same) r))
           | inr there ↦ rest.above a there r
         ];
-        least = λ m each. rest.least m (λ a c. each a (Contains-there e a events c));
+        least = λ m each. rest.least m (λ a c. each a (Contains-tail e a events c));
       }
     ]
 
@@ -85,17 +85,17 @@ module _ (R : MemoryEvent → MemoryEvent → Type 0) (e : MemoryEvent) where
       by_length (suc m) le w = none m a w
 
 -- of two numbers, the first where a decided statement holds, else the second
-abbrev chosen : {P : Type 0} → Decided P → ℕ → ℕ → ℕ
+abbrev chosen : {P : Type 0} → Decidable P → ℕ → ℕ → ℕ
 chosen (inl p) m n = m
 chosen (inr not) m n = n
 
 -- where the decided statement holds, the first number is chosen
-is_chosen : {P : Type 0} (d : Decided P) (m n : ℕ) → P → chosen d m n ≡ m
+is_chosen : {P : Type 0} (d : Decidable P) (m n : ℕ) → P → chosen d m n ≡ m
 is_chosen (inl p) m n h = refl
 is_chosen (inr not) m n h = absurd (not h)
 
 -- where the decided statement does not hold, the second number is chosen
-not_chosen : {P : Type 0} (d : Decided P) (m n : ℕ) → (P → ⊥) → chosen d m n ≡ n
+not_chosen : {P : Type 0} (d : Decidable P) (m n : ℕ) → (P → ⊥) → chosen d m n ≡ n
 not_chosen (inl p) m n h = absurd (h p)
 not_chosen (inr not) m n h = refl
 
@@ -106,7 +106,7 @@ abbrev Numbered : List MemoryEvent → (MemoryEvent → MemoryEvent → Type 0) 
 Numbered events R =
     (rank : MemoryEvent → ℕ) × ((a b : MemoryEvent) → Contains events a → Contains events b → R a b → rank a < rank b)
 
-module _ (R : MemoryEvent → MemoryEvent → Type 0) (decide : (a b : MemoryEvent) → Decided (R a b)) (none : HasNoCycle R)
+module _ (R : MemoryEvent → MemoryEvent → Type 0) (decide : (a b : MemoryEvent) → Decidable (R a b)) (none : HasNoCycle R)
     (e : MemoryEvent) (events : List MemoryEvent) (rest : Numbered events (Past R e)) where
   t : Top R rest.0 e events
   t = top_of R decide rest.0 e events
@@ -141,10 +141,10 @@ module _ (R : MemoryEvent → MemoryEvent → Type 0) (decide : (a b : MemoryEve
 
 -- where a relation can be decided and has no cycle, the events of a list have numbers that go up along it
 numbered : (events : List MemoryEvent) (R : MemoryEvent → MemoryEvent → Type 0)
-    → ((a b : MemoryEvent) → Decided (R a b))
+    → ((a b : MemoryEvent) → Decidable (R a b))
     → HasNoCycle R
     → Numbered events R
-numbered [] R decide none = ((λ e. 0), λ a b ca cb r. absurd (none_in a ca))
+numbered [] R decide none = ((λ e. 0), λ a b ca cb r. absurd (not-Contains-nil a ca))
 numbered (e ∷ events) R decide none =
     let rest =
     numbered events (Past R e) (λ a b. decided_or (decide a b) (decided_and (decide a e) (decide e b)))
@@ -155,7 +155,7 @@ numbered (e ∷ events) R decide none =
 
 -- a relation of an execution's events that can be decided and has no cycle goes up by some ranks
 pub numbering : (x : Execution) (R : MemoryEvent → MemoryEvent → Type 0)
-    → ((a b : MemoryEvent) → Decided (R a b))
+    → ((a b : MemoryEvent) → Decidable (R a b))
     → ((a b : MemoryEvent) → R a b → IsEvent x a × IsEvent x b)
     → HasNoCycle R
     → Acyclic R

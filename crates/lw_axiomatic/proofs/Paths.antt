@@ -2,18 +2,18 @@
 use Rattle.lw_axiomatic.proofs.Common.{◌≡◌, ℕ, inl, inr, true, false, Some, Option, refl, sym, ap, ◌∙◌, subst}
 use Rattle.lw_axiomatic.proofs.Common.{true≢false, List, [], ◌∷◌, slice_get, Operation, Set, Sum, Compare}
 use Rattle.lw_axiomatic.proofs.Common.{Fence, Branch, Store, or_cases, or_right, is_load, is_store, writes}
-use Rattle.lw_axiomatic.proofs.Common.{Leads, Follows, IsPathFrom, ThreadState, state_after, MemoryEvent}
-use Rattle.lw_axiomatic.proofs.Common.{Execution, reads, Goes, Language, branch_leads}
+use Rattle.lw_axiomatic.proofs.Common.{IsSuccessor, IsFlowSuccessor, IsFlowPathFrom, ThreadState, state_after}
+use Rattle.lw_axiomatic.proofs.Common.{MemoryEvent, Execution, reads, ThreadExecutes, Language, branch_leads}
 
 -- an operation leads its thread to a successor
-pub state_leads : (o : Operation) (s : ThreadState) (w : ℕ) → Leads o s.position (state_after o s w).position
+pub state_leads : (o : Operation) (s : ThreadState) (w : ℕ) → IsSuccessor o s.position (state_after o s w).position
 state_leads (Branch c to) s w = branch_leads c to s.position s.regs s.zero_flag
 state_leads o s w = inl (refl, refl)
 
 -- the positions that a thread goes through are a whole flow path of its code
 pub goes_path : {S : Type 0} (language : Language S) (x : Execution) (t : ℕ) (code : List S) (path : List ℕ) (s end : ThreadState)
-    → Goes language x t code path s end
-    → IsPathFrom language code s.position path
+    → ThreadExecutes language x t code path s end
+    → IsFlowPathFrom language code s.position path
 goes_path language x t code [] s end goes = goes.0
 goes_path {S} language x t code (j ∷ path) s end goes =
     let e : MemoryEvent = record { thread = t; position = j } in
@@ -21,7 +21,7 @@ goes_path {S} language x t code (j ∷ path) s end goes =
     let here : slice_get code s.position ≡ Some goes.1 = ap (slice_get code) goes.0 ∙ goes.2 in (
       sym goes.0,
       next.position,
-      subst (λ (o : Option S). Follows language o s.position next.position) (sym here)
+      subst (λ (o : Option S). IsFlowSuccessor language o s.position next.position) (sym here)
           (state_leads (language.operation_of goes.1) s (x.read e)),
       goes_path language x t code path next end goes.4,
     )

@@ -7,14 +7,17 @@ use Rattle.lw_axiomatic.proofs.Common.{◌||◌, get_or_past, get_or-set_same, g
 use Rattle.lw_axiomatic.proofs.Common.{option_map, option_and_then, slice_index, cases_Bool, cases_lt}
 use Rattle.lw_axiomatic.proofs.Common.{cases_eq, cond-true, cond-false, or_left, or_right, All-get_or}
 use Rattle.lw_axiomatic.proofs.Common.{none-some, same_Some, slice_get_within, get_or_from_slice_get}
-use Rattle.lw_axiomatic.proofs.Common.{slice_get-map, code_of, got_set_same, got_set_other, Instr, Operation}
-use Rattle.lw_axiomatic.proofs.Common.{Store, is_store, is_locked, or_cases, locked_located, locked_no_store}
-use Rattle.lw_axiomatic.proofs.Common.{waits, writes, location_of, x86, x86_operation, ProgramTest, IsThread}
-use Rattle.lw_axiomatic.proofs.Common.{IsStatement, flat, index_in, Item, statement_of, item, IsReal, real}
-use Rattle.lw_axiomatic.proofs.Common.{MachineState, Processor, step_act, drain_act, Does, CarriedOut, stored}
-use Rattle.lw_axiomatic.proofs.Common.{own_waits, waits_after, waits_same, waits_other, Carried, carried}
-use Rattle.lw_axiomatic.proofs.Common.{all_hold, AllHold, Waits, Holds, Waiting, oldest, waiting_next}
-use Rattle.lw_axiomatic.proofs.Common.{word_written, MemoryEvent, Execution, does, location, IsEvent, Writes}
+use Rattle.lw_axiomatic.proofs.Common.{slice_get-map, thread_code, get-set_same, get-set_other, Instr}
+use Rattle.lw_axiomatic.proofs.Common.{Operation, Store, is_store, is_locked, or_cases, locked_located}
+use Rattle.lw_axiomatic.proofs.Common.{locked_no_store, needs_empty_buffer, writes, location_of, x86_language}
+use Rattle.lw_axiomatic.proofs.Common.{x86_operation, X86Test, IsWellFormedThread, IsWellFormedStatement}
+use Rattle.lw_axiomatic.proofs.Common.{flat_memory, index_in, Item, statement_of, item, IsItemOnPath}
+use Rattle.lw_axiomatic.proofs.Common.{IsItemOnPath-of_member, MachineState, Processor, step_effect}
+use Rattle.lw_axiomatic.proofs.Common.{drain_effect, EffectLeadsTo, X86ItemTransition, entry_location, own_waits}
+use Rattle.lw_axiomatic.proofs.Common.{waits_after, waits_same, waits_other, ItemStep, carried, all_hold}
+use Rattle.lw_axiomatic.proofs.Common.{AllHold, BufferHolds, Holds, Waiting, oldest, waiting_next}
+use Rattle.lw_axiomatic.proofs.Common.{word_written, MemoryEvent, Execution, operation_is, location, IsEvent}
+use Rattle.lw_axiomatic.proofs.Common.{Writes}
 use Rattle.lw_axiomatic.proofs.EventKinds.{locked_writes}
 use Rattle.lw_axiomatic.proofs.StepCases.{StepCase, case, word_for, buffer_after, memory_after, word_put}
 use Rattle.lw_axiomatic.proofs.Indices.{KeptOrder, items, it, turn, point_of, event_of_item, reached, forward}
@@ -26,14 +29,15 @@ pub use Rattle.lw_axiomatic.proofs.Indices.{in_list}
 -- where an item of a run was a step, it did what `StepCase` says of its instruction's operation
 pub step_case : {program : List (List Instr)} {t j : ℕ} {i : Instr} {s mid : MachineState (List ℕ)} (b : Bool)
     → b ≡ false
-    → (c : Carried program t j b s mid)
-    → slice_get (code_of program t) j ≡ Some i
+    → (c : ItemStep program t j b s mid)
+    → slice_get (thread_code program t) j ≡ Some i
     → StepCase (x86_operation i) c.old c.new s.memory c.words
 step_case true f c at = absurd (true≢false f)
 step_case {program} {t} {j} {i} {s} {mid} false f c at =
-    let here : slice_get (code_of program t) c.old.position ≡ Some i =
-    ap (λ k. slice_get (code_of program t) k) (c.stands refl) ∙ at in
-    case (x86_operation i) c.old c.new s.memory c.words (subst (λ o. Does s.memory (step_act o c.old) c.new c.words) here c.does)
+    let here : slice_get (thread_code program t) c.old.position ≡ Some i =
+    ap (λ k. slice_get (thread_code program t) k) (c.stands refl) ∙ at in
+    case (x86_operation i) c.old c.new s.memory c.words
+    (subst (λ o. EffectLeadsTo s.memory (step_effect o c.old) c.new c.words) here c.does)
 
 -- What a drain does: the oldest entry goes from the store buffer to memory.
 pub record Drained (old new : Processor) (m n : List ℕ) : Type 0 where
@@ -44,14 +48,17 @@ pub record Drained (old new : Processor) (m n : List ℕ) : Type 0 where
   pub memory : n ≡ slice_set m entry.0 entry.1
 
 -- where the act of a drain of the buffer b was done, the oldest entry went to memory
-drain_case : (p q : Processor) (m n : List ℕ) (b : List (ℕ × ℕ)) → p.buffer ≡ b → Does m (drain_act b p) q n → Drained p q m n
+drain_case : (p q : Processor) (m n : List ℕ) (b : List (ℕ × ℕ))
+    → p.buffer ≡ b
+    → EffectLeadsTo m (drain_effect b p) q n
+    → Drained p q m n
 drain_case p q m n [] e d = absurd d
 drain_case p q m n (f ∷ b) e d = record { entry = f; newer = b; full = e; is = d.0; memory = d.1 }
 
 -- where an item of a run was a drain, the oldest entry of its processor's store buffer went to memory
 pub drained : {program : List (List Instr)} {t j : ℕ} {s mid : MachineState (List ℕ)} (b : Bool)
     → b ≡ true
-    → (c : Carried program t j b s mid)
+    → (c : ItemStep program t j b s mid)
     → Drained c.old c.new s.memory c.words
 drained {program} {t} {j} {s} {mid} true f c = drain_case c.old c.new s.memory c.words c.old.buffer refl c.does
 drained false f c = absurd (true≢false (sym f))
@@ -77,9 +84,9 @@ pub after_set : (P : ℕ → Processor → Type 0) (ps : List Processor) (t : �
 after_set P ps t old new was others own u q at = elim (cases_eq t u) [
   | inl e ↦
       (let got : new ≡ q =
-      same_Some new q (sym (got_set_same ps t new old was) ∙ subst (λ k. slice_get (slice_set ps t new) k ≡ Some q) (sym e) at) in
+      same_Some new q (sym (get-set_same ps t new old was) ∙ subst (λ k. slice_get (slice_set ps t new) k ≡ Some q) (sym e) at) in
       subst (λ k. P k q) e (subst (P t) got own))
-  | inr ne ↦ others u q (sym (got_set_other ps t u new ne) ∙ at) ne
+  | inr ne ↦ others u q (sym (get-set_other ps t u new ne) ∙ at) ne
 ]
 
 -- what an operation leaves of the memory
@@ -136,12 +143,12 @@ stored_cases o l e = elim (cases_Bool (is_store o)) [
 
 -- what makes an entry is a store to its location
 pub stored_is : (o : Option Instr) (l : ℕ)
-    → stored x86 o ≡ Some l
+    → entry_location x86_language o ≡ Some l
     → (i : Instr) × (o ≡ Some i) × (is_store (x86_operation i) ≡ true) × (location_of (x86_operation i) ≡ Some l)
 stored_is None l e = absurd (none-some l e)
 stored_is (Some i) l e = let c = stored_cases (x86_operation i) l e in (i, refl, c.0, c.1)
 
-module _ {test : ProgramTest} (x : Execution) (given : KeptOrder test x.paths) where
+module _ {test : X86Test} (x : Execution) (given : KeptOrder test x.paths) where
   -- the items of the execution's paths
   abbrev pub its : List Item
   its = items given
@@ -167,11 +174,11 @@ module _ {test : ProgramTest} (x : Execution) (given : KeptOrder test x.paths) w
   -- of the first k items, the last that wrote the location wrote this word, or none did, and it is the initial word
   abbrev pub LastBefore : ℕ → ℕ → ℕ → Type 0
   LastBefore k l w =
-      (((e : MemoryEvent) → Writes x86 test x e l → reached_at e < k → ⊥) × (w ≡ slice_index test.head.init_words l))
+      (((e : MemoryEvent) → Writes x86_language test x e l → reached_at e < k → ⊥) × (w ≡ slice_index test.head.init_words l))
       ⊎ ((e : MemoryEvent)
-      × Writes x86 test x e l
+      × Writes x86_language test x e l
       × (reached_at e < k)
-      × ((f : MemoryEvent) → Writes x86 test x f l → reached_at f < k → reached_at f ≤ reached_at e)
+      × ((f : MemoryEvent) → Writes x86_language test x f l → reached_at f < k → reached_at f ≤ reached_at e)
       × (w ≡ x.written e))
 
   -- After the first k items: which stores wait, that the buffers hold their words, and memory the last words written.
@@ -186,7 +193,7 @@ module _ {test : ProgramTest} (x : Execution) (given : KeptOrder test x.paths) w
 
   -- where no write to a location has its turn at k, the last word written before k is so before k + 1
   no_write : (k l w : ℕ)
-      → ((f : MemoryEvent) → Writes x86 test x f l → reached_at f ≡ k → ⊥)
+      → ((f : MemoryEvent) → Writes x86_language test x f l → reached_at f ≡ k → ⊥)
       → LastBefore k l w
       → LastBefore (suc k) l w
   no_write k l w none (inl (never, is)) = inl (
@@ -205,7 +212,7 @@ module _ {test : ProgramTest} (x : Execution) (given : KeptOrder test x.paths) w
 
   -- where a write to l has its turn at k, and its word is put there, memory has the last words written before k + 1
   a_write : (k l w : ℕ) (e : MemoryEvent) (m : List ℕ)
-      → Writes x86 test x e l
+      → Writes x86_language test x e l
       → reached_at e ≡ k
       → l < length m
       → w ≡ x.written e
@@ -215,7 +222,7 @@ module _ {test : ProgramTest} (x : Execution) (given : KeptOrder test x.paths) w
   a_write k l w e m writing now within is before y = elim (cases_eq y l) [
     | inl same ↦ inr (
       e,
-      subst (Writes x86 test x e) (sym same) writing,
+      subst (Writes x86_language test x e) (sym same) writing,
       omega (arith, now),
       (λ f wf lf. omega (arith, lf, now)),
       ap (λ z. slice_index (slice_set m l w) z) same ∙ get_or-set_same m l w 0 within ∙ is,
@@ -224,7 +231,7 @@ module _ {test : ProgramTest} (x : Execution) (given : KeptOrder test x.paths) w
         subst (LastBefore (suc k) y) (sym (get_or-set_other m l y w 0 ne))
         (no_write k y (slice_index m y) (λ f wf at_k.
         (let same : f ≡ e = apart given x refl f e wf.0 writing.0 (at_k ∙ sym now) in
-        ne (same_Some y l (sym wf.1 ∙ ap (location x86 test) same ∙ writing.1)))) (before y))
+        ne (same_Some y l (sym wf.1 ∙ ap (location x86_language test) same ∙ writing.1)))) (before y))
   ]
 
   -- ---- the buffers, one item further
@@ -244,16 +251,17 @@ module _ {test : ProgramTest} (x : Execution) (given : KeptOrder test x.paths) w
   written_dropped t j o (w ∷ ws) e b h = h.1
 
   located : (t j : ℕ) (i : Instr) (l : ℕ)
-      → slice_get (code_of test.threads t) j ≡ Some i
+      → slice_get (thread_code test.threads t) j ≡ Some i
       → location_of (x86_operation i) ≡ Some l
       → l < length test.head.locs
   located t j i l here loc = elim (cases_lt t (length test.threads)) [
     | inl h ↦
-        (let thread : IsThread x86 (length test.head.locs) (code_of test.threads t) =
-        All-get_or (IsThread x86 (length test.head.locs)) test.threads t [] h given.ok.code in
-        let statement : IsStatement x86 (length test.head.locs) i =
-        subst (IsStatement x86 (length test.head.locs)) (get_or_from_slice_get (code_of test.threads t) j i i here)
-        (thread.there j i (slice_get_within (code_of test.threads t) j i here)) in
+        (let thread : IsWellFormedThread x86_language (length test.head.locs) (thread_code test.threads t) =
+        All-get_or (IsWellFormedThread x86_language (length test.head.locs)) test.threads t [] h given.ok.code in
+        let statement : IsWellFormedStatement x86_language (length test.head.locs) i =
+        subst (IsWellFormedStatement x86_language (length test.head.locs))
+        (get_or_from_slice_get (thread_code test.threads t) j i i here)
+        (thread.there j i (slice_get_within (thread_code test.threads t) j i here)) in
         statement.0 l loc)
     | inr h ↦
         absurd (none-some i (subst (λ (code : List Instr). slice_get code j ≡ Some i) (get_or_past test.threads t [] h) here))
@@ -274,7 +282,7 @@ module _ {test : ProgramTest} (x : Execution) (given : KeptOrder test x.paths) w
 
   -- one item more
   module _ {k : ℕ} {W : ℕ → List ℕ} {s mid : MachineState (List ℕ)} (inv : Inv k W s) (now_at : Turn k)
-      (out : CarriedOut flat test.threads (at now_at.index) s mid) where
+      (out : X86ItemTransition flat_memory test.threads (at now_at.index) s mid) where
     abbrev t : ℕ
     t = (at now_at.index).thread
 
@@ -284,13 +292,13 @@ module _ {test : ProgramTest} (x : Execution) (given : KeptOrder test x.paths) w
     abbrev e : MemoryEvent
     e = ev t j
 
-    abbrev pub r : IsReal x86 test.threads x.paths (at now_at.index)
-    r = real x86 test.threads x.paths now_at.index now_at.below
+    abbrev pub r : IsItemOnPath x86_language test.threads x.paths (at now_at.index)
+    r = IsItemOnPath-of_member x86_language test.threads x.paths now_at.index now_at.below
 
-    abbrev pub c : Carried test.threads t j (at now_at.index).is_drain s mid
+    abbrev pub c : ItemStep test.threads t j (at now_at.index).is_drain s mid
     c = carried test.threads t j (at now_at.index).is_drain s mid out
 
-    held : Holds (code_of test.threads t) (W t) c.old
+    held : Holds (thread_code test.threads t) (W t) c.old
     held = inv.hold t c.old c.was
 
     pub head : (at now_at.index).is_drain ≡ true → (rest : List ℕ) × (W t ≡ j ∷ rest)
@@ -299,30 +307,31 @@ module _ {test : ProgramTest} (x : Execution) (given : KeptOrder test x.paths) w
         inv.waiting held.climbs now_at.below now_at.index_is
 
     abbrev pub after : ℕ → List ℕ
-    after = waits_after x86 test.threads (at now_at.index) W
+    after = waits_after x86_language test.threads (at now_at.index) W
 
     after_own : after t
-        ≡ own_waits (at now_at.index).is_drain (stored x86 (statement_of x86 test.threads (at now_at.index))) j (W t)
-    after_own = waits_same x86 test.threads (at now_at.index) W t refl
+        ≡ own_waits (at now_at.index).is_drain
+        (entry_location x86_language (statement_of x86_language test.threads (at now_at.index))) j (W t)
+    after_own = waits_same x86_language test.threads (at now_at.index) W t refl
 
     on_path : IsEvent x e
-    on_path = from_list (code_of x.paths t) j r.on
+    on_path = from_list (thread_code x.paths t) j r.on
 
     item_turn : turn given (at now_at.index) ≡ k
     item_turn = turn_is given now_at.index now_at.below ∙ now_at.index_is
 
-    kind : (q : Operation → Bool) → does x86 test q e ≡ q (x86_operation r.statement)
+    kind : (q : Operation → Bool) → operation_is x86_language test q e ≡ q (x86_operation r.statement)
     kind q = kind_is given q e r.statement r.at
 
     -- its event reaches memory now, where the item is that by which it does
-    now_if : does x86 test is_store e ≡ (at now_at.index).is_drain → reached_at e ≡ k
+    now_if : operation_is x86_language test is_store e ≡ (at now_at.index).is_drain → reached_at e ≡ k
     now_if same = ap (λ b. turn given (item t j b)) same ∙ item_turn
 
     -- what reaches memory now is its event
     only : (f : MemoryEvent) (y : ℕ)
-        → Writes x86 test x f y
+        → Writes x86_language test x f y
         → reached_at f ≡ k
-        → (f ≡ e) × (does x86 test is_store f ≡ (at now_at.index).is_drain)
+        → (f ≡ e) × (operation_is x86_language test is_store f ≡ (at now_at.index).is_drain)
     only f y wf at_k =
         let index_in : Placed given (at now_at.index) =
         record { index = now_at.index; below = now_at.below; is = refl; index_is = turn_is given now_at.index now_at.below } in
@@ -335,7 +344,8 @@ module _ {test : ProgramTest} (x : Execution) (given : KeptOrder test x.paths) w
 
     others_are : AtEach (λ u q. t ≢ u → Written u (after u) q.buffer) s.processors
     others_are u q got ne =
-        subst (λ ws. Written u ws q.buffer) (sym (waits_other x86 test.threads (at now_at.index) W u ne)) (inv.words u q got)
+        subst (λ ws. Written u ws q.buffer) (sym (waits_other x86_language test.threads (at now_at.index) W u ne))
+        (inv.words u q got)
 
     from_own : Written t (after t) c.new.buffer → AtEach (λ u q. Written u (after u) q.buffer) mid.processors
     from_own own u q got =
@@ -344,11 +354,14 @@ module _ {test : ProgramTest} (x : Execution) (given : KeptOrder test x.paths) w
 
     own_is : (b : Bool)
         → (at now_at.index).is_drain ≡ b
-        → Written t (own_waits b (stored x86 (statement_of x86 test.threads (at now_at.index))) j (W t)) c.new.buffer
+        → Written t (own_waits b (entry_location x86_language (statement_of x86_language test.threads (at now_at.index))) j (W t))
+        c.new.buffer
         → Written t (after t) c.new.buffer
     own_is b f own =
         subst (λ ws. Written t ws c.new.buffer)
-        (sym (after_own ∙ ap (λ d. own_waits d (stored x86 (statement_of x86 test.threads (at now_at.index))) j (W t)) f)) own
+        (sym (after_own
+        ∙ ap (λ d. own_waits d (entry_location x86_language (statement_of x86_language test.threads (at now_at.index))) j (W t))
+        f)) own
 
     -- a drain
     module _ (f : (at now_at.index).is_drain ≡ true) where
@@ -359,17 +372,19 @@ module _ {test : ProgramTest} (x : Execution) (given : KeptOrder test x.paths) w
       drain_words =
           own_is true f
           (subst (λ (q : Processor).
-          Written t (own_waits true (stored x86 (statement_of x86 test.threads (at now_at.index))) j (W t)) q.buffer) (sym d.is)
-          (written_dropped t j (stored x86 (statement_of x86 test.threads (at now_at.index))) (W t) d.entry d.newer
-          (subst (Written t (W t)) d.full (inv.words t c.old c.was))))
+          Written t
+          (own_waits true (entry_location x86_language (statement_of x86_language test.threads (at now_at.index))) j (W t))
+          q.buffer) (sym d.is)
+          (written_dropped t j (entry_location x86_language (statement_of x86_language test.threads (at now_at.index))) (W t)
+          d.entry d.newer (subst (Written t (W t)) d.full (inv.words t c.old c.was))))
 
       -- the entry is that of its store
       head_is : (ws : List ℕ) (b : List (ℕ × ℕ))
           → W t ≡ ws
           → c.old.buffer ≡ b
-          → Waits (code_of test.threads t) ws b
+          → BufferHolds (thread_code test.threads t) ws b
           → Written t ws b
-          → (stored x86 (slice_get (code_of test.threads t) j) ≡ Some d.entry.0) × (x.written e ≡ d.entry.1)
+          → (entry_location x86_language (slice_get (thread_code test.threads t) j) ≡ Some d.entry.0) × (x.written e ≡ d.entry.1)
       head_is [] b ew eb waits written =
           absurd (let h = head f in
           let bad : [] ≡ j ∷ h.0 = sym ew ∙ h.1 in
@@ -379,21 +394,22 @@ module _ {test : ProgramTest} (x : Execution) (given : KeptOrder test x.paths) w
           let h = head f in
           let first : w ≡ j = (let same : w ∷ ws ≡ j ∷ h.0 = sym ew ∙ h.1 in cc) in
           let entry : g ≡ d.entry = (let same : g ∷ b ≡ d.entry ∷ d.newer = sym eb ∙ d.full in cc) in (
-            ap (λ k. stored x86 (slice_get (code_of test.threads t) k)) (sym first)
+            ap (λ k. entry_location x86_language (slice_get (thread_code test.threads t) k)) (sym first)
                 ∙ (waits.0 ∙ ap (λ (z : ℕ × ℕ). Some z.0) entry),
             ap (λ k. x.written (ev t k)) (sym first) ∙ (written.0 ∙ ap (λ (z : ℕ × ℕ). z.1) entry),
           )
 
-      entry_is : (stored x86 (slice_get (code_of test.threads t) j) ≡ Some d.entry.0) × (x.written e ≡ d.entry.1)
+      entry_is : (entry_location x86_language (slice_get (thread_code test.threads t) j) ≡ Some d.entry.0)
+          × (x.written e ≡ d.entry.1)
       entry_is = head_is (W t) c.old.buffer refl refl held.waits (inv.words t c.old c.was)
 
       store_is : (is_store (x86_operation r.statement) ≡ true) × (location_of (x86_operation r.statement) ≡ Some d.entry.0)
       store_is =
-          let g = stored_is (slice_get (code_of test.threads t) j) d.entry.0 entry_is.0 in
+          let g = stored_is (slice_get (thread_code test.threads t) j) d.entry.0 entry_is.0 in
           let same : g.0 ≡ r.statement = same_Some g.0 r.statement (sym g.1 ∙ r.at) in
           (ap (λ h. is_store (x86_operation h)) (sym same) ∙ g.2, ap (λ h. location_of (x86_operation h)) (sym same) ∙ g.3)
 
-      drain_writes : Writes x86 test x e d.entry.0
+      drain_writes : Writes x86_language test x e d.entry.0
       drain_writes = (
         on_path,
         ap (λ o. option_and_then location_of (option_map x86_operation o)) r.at ∙ store_is.1,
@@ -415,14 +431,14 @@ module _ {test : ProgramTest} (x : Execution) (given : KeptOrder test x.paths) w
       pub w : StepCase (x86_operation r.statement) c.old c.new s.memory c.words
       w = step_case (at now_at.index).is_drain f c r.at
 
-      stored_there : stored x86 (statement_of x86 test.threads (at now_at.index))
+      stored_there : entry_location x86_language (statement_of x86_language test.threads (at now_at.index))
           ≡ (if is_store (x86_operation r.statement) then location_of (x86_operation r.statement) else None)
-      stored_there = ap (stored x86) r.at
+      stored_there = ap (entry_location x86_language) r.at
 
       step_words : Written t (after t) c.new.buffer
       step_words = own_is false f (elim (buffer_cases (x86_operation r.statement) c.old) [
         | inl (store, y, loc, is) ↦
-            (let entry : stored x86 (statement_of x86 test.threads (at now_at.index)) ≡ Some y =
+            (let entry : entry_location x86_language (statement_of x86_language test.threads (at now_at.index)) ≡ Some y =
             stored_there ∙ (cond-true (is_store (x86_operation r.statement)) _ None store ∙ loc) in
             let sw = store_writes (x86_operation r.statement) store in
             subst (λ o. Written t (own_waits false o j (W t)) c.new.buffer) (sym entry)
@@ -431,7 +447,7 @@ module _ {test : ProgramTest} (x : Execution) (given : KeptOrder test x.paths) w
             (inv.words t c.old c.was)
             (agrees f sw.0 ∙ sw.1 c.old.regs (word_for (x86_operation r.statement) c.old.buffer s.memory) 0))))
         | inr (none, is) ↦
-            (let entry : stored x86 (statement_of x86 test.threads (at now_at.index)) ≡ None =
+            (let entry : entry_location x86_language (statement_of x86_language test.threads (at now_at.index)) ≡ None =
             stored_there ∙ cond-false (is_store (x86_operation r.statement)) _ None none in
             subst (λ o. Written t (own_waits false o j (W t)) c.new.buffer) (sym entry)
             (subst (Written t (W t)) (sym (w.buffer ∙ is)) (inv.words t c.old c.was)))
@@ -447,7 +463,7 @@ module _ {test : ProgramTest} (x : Execution) (given : KeptOrder test x.paths) w
                 (word_written (x86_operation r.statement) c.old.regs
                 (word_for (x86_operation r.statement) c.old.buffer s.memory)) = memory_is ∙ (w.memory ∙ is) in
                 let within : y < length s.memory = omega (arith, inv.size, located t j r.statement y r.at loc) in
-                let writing : Writes x86 test x e y = (
+                let writing : Writes x86_language test x e y = (
                   on_path,
                   ap (λ o. option_and_then location_of (option_map x86_operation o)) r.at ∙ loc,
                   kind writes ∙ locked_writes (x86_operation r.statement) locked,
@@ -466,10 +482,11 @@ module _ {test : ProgramTest} (x : Execution) (given : KeptOrder test x.paths) w
                       (no_write k z (slice_index s.memory z) (λ g wg at_k.
                       (let o = only g z wg at_k in
                       let writing : writes (x86_operation r.statement) ≡ true =
-                      sym (kind writes) ∙ (ap (does x86 test writes) (sym o.0) ∙ wg.2) in
+                      sym (kind writes) ∙ (ap (operation_is x86_language test writes) (sym o.0) ∙ wg.2) in
                       let store : is_store (x86_operation r.statement) ≡ true =
                       writes_unlocked (x86_operation r.statement) writing free in
-                      true≢false (sym store ∙ (sym (kind is_store) ∙ (ap (does x86 test is_store) (sym o.0) ∙ (o.1 ∙ f))))))
+                      true≢false (sym store
+                      ∙ (sym (kind is_store) ∙ (ap (operation_is x86_language test is_store) (sym o.0) ∙ (o.1 ∙ f))))))
                       (inv.memory z))),
                   ap length m ∙ inv.size,
                 ))

@@ -1,14 +1,14 @@
 -- What `lw states` prints is the report of what the axioms allow.
-use Rattle.lw_axiomatic.proofs.Common.{◌≡◌, ◌↔◌, ℕ, List, subst, TestHead, Final, Bytes, LitmusTest}
-use Rattle.lw_axiomatic.proofs.Common.{Of_source, Of_x86, head_of_test, HasList, IsStatesReport, OutcomeOf}
-use Rattle.lw_axiomatic.proofs.Common.{Makes, HasTest, IsWellFormedTest, IsCompiled, SourceOutcome}
-use Rattle.lw_axiomatic.proofs.Common.{SourceTest, ProgramTest, IsWellFormedSource, IsWellFormedProgram, flat}
-use Rattle.lw_axiomatic.proofs.Common.{IsReport, Exact, MachineOutcome, IsAllowed, source}
-use Rattle.lw_axiomatic.proofs.Common.{IsSequentialOutcome}
+use Rattle.lw_axiomatic.proofs.Common.{◌≡◌, ◌↔◌, ℕ, List, subst, TestHead, FinalState, Bytes, LitmusTest}
+use Rattle.lw_axiomatic.proofs.Common.{Of_source, Of_x86, head_of_test, IsWithinListLimits, IsStatesReport}
+use Rattle.lw_axiomatic.proofs.Common.{OutcomeOf, IsOutputOf, HasTest, IsWellFormedTest, IsCompiled}
+use Rattle.lw_axiomatic.proofs.Common.{SourceOutcome, SourceTest, X86Test, IsWellFormedSource}
+use Rattle.lw_axiomatic.proofs.Common.{IsWellFormedProgram, flat_memory, IsReport, Exact, IsMachineOutcome}
+use Rattle.lw_axiomatic.proofs.Common.{IsAllowed, source_language, IsScOutcome}
 
 -- the report of a set of outcomes is the report of any set with the same outcomes
-same_report : (head : TestHead) (Has Other : Final → Type 0)
-    → ((o : Final) → Has o ↔ Other o)
+same_report : (head : TestHead) (Has Other : FinalState → Type 0)
+    → ((o : FinalState) → Has o ↔ Other o)
     → (made : Bytes)
     → IsReport head Has Exact made
     → IsReport head Other Exact made
@@ -31,10 +31,10 @@ flipped same = (same.1, same.0)
 module _ (one : (text : Bytes) (s t : LitmusTest) → HasTest text s → HasTest text t → s ≡ t)
     (formed : (text : Bytes) (test : LitmusTest) → HasTest text test → IsWellFormedTest test) where
   -- what is printed of a text is made of its one test
-  printed : (text made : Bytes) (test : LitmusTest) (Other : Final → Type 0)
+  printed : (text made : Bytes) (test : LitmusTest) (Other : FinalState → Type 0)
       → HasTest text test
-      → ((o : Final) → OutcomeOf test o ↔ Other o)
-      → Makes IsStatesReport text made ↔ (HasList test × IsReport (head_of_test test) Other Exact made)
+      → ((o : FinalState) → OutcomeOf test o ↔ Other o)
+      → IsOutputOf IsStatesReport text made ↔ (IsWithinListLimits test × IsReport (head_of_test test) Other Exact made)
   printed text made test Other has same = (
     λ m.
         (let is : IsStatesReport test made =
@@ -48,35 +48,36 @@ module _ (one : (text : Bytes) (s t : LitmusTest) → HasTest text s → HasTest
   )
 
   -- of an x86 test, the report that is printed is that of the outcomes that the axioms allow
-  pub prints_x86 : ((test : ProgramTest) (o : Final)
+  pub prints_x86 : ((test : X86Test) (o : FinalState)
       → IsWellFormedProgram test
-      → MachineOutcome flat test test.head.init_words o ↔ IsAllowed test o)
-      → (text made : Bytes) (test : ProgramTest)
+      → IsMachineOutcome flat_memory test test.head.init_words o ↔ IsAllowed test o)
+      → (text made : Bytes) (test : X86Test)
       → HasTest text (Of_x86 test)
-      → Makes IsStatesReport text made ↔ (HasList (Of_x86 test) × IsReport test.head (IsAllowed test) Exact made)
+      → IsOutputOf IsStatesReport text made ↔ (IsWithinListLimits (Of_x86 test) × IsReport test.head (IsAllowed test) Exact made)
   prints_x86 machine text made test has =
       printed text made (Of_x86 test) (IsAllowed test) has (λ o. machine test o (formed text (Of_x86 test) has))
 
   -- of a source test, the report that is printed is that of what the axioms allow its compiled program
-  pub prints_compiled : ((test : SourceTest) (program : ProgramTest) (starts : List (List ℕ)) (o : Final)
+  pub prints_compiled : ((test : SourceTest) (program : X86Test) (starts : List (List ℕ)) (o : FinalState)
       → IsWellFormedSource test
       → IsCompiled test program starts
       → SourceOutcome test o ↔ IsAllowed program o)
-      → (text made : Bytes) (test : SourceTest) (program : ProgramTest) (starts : List (List ℕ))
+      → (text made : Bytes) (test : SourceTest) (program : X86Test) (starts : List (List ℕ))
       → HasTest text (Of_source test)
       → IsCompiled test program starts
-      → Makes IsStatesReport text made ↔ (HasList (Of_source test) × IsReport test.head (IsAllowed program) Exact made)
+      → IsOutputOf IsStatesReport text made
+      ↔ (IsWithinListLimits (Of_source test) × IsReport test.head (IsAllowed program) Exact made)
   prints_compiled compiled text made test program starts has is =
       printed text made (Of_source test) (IsAllowed program) has
       (λ o. compiled test program starts o (formed text (Of_source test) has) is)
 
   -- of a source test, the report that is printed is that of its sequentially consistent outcomes
   pub prints_sequential :
-      ((test : SourceTest) (o : Final) → IsWellFormedSource test → SourceOutcome test o ↔ IsSequentialOutcome source test o)
+      ((test : SourceTest) (o : FinalState) → IsWellFormedSource test → SourceOutcome test o ↔ IsScOutcome source_language test o)
       → (text made : Bytes) (test : SourceTest)
       → HasTest text (Of_source test)
-      → Makes IsStatesReport text made
-      ↔ (HasList (Of_source test) × IsReport test.head (IsSequentialOutcome source test) Exact made)
+      → IsOutputOf IsStatesReport text made
+      ↔ (IsWithinListLimits (Of_source test) × IsReport test.head (IsScOutcome source_language test) Exact made)
   prints_sequential same text made test has =
-      printed text made (Of_source test) (IsSequentialOutcome source test) has
+      printed text made (Of_source test) (IsScOutcome source_language test) has
       (λ o. same test o (formed text (Of_source test) has))

@@ -1,21 +1,22 @@
 -- An execution that keeps the axioms is sequentially consistent, or its test has a triangular race. Of the from-reads that do
 -- not go up by the anchored numbers take one with the first read, and of that the first write: up to the write all others, and
 -- the reading thread up to its read, are a run by interleaving; there both are next, behind a store that no fence followed.
-use Rattle.lw_axiomatic.proofs.Common.{IsAllowed, InterleavingOutcome, IsSequentialOutcome, ◌↔◌, ◌≡◌, ◌≢◌, ℕ}
-use Rattle.lw_axiomatic.proofs.Common.{suc, ◌*◌, ◌<◌, ◌≤◌, ◌⊎◌, ◌||◌, ◌==◌, inl, inr, Bool, true, false}
-use Rattle.lw_axiomatic.proofs.Common.{Option, Some, None, List, [], ◌∷◌, ◌++◌, map, refl, sym, ap, ap₂, ◌∙◌}
-use Rattle.lw_axiomatic.proofs.Common.{subst, arith, true≢false, eq-eqb, eqb-true, Contains, slice_get}
-use Rattle.lw_axiomatic.proofs.Common.{lt-ltb, ltb-true, ◌&&◌, nat_lt, option_map, option_and_then}
-use Rattle.lw_axiomatic.proofs.Common.{option_map_or, cases_Bool, cases_eq, cases_lt, cases_order, or_left}
-use Rattle.lw_axiomatic.proofs.Common.{or_right, or_cases, and_from, and_parts, false_from_ne_true, get_some}
-use Rattle.lw_axiomatic.proofs.Common.{Final, code_of, Contains-here, GoesUp, path_up, forward_of, Operation}
-use Rattle.lw_axiomatic.proofs.Common.{Store, location_of, is_store, is_load, waits, writes, x86}
-use Rattle.lw_axiomatic.proofs.Common.{x86_operation, ProgramTest, IsWellFormedProgram, KeepsAxioms, Goes}
-use Rattle.lw_axiomatic.proofs.Common.{IsCandidate, MemoryEvent, Execution, IsEvent, Po, reads, does}
-use Rattle.lw_axiomatic.proofs.Common.{location, Writes, Rf, Fr, start, IsNext, HasTriangularRace}
-use Rattle.lw_axiomatic.proofs.Common.{IsSequential}
-use Rattle.lw_axiomatic.proofs.Decisions.{Decided, decided_and, decided_fr}
-use Rattle.lw_axiomatic.proofs.EventKinds.{there, low, write_stores_or_reads, store_waits_not}
+use Rattle.lw_axiomatic.proofs.Common.{IsAllowed, InterleavingOutcome, IsScOutcome, ◌↔◌, ◌≡◌, ◌≢◌, ℕ, suc}
+use Rattle.lw_axiomatic.proofs.Common.{◌*◌, ◌<◌, ◌≤◌, ◌⊎◌, ◌||◌, ◌==◌, inl, inr, Bool, true, false, Option}
+use Rattle.lw_axiomatic.proofs.Common.{Some, None, List, [], ◌∷◌, ◌++◌, map, refl, sym, ap, ap₂, ◌∙◌, subst}
+use Rattle.lw_axiomatic.proofs.Common.{arith, true≢false, eq-eqb, eqb-true, Contains, slice_get, lt-ltb}
+use Rattle.lw_axiomatic.proofs.Common.{ltb-true, ◌&&◌, nat_lt, option_map, option_and_then, option_map_or}
+use Rattle.lw_axiomatic.proofs.Common.{cases_Bool, cases_eq, cases_lt, cases_order, or_left, or_right}
+use Rattle.lw_axiomatic.proofs.Common.{or_cases, and_from, and_parts, false_from_ne_true, get_some}
+use Rattle.lw_axiomatic.proofs.Common.{FinalState, thread_code, Contains-head, IsAscendingFrom, path_up}
+use Rattle.lw_axiomatic.proofs.Common.{forward_of, Operation, Store, location_of, is_store, is_load}
+use Rattle.lw_axiomatic.proofs.Common.{needs_empty_buffer, writes, x86_language, x86_operation, X86Test}
+use Rattle.lw_axiomatic.proofs.Common.{IsWellFormedProgram, SatisfiesAxioms, ThreadExecutes, IsCandidate}
+use Rattle.lw_axiomatic.proofs.Common.{MemoryEvent, Execution, IsEvent, Po, reads, operation_is, location}
+use Rattle.lw_axiomatic.proofs.Common.{Writes, Rf, Fr, start, IsNext, HasTriangularRace}
+use Rattle.lw_axiomatic.proofs.Common.{IsSequentiallyConsistent}
+use Rattle.lw_axiomatic.proofs.Decisions.{Decidable, decided_and, decided_fr}
+use Rattle.lw_axiomatic.proofs.EventKinds.{write_or_load, low, write_stores_or_reads, store_waits_not}
 use Rattle.lw_axiomatic.proofs.EventLists.{least_event}
 use Rattle.lw_axiomatic.proofs.FencedTests.{thread_there, path_of}
 use Rattle.lw_axiomatic.proofs.Fronts.{fronts, tails, as_many_fronts, parted_at, from_fronts, to_fronts}
@@ -25,8 +26,8 @@ use Rattle.lw_axiomatic.proofs.Timing.{anchor_reached}
 use Rattle.lw_axiomatic.proofs.Walks.{AreFronts, Ends, walked}
 use Rattle.lw_axiomatic.proofs.Anchored as anchored_by
 
-module _ {test : ProgramTest} (ok : IsWellFormedProgram test) {x : Execution} {o : Final} (candidate : IsCandidate x86 test x o)
-    (axioms : KeepsAxioms test x) where
+module _ {test : X86Test} (ok : IsWellFormedProgram test) {x : Execution} {o : FinalState}
+    (candidate : IsCandidate x86_language test x o) (axioms : SatisfiesAxioms test x) where
   abbrev n : MemoryEvent → ℕ
   n = anchored_by.rank ok axioms
 
@@ -41,11 +42,11 @@ module _ {test : ProgramTest} (ok : IsWellFormedProgram test) {x : Execution} {o
 
   -- from-reads that do not go up
   abbrev IsLate : MemoryEvent → MemoryEvent → Type 0
-  IsLate b c = Fr x86 test x b c × (n c ≤ n b)
+  IsLate b c = Fr x86_language test x b c × (n c ≤ n b)
 
-  late : (b c : MemoryEvent) → Decided (IsLate b c)
+  late : (b c : MemoryEvent) → Decidable (IsLate b c)
   late b c =
-      decided_and (decided_fr x86 test x b c)
+      decided_and (decided_fr x86_language test x b c)
       (elim (cases_lt (n b) (n c)) [ inl less ↦ inr (λ le. omega (arith, less, le)) | inr le ↦ inl le ])
 
   -- the first write of a read that is late
@@ -54,7 +55,7 @@ module _ {test : ProgramTest} (ok : IsWellFormedProgram test) {x : Execution} {o
     is_late : IsLate b c
     least : (w : MemoryEvent) → IsLate b w → n c ≤ n w
 
-  first_write : (b : MemoryEvent) → Decided (FirstWrite b)
+  first_write : (b : MemoryEvent) → Decidable (FirstWrite b)
   first_write b = elim (least_event n (IsLate b) (late b) x.paths) [
     | inl none ↦ inr (λ f. none f.c f.is_late.0.2.0 f.is_late)
     | inr (c, is, least) ↦ inl (record { c = c; is_late = is; least = λ w l. least w l.0.2.0 l })
@@ -66,7 +67,7 @@ module _ {test : ProgramTest} (ok : IsWellFormedProgram test) {x : Execution} {o
     abbrev c : MemoryEvent
     c = f.c
 
-    abbrev fr : Fr x86 test x b c
+    abbrev fr : Fr x86_language test x b c
     fr = f.is_late.0
 
     abbrev l : ℕ
@@ -93,8 +94,8 @@ module _ {test : ProgramTest} (ok : IsWellFormedProgram test) {x : Execution} {o
     c_above : 64 * suc (g c) ≤ n c
     c_above = let up = anchored_by.above ok axioms c fr.2.0 (anchored_by.writing_accesses ok axioms c fr.2.2) in omega (arith, up)
 
-    load : does x86 test is_load b ≡ true
-    load = elim (there test b l fr.1.1) [
+    load : operation_is x86_language test is_load b ≡ true
+    load = elim (write_or_load test b l fr.1.1) [
       | inl writing ↦
           absurd (let up : n b < n c = anchored_by.fr_when ok axioms b c fr (anchored_by.own_write ok axioms b fr.1.0 writing) in
           omega (arith, up, f.is_late.1))
@@ -106,17 +107,17 @@ module _ {test : ProgramTest} (ok : IsWellFormedProgram test) {x : Execution} {o
     record Stored : Type 0 where
       k : ℕ
       po : Po x (at b.thread k) b
-      store : does x86 test is_store (at b.thread k) ≡ true
+      store : operation_is x86_language test is_store (at b.thread k) ≡ true
       high : g c ≤ g (at b.thread k)
 
     stored : Stored
-    stored = elim (anchor_reached (anchored_by.top ok axioms b.thread) (code_of x.paths b.thread) b.position) [
+    stored = elim (anchor_reached (anchored_by.top ok axioms b.thread) (thread_code x.paths b.thread) b.position) [
       | inr none ↦ absurd (omega (arith, none, c_above, f.is_late.1, low_b))
       | inl (k, on, le, is) ↦ by_access k on le is (cases_Bool (anchored_by.accesses ok axioms (at b.thread k)))
     ]
       where
         by_access : (k : ℕ)
-            → Contains (code_of x.paths b.thread) k
+            → Contains (thread_code x.paths b.thread) k
             → k ≤ b.position
             → anchored_by.top ok axioms b.thread k ≡ anchored_by.anchored ok axioms b
             → (anchored_by.accesses ok axioms (at b.thread k) ≡ true) ⊎ (anchored_by.accesses ok axioms (at b.thread k) ≡ false)
@@ -134,7 +135,7 @@ module _ {test : ProgramTest} (ok : IsWellFormedProgram test) {x : Execution} {o
                   record {
                     k = k;
                     po = po;
-                    store = elim (or_cases (does x86 test reads (at b.thread k)) _ a) [
+                    store = elim (or_cases (operation_is x86_language test reads (at b.thread k)) _ a) [
                       | inl r ↦ absurd (omega (arith, anchored_by.kept_reading ok axioms (at b.thread k) b po r, high, g_up))
                       | inr w ↦ elim (write_stores_or_reads test (at b.thread k) w) [
                         | inl s ↦ s
@@ -149,7 +150,7 @@ module _ {test : ProgramTest} (ok : IsWellFormedProgram test) {x : Execution} {o
     k = at b.thread stored.k
 
     -- nothing between them waits
-    none_waits : (h : MemoryEvent) → Po x k h → Po x h b → does x86 test waits h ≡ true → ⊥
+    none_waits : (h : MemoryEvent) → Po x k h → Po x h b → operation_is x86_language test needs_empty_buffer h ≡ true → ⊥
     none_waits h first second w = omega (
       arith,
       anchored_by.behind_waiting ok axioms k h first w,
@@ -159,9 +160,9 @@ module _ {test : ProgramTest} (ok : IsWellFormedProgram test) {x : Execution} {o
     )
 
     -- and the store is to another location
-    apart : location x86 test k ≡ Some l → ⊥
+    apart : location x86_language test k ≡ Some l → ⊥
     apart same =
-        let writing : Writes x86 test x k l = (stored.po.0, same, store_kind k stored.store) in
+        let writing : Writes x86_language test x k l = (stored.po.0, same, store_kind k stored.store) in
         let up : axioms.coherence.0 k < axioms.coherence.0 b = axioms.coherence.1 k b (inl (stored.po, l, same, fr.1.1)) in
         let more : axioms.coherence.0 b < axioms.coherence.0 c = axioms.coherence.1 b c (inr (inr (inr fr))) in
         elim (cases_order (x.co k) (x.co c)) [
@@ -175,7 +176,9 @@ module _ {test : ProgramTest} (ok : IsWellFormedProgram test) {x : Execution} {o
         store_writes (Some (Store y v)) e = refl
         store_writes (Some _) e = absurd (true≢false (sym e))
 
-        store_kind : (e : MemoryEvent) → does x86 test is_store e ≡ true → does x86 test writes e ≡ true
+        store_kind : (e : MemoryEvent)
+            → operation_is x86_language test is_store e ≡ true
+            → operation_is x86_language test writes e ≡ true
         store_kind e s = store_writes _ s
 
     -- ---- the fronts: what comes before the write, and the reading thread up to its read
@@ -199,8 +202,8 @@ module _ {test : ProgramTest} (ok : IsWellFormedProgram test) {x : Execution} {o
     ]
 
     down : (t h j : ℕ)
-        → Contains (code_of x.paths t) h
-        → Contains (code_of x.paths t) j
+        → Contains (thread_code x.paths t) h
+        → Contains (thread_code x.paths t) j
         → h < j
         → passes t j ≡ true
         → passes t h ≡ true
@@ -209,13 +212,13 @@ module _ {test : ProgramTest} (ok : IsWellFormedProgram test) {x : Execution} {o
       | inr (one, before) ↦ by_thread t h one (omega (arith, less, before))
     ]
 
-    goes_up : (t j : ℕ) → Contains (code_of x.paths t) j → GoesUp 0 (code_of x.paths t)
+    goes_up : (t j : ℕ) → Contains (thread_code x.paths t) j → IsAscendingFrom 0 (thread_code x.paths t)
     goes_up t j c =
-        path_up x86 (code_of test.threads t) 0 (code_of x.paths t) (forward_of x86 test ok t)
+        path_up x86_language (thread_code test.threads t) 0 (thread_code x.paths t) (forward_of x86_language test ok t)
         (path_of candidate t (thread_there candidate (at t j) c))
 
     abbrev IsIn : MemoryEvent → Type 0
-    IsIn e = Contains (code_of (fronts passes 0 x.paths) e.thread) e.position
+    IsIn e = Contains (thread_code (fronts passes 0 x.paths) e.thread) e.position
 
     to_in : (e : MemoryEvent) → IsEvent x e → passes e.thread e.position ≡ true → IsIn e
     to_in e there p = to_fronts passes e.thread e.position x.paths (goes_up e.thread e.position there) (down e.thread) there p
@@ -223,7 +226,7 @@ module _ {test : ProgramTest} (ok : IsWellFormedProgram test) {x : Execution} {o
     from_in : (e : MemoryEvent) → IsIn e → IsEvent x e × (passes e.thread e.position ≡ true)
     from_in e c = from_fronts passes e.thread e.position x.paths c
 
-    fr_goes_up : (r w : MemoryEvent) → IsIn r → Fr x86 test x r w → n r < n w
+    fr_goes_up : (r w : MemoryEvent) → IsIn r → Fr x86_language test x r w → n r < n w
     fr_goes_up r w ir from = elim (cases_lt (n r) (n w)) [
       | inl less ↦ less
       | inr le ↦
@@ -235,7 +238,7 @@ module _ {test : ProgramTest} (ok : IsWellFormedProgram test) {x : Execution} {o
           ])
     ]
 
-    closed : (w r : MemoryEvent) → IsIn r → Rf x86 test x w r → IsIn w
+    closed : (w r : MemoryEvent) → IsIn r → Rf x86_language test x w r → IsIn w
     closed w r ir rf =
         let is = from_in r ir in
         to_in w rf.1.0 (elim (passing r.thread r.position is.1) [
@@ -256,7 +259,7 @@ module _ {test : ProgramTest} (ok : IsWellFormedProgram test) {x : Execution} {o
           ]
         ])
 
-    are : AreFronts x86 test x n (fronts passes 0 x.paths) (tails passes 0 x.paths)
+    are : AreFronts x86_language test x n (fronts passes 0 x.paths) (tails passes 0 x.paths)
     are = record {
       many = as_many_fronts passes 0 x.paths ∙ candidate.as_many;
       parted = λ t. parted_at passes t x.paths;
@@ -269,40 +272,40 @@ module _ {test : ProgramTest} (ok : IsWellFormedProgram test) {x : Execution} {o
       closed = closed;
     }
 
-    abbrev run : Ends ok candidate are (fronts passes 0 x.paths) (start x86 test)
+    abbrev run : Ends ok candidate are (fronts passes 0 x.paths) (start x86_language test)
     run = walked ok candidate are
 
     -- ---- behind the fronts both are next
 
     next_at : (kind : Operation → Bool) (e : MemoryEvent)
         → IsEvent x e
-        → does x86 test kind e ≡ true
-        → location x86 test e ≡ Some l
+        → operation_is x86_language test kind e ≡ true
+        → location x86_language test e ≡ Some l
         → passes e.thread e.position ≡ false
-        → ((h : ℕ) → Contains (code_of x.paths e.thread) h → h < e.position → passes e.thread h ≡ true)
+        → ((h : ℕ) → Contains (thread_code x.paths e.thread) h → h < e.position → passes e.thread h ≡ true)
         → IsNext test kind l e.thread run.end
     next_at kind e on is index_in not before =
         let th = get_some run.end.threads e.thread (omega (arith, thread_there candidate e on, run.at.good.many)) in
         let now = run.at.threads e.thread th.0 th.1 in
         let tail = tail_from passes e.thread e.position x.paths (goes_up e.thread e.position on) on not before in
-        let none : code_of run.left e.thread ≡ [] = nothing (code_of run.left e.thread) refl in
-        let goes : Goes x86 x e.thread (code_of test.threads e.thread) (e.position ∷ tail.0) th.0 now.0 =
-        subst (λ (path : List ℕ). Goes x86 x e.thread (code_of test.threads e.thread) path th.0 now.0)
+        let none : thread_code run.left e.thread ≡ [] = nothing (thread_code run.left e.thread) refl in
+        let goes : ThreadExecutes x86_language x e.thread (thread_code test.threads e.thread) (e.position ∷ tail.0) th.0 now.0 =
+        subst (λ (path : List ℕ). ThreadExecutes x86_language x e.thread (thread_code test.threads e.thread) path th.0 now.0)
         (ap₂ (λ (p q : List ℕ). p ++ q) none tail.1) now.1 in
         record {
           thread = th.0;
           instruction = goes.1;
           was = th.1;
-          at = ap (slice_get (code_of test.threads e.thread)) goes.0 ∙ goes.2;
+          at = ap (slice_get (thread_code test.threads e.thread)) goes.0 ∙ goes.2;
           is = sym (ap (λ o. option_map_or kind (option_map x86_operation o) false) goes.2) ∙ is;
           on = sym (ap (λ o. option_and_then location_of (option_map x86_operation o)) goes.2) ∙ index_in;
         }
       where
-        nothing : (path : List ℕ) → code_of run.left e.thread ≡ path → path ≡ []
+        nothing : (path : List ℕ) → thread_code run.left e.thread ≡ path → path ≡ []
         nothing [] same = refl
         nothing (h ∷ more) same =
             absurd (run.none (at e.thread h)
-            (subst (λ (path : List ℕ). Contains path h) (sym same) (Contains-here h h more refl)))
+            (subst (λ (path : List ℕ). Contains path h) (sym same) (Contains-head h h more refl)))
 
     not_passing : (e : MemoryEvent)
         → ((n e < n c) → ⊥)
@@ -328,10 +331,13 @@ module _ {test : ProgramTest} (ok : IsWellFormedProgram test) {x : Execution} {o
     k_in : IsIn k
     k_in = to_in k stored.po.0 (by_thread b.thread stored.k refl stored.po.3)
 
-    parts : Split ok candidate are run.events (start x86 test) run.end k
-    parts = split ok candidate are run.events (start x86 test) run.end k run.ran (run.has k k_in)
+    parts : Split ok candidate are run.events (start x86_language test) run.end k
+    parts = split ok candidate are run.events (start x86_language test) run.end k run.ran (run.has k k_in)
 
-    quiet_since : (h : MemoryEvent) → Contains parts.since h → h.thread ≡ b.thread → does x86 test waits h ≡ false
+    quiet_since : (h : MemoryEvent)
+        → Contains parts.since h
+        → h.thread ≡ b.thread
+        → operation_is x86_language test needs_empty_buffer h ≡ false
     quiet_since h c_h own =
         let is = from_in h (run.all h (parts.among h c_h)) in
         let later : n k ≤ n h = parts.later h c_h in
@@ -344,15 +350,17 @@ module _ {test : ProgramTest} (ok : IsWellFormedProgram test) {x : Execution} {o
           ]
         ] in
         elim (cases_order h.position stored.k) [
-          | inl same ↦ (let one : h ≡ k = ap₂ at own same in ap (does x86 test waits) one ∙ store_waits_not test k stored.store)
+          | inl same ↦
+              (let one : h ≡ k = ap₂ at own same in
+              ap (operation_is x86_language test needs_empty_buffer) one ∙ store_waits_not test k stored.store)
           | inr (inl less) ↦ absurd (omega (arith, po_up h k (is.0, stored.po.0, own, less), later))
           | inr (inr more) ↦
-              false_from_ne_true (does x86 test waits h)
+              false_from_ne_true (operation_is x86_language test needs_empty_buffer h)
               (none_waits h (stored.po.0, is.0, sym own, more) (is.0, fr.1.0, own, before))
         ]
 
-    there_is : slice_get (code_of test.threads b.thread) stored.k ≡ Some parts.step.statement
-    there_is = ap (slice_get (code_of test.threads b.thread)) (sym parts.stands) ∙ parts.step.at
+    there_is : slice_get (thread_code test.threads b.thread) stored.k ≡ Some parts.step.statement
+    there_is = ap (slice_get (thread_code test.threads b.thread)) (sym parts.stands) ∙ parts.step.at
 
     race : HasTriangularRace test
     race = record {
@@ -377,7 +385,7 @@ module _ {test : ProgramTest} (ok : IsWellFormedProgram test) {x : Execution} {o
   -- ---- one or the other
 
   -- an execution that keeps the axioms is sequentially consistent, or its test has a triangular race
-  pub sequential_or_race : IsSequential x86 test x ⊎ HasTriangularRace test
+  pub sequential_or_race : IsSequentiallyConsistent x86_language test x ⊎ HasTriangularRace test
   sequential_or_race = elim (least_event n FirstWrite first_write x.paths) [
     | inl none ↦ inl (anchored_by.sequential_if ok axioms (λ r w from. elim (cases_lt (n r) (n w)) [
       | inl less ↦ less
@@ -395,14 +403,14 @@ module _ {test : ProgramTest} (ok : IsWellFormedProgram test) {x : Execution} {o
 -- ---- of tests
 
 module _
-    (same : (test : ProgramTest) (o : Final)
+    (same : (test : X86Test) (o : FinalState)
     → IsWellFormedProgram test
-    → InterleavingOutcome x86 test o ↔ IsSequentialOutcome x86 test o) where
+    → InterleavingOutcome x86_language test o ↔ IsScOutcome x86_language test o) where
   -- an outcome that the axioms allow is one by interleaving, or the test has a triangular race
-  pub interleaving_or_race : (test : ProgramTest) (o : Final)
+  pub interleaving_or_race : (test : X86Test) (o : FinalState)
       → IsWellFormedProgram test
       → IsAllowed test o
-      → InterleavingOutcome x86 test o ⊎ HasTriangularRace test
+      → InterleavingOutcome x86_language test o ⊎ HasTriangularRace test
   interleaving_or_race test o ok a = elim (sequential_or_race ok a.candidate a.axioms) [
     | inl sequential ↦
         inl ((same test o ok).1 (record { execution = a.execution; candidate = a.candidate; sequential = sequential }))
@@ -410,11 +418,11 @@ module _
   ]
 
   -- the axioms allow a test without triangular races exactly its outcomes by interleaving
-  pub race_free : ((test : ProgramTest) (o : Final) → IsSequentialOutcome x86 test o → IsAllowed test o)
-      → (test : ProgramTest) (o : Final)
+  pub race_free : ((test : X86Test) (o : FinalState) → IsScOutcome x86_language test o → IsAllowed test o)
+      → (test : X86Test) (o : FinalState)
       → IsWellFormedProgram test
       → (HasTriangularRace test → ⊥)
-      → IsAllowed test o ↔ InterleavingOutcome x86 test o
+      → IsAllowed test o ↔ InterleavingOutcome x86_language test o
   race_free allowed test o ok raceless = (
     λ a. elim (interleaving_or_race test o ok a) [ inl run ↦ run | inr race ↦ absurd (raceless race) ],
     λ run. allowed test o ((same test o ok).0 run),

@@ -1,13 +1,16 @@
 -- A run that is walked along an execution, seen from one of its events: what was done before it, and what since.
 use Rattle.lw_axiomatic.proofs.Common.{◌≡◌, ℕ, ◌≤◌, inl, inr, false, List, [], ◌∷◌, map, refl, sym, ap, ◌∙◌}
-use Rattle.lw_axiomatic.proofs.Common.{subst, Contains, slice_get, option_map, option_map_or, Final, code_of}
-use Rattle.lw_axiomatic.proofs.Common.{none_in, Contains-here, Contains-there, Contains-cons, waits, x86}
-use Rattle.lw_axiomatic.proofs.Common.{x86_operation, ProgramTest, IsWellFormedProgram, IsCandidate}
-use Rattle.lw_axiomatic.proofs.Common.{MemoryEvent, Execution, does, Interleaved, IsStep, Ran, RanQuietly}
+use Rattle.lw_axiomatic.proofs.Common.{subst, Contains, slice_get, option_map, option_map_or, FinalState}
+use Rattle.lw_axiomatic.proofs.Common.{thread_code, not-Contains-nil, Contains-head, Contains-tail}
+use Rattle.lw_axiomatic.proofs.Common.{Contains-cons, needs_empty_buffer, x86_language, x86_operation}
+use Rattle.lw_axiomatic.proofs.Common.{X86Test, IsWellFormedProgram, IsCandidate, MemoryEvent, Execution}
+use Rattle.lw_axiomatic.proofs.Common.{operation_is, Interleaved, IsStep, InterleavedRunsTo}
+use Rattle.lw_axiomatic.proofs.Common.{RunsToWithoutBarrier}
 use Rattle.lw_axiomatic.proofs.Walks.{AreFronts, RanBy}
 
-module _ {test : ProgramTest} (ok : IsWellFormedProgram test) {x : Execution} {o : Final} (candidate : IsCandidate x86 test x o)
-    {rank : MemoryEvent → ℕ} {fronts tails : List (List ℕ)} (are : AreFronts x86 test x rank fronts tails) where
+module _ {test : X86Test} (ok : IsWellFormedProgram test) {x : Execution} {o : FinalState}
+    (candidate : IsCandidate x86_language test x o) {rank : MemoryEvent → ℕ} {fronts tails : List (List ℕ)}
+    (are : AreFronts x86_language test x rank fronts tails) where
   abbrev Runs : List MemoryEvent → Interleaved → Interleaved → Type 0
   Runs = RanBy ok candidate are
 
@@ -15,9 +18,9 @@ module _ {test : ProgramTest} (ok : IsWellFormedProgram test) {x : Execution} {o
   pub record Split (events : List MemoryEvent) (s end : Interleaved) (e : MemoryEvent) : Type 0 where
     pub before : List ℕ
     pub first : Interleaved
-    pub reached : Ran x86 test.threads before s first
+    pub reached : InterleavedRunsTo x86_language test.threads before s first
     pub mid : Interleaved
-    pub step : IsStep x86 test.threads e.thread first mid
+    pub step : IsStep x86_language test.threads e.thread first mid
     pub stands : step.thread.position ≡ e.position
     pub since : List MemoryEvent
     pub ran : Runs since mid end
@@ -29,7 +32,7 @@ module _ {test : ProgramTest} (ok : IsWellFormedProgram test) {x : Execution} {o
       → Runs events s end
       → Contains events e
       → Split events s end e
-  split [] s end e ran c = absurd (none_in e c)
+  split [] s end e ran c = absurd (not-Contains-nil e c)
   split (f ∷ events) s last e (next, step, at, least, ran) c = elim (Contains-cons f e events c) [
     | inl same ↦ subst (Split (f ∷ events) s last) same (record {
       before = [];
@@ -41,7 +44,7 @@ module _ {test : ProgramTest} (ok : IsWellFormedProgram test) {x : Execution} {o
       since = events;
       ran = ran;
       later = least;
-      among = λ g there. Contains-there f g events there;
+      among = λ g there. Contains-tail f g events there;
     })
     | inr rest ↦
         (let more : Split events next last e = split events next last e ran rest in
@@ -55,22 +58,22 @@ module _ {test : ProgramTest} (ok : IsWellFormedProgram test) {x : Execution} {o
           since = more.since;
           ran = more.ran;
           later = more.later;
-          among = λ g there. Contains-there f g events (more.among g there);
+          among = λ g there. Contains-tail f g events (more.among g there);
         })
   ]
 
   -- a run in which none of a thread's events waits for an empty store buffer is quiet for that thread
   pub quietly : (q : ℕ) (events : List MemoryEvent) (s end : Interleaved)
       → Runs events s end
-      → ((f : MemoryEvent) → Contains events f → f.thread ≡ q → does x86 test waits f ≡ false)
-      → RanQuietly test q (map (λ (e : MemoryEvent). e.thread) events) s end
+      → ((f : MemoryEvent) → Contains events f → f.thread ≡ q → operation_is x86_language test needs_empty_buffer f ≡ false)
+      → RunsToWithoutBarrier test q (map (λ (e : MemoryEvent). e.thread) events) s end
   quietly q [] s end ran each = ran
   quietly q (f ∷ events) s last (next, step, at, least, ran) each = (
     next,
     step,
     λ own.
-        sym (ap (λ o. option_map_or waits (option_map x86_operation o) false)
-        (ap (slice_get (code_of test.threads f.thread)) (sym at) ∙ step.at))
-        ∙ each f (Contains-here f f events refl) own,
-    quietly q events next last ran (λ g there. each g (Contains-there f g events there)),
+        sym (ap (λ o. option_map_or needs_empty_buffer (option_map x86_operation o) false)
+        (ap (slice_get (thread_code test.threads f.thread)) (sym at) ∙ step.at))
+        ∙ each f (Contains-head f f events refl) own,
+    quietly q events next last ran (λ g there. each g (Contains-tail f g events there)),
   )

@@ -3,11 +3,12 @@ use Rattle.lw_axiomatic.proofs.Common.{◌≡◌, ℕ, suc, ◌<◌, ◌≤◌, 
 use Rattle.lw_axiomatic.proofs.Common.{Some, None, refl, sym, ap, ap₂, ◌∙◌, subst, arith, if◌then◌else◌, List}
 use Rattle.lw_axiomatic.proofs.Common.{[], ◌∷◌, slice_get, Contains, ◌==◌, eq-eqb, ne_eqb, option_map}
 use Rattle.lw_axiomatic.proofs.Common.{option_and_then, slice_index, option_or, cases_Bool, cases_lt}
-use Rattle.lw_axiomatic.proofs.Common.{cases_eq, cond-true, cond-false, same_Some, code_of, is_store, writes}
-use Rattle.lw_axiomatic.proofs.Common.{location_of, x86, x86_operation, ProgramTest, index_in, Item, In, item}
-use Rattle.lw_axiomatic.proofs.Common.{real, MachineState, Processor, newest, Climbs, climbs_in, stored}
-use Rattle.lw_axiomatic.proofs.Common.{Waits, Coming, MemoryEvent, Execution, reads, does, IsEvent, Writes}
-use Rattle.lw_axiomatic.proofs.Common.{Po, IsBefore, IsNewest}
+use Rattle.lw_axiomatic.proofs.Common.{cases_eq, cond-true, cond-false, same_Some, thread_code, is_store}
+use Rattle.lw_axiomatic.proofs.Common.{writes, location_of, x86_language, x86_operation, X86Test, index_in}
+use Rattle.lw_axiomatic.proofs.Common.{Item, IsMember, item, IsItemOnPath-of_member, MachineState, Processor}
+use Rattle.lw_axiomatic.proofs.Common.{newest_buffered, IsAscendingBetween, climbs_in, entry_location}
+use Rattle.lw_axiomatic.proofs.Common.{BufferHolds, Coming, MemoryEvent, Execution, reads, operation_is}
+use Rattle.lw_axiomatic.proofs.Common.{IsEvent, Writes, Po, IsBefore, IsNewest}
 use Rattle.lw_axiomatic.proofs.EventKinds.{}
 use Rattle.lw_axiomatic.proofs.StepCases.{seen, found_or}
 use Rattle.lw_axiomatic.proofs.Indices.{KeptOrder, it, done, reached, turn, turn_is, kind_is, instr_of}
@@ -15,7 +16,7 @@ use Rattle.lw_axiomatic.proofs.Indices.{step_placed, point_placed, apart, po_up,
 use Rattle.lw_axiomatic.proofs.Prefixes.{Written, LastBefore, Inv, Turn, stored_is}
 use Rattle.lw_axiomatic.proofs.Prefixes as prefixes
 
-module _ {test : ProgramTest} (x : Execution) (given : KeptOrder test x.paths) where
+module _ {test : X86Test} (x : Execution) (given : KeptOrder test x.paths) where
   abbrev reach : MemoryEvent → ℕ
   reach = reached given
 
@@ -28,22 +29,22 @@ module _ {test : ProgramTest} (x : Execution) (given : KeptOrder test x.paths) w
   -- ---- the newest entry for a location
 
   abbrev entered : ℕ → ℕ → Option ℕ
-  entered t w = stored x86 (slice_get (code_of test.threads t) w)
+  entered t w = entry_location x86_language (slice_get (thread_code test.threads t) w)
 
   record Has (t : ℕ) (ws : List ℕ) (b : List (ℕ × ℕ)) (l : ℕ) : Type 0 where
     store : ℕ
-    waits : In store ws
+    waits : IsMember store ws
     of : entered t store ≡ Some l
-    found : newest b l ≡ Some (x.written (event t store))
-    last : (v : ℕ) → In v ws → entered t v ≡ Some l → v ≤ store
+    found : newest_buffered b l ≡ Some (x.written (event t store))
+    last : (v : ℕ) → IsMember v ws → entered t v ≡ Some l → v ≤ store
 
   record HasNone (t : ℕ) (ws : List ℕ) (b : List (ℕ × ℕ)) (l : ℕ) : Type 0 where
-    found : newest b l ≡ None
-    none : (v : ℕ) → In v ws → entered t v ≡ Some l → ⊥
+    found : newest_buffered b l ≡ None
+    none : (v : ℕ) → IsMember v ws → entered t v ≡ Some l → ⊥
 
   has : (t l low high : ℕ) (ws : List ℕ) (b : List (ℕ × ℕ))
-      → Climbs low ws high
-      → Waits (code_of test.threads t) ws b
+      → IsAscendingBetween low ws high
+      → BufferHolds (thread_code test.threads t) ws b
       → Written x given t ws b
       → Has t ws b l ⊎ HasNone t ws b l
   has t l low high [] [] climbs waits written = inr (record { found = refl; none = λ v h e. absurd h })
@@ -103,11 +104,11 @@ module _ {test : ProgramTest} (x : Execution) (given : KeptOrder test x.paths) w
 
     -- an own store that has not reached memory waits
     waiting_in : (v : MemoryEvent) (l : ℕ)
-        → Writes x86 test x v l
+        → Writes x86_language test x v l
         → Po x v e
         → k ≤ reach v
-        → In v.position (W t) × (entered t v.position ≡ Some l)
-    waiting_in v l writing po late = elim (cases_Bool (does x86 test is_store v)) [
+        → IsMember v.position (W t) × (entered t v.position ≡ Some l)
+    waiting_in v l writing po late = elim (cases_Bool (operation_is x86_language test is_store v)) [
       | inr other ↦ absurd (omega (arith, late, e_done, at_once given x refl v other, po_up given x refl v e po))
       | inl so ↦
           (let a = step_placed given v writing.0 in
@@ -118,11 +119,11 @@ module _ {test : ProgramTest} (x : Execution) (given : KeptOrder test x.paths) w
           (ap (λ (z : Item). z.thread) (a.is) ∙ sym (ap (λ (z : Item). z.thread) b.is))
           (ap (λ (z : Item). z.position) (a.is) ∙ sym (ap (λ (z : Item). z.position) b.is)) (ap (λ (z : Item). z.is_drain) a.is)
           drain (omega (arith, a.index_is, po_up given x refl v e po, e_done)) (omega (arith, b.index_is, late)) in (
-            subst (λ u. In v.position (W u)) po.2 (subst (λ (z : Item). In z.position (W z.thread)) b.is found),
+            subst (λ u. IsMember v.position (W u)) po.2 (subst (λ (z : Item). IsMember z.position (W z.thread)) b.is found),
             (let h = instr_of given v writing.0 in
-                let at_t : slice_get (code_of test.threads t) v.position ≡ Some h.0 =
-                subst (λ u. slice_get (code_of test.threads u) v.position ≡ Some h.0) po.2 h.1 in
-                ap (stored x86) at_t
+                let at_t : slice_get (thread_code test.threads t) v.position ≡ Some h.0 =
+                subst (λ u. slice_get (thread_code test.threads u) v.position ≡ Some h.0) po.2 h.1 in
+                ap (entry_location x86_language) at_t
                 ∙ (cond-true (is_store (x86_operation h.0)) (location_of (x86_operation h.0)) None
                 (sym (kind_is given is_store v h.0 h.1) ∙ so)
                 ∙ (sym (ap (λ o. option_and_then location_of (option_map x86_operation o)) h.1) ∙ writing.1))),
@@ -131,21 +132,23 @@ module _ {test : ProgramTest} (x : Execution) (given : KeptOrder test x.paths) w
 
     -- and what waits is an own store that has not
     from_waiting : (w l : ℕ)
-        → In w (W t)
+        → IsMember w (W t)
         → entered t w ≡ Some l
-        → Writes x86 test x (event t w) l × Po x (event t w) e × (k ≤ reach (event t w))
+        → Writes x86_language test x (event t w) l × Po x (event t w) e × (k ≤ reach (event t w))
     from_waiting w l waits of =
         let co : Coming _ _ _ _ _ k t w = inv.waiting.coming t w waits in
-        let re = real x86 test.threads x.paths co.index co.below in
-        let g = stored_is (slice_get (code_of test.threads t) w) l of in
-        let on : Contains (code_of x.paths t) w =
-        from_list (code_of x.paths t) w
-        (subst (λ u. In w (code_of x.paths u)) co.thread
-        (subst (λ n. In n (code_of x.paths (it given co.index).thread)) co.position re.on)) in
-        let store : does x86 test is_store (event t w) ≡ true = kind_is given is_store (event t w) g.0 g.1 ∙ g.2 in
+        let re = IsItemOnPath-of_member x86_language test.threads x.paths co.index co.below in
+        let g = stored_is (slice_get (thread_code test.threads t) w) l of in
+        let on : Contains (thread_code x.paths t) w =
+        from_list (thread_code x.paths t) w
+        (subst (λ u. IsMember w (thread_code x.paths u)) co.thread
+        (subst (λ n. IsMember n (thread_code x.paths (it given co.index).thread)) co.position re.on)) in
+        let store : operation_is x86_language test is_store (event t w) ≡ true =
+        kind_is given is_store (event t w) g.0 g.1 ∙ g.2 in
         let low : w < p.position = (climbs_in 0 p.position w (W t) (inv.hold t p was).climbs waits).1 in
         let there : IsEvent x e =
-        from_list (code_of x.paths t) j (real x86 test.threads x.paths now_at.index now_at.below).on in (
+        from_list (thread_code x.paths t) j
+        (IsItemOnPath-of_member x86_language test.threads x.paths now_at.index now_at.below).on in (
           (
             on,
             ap (λ o. option_and_then location_of (option_map x86_operation o)) g.1 ∙ g.3,
@@ -171,7 +174,11 @@ module _ {test : ProgramTest} (x : Execution) (given : KeptOrder test x.paths) w
         ]
       where
         -- where no own store to the location waits, what is before the read has reached memory
-        early : HasNone t (W t) p.buffer l → (v : MemoryEvent) → Writes x86 test x v l → IsBefore x finish reach v e → reach v < k
+        early : HasNone t (W t) p.buffer l
+            → (v : MemoryEvent)
+            → Writes x86_language test x v l
+            → IsBefore x finish reach v e
+            → reach v < k
         early h v writing (inl lt) = omega (arith, lt, e_done)
         early h v writing (inr po) = elim (cases_lt (reach v) k) [
           | inl lt ↦ lt
@@ -191,9 +198,10 @@ module _ {test : ProgramTest} (x : Execution) (given : KeptOrder test x.paths) w
             elim (cases_eq v.position h.store) [
               | inl same ↦ ap x.written (sym (ap₂ (event) own.2 same))
               | inr ne ↦
-                  absurd (let up : reach v < reach (event t h.store) =
-                  ppo_up given x refl v (event t h.store)
-                  ((new.0.0, g.0.0, own.2, omega (arith, least, ne)), prefixes.second_writes (does x86 test reads v) _ _ g.0.2) in
+                  absurd (let up : reach v < reach (event t h.store) = ppo_up given x refl v (event t h.store) (
+                    (new.0.0, g.0.0, own.2, omega (arith, least, ne)),
+                    prefixes.second_writes (operation_is x86_language test reads v) _ _ g.0.2,
+                  ) in
                   omega (arith, up, most))
             ]
 

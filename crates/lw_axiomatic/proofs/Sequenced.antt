@@ -1,18 +1,18 @@
 -- Which executions that keep the axioms are sequentially consistent: those with a fence between each store and each later load that
 -- reads what another thread then overwrites. And each sequentially consistent execution keeps the axioms.
-use Rattle.lw_axiomatic.proofs.Common.{◌≢◌, suc, ◌≤◌, inl, inr, sym, arith, cases_eq, or_cases, Final, x86}
-use Rattle.lw_axiomatic.proofs.Common.{ProgramTest, IsWellFormedProgram, KeepsAxioms, IsAllowed, IsCandidate}
-use Rattle.lw_axiomatic.proofs.Common.{MemoryEvent, Execution, reads, does, Fr, HasFenceBetween, IsFenced}
-use Rattle.lw_axiomatic.proofs.Common.{IsFencedWhereShared, IsFencedWhereOverwritten, IsSequential}
-use Rattle.lw_axiomatic.proofs.Common.{IsSequentialOutcome}
-use Rattle.lw_axiomatic.proofs.EventKinds.{there, write_stores_or_reads}
+use Rattle.lw_axiomatic.proofs.Common.{◌≢◌, suc, ◌≤◌, inl, inr, sym, arith, cases_eq, or_cases, FinalState}
+use Rattle.lw_axiomatic.proofs.Common.{x86_language, X86Test, IsWellFormedProgram, SatisfiesAxioms, IsAllowed}
+use Rattle.lw_axiomatic.proofs.Common.{IsCandidate, MemoryEvent, Execution, reads, operation_is, Fr}
+use Rattle.lw_axiomatic.proofs.Common.{HasFenceBetween, IsFenced, IsFencedWhereShared}
+use Rattle.lw_axiomatic.proofs.Common.{IsFencedWhereOverwritten, IsSequentiallyConsistent, IsScOutcome}
+use Rattle.lw_axiomatic.proofs.EventKinds.{write_or_load, write_stores_or_reads}
 use Rattle.lw_axiomatic.proofs.Anchored.{g, anchored, own, own_write, reading_accesses, kept_reading}
 use Rattle.lw_axiomatic.proofs.Anchored.{behind_waiting, before_waiting, sequential_if, fr_own, fr_when}
 
 -- ---- every sequentially consistent execution keeps the axioms
 
 -- a sequentially consistent execution keeps the axioms
-pub sequential_keeps : (test : ProgramTest) (x : Execution) → IsSequential x86 test x → KeepsAxioms test x
+pub sequential_keeps : (test : X86Test) (x : Execution) → IsSequentiallyConsistent x86_language test x → SatisfiesAxioms test x
 sequential_keeps test x (rank, up) = record {
   coherence = (rank, λ a b. elim [ inl po ↦ up a b (inl po.0) | inr rest ↦ up a b (inr rest) ]);
   happens_before = (
@@ -26,20 +26,21 @@ sequential_keeps test x (rank, up) = record {
 }
 
 -- a sequentially consistent outcome is allowed
-pub sequential_is_allowed : (test : ProgramTest) (o : Final) → IsSequentialOutcome x86 test o → IsAllowed test o
+pub sequential_is_allowed : (test : X86Test) (o : FinalState) → IsScOutcome x86_language test o → IsAllowed test o
 sequential_is_allowed test o s =
     record { execution = s.execution; candidate = s.candidate; axioms = sequential_keeps test s.execution s.sequential }
 
 -- ---- fenced where another thread overwrites what is read
 
-module _ {test : ProgramTest} {x : Execution} (ok : IsWellFormedProgram test) (axioms : KeepsAxioms test x)
+module _ {test : X86Test} {x : Execution} (ok : IsWellFormedProgram test) (axioms : SatisfiesAxioms test x)
     (overwritten : IsFencedWhereOverwritten test x) where
   -- a load that reads what was there before another thread's write has a fence behind each store before it
-  own_read : (r w : MemoryEvent) → Fr x86 test x r w → r.thread ≢ w.thread → anchored ok axioms r ≤ suc (g ok axioms r)
-  own_read r w fr two = elim (there test r fr.0 fr.1.1) [
+  own_read : (r w : MemoryEvent) → Fr x86_language test x r w → r.thread ≢ w.thread → anchored ok axioms r ≤ suc (g ok axioms r)
+  own_read r w fr two = elim (write_or_load test r fr.0 fr.1.1) [
     | inl writing ↦ own_write ok axioms r fr.1.0 writing
     | inr load ↦
-        own ok axioms r fr.1.0 (reading_accesses ok axioms r fr.1.2) (λ k po a. elim (or_cases (does x86 test reads k) _ a) [
+        own ok axioms r fr.1.0 (reading_accesses ok axioms r fr.1.2)
+        (λ k po a. elim (or_cases (operation_is x86_language test reads k) _ a) [
           | inl reading ↦ kept_reading ok axioms k r po reading
           | inr writing ↦ elim (write_stores_or_reads test k writing) [
             | inr reading ↦ kept_reading ok axioms k r po reading
@@ -51,7 +52,7 @@ module _ {test : ProgramTest} {x : Execution} (ok : IsWellFormedProgram test) (a
   ]
 
   -- an execution that keeps the axioms and is fenced where another thread overwrites is sequentially consistent
-  pub sequential : IsSequential x86 test x
+  pub sequential : IsSequentiallyConsistent x86_language test x
   sequential = sequential_if ok axioms (λ r w fr. elim (cases_eq r.thread w.thread) [
     | inr two ↦ fr_when ok axioms r w fr (own_read r w fr two)
     | inl one ↦ fr_own ok axioms r w fr one
@@ -60,13 +61,11 @@ module _ {test : ProgramTest} {x : Execution} (ok : IsWellFormedProgram test) (a
 -- ---- so are those with fences
 
 -- a fenced execution is fenced where another thread overwrites
-pub fenced_where_overwritten-from_fenced : (test : ProgramTest) (x : Execution)
-    → IsFenced test x
-    → IsFencedWhereOverwritten test x
+pub fenced_where_overwritten-from_fenced : (test : X86Test) (x : Execution) → IsFenced test x → IsFencedWhereOverwritten test x
 fenced_where_overwritten-from_fenced test x fenced a b c pair fr two = fenced a b pair
 
 -- an execution that is fenced before loads of what other threads write is fenced where another thread overwrites
-pub fenced_where_overwritten-from_shared : (test : ProgramTest) (x : Execution)
+pub fenced_where_overwritten-from_shared : (test : X86Test) (x : Execution)
     → IsFencedWhereShared test x
     → IsFencedWhereOverwritten test x
 fenced_where_overwritten-from_shared test x fenced a b c pair fr two =
@@ -74,11 +73,11 @@ fenced_where_overwritten-from_shared test x fenced a b c pair fr two =
 
 -- if each execution with an outcome that keeps the axioms is fenced where another thread overwrites, and the axioms allow the outcome,
 -- it is sequentially consistent
-pub same_outcomes : (test : ProgramTest) (o : Final)
+pub same_outcomes : (test : X86Test) (o : FinalState)
     → IsWellFormedProgram test
-    → ((x : Execution) → IsCandidate x86 test x o → KeepsAxioms test x → IsFencedWhereOverwritten test x)
+    → ((x : Execution) → IsCandidate x86_language test x o → SatisfiesAxioms test x → IsFencedWhereOverwritten test x)
     → IsAllowed test o
-    → IsSequentialOutcome x86 test o
+    → IsScOutcome x86_language test o
 same_outcomes test o ok each a = record {
   execution = a.execution;
   candidate = a.candidate;

@@ -3,14 +3,16 @@
 use Rattle.lw_axiomatic.proofs.Common.{◌≡◌, ◌↔◌, ℕ, ◌<◌, List, [], ◌∷◌, length, map, Some, Ok, refl, sym, ap}
 use Rattle.lw_axiomatic.proofs.Common.{ap₂, ◌∙◌, subst, arith, slice_get, IsTrue, nat_le, leb-true, le-leb}
 use Rattle.lw_axiomatic.proofs.Common.{length-set, option_map, slice_set, map-set, length-map, slice_get-map}
-use Rattle.lw_axiomatic.proofs.Common.{slice_get_within, slice_get-get_or, get_or_from_slice_get, got_map}
-use Rattle.lw_axiomatic.proofs.Common.{zip_pass, zip_passes, Final, code_of, Step, Stepped, stepped, State}
-use Rattle.lw_axiomatic.proofs.Common.{SourceRan, SourceOutcome, start_of, starting_thread, is_source_final}
-use Rattle.lw_axiomatic.proofs.Common.{outcome_of, source_step, step_of, carried_out, thread_after, Thread}
-use Rattle.lw_axiomatic.proofs.Common.{Stmt, source, source_operation, SourceTest, IsWellFormedSource}
-use Rattle.lw_axiomatic.proofs.Common.{Interleaved, word_found, words_after, after, IsStep, Ran, IsEnd, start}
-use Rattle.lw_axiomatic.proofs.Common.{InterleavingOutcome, ThreadState, first_state, state_after}
-use Rattle.lw_interleaving.proofs.api.Exchange as source_steps
+use Rattle.lw_axiomatic.proofs.Common.{slice_get_within, slice_get-get_or, get_or_from_slice_get, get-map}
+use Rattle.lw_axiomatic.proofs.Common.{zip_pass, zip_passes, FinalState, thread_code, Step, Stepped}
+use Rattle.lw_axiomatic.proofs.Common.{step-decompose, State, SourceRunsTo, SourceOutcome, initial_state}
+use Rattle.lw_axiomatic.proofs.Common.{initial_thread, is_source_final, source_outcome, source_step}
+use Rattle.lw_axiomatic.proofs.Common.{thread_step, state_after_step, thread_after, Thread, Stmt}
+use Rattle.lw_axiomatic.proofs.Common.{source_language, source_operation, SourceTest, IsWellFormedSource}
+use Rattle.lw_axiomatic.proofs.Common.{Interleaved, read_value, words_after, after, IsStep, InterleavedRunsTo}
+use Rattle.lw_axiomatic.proofs.Common.{IsEnd, start, InterleavingOutcome, ThreadState, first_state}
+use Rattle.lw_axiomatic.proofs.Common.{state_after}
+use Rattle.lw_interleaving.proofs.api.Commutation as source_steps
 use Rattle.lw_interleaving.specs.Statements as statements
 use Rattle.lw_litmus.specs.declared.stmt.Stmt.TheVariants as stmt
 
@@ -24,7 +26,7 @@ plainly s = record { threads = map plain s.threads; words = s.words }
 
 -- the thread that a statement makes, without its zero flag, is what it makes of the thread without one
 thread_case : (i : Stmt) (th : ThreadState) (m : List ℕ)
-    → plain (state_after (source_operation i) th (word_found (source_operation i) m))
+    → plain (state_after (source_operation i) th (read_value (source_operation i) m))
     ≡ thread_after (source_operation i) (plain th) m
 thread_case (stmt.Store x v) th m = refl
 thread_case (stmt.Load d x) th m = refl
@@ -46,29 +48,32 @@ after_is : (i : Stmt) (t : ℕ) (th : ThreadState) (s : Interleaved)
     → plainly (after t th (source_operation i) s) ≡ source_steps.state_after t (plain th) (source_operation i) (plainly s)
 after_is i t th s =
     ap₂ (λ threads words. record { threads = threads; words = words })
-    (map-set plain s.threads t (state_after (source_operation i) th (word_found (source_operation i) s.words))
+    (map-set plain s.threads t (state_after (source_operation i) th (read_value (source_operation i) s.words))
     ∙ ap (slice_set (map plain s.threads) t) (thread_case i th s.words)) (words_case i th s.words)
 
 module _ (program : List (List Stmt)) where
-  to_step : (t : ℕ) (s mid : Interleaved) → IsStep source program t s mid → source_step program t (plainly s) ≡ Ok (plainly mid)
+  to_step : (t : ℕ) (s mid : Interleaved)
+      → IsStep source_language program t s mid
+      → source_step program t (plainly s) ≡ Ok (plainly mid)
   to_step t s mid d =
       let was : slice_get (map plain s.threads) t ≡ Some (plain d.thread) =
       slice_get-map plain s.threads t ∙ ap (option_map plain) d.was in
-      ap (step_of program t (plainly s)) was
-      ∙ (ap (carried_out t (plain d.thread) (plainly s)) d.at ∙ ap Ok (sym (ap plainly d.is ∙ after_is d.statement t d.thread s)))
+      ap (thread_step program t (plainly s)) was
+      ∙ (ap (state_after_step t (plain d.thread) (plainly s)) d.at
+      ∙ ap Ok (sym (ap plainly d.is ∙ after_is d.statement t d.thread s)))
 
   from_step : (t : ℕ) (s : Interleaved) (mid : State)
       → source_step program t (plainly s) ≡ Ok mid
-      → (next : Interleaved) × IsStep source program t s next × (plainly next ≡ mid)
+      → (next : Interleaved) × IsStep source_language program t s next × (plainly next ≡ mid)
   from_step t s mid e =
-      let d : Stepped program t (plainly s) mid = stepped program t (plainly s) mid e in
-      let g = got_map plain s.threads t d.thread d.was in (
+      let d : Stepped program t (plainly s) mid = step-decompose program t (plainly s) mid e in
+      let g = get-map plain s.threads t d.thread d.was in (
         after t g.0 (source_operation d.stmt) s,
         record {
           thread = g.0;
           statement = d.stmt;
           was = g.1;
-          at = ap (λ (th : Thread). slice_get (code_of program t) th.position) (sym g.2) ∙ d.at;
+          at = ap (λ (th : Thread). slice_get (thread_code program t) th.position) (sym g.2) ∙ d.at;
           is = refl;
         },
         after_is d.stmt t g.0 s
@@ -76,39 +81,41 @@ module _ (program : List (List Stmt)) where
       )
 
   to_run : (order : List ℕ) (s end : Interleaved)
-      → Ran source program order s end
-      → SourceRan program (map Step order) (plainly s) (plainly end)
+      → InterleavedRunsTo source_language program order s end
+      → SourceRunsTo program (map Step order) (plainly s) (plainly end)
   to_run [] s end ran = ap plainly ran
   to_run (t ∷ order) s end (mid, step, ran) = (plainly mid, to_step t s mid step, to_run order mid end ran)
 
   from_run : (order : List ℕ) (s : Interleaved) (end : State)
-      → SourceRan program (map Step order) (plainly s) end
-      → (last : Interleaved) × Ran source program order s last × (plainly last ≡ end)
+      → SourceRunsTo program (map Step order) (plainly s) end
+      → (last : Interleaved) × InterleavedRunsTo source_language program order s last × (plainly last ≡ end)
   from_run [] s end ran = (s, refl, sym ran)
   from_run (t ∷ order) s end (mid, step, ran) =
       let one = from_step t s mid step in
-      let rest = from_run order one.0 end (subst (λ z. SourceRan program (map Step order) z end) (sym one.2) ran) in
+      let rest = from_run order one.0 end (subst (λ z. SourceRunsTo program (map Step order) z end) (sym one.2) ran) in
       (rest.0, (one.0, one.1, rest.1), rest.2)
 
-  as_many : (order : List ℕ) (s end : Interleaved) → Ran source program order s end → length end.threads ≡ length s.threads
+  as_many : (order : List ℕ) (s end : Interleaved)
+      → InterleavedRunsTo source_language program order s end
+      → length end.threads ≡ length s.threads
   as_many [] s end ran = ap (λ (z : Interleaved). length z.threads) ran
   as_many (t ∷ order) s end (mid, d, ran) =
       as_many order mid end ran ∙ (ap (λ (z : Interleaved). length z.threads) d.is ∙ length-set s.threads t _)
 
-  to_end : (s : Interleaved) → IsEnd source program s → IsTrue (is_source_final program (plainly s))
+  to_end : (s : Interleaved) → IsEnd source_language program s → IsTrue (is_source_final program (plainly s))
   to_end s final = zip_pass (λ p. nat_le (length p.0) p.1.position) program (map plain s.threads) (λ t code th at_t at.
-      (let g = got_map plain s.threads t th at in
-      let same : code_of program t ≡ code = get_or_from_slice_get program t code [] at_t in
+      (let g = get-map plain s.threads t th at in
+      let same : thread_code program t ≡ code = get_or_from_slice_get program t code [] at_t in
       le-leb (length code) th.position (omega (arith, final t g.0 g.1, ap length same, ap (λ (z : Thread). z.position) g.2))))
 
   from_end : (s : Interleaved)
       → length s.threads ≡ length program
       → IsTrue (is_source_final program (plainly s))
-      → IsEnd source program s
+      → IsEnd source_language program s
   from_end s many final t th at =
       let l : t < length program = omega (arith, slice_get_within s.threads t th at, many) in
-      leb-true (length (code_of program t)) th.position
-      (zip_passes (λ p. nat_le (length p.0) p.1.position) program (map plain s.threads) t (code_of program t) (plain th) final
+      leb-true (length (thread_code program t)) th.position
+      (zip_passes (λ p. nat_le (length p.0) p.1.position) program (map plain s.threads) t (thread_code program t) (plain th) final
       (slice_get-get_or program t [] l) (slice_get-map plain s.threads t ∙ ap (option_map plain) at))
 
 -- leaving out the zero flags leaves all registers as they are
@@ -117,21 +124,21 @@ regs_same [] = refl
 regs_same (th ∷ ths) = ap (λ rows. th.regs ∷ rows) (regs_same ths)
 
 -- threads without zero flags start alike
-starts_same : (rows : List (List ℕ)) → map plain (map first_state rows) ≡ map starting_thread rows
+starts_same : (rows : List (List ℕ)) → map plain (map first_state rows) ≡ map initial_thread rows
 starts_same [] = refl
-starts_same (row ∷ rows) = ap (λ ths. starting_thread row ∷ ths) (starts_same rows)
+starts_same (row ∷ rows) = ap (λ ths. initial_thread row ∷ ths) (starts_same rows)
 
 -- the outcomes of a source test, as lw_interleaving has them, are its outcomes by interleaving, as they are defined here
-pub same_outcomes : (test : SourceTest) (o : Final)
+pub same_outcomes : (test : SourceTest) (o : FinalState)
     → IsWellFormedSource test
-    → SourceOutcome test o ↔ InterleavingOutcome source test o
+    → SourceOutcome test o ↔ InterleavingOutcome source_language test o
 same_outcomes test o ok = (
   λ run.
       (let last =
-      from_run test.threads run.0 (start source test) run.1.end
-      (subst (λ z. SourceRan test.threads (map Step run.0) z run.1.end) (sym start_is) run.1.ran) in
+      from_run test.threads run.0 (start source_language test) run.1.end
+      (subst (λ z. SourceRunsTo test.threads (map Step run.0) z run.1.end) (sym start_is) run.1.ran) in
       let many : length last.0.threads ≡ length test.threads =
-      as_many test.threads run.0 (start source test) last.0 last.1
+      as_many test.threads run.0 (start source_language test) last.0 last.1
       ∙ (length-map test.head.init_regs first_state ∙ (ok.head.regs ∙ sym ok.as_many)) in (
         run.0,
         record {
@@ -139,7 +146,7 @@ same_outcomes test o ok = (
           ran = last.1;
           final =
               from_end test.threads last.0 many (subst (λ z. IsTrue (is_source_final test.threads z)) (sym last.2) run.1.final);
-          is = run.1.is ∙ (ap outcome_of (sym last.2) ∙ outcome_is last.0);
+          is = run.1.is ∙ (ap source_outcome (sym last.2) ∙ outcome_is last.0);
         },
       )),
   λ run. (
@@ -147,17 +154,17 @@ same_outcomes test o ok = (
     record {
       end = plainly run.1.end;
       ran =
-          subst (λ z. SourceRan test.threads (map Step run.0) z (plainly run.1.end)) start_is
-          (to_run test.threads run.0 (start source test) run.1.end run.1.ran);
+          subst (λ z. SourceRunsTo test.threads (map Step run.0) z (plainly run.1.end)) start_is
+          (to_run test.threads run.0 (start source_language test) run.1.end run.1.ran);
       final = to_end test.threads run.1.end run.1.final;
       is = run.1.is ∙ sym (outcome_is run.1.end);
     },
   ),
 )
   where
-    start_is : plainly (start source test) ≡ start_of test
+    start_is : plainly (start source_language test) ≡ initial_state test
     start_is = ap (λ ths. record { threads = ths; words = test.head.init_words }) (starts_same test.head.init_regs)
 
     outcome_is : (s : Interleaved)
-        → outcome_of (plainly s) ≡ record { regs = map (λ (th : ThreadState). th.regs) s.threads; words = s.words }
+        → source_outcome (plainly s) ≡ record { regs = map (λ (th : ThreadState). th.regs) s.threads; words = s.words }
     outcome_is s = ap (λ rows. record { regs = rows; words = s.words }) (regs_same s.threads)

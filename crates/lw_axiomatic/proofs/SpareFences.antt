@@ -1,20 +1,21 @@
 -- Spare MFENCEs can be inserted and no outcome is lost: an execution of the shorter test, without them, that keeps the axioms keeps
 -- them in the longer test too. An event's rank there is by the greatest number, in global happens-before of the shorter test, of the
 -- events that it comes after: by preserved program order, and because they are before an inserted MFENCE.
-use Rattle.lw_axiomatic.proofs.Common.{max, ProgramTest, IsFencedTest, IsWellFormedProgram, Execution, Final}
-use Rattle.lw_axiomatic.proofs.Common.{IsCandidate, x86, MemoryEvent, Po, subst, ◌<◌, arith, ap, length}
-use Rattle.lw_axiomatic.proofs.Common.{code_of, PoLoc, sym, ◌∙◌, Co, ℕ, Reads, ◌≡◌, Some, IsReadFrom, Rf}
-use Rattle.lw_axiomatic.proofs.Common.{refl, Option, option_map, None, none-some, same_Some, Fr, Coherence}
-use Rattle.lw_axiomatic.proofs.Common.{inl, inr, if◌then◌else◌, ◌≤◌, KeepsAxioms, Operation, Bool, does, ◌+◌}
-use Rattle.lw_axiomatic.proofs.Common.{◌==◌, not, ◌&&◌, reads, ◌||◌, writes, suc, ◌*◌, true, cond-true, false}
-use Rattle.lw_axiomatic.proofs.Common.{cond-false, cases_Bool, true≢false, and_parts, and_from, IsEvent}
-use Rattle.lw_axiomatic.proofs.Common.{eq-eqb, eqb-true, ap₂, or_right, or_left, or_cases, cases_lt, location}
-use Rattle.lw_axiomatic.proofs.Common.{Writes, Ppo, AreSpare, List, Instr, AreOnPath, Contains, IsInsertedAt}
-use Rattle.lw_axiomatic.proofs.Common.{◌⊎◌, IsOwn, [], get_or_past, slice_get, AreStoreAndLoad, waits}
-use Rattle.lw_axiomatic.proofs.Common.{option_map_or, x86_operation, cases_order, is_store, HappensBefore}
-use Rattle.lw_axiomatic.proofs.Common.{IsAllowed, HasOtherFence}
+use Rattle.lw_axiomatic.proofs.Common.{max, X86Test, IsFencedTest, IsWellFormedProgram, Execution, FinalState}
+use Rattle.lw_axiomatic.proofs.Common.{IsCandidate, x86_language, MemoryEvent, Po, subst, ◌<◌, arith, ap}
+use Rattle.lw_axiomatic.proofs.Common.{length, thread_code, PoLoc, sym, ◌∙◌, Co, ℕ, Reads, ◌≡◌, Some}
+use Rattle.lw_axiomatic.proofs.Common.{IsReadFrom, Rf, refl, Option, option_map, None, none-some, same_Some}
+use Rattle.lw_axiomatic.proofs.Common.{Fr, Coherence, inl, inr, if◌then◌else◌, ◌≤◌, SatisfiesAxioms}
+use Rattle.lw_axiomatic.proofs.Common.{Operation, Bool, operation_is, ◌+◌, ◌==◌, not, ◌&&◌, reads, ◌||◌}
+use Rattle.lw_axiomatic.proofs.Common.{writes, suc, ◌*◌, true, cond-true, false, cond-false, cases_Bool}
+use Rattle.lw_axiomatic.proofs.Common.{true≢false, and_parts, and_from, IsEvent, eq-eqb, eqb-true, ap₂}
+use Rattle.lw_axiomatic.proofs.Common.{or_right, or_left, or_cases, cases_lt, location, Writes, Ppo, AreSpare}
+use Rattle.lw_axiomatic.proofs.Common.{List, Instr, AreOnPath, Contains, IsInsertedAt, ◌⊎◌}
+use Rattle.lw_axiomatic.proofs.Common.{IsLocationOnlyWrittenBy, [], get_or_past, slice_get, AreStoreAndLoad}
+use Rattle.lw_axiomatic.proofs.Common.{needs_empty_buffer, option_map_or, x86_operation, cases_order}
+use Rattle.lw_axiomatic.proofs.Common.{is_store, HappensBefore, IsAllowed, HasOtherFence}
 use Rattle.lw_axiomatic.proofs.Anchored.{g, behind_waiting, before_waiting}
-use Rattle.lw_axiomatic.proofs.EventKinds.{low, there, write_stores_or_reads}
+use Rattle.lw_axiomatic.proofs.EventKinds.{low, write_or_load, write_stores_or_reads}
 use Rattle.lw_axiomatic.proofs.EventLists.{event}
 use Rattle.lw_axiomatic.proofs.FencedTests.{on_path, of_one_thread}
 use Rattle.lw_axiomatic.proofs.Inserted.{IsKeptAt, inserted_or_kept, block-later, kept-not_inserted}
@@ -28,8 +29,8 @@ use Rattle.lw_litmus.specs.Operations as operations
 
 -- ---- Relations of the longer test's execution are relations of the shorter test's.
 
-module _ {test fenced : ProgramTest} (f : IsFencedTest test fenced) (ok : IsWellFormedProgram fenced) {x : Execution} {o : Final}
-    (candidate : IsCandidate x86 test x o) where
+module _ {test fenced : X86Test} (f : IsFencedTest test fenced) (ok : IsWellFormedProgram fenced) {x : Execution} {o : FinalState}
+    (candidate : IsCandidate x86_language test x o) where
   -- The execution of the longer test.
   abbrev y : Execution
   y = with_fences f ok candidate
@@ -46,11 +47,13 @@ module _ {test fenced : ProgramTest} (f : IsFencedTest test fenced) (ok : IsWell
     same,
     subst (λ t. (code_at f a.thread).block a.position < (code_at f t).block b.position) same
         (block-later (code_at f a.thread) a.position b.position kept less
-        (omega (arith, position-in_range f ok candidate b also, ap (λ t. length (code_of fenced.threads t)) same))),
+        (omega (arith, position-in_range f ok candidate b also, ap (λ t. length (thread_code fenced.threads t)) same))),
   )
 
   -- Program order of two events on one location is that in the shorter test too.
-  PoLoc-event_without : (a b : MemoryEvent) → PoLoc x86 fenced y a b → PoLoc x86 test x (event_without f a) (event_without f b)
+  PoLoc-event_without : (a b : MemoryEvent)
+      → PoLoc x86_language fenced y a b
+      → PoLoc x86_language test x (event_without f a) (event_without f b)
   PoLoc-event_without a b (po, l, at_a, at_b) =
       let kept = is_kept-of_event f ok candidate a l po.0 at_a in
       let last = is_kept-of_event f ok candidate b l po.1 at_b in (
@@ -61,21 +64,25 @@ module _ {test fenced : ProgramTest} (f : IsFencedTest test fenced) (ok : IsWell
       )
 
   -- Coherence order is coherence order in the shorter test.
-  Co-event_without : (w v : MemoryEvent) → Co x86 fenced y w v → Co x86 test x (event_without f w) (event_without f v)
+  Co-event_without : (w v : MemoryEvent)
+      → Co x86_language fenced y w v
+      → Co x86_language test x (event_without f w) (event_without f v)
   Co-event_without w v (l, writing, also, less) =
       (l, Writes-event_without f ok candidate w l writing, Writes-event_without f ok candidate v l also, less)
 
   -- From the event that a read of the shorter test reads from, to the longer test and back is the same event.
   source-event_without : (r u : MemoryEvent) (l : ℕ)
-      → Reads x86 test x r l
+      → Reads x86_language test x r l
       → x.rf r ≡ Some u
       → event_without f (event_with f u) ≡ u
   source-event_without r u l reading from =
-      let source = subst (IsReadFrom x86 test x r l) from (candidate.rf r l reading) in
+      let source = subst (IsReadFrom x86_language test x r l) from (candidate.rf r l reading) in
       event_without-event_with f u (position-in_code test u l source.0.1)
 
   -- Reads-from is reads-from in the shorter test.
-  Rf-event_without : (w r : MemoryEvent) → Rf x86 fenced y w r → Rf x86 test x (event_without f w) (event_without f r)
+  Rf-event_without : (w r : MemoryEvent)
+      → Rf x86_language fenced y w r
+      → Rf x86_language test x (event_without f w) (event_without f r)
   Rf-event_without w r (l, writing, reading, from) = (
     l,
     Writes-event_without f ok candidate w l writing,
@@ -94,7 +101,9 @@ module _ {test fenced : ProgramTest} (f : IsFencedTest test fenced) (ok : IsWell
           is ∙ ap Some (sym back ∙ ap (event_without f) (same_Some (event_with f u) w mapped))
 
   -- From-reads are from-reads in the shorter test.
-  Fr-event_without : (r w : MemoryEvent) → Fr x86 fenced y r w → Fr x86 test x (event_without f r) (event_without f w)
+  Fr-event_without : (r w : MemoryEvent)
+      → Fr x86_language fenced y r w
+      → Fr x86_language test x (event_without f r) (event_without f w)
   Fr-event_without r w (l, reading, writing, differ, before) = (
     l,
     Reads-event_without f ok candidate r l reading,
@@ -124,15 +133,15 @@ module _ {test fenced : ProgramTest} (f : IsFencedTest test fenced) (ok : IsWell
 
 -- ---- Ranks of the longer test's events.
 
-module _ {test fenced : ProgramTest} (f : IsFencedTest test fenced) (ok : IsWellFormedProgram fenced)
-    (formed : IsWellFormedProgram test) {x : Execution} {o : Final} (candidate : IsCandidate x86 test x o)
-    (axioms : KeepsAxioms test x) where
+module _ {test fenced : X86Test} (f : IsFencedTest test fenced) (ok : IsWellFormedProgram fenced)
+    (formed : IsWellFormedProgram test) {x : Execution} {o : FinalState} (candidate : IsCandidate x86_language test x o)
+    (axioms : SatisfiesAxioms test x) where
   -- The execution of the longer test.
   abbrev z : Execution
   z = with_fences f ok candidate
 
   abbrev is : (Operation → Bool) → MemoryEvent → Bool
-  is = does x86 fenced
+  is = operation_is x86_language fenced
 
   -- Returns the number in global happens-before of the event of the shorter test.
   abbrev number : MemoryEvent → ℕ
@@ -159,12 +168,12 @@ module _ {test fenced : ProgramTest} (f : IsFencedTest test fenced) (ok : IsWell
   abbrev top : ℕ → ℕ → ℕ
   top t j =
       if is_inserted (event t j)
-      then anchor (λ k. own (event t k)) (code_of z.paths t) j
+      then anchor (λ k. own (event t k)) (thread_code z.paths t) j
       else (if leads (event t j) then suc (number (event t j)) else 0)
 
   -- Returns the least number that an event may have because of the events up to it in its thread.
   abbrev base : MemoryEvent → ℕ
-  base e = anchor (top e.thread) (code_of z.paths e.thread) e.position
+  base e = anchor (top e.thread) (thread_code z.paths e.thread) e.position
 
   -- Returns the event's rank: by the greater of its base and its own number, and then by its position.
   abbrev rank : MemoryEvent → ℕ
@@ -189,7 +198,7 @@ module _ {test fenced : ProgramTest} (f : IsFencedTest test fenced) (ok : IsWell
       → counts e ≡ true
   counts-from_kind e not_at_fence kind = and_from (not (is_inserted e)) _ (ap not not_at_fence) kind
 
-  top-inserted : (t j : ℕ) → is_inserted (event t j) ≡ true → top t j ≡ anchor (λ k. own (event t k)) (code_of z.paths t) j
+  top-inserted : (t j : ℕ) → is_inserted (event t j) ≡ true → top t j ≡ anchor (λ k. own (event t k)) (thread_code z.paths t) j
   top-inserted t j h = cond-true (is_inserted (event t j)) _ _ h
 
   top-kept : (t j : ℕ) → is_inserted (event t j) ≡ false → top t j ≡ (if leads (event t j) then suc (number (event t j)) else 0)
@@ -279,11 +288,11 @@ module _ {test fenced : ProgramTest} (f : IsFencedTest test fenced) (ok : IsWell
       → number (event e.thread m) < n)
       → base e ≤ n
   base-least e n leading fencing =
-      anchor_least (top e.thread) (code_of z.paths e.thread) e.position n
+      anchor_least (top e.thread) (thread_code z.paths e.thread) e.position n
       (λ k among le. elim (cases_Bool (is_inserted (event e.thread k))) [
         | inl at_fence ↦
-            (let each : anchor (λ m. own (event e.thread m)) (code_of z.paths e.thread) k ≤ n =
-            anchor_least (λ m. own (event e.thread m)) (code_of z.paths e.thread) k n
+            (let each : anchor (λ m. own (event e.thread m)) (thread_code z.paths e.thread) k ≤ n =
+            anchor_least (λ m. own (event e.thread m)) (thread_code z.paths e.thread) k n
             (λ m on up. elim (cases_Bool (counts (event e.thread m))) [
               | inr not_counting ↦ omega (arith, own-other (event e.thread m) not_counting)
               | inl counting ↦ elim (cases_lt m k) [
@@ -315,7 +324,7 @@ module _ {test fenced : ProgramTest} (f : IsFencedTest test fenced) (ok : IsWell
   -- An event that reads or writes a location counts.
   counts-from_access : (e : MemoryEvent) (l : ℕ)
       → IsEvent z e
-      → location x86 fenced e ≡ Some l
+      → location x86_language fenced e ≡ Some l
       → (is reads e || is writes e) ≡ true
       → (is_inserted e ≡ false) × (counts e ≡ true)
   counts-from_access e l among located access =
@@ -329,7 +338,7 @@ module _ {test fenced : ProgramTest} (f : IsFencedTest test fenced) (ok : IsWell
 
   -- A write has a lower rank than an event that counts and has a greater number.
   rank-after_write : (w e : MemoryEvent) (l : ℕ)
-      → Writes x86 fenced z w l
+      → Writes x86_language fenced z w l
       → counts e ≡ true
       → number w < number e
       → rank w < rank e
@@ -357,27 +366,27 @@ module _ {test fenced : ProgramTest} (f : IsFencedTest test fenced) (ok : IsWell
   -- The base of a later event of a thread is no less.
   base-increasing : (t i j : ℕ) → i ≤ j → base (event t i) ≤ base (event t j)
   base-increasing t i j le =
-      anchor_least (top t) (code_of z.paths t) i (base (event t j))
-      (λ k among up. anchor_above (top t) (code_of z.paths t) j k among (omega (arith, le, up)))
+      anchor_least (top t) (thread_code z.paths t) i (base (event t j))
+      (λ k among up. anchor_above (top t) (thread_code z.paths t) j k among (omega (arith, le, up)))
 
   own-increasing : (t i j : ℕ)
-      → Ppo x86 fenced z (event t i) (event t j)
+      → Ppo x86_language fenced z (event t i) (event t j)
       → own (event t i) ≤ max (base (event t j)) (own (event t j))
   own-increasing t i j (po, kind) = elim (cases_Bool (counts (event t i))) [
     | inr not_counting ↦ omega (arith, own-other (event t i) not_counting)
     | inl counting ↦ elim (cases_Bool (is_inserted (event t j))) [
       | inl at_fence ↦ omega (
         arith,
-        anchor_above (λ k. own (event t k)) (code_of z.paths t) j i po.0 (omega (arith, po.3)),
+        anchor_above (λ k. own (event t k)) (thread_code z.paths t) j i po.0 (omega (arith, po.3)),
         top-inserted t j at_fence,
-        anchor_above (top t) (code_of z.paths t) j j po.1 (omega arith),
+        anchor_above (top t) (thread_code z.paths t) j j po.1 (omega arith),
       )
       | inr not_at_fence ↦ elim (cases_Bool (leads (event t i))) [
         | inl leading ↦ omega (
           arith,
           own-counting (event t i) counting,
           top-leading t i (counts-not_inserted (event t i) counting) leading,
-          anchor_above (top t) (code_of z.paths t) j i po.0 (omega (arith, po.3)),
+          anchor_above (top t) (thread_code z.paths t) j i po.0 (omega (arith, po.3)),
         )
         | inr not_leading ↦
             (let less : number (event t i) < number (event t j) =
@@ -405,9 +414,9 @@ module _ {test fenced : ProgramTest} (f : IsFencedTest test fenced) (ok : IsWell
         ]
       ]
 
-  rank-Ppo : (a b : MemoryEvent) → Ppo x86 fenced z a b → rank a < rank b
+  rank-Ppo : (a b : MemoryEvent) → Ppo x86_language fenced z a b → rank a < rank b
   rank-Ppo a b ppo =
-      subst (λ t. Ppo x86 fenced z a (event t b.position) → rank a < rank (event t b.position)) ppo.0.2 (λ there. omega (
+      subst (λ t. Ppo x86_language fenced z a (event t b.position) → rank a < rank (event t b.position)) ppo.0.2 (λ there. omega (
         arith,
         there.0.3,
         base-increasing a.thread a.position b.position (omega (arith, there.0.3)),
@@ -420,20 +429,20 @@ module _ {test fenced : ProgramTest} (f : IsFencedTest test fenced) (ok : IsWell
     -- A store and a load that an inserted MFENCE separates are separated by an instruction of both codes that waits, or the load is of
     -- what no other thread has an instruction to write.
     spare-of_thread : (t : ℕ) (path : List ℕ) (i index j : ℕ) (load : Instr)
-        → AreOnPath (code_of fenced.threads t) path i j load
+        → AreOnPath (thread_code fenced.threads t) path i j load
         → Contains path index
         → i < index
         → index < j
         → IsInsertedAt (code_at f t) index
-        → HasOtherFence (code_at f t) path i j ⊎ IsOwn fenced t load
+        → HasOtherFence (code_at f t) path i j ⊎ IsLocationOnlyWrittenBy fenced t load
     spare-of_thread t path i index j load on among before behind inserted = by_thread (cases_lt t (length test.threads)) inserted
       where
         by_thread : (d : (t < length test.threads) ⊎ (length test.threads ≤ t))
             → IsInsertedAt (code_by f t d) index
-            → HasOtherFence (code_by f t d) path i j ⊎ IsOwn fenced t load
+            → HasOtherFence (code_by f t d) path i j ⊎ IsLocationOnlyWrittenBy fenced t load
         by_thread (inl within) at = spare t within path i index j load on among before behind at
         by_thread (inr past) at =
-            let none : code_of fenced.threads t ≡ [] = get_or_past fenced.threads t [] (omega (arith, past, f.as_many)) in
+            let none : thread_code fenced.threads t ≡ [] = get_or_past fenced.threads t [] (omega (arith, past, f.as_many)) in
             absurd (none-some load (sym (ap (λ (code : List Instr). slice_get code j) none) ∙ on.load_at))
 
     -- A store before an inserted MFENCE has a lower number than each write that comes in from-reads after a load behind the MFENCE.
@@ -445,20 +454,20 @@ module _ {test fenced : ProgramTest} (f : IsFencedTest test fenced) (ok : IsWell
         → m.position < index
         → index < r.position
         → is_inserted (event m.thread index) ≡ true
-        → location x86 fenced r ≡ Some l
-        → Writes x86 fenced z w l
-        → Fr x86 fenced z r w
+        → location x86_language fenced r ≡ Some l
+        → Writes x86_language fenced z w l
+        → Fr x86_language fenced z r w
         → number r < number w
         → number m < number w
     number-store m r w index l pair not_m not_r among before behind at_fence located writing fr less =
         let candidate_z = IsCandidate-with_fences f ok candidate in
         let on = on_path candidate_z m r pair in
-        elim (spare-of_thread m.thread (code_of z.paths m.thread) m.position index r.position on.0 on.1 among before behind
+        elim (spare-of_thread m.thread (thread_code z.paths m.thread) m.position index r.position on.0 on.1 among before behind
         (eqb-true _ _ at_fence)) [
           | inl (fence, other) ↦
               (let e : MemoryEvent = event m.thread fence.index_in in
-              let waiting : is waits e ≡ true =
-              ap (λ i. option_map_or waits (option_map x86_operation i) false) fence.at ∙ fence.is in
+              let waiting : is needs_empty_buffer e ≡ true =
+              ap (λ i. option_map_or needs_empty_buffer (option_map x86_operation i) false) fence.at ∙ fence.is in
               let not_at_fence : is_inserted e ≡ false = elim (cases_Bool (is_inserted e)) [
                 | inr not_at_fence ↦ not_at_fence
                 | inl also ↦ absurd (other (eqb-true _ _ also))
@@ -466,8 +475,8 @@ module _ {test fenced : ProgramTest} (f : IsFencedTest test fenced) (ok : IsWell
               let to : Po z m e = (pair.po.0, fence.on_path, refl, fence.behind) in
               let from : Po z e r = (fence.on_path, pair.po.1, pair.po.2, fence.before) in
               let kept = is_kept-from_not_inserted e fence.on_path not_at_fence in
-              let waiting_there : does x86 test waits (event_without f e) ≡ true =
-              sym (kind-event_without f waits (λ c k other. refl) e kept) ∙ waiting in
+              let waiting_there : operation_is x86_language test needs_empty_buffer (event_without f e) ≡ true =
+              sym (kind-event_without f needs_empty_buffer (λ c k other. refl) e kept) ∙ waiting in
               omega (
                 arith,
                 less,
@@ -495,11 +504,11 @@ module _ {test fenced : ProgramTest} (f : IsFencedTest test fenced) (ok : IsWell
               (counts-from_access w l writing.0 writing.1 (or_right (is reads w) _ writing.2)).0 writing.2)
         ]
 
-    rank-Fr : (r w : MemoryEvent) → Fr x86 fenced z r w → rank r < rank w
+    rank-Fr : (r w : MemoryEvent) → Fr x86_language fenced z r w → rank r < rank w
     rank-Fr r w fr =
         let l : ℕ = fr.0 in
-        let reading : Reads x86 fenced z r l = fr.1 in
-        let writing : Writes x86 fenced z w l = fr.2 in
+        let reading : Reads x86_language fenced z r l = fr.1 in
+        let writing : Writes x86_language fenced z w l = fr.2 in
         let facts = counts-from_access r l reading.0 reading.1 (or_left (is reads r) _ reading.2) in
         let also = counts-from_access w l writing.0 writing.1 (or_right (is reads w) _ writing.2) in
         let less : number r < number w =
@@ -527,7 +536,7 @@ module _ {test fenced : ProgramTest} (f : IsFencedTest test fenced) (ok : IsWell
           | inl leading ↦
               (let order : number e < number r = number-after_leading e r po not_at_fence facts.0 leading in
               omega (arith, order, less))
-          | inr not_leading ↦ elim (there fenced r l reading.1) [
+          | inr not_leading ↦ elim (write_or_load fenced r l reading.1) [
             | inl writing_r ↦
                 (let order : number e < number r = number-before_write e r po not_at_fence facts.0 writing_r in
                 omega (arith, order, less))
@@ -571,20 +580,20 @@ module _ {test fenced : ProgramTest} (f : IsFencedTest test fenced) (ok : IsWell
     rank-HappensBefore a b (inr (inr (inr fr))) = rank-Fr a b fr
 
     -- So the longer test's execution keeps the axioms.
-    KeepsAxioms-with_fences : KeepsAxioms fenced z
-    KeepsAxioms-with_fences =
+    SatisfiesAxioms-with_fences : SatisfiesAxioms fenced z
+    SatisfiesAxioms-with_fences =
         record { coherence = Coherence-with_fences f ok candidate axioms.coherence; happens_before = (rank, rank-HappensBefore) }
 
 -- An outcome that the axioms allow a test is one that they allow it with spare MFENCEs inserted.
-pub IsAllowed-with_fences : {test fenced : ProgramTest} (f : IsFencedTest test fenced)
+pub IsAllowed-with_fences : {test fenced : X86Test} (f : IsFencedTest test fenced)
     → IsWellFormedProgram fenced
     → IsWellFormedProgram test
     → AreSpare test fenced f
-    → {o : Final}
+    → {o : FinalState}
     → IsAllowed test o
     → IsAllowed fenced o
 IsAllowed-with_fences f ok formed spare a = record {
   execution = with_fences f ok a.candidate;
   candidate = IsCandidate-with_fences f ok a.candidate;
-  axioms = KeepsAxioms-with_fences f ok formed a.candidate a.axioms spare;
+  axioms = SatisfiesAxioms-with_fences f ok formed a.candidate a.axioms spare;
 }

@@ -1,11 +1,12 @@
 -- What a step does, operation by operation, in the words of threads by themselves: the thread, its buffer and the memory after
 -- it.
 use Rattle.lw_axiomatic.proofs.Common.{◌≡◌, ℕ, true, false, true≢false, List, [], ◌∷◌, ◌++◌, Option, Some}
-use Rattle.lw_axiomatic.proofs.Common.{None, refl, sym, ap, ◌∙◌, slice_set, slice_index, value_of, FenceWaits}
-use Rattle.lw_axiomatic.proofs.Common.{SwapWaits, Operation, Set, Sum, Compare, Store, Load, Fence, Branch}
-use Rattle.lw_axiomatic.proofs.Common.{waits, Processor, newest, going_on, cond-true, if◌then◌else◌}
-use Rattle.lw_axiomatic.proofs.Common.{is_locked, getting, operation_act, load_act, Does, ThreadState}
-use Rattle.lw_axiomatic.proofs.Common.{state_after, word_written, reads, location_of, once_done}
+use Rattle.lw_axiomatic.proofs.Common.{None, refl, sym, ap, ◌∙◌, slice_set, slice_index, operand_value}
+use Rattle.lw_axiomatic.proofs.Common.{FenceWaits, SwapWaits, Operation, Set, Sum, Compare, Store, Load}
+use Rattle.lw_axiomatic.proofs.Common.{Fence, Branch, needs_empty_buffer, Processor, newest_buffered}
+use Rattle.lw_axiomatic.proofs.Common.{advance_processor, cond-true, if◌then◌else◌, is_locked, set_register}
+use Rattle.lw_axiomatic.proofs.Common.{operation_effect, load_effect, EffectLeadsTo, ThreadState, state_after}
+use Rattle.lw_axiomatic.proofs.Common.{word_written, reads, location_of, once_done}
 use Rattle.lw_axiomatic.proofs.EventKinds.{reads_located}
 
 abbrev pub thread_of : Processor → ThreadState  -- a processor without its buffer
@@ -18,7 +19,7 @@ found_or (Some v) w = v
 
 -- the word of a location for a processor with this buffer: its own newest, or the memory's
 abbrev pub seen : List (ℕ × ℕ) → List ℕ → ℕ → ℕ
-seen buffer m x = found_or (newest buffer x) (slice_index m x)
+seen buffer m x = found_or (newest_buffered buffer x) (slice_index m x)
 
 -- the word of a location for a processor, if a location is named, and else 0
 abbrev pub seen_at : Option ℕ → List (ℕ × ℕ) → List ℕ → ℕ
@@ -30,7 +31,7 @@ word_for o buffer m = if reads o then seen_at (location_of o) buffer m else 0
 
 -- the store buffer after an operation: with an entry more where it is a store
 abbrev pub buffer_after : Operation → Processor → List (ℕ × ℕ)
-buffer_after (Store x v) p = p.buffer ++ (x, value_of v p.regs) ∷ []
+buffer_after (Store x v) p = p.buffer ++ (x, operand_value v p.regs) ∷ []
 buffer_after o p = p.buffer
 
 abbrev pub word_put : Option ℕ → ℕ → List ℕ → List ℕ  -- with this word at a location, if one is named
@@ -46,7 +47,7 @@ pub record StepCase (o : Operation) (p q : Processor) (m n : List ℕ) : Type 0 
   pub thread : thread_of q ≡ state_after o (thread_of p) (word_for o p.buffer m)
   pub buffer : q.buffer ≡ buffer_after o p
   pub memory : n ≡ memory_after o p.regs m (word_for o p.buffer m)
-  pub waited : waits o ≡ true → p.buffer ≡ []
+  pub waited : needs_empty_buffer o ≡ true → p.buffer ≡ []
 
 -- where a step makes a processor r with the thread and the buffer of the operation, keeps memory, and waits for nothing, it does
 -- what `StepCase` says
@@ -55,7 +56,7 @@ alone : {q r : Processor} {m n : List ℕ} (o : Operation) (p : Processor)
     → thread_of r ≡ state_after o (thread_of p) (word_for o p.buffer m)
     → r.buffer ≡ buffer_after o p
     → m ≡ memory_after o p.regs m (word_for o p.buffer m)
-    → waits o ≡ false
+    → needs_empty_buffer o ≡ false
     → StepCase o p q m n
 alone o p d thread buffer memory free = record {
   thread = ap thread_of d.0 ∙ thread;
@@ -66,8 +67,8 @@ alone o p d thread buffer memory free = record {
 
 -- a load's step does what `StepCase` says, whether its word comes from the store buffer or from memory
 load_case : (d x : ℕ) (p q : Processor) (m n : List ℕ) (f : Option ℕ)
-    → newest p.buffer x ≡ f
-    → Does m (load_act f x (λ w. going_on (getting p d w))) q n
+    → newest_buffered p.buffer x ≡ f
+    → EffectLeadsTo m (load_effect f x (λ w. advance_processor (set_register p d w))) q n
     → StepCase (Load d x) p q m n
 load_case d x p q m n None e does =
     alone (Load d x) p does (ap (λ w. state_after (Load d x) (thread_of p) w) (ap (λ f. found_or f (slice_index m x)) (sym e)))
@@ -77,12 +78,12 @@ load_case d x p q m n (Some v) e does =
     refl refl refl
 
 -- a step of each operation does what `StepCase` says: of its thread, the store buffer, memory and what it waited for
-pub case : (o : Operation) (p q : Processor) (m n : List ℕ) → Does m (operation_act o p) q n → StepCase o p q m n
+pub case : (o : Operation) (p q : Processor) (m n : List ℕ) → EffectLeadsTo m (operation_effect o p) q n → StepCase o p q m n
 case (Set d v) p q m n does = alone (Set d v) p does refl refl refl refl
 case (Sum d a v) p q m n does = alone (Sum d a v) p does refl refl refl refl
 case (Compare a v) p q m n does = alone (Compare a v) p does refl refl refl refl
 case (Store x v) p q m n does = alone (Store x v) p does refl refl refl refl
-case (Load d x) p q m n does = load_case d x p q m n (newest p.buffer x) refl does
+case (Load d x) p q m n does = load_case d x p q m n (newest_buffered p.buffer x) refl does
 case Fence p q m n does =
     let e = once_done p.buffer FenceWaits _ m n q does in
     record { thread = ap thread_of e.1.0; buffer = ap (λ (s : Processor). s.buffer) e.1.0; memory = e.1.1; waited = λ _. e.0 }

@@ -2,14 +2,16 @@
 use Rattle.lw_axiomatic.proofs.Common.{◌≡◌, ℕ, suc, ◌<◌, ◌≤◌, ◌⊎◌, inl, inr, Bool, true, false, Option, Some}
 use Rattle.lw_axiomatic.proofs.Common.{None, refl, sym, ap, ap₂, ◌∙◌, arith, if◌then◌else◌, List, [], ◌∷◌}
 use Rattle.lw_axiomatic.proofs.Common.{length, true≢false, option_map, option_map_or, cases_Bool, cases_eq}
-use Rattle.lw_axiomatic.proofs.Common.{cases_order, cond-false, or_left, or_right, none-some, Final, code_of}
-use Rattle.lw_axiomatic.proofs.Common.{Instr, Operation, Store, is_store, waits, or_cases, writes}
-use Rattle.lw_axiomatic.proofs.Common.{location_of, x86, x86_operation, IsPathFrom, ProgramTest}
-use Rattle.lw_axiomatic.proofs.Common.{IsWellFormedProgram, Before, IsLinearExtension, Item, IsChoice}
-use Rattle.lw_axiomatic.proofs.Common.{item_at, items_of, constraints_of, statement_waits, item, slot}
-use Rattle.lw_axiomatic.proofs.Common.{slot_by, slot_goes_up, real, AreOrdered, keeps_all, first_state}
-use Rattle.lw_axiomatic.proofs.Common.{MemoryEvent, Execution, reads, does, IsEvent, Reads, Po, Ppo}
-use Rattle.lw_axiomatic.proofs.Common.{IsCandidate, IsBefore, IsNewest, IsTimed, forward_of}
+use Rattle.lw_axiomatic.proofs.Common.{cases_order, cond-false, or_left, or_right, none-some, FinalState}
+use Rattle.lw_axiomatic.proofs.Common.{thread_code, Instr, Operation, Store, is_store, needs_empty_buffer}
+use Rattle.lw_axiomatic.proofs.Common.{or_cases, writes, location_of, x86_language, x86_operation}
+use Rattle.lw_axiomatic.proofs.Common.{IsFlowPathFrom, X86Test, IsWellFormedProgram, Before}
+use Rattle.lw_axiomatic.proofs.Common.{IsLinearExtension, Item, IsPathAssignment, item_at, items_of}
+use Rattle.lw_axiomatic.proofs.Common.{constraints_of, statement_needs_empty_buffer, item, thread_rank}
+use Rattle.lw_axiomatic.proofs.Common.{slot_by, slot_goes_up, IsItemOnPath-of_member, AreOrdered, keeps_all}
+use Rattle.lw_axiomatic.proofs.Common.{first_state, MemoryEvent, Execution, reads, operation_is, IsEvent}
+use Rattle.lw_axiomatic.proofs.Common.{Reads, Po, Ppo, IsCandidate, IsBefore, IsNewest, HasConsistentTimes}
+use Rattle.lw_axiomatic.proofs.Common.{forward_of}
 use Rattle.lw_axiomatic.proofs.EventKinds.{read_is_no_store, store_waits_none}
 use Rattle.lw_axiomatic.proofs.Paths.{goes_path}
 use Rattle.lw_axiomatic.proofs.ByTime.{by_time, is_order, earlier}
@@ -22,22 +24,23 @@ use Rattle.lw_litmus.specs.Operations as operations
 -- whole flow paths, one for each thread, are a choice
 choice_from : (program : List (List Instr)) (paths : List (List ℕ))
     → length paths ≡ length program
-    → ((t : ℕ) → t < length program → IsPathFrom x86 (code_of program t) 0 (code_of paths t))
-    → IsChoice x86 program paths
+    → ((t : ℕ) → t < length program → IsFlowPathFrom x86_language (thread_code program t) 0 (thread_code paths t))
+    → IsPathAssignment x86_language program paths
 choice_from [] [] same each = tt
 choice_from (code ∷ program) (path ∷ paths) same each =
     (each 0 (omega arith), choice_from program paths (omega (arith, same)) (λ t l. each (suc t) (omega (arith, l))))
 choice_from [] (path ∷ paths) same each = absurd (omega (arith, same))
 choice_from (code ∷ program) [] same each = absurd (omega (arith, same))
 
-module _ {test : ProgramTest} (ok : IsWellFormedProgram test) {x : Execution} {o : Final}
-    (candidate : IsCandidate x86 test x o) where
+module _ {test : X86Test} (ok : IsWellFormedProgram test) {x : Execution} {o : FinalState}
+    (candidate : IsCandidate x86_language test x o) where
   -- a candidate's paths are a choice
-  pub choice : IsChoice x86 test.threads x.paths
+  pub choice : IsPathAssignment x86_language test.threads x.paths
   choice = choice_from test.threads x.paths candidate.as_many (λ t l.
-      (let g = candidate.threads t l in goes_path x86 x t (code_of test.threads t) (code_of x.paths t) (first_state _) g.0 g.1))
+      (let g = candidate.threads t l in
+      goes_path x86_language x t (thread_code test.threads t) (thread_code x.paths t) (first_state _) g.0 g.1))
 
-  module _ {doneT reachedT : MemoryEvent → ℕ} (timed : IsTimed test x doneT reachedT) where
+  module _ {doneT reachedT : MemoryEvent → ℕ} (timed : HasConsistentTimes test x doneT reachedT) where
     abbrev time_of : Bool → MemoryEvent → ℕ
     time_of true e = reachedT e
     time_of false e = doneT e
@@ -46,7 +49,7 @@ module _ {test : ProgramTest} (ok : IsWellFormedProgram test) {x : Execution} {o
     time a = time_of a.is_drain (record { thread = a.thread; position = a.position })
 
     abbrev its : List Item
-    its = items_of x86 test.threads x.paths
+    its = items_of x86_language test.threads x.paths
 
     abbrev pub order : List ℕ
     order = by_time (λ i. time (item_at its i)) (length its)
@@ -55,13 +58,17 @@ module _ {test : ProgramTest} (ok : IsWellFormedProgram test) {x : Execution} {o
 
     on : (i : ℕ) (l : i < length its)
         → IsEvent x (record { thread = (item_at its i).thread; position = (item_at its i).position })
-    on i l = from_list (code_of x.paths (item_at its i).thread) (item_at its i).position (real x86 test.threads x.paths i l).on
+    on i l =
+        from_list (thread_code x.paths (item_at its i).thread) (item_at its i).position
+        (IsItemOnPath-of_member x86_language test.threads x.paths i l).on
 
     store_there : (i : ℕ) (l : i < length its)
         → (item_at its i).is_drain ≡ true
-        → does x86 test is_store (record { thread = (item_at its i).thread; position = (item_at its i).position }) ≡ true
+        → operation_is x86_language test is_store
+        (record { thread = (item_at its i).thread; position = (item_at its i).position })
+        ≡ true
     store_there i l f =
-        let r = real x86 test.threads x.paths i l in
+        let r = IsItemOnPath-of_member x86_language test.threads x.paths i l in
         ap (λ q. option_map_or is_store (option_map x86_operation q) false) r.at
         ∙ is_storing (x86_operation r.statement) (r.store f).0 (r.store f).1
       where
@@ -71,7 +78,9 @@ module _ {test : ProgramTest} (ok : IsWellFormedProgram test) {x : Execution} {o
           | inr n ↦ absurd (none-some y (sym (cond-false (is_store q) (location_of q) None n) ∙ e))
         ]
 
-    waits_kind : (q : Operation) → waits q ≡ true → (is_store q ≡ false) × ((operations.is_fence q ≡ true) ⊎ (writes q ≡ true))
+    waits_kind : (q : Operation)
+        → needs_empty_buffer q ≡ true
+        → (is_store q ≡ false) × ((operations.is_fence q ≡ true) ⊎ (writes q ≡ true))
     waits_kind q w = (
       elim (cases_Bool (is_store q)) [ inl s ↦ absurd (true≢false (sym w ∙ store_waits_none q s)) | inr n ↦ n ],
       elim (or_cases (operations.is_fence q) _ w) [ inl fence ↦ inl fence | inr locked ↦ inr (or_right (is_store q) _ locked) ],
@@ -82,12 +91,14 @@ module _ {test : ProgramTest} (ok : IsWellFormedProgram test) {x : Execution} {o
     store_kind _ s = absurd (true≢false (sym s))
 
     kind_at : (kind : Operation → Bool) (i : ℕ) (l : i < length its)
-        → does x86 test kind (record { thread = (item_at its i).thread; position = (item_at its i).position })
-        ≡ kind (x86_operation (real x86 test.threads x.paths i l).statement)
-    kind_at kind i l = ap (λ q. option_map_or kind (option_map x86_operation q) false) (real x86 test.threads x.paths i l).at
+        → operation_is x86_language test kind (record { thread = (item_at its i).thread; position = (item_at its i).position })
+        ≡ kind (x86_operation (IsItemOnPath-of_member x86_language test.threads x.paths i l).statement)
+    kind_at kind i l =
+        ap (λ q. option_map_or kind (option_map x86_operation q) false)
+        (IsItemOnPath-of_member x86_language test.threads x.paths i l).at
 
     module _ (i k : ℕ) (less : i < k) (l : k < length its) (same : (item_at its i).thread ≡ (item_at its k).thread)
-        (ordered : AreOrdered x86 test.threads (item_at its i) (item_at its k)) where
+        (ordered : AreOrdered x86_language test.threads (item_at its i) (item_at its k)) where
       li : i < length its
       li = omega (arith, less, l)
 
@@ -102,15 +113,18 @@ module _ {test : ProgramTest} (ok : IsWellFormedProgram test) {x : Execution} {o
           → (item_at its k).is_drain ≡ c
           → slot_by b ei.position < slot_by c ek.position
       slots b c f g =
-          let up : slot (item_at its i) < slot (item_at its k) =
-          slot_goes_up x86 test.threads x.paths (forward_of x86 test ok) choice i k less l same in
+          let up : thread_rank (item_at its i) < thread_rank (item_at its k) =
+          slot_goes_up x86_language test.threads x.paths (forward_of x86_language test ok) choice i k less l same in
           omega (arith, up, ap (λ d. slot_by d ei.position) f, ap (λ d. slot_by d ek.position) g)
 
       in_po : ei.position < ek.position → Po x ei ek
       in_po up = (on i li, on k l, same, up)
 
-      kept_writing : ei.position < ek.position → does x86 test writes ek ≡ true → Ppo x86 test x ei ek
-      kept_writing up w = (in_po up, or_right (does x86 test reads ei) _ (or_left (does x86 test writes ek) _ w))
+      kept_writing : ei.position < ek.position → operation_is x86_language test writes ek ≡ true → Ppo x86_language test x ei ek
+      kept_writing up w = (
+        in_po up,
+        or_right (operation_is x86_language test reads ei) _ (or_left (operation_is x86_language test writes ek) _ w),
+      )
 
       by_kinds : (b c : Bool) → (item_at its i).is_drain ≡ b → (item_at its k).is_drain ≡ c → time_of b ei < time_of c ek
       by_kinds false false f g = timed.po ei ek (in_po (omega (arith, slots false false f g)))
@@ -126,22 +140,28 @@ module _ {test : ProgramTest} (ok : IsWellFormedProgram test) {x : Execution} {o
           timed.ppo ei ek
           (kept_writing (omega (arith, slots true true f g))
           (kind_at writes k l
-          ∙ store_kind (x86_operation (real x86 test.threads x.paths k l).statement)
+          ∙ store_kind (x86_operation (IsItemOnPath-of_member x86_language test.threads x.paths k l).statement)
           (sym (kind_at is_store k l) ∙ store_there k l g)))
       by_kinds true false f g =
           let up : ei.position < ek.position = omega (arith, slots true false f g) in
-          let op = x86_operation (real x86 test.threads x.paths k l).statement in
-          let waiting : waits (x86_operation (real x86 test.threads x.paths k l).statement) ≡ true = elim (ordered f) [
+          let op = x86_operation (IsItemOnPath-of_member x86_language test.threads x.paths k l).statement in
+          let waiting : needs_empty_buffer (x86_operation (IsItemOnPath-of_member x86_language test.threads x.paths k
+          l).statement)
+          ≡ true = elim (ordered f) [
             | inl d ↦ absurd (true≢false (sym d ∙ g))
-            | inr w ↦ sym (ap (λ q. option_map_or (statement_waits x86) q false) (real x86 test.threads x.paths k l).at) ∙ w
+            | inr w ↦
+                sym (ap (λ q. option_map_or (statement_needs_empty_buffer x86_language) q false)
+                (IsItemOnPath-of_member x86_language test.threads x.paths k l).at)
+                ∙ w
           ] in
-          let kinds = waits_kind (x86_operation (real x86 test.threads x.paths k l).statement) waiting in
+          let kinds =
+          waits_kind (x86_operation (IsItemOnPath-of_member x86_language test.threads x.paths k l).statement) waiting in
           let late : reachedT ei < reachedT ek = timed.ppo ei ek (elim kinds.1 [
             | inl fence ↦ (
               in_po up,
-              or_right (does x86 test reads ei) _
-                  (or_right (does x86 test writes ek) _
-                  (or_right (does x86 test operations.is_fence ei) _ (kind_at operations.is_fence k l ∙ fence))),
+              or_right (operation_is x86_language test reads ei) _
+                  (or_right (operation_is x86_language test writes ek) _
+                  (or_right (operation_is x86_language test operations.is_fence ei) _ (kind_at operations.is_fence k l ∙ fence))),
             )
             | inr w ↦ kept_writing up (kind_at writes k l ∙ w)
           ]) in
@@ -151,10 +171,10 @@ module _ {test : ProgramTest} (ok : IsWellFormedProgram test) {x : Execution} {o
       in_time = by_kinds (item_at its i).is_drain (item_at its k).is_drain refl refl
 
     -- they are kept
-    pub keeps : IsLinearExtension (constraints_of x86 test.threads its) order
+    pub keeps : IsLinearExtension (constraints_of x86_language test.threads its) order
     keeps = (
       is_order (λ i. time (item_at its i)) (length its),
-      keeps_all x86 test.threads its order (λ i k less l same ordered.
+      keeps_all x86_language test.threads its order (λ i k less l same ordered.
           earlier (λ i. time (item_at its i)) (length its) i k (omega (arith, less, l)) l (in_time i k less l same ordered)),
     )
 
@@ -178,13 +198,13 @@ module _ {test : ProgramTest} (ok : IsWellFormedProgram test) {x : Execution} {o
         omega (arith, before, pa.index_is, pb.index_is)
 
     point_time : (e : MemoryEvent) → time (point_of given e) ≡ reachedT e
-    point_time e = by_kind (does x86 test is_store e) refl
+    point_time e = by_kind (operation_is x86_language test is_store e) refl
       where
-        by_kind : (b : Bool) → does x86 test is_store e ≡ b → time_of b e ≡ reachedT e
+        by_kind : (b : Bool) → operation_is x86_language test is_store e ≡ b → time_of b e ≡ reachedT e
         by_kind true s = refl
         by_kind false s = sym (timed.at_once e s)
 
-    module _ (r : MemoryEvent) (l : ℕ) (reading : Reads x86 test x r l) where
+    module _ (r : MemoryEvent) (l : ℕ) (reading : Reads x86_language test x r l) where
       r_step : Placed given (step_of given r)
       r_step = step_placed given r reading.0
 

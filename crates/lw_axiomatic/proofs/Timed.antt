@@ -2,16 +2,17 @@
 use Rattle.lw_axiomatic.proofs.Common.{◌≡◌, ℕ, suc, ◌+◌, ◌*◌, ◌<◌, ◌≤◌, inl, inr, ⊎_elim, Bool, true, Option}
 use Rattle.lw_axiomatic.proofs.Common.{Some, None, refl, ap, ◌∙◌, subst, arith, if◌then◌else◌, ForSome}
 use Rattle.lw_axiomatic.proofs.Common.{cases_Bool, cases_order, cond-true, cond-false, or_left, or_right}
-use Rattle.lw_axiomatic.proofs.Common.{Operation, is_store, is_load, writes, x86, ProgramTest}
-use Rattle.lw_axiomatic.proofs.Common.{IsWellFormedProgram, MemoryEvent, Execution, reads, does, IsEvent}
-use Rattle.lw_axiomatic.proofs.Common.{Reads, Writes, Po, Rf, Co, Fr, PoLoc, Rfe, Coherence}
-use Rattle.lw_axiomatic.proofs.Common.{GlobalHappensBefore, KeepsAxioms, IsBefore, IsNewest, IsTimed}
-use Rattle.lw_axiomatic.proofs.EventKinds.{read_is_no_store, load_reads_there, load_writes_nothing, there}
-use Rattle.lw_axiomatic.proofs.EventKinds.{low}
+use Rattle.lw_axiomatic.proofs.Common.{Operation, is_store, is_load, writes, x86_language, X86Test}
+use Rattle.lw_axiomatic.proofs.Common.{IsWellFormedProgram, MemoryEvent, Execution, reads, operation_is}
+use Rattle.lw_axiomatic.proofs.Common.{IsEvent, Reads, Writes, Po, Rf, Co, Fr, PoLoc, Rfe, Coherence}
+use Rattle.lw_axiomatic.proofs.Common.{GlobalHappensBefore, SatisfiesAxioms, IsBefore, IsNewest}
+use Rattle.lw_axiomatic.proofs.Common.{HasConsistentTimes}
+use Rattle.lw_axiomatic.proofs.EventKinds.{read_is_no_store, load_reads_there, load_writes_nothing}
+use Rattle.lw_axiomatic.proofs.EventKinds.{write_or_load, low}
 
-module _ {test : ProgramTest} {x : Execution} {done reached : MemoryEvent → ℕ} (timed : IsTimed test x done reached) where
+module _ {test : X86Test} {x : Execution} {done reached : MemoryEvent → ℕ} (timed : HasConsistentTimes test x done reached) where
   abbrev is : (Operation → Bool) → MemoryEvent → Bool
-  is = does x86 test
+  is = operation_is x86_language test
 
   -- what reads reaches memory when it is done
   read_at_once : (r : MemoryEvent) → is reads r ≡ true → reached r ≡ done r
@@ -30,7 +31,7 @@ module _ {test : ProgramTest} {x : Execution} {done reached : MemoryEvent → �
   -- ---- from-reads go up: what reaches memory before a read is done is no newer than what that reads
 
   no_newer : (r w : MemoryEvent) (l : ℕ) (q : Option MemoryEvent)
-      → Writes x86 test x w l
+      → Writes x86_language test x w l
       → IsNewest test x done reached r l q
       → ForSome q (λ v. x.co v < x.co w)
       → IsBefore x done reached w r
@@ -40,7 +41,7 @@ module _ {test : ProgramTest} {x : Execution} {done reached : MemoryEvent → �
       let up : reached v < reached w = timed.co v w (l, newest.0, there, behind v refl) in
       omega (arith, up, newest.2 w there before)
 
-  fr_up : (r w : MemoryEvent) → Fr x86 test x r w → reached r < reached w
+  fr_up : (r w : MemoryEvent) → Fr x86_language test x r w → reached r < reached w
   fr_up r w (l, reading, writing, ne, behind) = elim (cases_order (reached r) (reached w)) [
     | inl same ↦ absurd (ne (timed.apart r w reading.0 writing.0 same))
     | inr (inl less) ↦ less
@@ -50,10 +51,10 @@ module _ {test : ProgramTest} {x : Execution} {done reached : MemoryEvent → �
   ]
 
   -- what a read sees, by a source that is known
-  seen : (r w : MemoryEvent) (l : ℕ) → Reads x86 test x r l → x.rf r ≡ Some w → IsNewest test x done reached r l (Some w)
+  seen : (r w : MemoryEvent) (l : ℕ) → Reads x86_language test x r l → x.rf r ≡ Some w → IsNewest test x done reached r l (Some w)
   seen r w l reading from = subst (IsNewest test x done reached r l) from (timed.newest r l reading)
 
-  rfe_up : (w r : MemoryEvent) → Rfe x86 test x w r → reached w < reached r
+  rfe_up : (w r : MemoryEvent) → Rfe x86_language test x w r → reached w < reached r
   rfe_up w r ((l, writing, reading, from), far) =
       ⊎_elim (λ less. omega (arith, less, read_at_once r reading.2)) (λ po. absurd (far po.2)) (seen r w l reading from).1
 
@@ -87,7 +88,7 @@ module _ {test : ProgramTest} {x : Execution} {done reached : MemoryEvent → �
   -- a write that is before a load is no newer than what that reads
   source_least : (r w : MemoryEvent) (l : ℕ) (q : Option MemoryEvent)
       → IsNewest test x done reached r l q
-      → Writes x86 test x w l
+      → Writes x86_language test x w l
       → IsBefore x done reached w r
       → 34 * suc (reached w) ≤ source q
   source_least r w l None newest writing before = absurd (newest w writing before)
@@ -109,7 +110,7 @@ module _ {test : ProgramTest} {x : Execution} {done reached : MemoryEvent → �
   -- and what was there for a load is there for the next one
   source_up : (r s : MemoryEvent) (l : ℕ) (q : Option MemoryEvent)
       → IsNewest test x done reached r l q
-      → Reads x86 test x s l
+      → Reads x86_language test x s l
       → Po x r s
       → source q ≤ source (x.rf s)
   source_up r s l None newest reading po = omega arith
@@ -119,9 +120,9 @@ module _ {test : ProgramTest} {x : Execution} {done reached : MemoryEvent → �
       (λ own. inr (own.0, po.1, own.2 ∙ po.2, omega (arith, own.3, po.3))) newest.1)
 
   module _ (ok : IsWellFormedProgram test) where
-    poloc_up : (a b : MemoryEvent) → PoLoc x86 test x a b → rank a < rank b
-    poloc_up a b (po, l, at, too) = elim (there test a l at) [
-      | inl wa ↦ elim (there test b l too) [
+    poloc_up : (a b : MemoryEvent) → PoLoc x86_language test x a b → rank a < rank b
+    poloc_up a b (po, l, at, too) = elim (write_or_load test a l at) [
+      | inl wa ↦ elim (write_or_load test b l too) [
         | inl wb ↦ omega (arith, of_write a wa, of_write b wb, writes_last a b po wb)
         | inr lb ↦ omega (
           arith,
@@ -130,7 +131,7 @@ module _ {test : ProgramTest} {x : Execution} {done reached : MemoryEvent → �
           source_least b a l (x.rf b) (timed.newest b l (po.1, too, load_reads_there test b lb)) (po.0, at, wa) (inr po),
         )
       ]
-      | inr la ↦ elim (there test b l too) [
+      | inr la ↦ elim (write_or_load test b l too) [
         | inl wb ↦ omega (
           arith,
           of_load a la,
@@ -149,8 +150,8 @@ module _ {test : ProgramTest} {x : Execution} {done reached : MemoryEvent → �
       ]
     ]
 
-    rf_up : (w r : MemoryEvent) → Rf x86 test x w r → rank w < rank r
-    rf_up w r (l, writing, reading, from) = elim (there test r l reading.1) [
+    rf_up : (w r : MemoryEvent) → Rf x86_language test x w r → rank w < rank r
+    rf_up w r (l, writing, reading, from) = elim (write_or_load test r l reading.1) [
       | inl wr ↦
           (let up : reached w < reached r =
           ⊎_elim (λ less. omega (arith, less, read_at_once r reading.2)) (λ po. writes_last w r po wr)
@@ -159,11 +160,11 @@ module _ {test : ProgramTest} {x : Execution} {done reached : MemoryEvent → �
       | inr lr ↦ omega (arith, of_write w writing.2, of_load r lr, ap source from)
     ]
 
-    co_up : (w v : MemoryEvent) → Co x86 test x w v → rank w < rank v
+    co_up : (w v : MemoryEvent) → Co x86_language test x w v → rank w < rank v
     co_up w v co = omega (arith, of_write w co.1.2, of_write v co.2.2, timed.co w v co)
 
-    fr_next : (r w : MemoryEvent) → Fr x86 test x r w → rank r < rank w
-    fr_next r w (l, reading, writing, ne, behind) = elim (there test r l reading.1) [
+    fr_next : (r w : MemoryEvent) → Fr x86_language test x r w → rank r < rank w
+    fr_next r w (l, reading, writing, ne, behind) = elim (write_or_load test r l reading.1) [
       | inl wr ↦ omega (arith, of_write r wr, of_write w writing.2, fr_up r w (l, reading, writing, ne, behind))
       | inr lr ↦
           omega (
@@ -195,8 +196,8 @@ module _ {test : ProgramTest} {x : Execution} {done reached : MemoryEvent → �
     )
 
 -- an execution with times keeps the axioms
-pub keeps_axioms : {test : ProgramTest} {x : Execution} {done reached : MemoryEvent → ℕ}
+pub keeps_axioms : {test : X86Test} {x : Execution} {done reached : MemoryEvent → ℕ}
     → IsWellFormedProgram test
-    → IsTimed test x done reached
-    → KeepsAxioms test x
+    → HasConsistentTimes test x done reached
+    → SatisfiesAxioms test x
 keeps_axioms ok timed = record { coherence = coherence timed ok; happens_before = happens_before timed }

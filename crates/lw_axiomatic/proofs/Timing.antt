@@ -6,11 +6,12 @@ use Rattle.lw_axiomatic.proofs.Common.{false, Option, Some, None, refl, sym, ap,
 use Rattle.lw_axiomatic.proofs.Common.{if◌then◌else◌, List, [], ◌∷◌, length, Contains, nat_le, true≢false}
 use Rattle.lw_axiomatic.proofs.Common.{nat_lt, ForSome, cases_Bool, cases_lt, cases_eq, cases_order}
 use Rattle.lw_axiomatic.proofs.Common.{cond-true, cond-false, or_left, or_right, or_cases, nat_tests}
-use Rattle.lw_axiomatic.proofs.Common.{get_or_past, same_Some, slice_get_within, Final, code_of, none_in}
-use Rattle.lw_axiomatic.proofs.Common.{Contains-here, Contains-there, Contains-cons, Instr, Operation}
-use Rattle.lw_axiomatic.proofs.Common.{is_store, writes, x86, ProgramTest, IsWellFormedProgram, ThreadState}
-use Rattle.lw_axiomatic.proofs.Common.{MemoryEvent, Execution, reads, does, IsEvent, Reads, Writes, Po, Rf}
-use Rattle.lw_axiomatic.proofs.Common.{Co, Fr, Ppo, Goes, IsReadFrom, IsCandidate, KeepsAxioms, IsBefore}
+use Rattle.lw_axiomatic.proofs.Common.{get_or_past, same_Some, slice_get_within, FinalState, thread_code}
+use Rattle.lw_axiomatic.proofs.Common.{not-Contains-nil, Contains-head, Contains-tail, Contains-cons, Instr}
+use Rattle.lw_axiomatic.proofs.Common.{Operation, is_store, writes, x86_language, X86Test}
+use Rattle.lw_axiomatic.proofs.Common.{IsWellFormedProgram, ThreadState, MemoryEvent, Execution, reads}
+use Rattle.lw_axiomatic.proofs.Common.{operation_is, IsEvent, Reads, Writes, Po, Rf, Co, Fr, Ppo}
+use Rattle.lw_axiomatic.proofs.Common.{ThreadExecutes, IsReadFrom, IsCandidate, SatisfiesAxioms, IsBefore}
 use Rattle.lw_axiomatic.proofs.Common.{IsNewest, HasTimes, leb-true, ◌⊎◌}
 use Rattle.lw_axiomatic.proofs.EventKinds.{read_is_no_store, fence_is_no_store, store_reads_nothing}
 use Rattle.lw_axiomatic.proofs.EventKinds.{store_is_no_fence, write_stores_or_reads, short_code}
@@ -28,7 +29,7 @@ module _ (top : ℕ → ℕ) where
 
   -- the `anchor` of a path up to j is no less than the number of each position on it up to j
   pub anchor_above : (path : List ℕ) (j k : ℕ) → Contains path k → k ≤ j → top k ≤ anchor path j
-  anchor_above [] j k c le = absurd (none_in k c)
+  anchor_above [] j k c le = absurd (not-Contains-nil k c)
   anchor_above (h ∷ path) j k c le = elim (Contains-cons h k path c) [
     | inl e ↦
         (let here : top h ≤ anchor (h ∷ path) j = grind (arith, nat_tests) in subst (λ i. top i ≤ anchor (h ∷ path) j) e here)
@@ -39,8 +40,8 @@ module _ (top : ℕ → ℕ) where
   pub anchor_least : (path : List ℕ) (j b : ℕ) → ((k : ℕ) → Contains path k → k ≤ j → top k ≤ b) → anchor path j ≤ b
   anchor_least [] j b each = omega arith
   anchor_least (h ∷ path) j b each =
-      let rest : anchor path j ≤ b = anchor_least path j b (λ k c le. each k (Contains-there h k path c) le) in
-      grind (arith, nat_tests, rest, each h (Contains-here h h path refl))
+      let rest : anchor path j ≤ b = anchor_least path j b (λ k c le. each k (Contains-tail h k path c) le) in
+      grind (arith, nat_tests, rest, each h (Contains-head h h path refl))
 
   -- the `anchor` up to j is the number of one of the positions up to j, or 0
   pub anchor_reached : (path : List ℕ) (j : ℕ)
@@ -50,7 +51,7 @@ module _ (top : ℕ → ℕ) where
     | inr past ↦
         (let same : anchor (h ∷ path) j ≡ anchor path j = cond-false (nat_le h j) _ (anchor path j) past in
         elim (anchor_reached path j) [
-          | inl (k, c, le, is) ↦ inl (k, Contains-there h k path c, le, is ∙ sym same)
+          | inl (k, c, le, is) ↦ inl (k, Contains-tail h k path c, le, is ∙ sym same)
           | inr none ↦ inr (same ∙ none)
         ])
     | inl le ↦
@@ -58,7 +59,7 @@ module _ (top : ℕ → ℕ) where
         elim (cases_Bool (nat_lt (anchor path j) (top h))) [
           | inl more ↦ inl (
             h,
-            Contains-here h h path refl,
+            Contains-head h h path refl,
             leb-true h j le,
             sym (here ∙ cond-true (nat_lt (anchor path j) (top h)) (top h) (anchor path j) more),
           )
@@ -66,7 +67,7 @@ module _ (top : ℕ → ℕ) where
               (let same : anchor (h ∷ path) j ≡ anchor path j =
               here ∙ cond-false (nat_lt (anchor path j) (top h)) (top h) (anchor path j) past in
               elim (anchor_reached path j) [
-                | inl (k, c, below, is) ↦ inl (k, Contains-there h k path c, below, is ∙ sym same)
+                | inl (k, c, below, is) ↦ inl (k, Contains-tail h k path c, below, is ∙ sym same)
                 | inr none ↦ inr (same ∙ none)
               ])
         ])
@@ -74,20 +75,20 @@ module _ (top : ℕ → ℕ) where
 
 -- each position that a thread goes through is one of its code
 goes_within : (x : Execution) (t : ℕ) (code : List Instr) (path : List ℕ) (s end : ThreadState)
-    → Goes x86 x t code path s end
+    → ThreadExecutes x86_language x t code path s end
     → (j : ℕ)
     → Contains path j
     → j < length code
-goes_within x t code [] s end goes j c = absurd (none_in j c)
+goes_within x t code [] s end goes j c = absurd (not-Contains-nil j c)
 goes_within x t code (k ∷ path) s end goes j c = elim (Contains-cons k j path c) [
   | inl e ↦ (let here : k < length code = slice_get_within code k goes.1 goes.2 in omega (arith, here, e))
   | inr r ↦ goes_within x t code path _ end goes.4 j r
 ]
 
-module _ {test : ProgramTest} {x : Execution} {o : Final} (ok : IsWellFormedProgram test) (candidate : IsCandidate x86 test x o)
-    (axioms : KeepsAxioms test x) where
+module _ {test : X86Test} {x : Execution} {o : FinalState} (ok : IsWellFormedProgram test)
+    (candidate : IsCandidate x86_language test x o) (axioms : SatisfiesAxioms test x) where
   abbrev is : (Operation → Bool) → MemoryEvent → Bool
-  is = does x86 test
+  is = operation_is x86_language test
 
   abbrev g : MemoryEvent → ℕ
   g = axioms.happens_before.0
@@ -106,13 +107,14 @@ module _ {test : ProgramTest} {x : Execution} {o : Final} (ok : IsWellFormedProg
       thread = omega (arith, h, ok.as_many, ok.head.few);
       position =
           (let goes = candidate.threads e.thread h in
-          let l : e.position < length (code_of test.threads e.thread) =
-          goes_within x e.thread (code_of test.threads e.thread) (code_of x.paths e.thread) _ goes.0 goes.1 e.position c in
+          let l : e.position < length (thread_code test.threads e.thread) =
+          goes_within x e.thread (thread_code test.threads e.thread) (thread_code x.paths e.thread) _ goes.0 goes.1 e.position
+          c in
           omega (arith, l, short_code test ok e.thread));
     }
     | inr h ↦
-        (let none : code_of x.paths e.thread ≡ [] = get_or_past x.paths e.thread [] (omega (arith, h, candidate.as_many)) in
-        absurd (none_in e.position (subst (λ (path : List ℕ). Contains path e.position) none c)))
+        (let none : thread_code x.paths e.thread ≡ [] = get_or_past x.paths e.thread [] (omega (arith, h, candidate.as_many)) in
+        absurd (not-Contains-nil e.position (subst (λ (path : List ℕ). Contains path e.position) none c)))
   ]
 
   -- ---- the times
@@ -127,7 +129,7 @@ module _ {test : ProgramTest} {x : Execution} {o : Final} (ok : IsWellFormedProg
 
   -- the greatest top of the events of a thread up to this one
   abbrev anchored : MemoryEvent → ℕ
-  anchored e = anchor (top e.thread) (code_of x.paths e.thread) e.position
+  anchored e = anchor (top e.thread) (thread_code x.paths e.thread) e.position
 
   -- a number for each event, by its thread and then its position, by which equal anchored numbers are told apart
   abbrev slot : MemoryEvent → ℕ
@@ -155,7 +157,7 @@ module _ {test : ProgramTest} {x : Execution} {o : Final} (ok : IsWellFormedProg
   top_other : (e : MemoryEvent) → halts e ≡ false → top e.thread e.position ≡ 0
   top_other e h = cond-false (halts e) (suc (g e)) 0 h
 
-  ppo_up : (a b : MemoryEvent) → Ppo x86 test x a b → g a < g b
+  ppo_up : (a b : MemoryEvent) → Ppo x86_language test x a b → g a < g b
   ppo_up a b p = axioms.happens_before.1 a b (inl p)
 
   -- what halts is kept before all behind it
@@ -174,7 +176,8 @@ module _ {test : ProgramTest} {x : Execution} {o : Final} (ok : IsWellFormedProg
       → (halts e ≡ true → suc (g e) ≤ b)
       → anchored e ≤ b
   anchored_least e b there each own =
-      anchor_least (top e.thread) (code_of x.paths e.thread) e.position b (λ k c le. elim (cases_Bool (halts (at e.thread k))) [
+      anchor_least (top e.thread) (thread_code x.paths e.thread) e.position b
+      (λ k c le. elim (cases_Bool (halts (at e.thread k))) [
         | inl h ↦ elim (cases_eq k e.position) [
           | inl same ↦
               (let this : at e.thread k ≡ e = ap (at e.thread) same in
@@ -185,9 +188,9 @@ module _ {test : ProgramTest} {x : Execution} {o : Final} (ok : IsWellFormedProg
       ])
 
   anchored_up : (a b : MemoryEvent) → Po x a b → anchored a ≤ anchored b
-  anchored_up a b po = anchor_least (top a.thread) (code_of x.paths a.thread) a.position (anchored b) (λ k c le.
-      subst (λ t. Contains (code_of x.paths t) k → top t k ≤ anchored b) (sym po.2)
-      (λ d. anchor_above (top b.thread) (code_of x.paths b.thread) b.position k d (omega (arith, le, po.3))) c)
+  anchored_up a b po = anchor_least (top a.thread) (thread_code x.paths a.thread) a.position (anchored b) (λ k c le.
+      subst (λ t. Contains (thread_code x.paths t) k → top t k ≤ anchored b) (sym po.2)
+      (λ d. anchor_above (top b.thread) (thread_code x.paths b.thread) b.position k d (omega (arith, le, po.3))) c)
 
   -- a store is behind all that it waits for
   of_store_low : (e : MemoryEvent) → IsEvent x e → is is_store e ≡ true → anchored e ≤ g e
@@ -201,11 +204,10 @@ module _ {test : ProgramTest} {x : Execution} {o : Final} (ok : IsWellFormedProg
   -- what halts is done at its own number
   of_halts : (e : MemoryEvent) → IsEvent x e → halts e ≡ true → anchored e ≡ suc (g e)
   of_halts e there h =
-      let above : suc (g e) ≤ anchored e =
-      omega (
+      let above : suc (g e) ≤ anchored e = omega (
         arith,
         top_halts e h,
-        anchor_above (top e.thread) (code_of x.paths e.thread) e.position e.position there (omega arith),
+        anchor_above (top e.thread) (thread_code x.paths e.thread) e.position e.position there (omega arith),
       ) in
       omega (
         arith,
@@ -255,7 +257,7 @@ module _ {test : ProgramTest} {x : Execution} {o : Final} (ok : IsWellFormedProg
   later e there s = omega (arith, of_store e s, of_store_low e there s)
 
   -- what is not a store and comes behind a store in preserved program order halts
-  behind_store : (a b : MemoryEvent) → Ppo x86 test x a b → is is_store a ≡ true → is is_store b ≡ false → halts b ≡ true
+  behind_store : (a b : MemoryEvent) → Ppo x86_language test x a b → is is_store a ≡ true → is is_store b ≡ false → halts b ≡ true
   behind_store a b ppo s n = elim (or_cases (is reads a) _ ppo.1) [
     | inl r ↦ absurd (true≢false (sym r ∙ store_reads_nothing test a s))
     | inr rest ↦ elim (or_cases (is writes b) _ rest) [
@@ -267,7 +269,7 @@ module _ {test : ProgramTest} {x : Execution} {o : Final} (ok : IsWellFormedProg
     ]
   ]
 
-  ppo_reached : (a b : MemoryEvent) → Ppo x86 test x a b → reached a < reached b
+  ppo_reached : (a b : MemoryEvent) → Ppo x86_language test x a b → reached a < reached b
   ppo_reached a b ppo =
       let up : g a < g b = ppo_up a b ppo in
       let low = slot_low a ppo.0.0 in
@@ -288,7 +290,7 @@ module _ {test : ProgramTest} {x : Execution} {o : Final} (ok : IsWellFormedProg
   by_number : (a b : MemoryEvent) → AtOwn a → AtOwn b → g a < g b → reached a < reached b
   by_number a b ownA ownB up = omega (arith, ownA.most, ownB.least, up)
 
-  co_up : (w v : MemoryEvent) → Co x86 test x w v → reached w < reached v
+  co_up : (w v : MemoryEvent) → Co x86_language test x w v → reached w < reached v
   co_up w v co =
       by_number w v (own_of_write w co.1.0 co.1.2) (own_of_write v co.2.0 co.2.2)
       (axioms.happens_before.1 w v (inr (inr (inl co))))
@@ -313,7 +315,7 @@ module _ {test : ProgramTest} {x : Execution} {o : Final} (ok : IsWellFormedProg
 
   -- ---- each read has its newest write
 
-  module _ (r : MemoryEvent) (l : ℕ) (reading : Reads x86 test x r l) where
+  module _ (r : MemoryEvent) (l : ℕ) (reading : Reads x86_language test x r l) where
     own_r : AtOwn r
     own_r = own_of_halts r reading.0 (read_halts r reading.2)
 
@@ -322,7 +324,7 @@ module _ {test : ProgramTest} {x : Execution} {o : Final} (ok : IsWellFormedProg
 
     -- nothing that r would have to see is newer than what it reads
     no_newer : (w : MemoryEvent)
-        → Writes x86 test x w l
+        → Writes x86_language test x w l
         → IsBefore x done reached w r
         → ForSome (x.rf r) (λ v. x.co v < x.co w)
         → ⊥
@@ -342,7 +344,7 @@ module _ {test : ProgramTest} {x : Execution} {o : Final} (ok : IsWellFormedProg
 
         another : r ≢ w → ⊥
         another ne =
-            let fr : Fr x86 test x r w = (l, reading, writing, ne, behind) in
+            let fr : Fr x86_language test x r w = (l, reading, writing, ne, behind) in
             let own_w : AtOwn w = own_of_write w writing.0 writing.2 in
             elim before [
               | inl early ↦
@@ -355,9 +357,9 @@ module _ {test : ProgramTest} {x : Execution} {o : Final} (ok : IsWellFormedProg
             ]
 
     -- what it reads is before it
-    is_before : (v : MemoryEvent) → Writes x86 test x v l → x.rf r ≡ Some v → IsBefore x done reached v r
+    is_before : (v : MemoryEvent) → Writes x86_language test x v l → x.rf r ≡ Some v → IsBefore x done reached v r
     is_before v writing from =
-        let rf : Rf x86 test x v r = (l, writing, reading, from) in
+        let rf : Rf x86_language test x v r = (l, writing, reading, from) in
         let own_v : AtOwn v = own_of_write v writing.0 writing.2 in
         elim (cases_eq v.thread r.thread) [
           | inr far ↦ inl (omega (arith, at_once, by_number v r own_v own_r (axioms.happens_before.1 v r (inr (inl (rf, far))))))
@@ -374,7 +376,7 @@ module _ {test : ProgramTest} {x : Execution} {o : Final} (ok : IsWellFormedProg
           ]
         ]
 
-    newest : (q : Option MemoryEvent) → x.rf r ≡ q → IsReadFrom x86 test x r l q → IsNewest test x done reached r l q
+    newest : (q : Option MemoryEvent) → x.rf r ≡ q → IsReadFrom x86_language test x r l q → IsNewest test x done reached r l q
     newest None from is_from =
         λ w writing before. no_newer w writing before (λ v is. absurd (let bad : None ≡ Some v = sym from ∙ is in cc))
     newest (Some v) from is_from = (

@@ -2,10 +2,11 @@
 use Rattle.lw_axiomatic.proofs.Common.{◌≡◌, ℕ, inl, inr, List, [], ◌∷◌, ◌++◌, length, map, Some, refl, sym}
 use Rattle.lw_axiomatic.proofs.Common.{ap, ap₂, ◌∙◌, subst, arith, slice_get, Contains, ext_get_or}
 use Rattle.lw_axiomatic.proofs.Common.{append-nil, slice_index, slice_index_or, option_map, get_or_past}
-use Rattle.lw_axiomatic.proofs.Common.{length-map, get_or_from_slice_get, slice_get-map, get_some, Final}
-use Rattle.lw_axiomatic.proofs.Common.{code_of, Contains-here, Language, Test, IsWellFormed, Goes, IsLast}
-use Rattle.lw_axiomatic.proofs.Common.{IsCandidate, MemoryEvent, Execution, Interleaved, IsEnd, start}
-use Rattle.lw_axiomatic.proofs.Common.{InterleavingOutcome, IsSequential, ThreadState}
+use Rattle.lw_axiomatic.proofs.Common.{length-map, get_or_from_slice_get, slice_get-map, get_some, FinalState}
+use Rattle.lw_axiomatic.proofs.Common.{thread_code, Contains-head, Language, Test, IsWellFormed}
+use Rattle.lw_axiomatic.proofs.Common.{ThreadExecutes, IsLast, IsCandidate, MemoryEvent, Execution}
+use Rattle.lw_axiomatic.proofs.Common.{Interleaved, IsEnd, start, InterleavingOutcome}
+use Rattle.lw_axiomatic.proofs.Common.{IsSequentiallyConsistent, ThreadState}
 use Rattle.lw_axiomatic.proofs.FromInterleaving.{outcome_of}
 use Rattle.lw_axiomatic.proofs.Walks.{AreFronts, IsAt, LastDone, Ends, walked, ran_by}
 
@@ -14,18 +15,18 @@ abbrev no_tails : List (List ℕ)
 no_tails = []
 
 -- where paths are walked to their ends, a thread's tail is empty
-no_tail : (t : ℕ) → code_of no_tails t ≡ []
+no_tail : (t : ℕ) → thread_code no_tails t ≡ []
 no_tail t = get_or_past no_tails t [] (omega arith)
 
-module _ {S : Type 0} {language : Language S} {test : Test S} (ok : IsWellFormed language test) {x : Execution} {o : Final}
-    (candidate : IsCandidate language test x o) (sequential : IsSequential language test x) where
+module _ {S : Type 0} {language : Language S} {test : Test S} (ok : IsWellFormed language test) {x : Execution} {o : FinalState}
+    (candidate : IsCandidate language test x o) (sequential : IsSequentiallyConsistent language test x) where
   abbrev event : ℕ → ℕ → MemoryEvent
   event t j = record { thread = t; position = j }
 
   whole : AreFronts language test x sequential.0 x.paths no_tails
   whole = record {
     many = candidate.as_many;
-    parted = λ t. sym (append-nil (code_of x.paths t)) ∙ ap (λ path. code_of x.paths t ++ path) (sym (no_tail t));
+    parted = λ t. sym (append-nil (thread_code x.paths t)) ∙ ap (λ path. thread_code x.paths t ++ path) (sym (no_tail t));
     up = λ a b ia ib r. sequential.1 a b r;
     closed = λ w r there rf. rf.1.0;
   }
@@ -36,20 +37,20 @@ module _ {S : Type 0} {language : Language S} {test : Test S} (ok : IsWellFormed
   -- ---- at the end
 
   module _ (rest : List (List ℕ)) (s : Interleaved) (is : IsHere rest s)
-      (none : (e : MemoryEvent) → Contains (code_of rest e.thread) e.position → ⊥) where
-    nothing : (t : ℕ) (path : List ℕ) → code_of rest t ≡ path → path ≡ []
+      (none : (e : MemoryEvent) → Contains (thread_code rest e.thread) e.position → ⊥) where
+    nothing : (t : ℕ) (path : List ℕ) → thread_code rest t ≡ path → path ≡ []
     nothing t [] same = refl
     nothing t (h ∷ more) same =
-        absurd (none (event t h) (subst (λ (path : List ℕ). Contains path h) (sym same) (Contains-here h h more refl)))
+        absurd (none (event t h) (subst (λ (path : List ℕ). Contains path h) (sym same) (Contains-head h h more refl)))
 
     ended : (t : ℕ) (th : ThreadState)
         → slice_get s.threads t ≡ Some th
-        → (th.position ≡ length (code_of test.threads t)) × (slice_index_or o.regs t [] ≡ th.regs)
+        → (th.position ≡ length (thread_code test.threads t)) × (slice_index_or o.regs t [] ≡ th.regs)
     ended t th at =
         let now = is.threads t th at in
-        let goes : Goes language x t (code_of test.threads t) [] th now.0 =
-        subst (λ (path : List ℕ). Goes language x t (code_of test.threads t) path th now.0)
-        (ap₂ (λ (p q : List ℕ). p ++ q) (nothing t (code_of rest t) refl) (no_tail t)) now.1 in
+        let goes : ThreadExecutes language x t (thread_code test.threads t) [] th now.0 =
+        subst (λ (path : List ℕ). ThreadExecutes language x t (thread_code test.threads t) path th now.0)
+        (ap₂ (λ (p q : List ℕ). p ++ q) (nothing t (thread_code rest t) refl) (no_tail t)) now.1 in
         (goes.0, now.2 ∙ ap (λ (z : ThreadState). z.regs) goes.1)
 
     final : IsEnd language test.threads s

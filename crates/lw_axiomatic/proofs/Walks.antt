@@ -7,12 +7,14 @@ use Rattle.lw_axiomatic.proofs.Common.{subst, arith, slice_get, slice_set, Conta
 use Rattle.lw_axiomatic.proofs.Common.{slice_index_or, cases_Bool, cases_eq, cases_lt, cases_order}
 use Rattle.lw_axiomatic.proofs.Common.{get_or_past, get_or-set_same, get_or-set_other, Contains-append_left}
 use Rattle.lw_axiomatic.proofs.Common.{none-some, same_Some, slice_get_within, get_or_from_slice_get}
-use Rattle.lw_axiomatic.proofs.Common.{get_some, got_map, Final, code_of, none_in, Contains-here}
-use Rattle.lw_axiomatic.proofs.Common.{Contains-there, Contains-cons, GoesUp, goes_up_in, path_up, Operation}
-use Rattle.lw_axiomatic.proofs.Common.{Language, writes, Test, IsWellFormed, Goes, IsReadFrom, IsCandidate}
-use Rattle.lw_axiomatic.proofs.Common.{MemoryEvent, Execution, IsEvent, reads, does, location, Reads, Writes}
-use Rattle.lw_axiomatic.proofs.Common.{Rf, Fr, Interleaved, word_found, after, IsStep, Ran, start, InSequence}
-use Rattle.lw_axiomatic.proofs.Common.{forward_of, ThreadState, first_state, state_after, word_written}
+use Rattle.lw_axiomatic.proofs.Common.{get_some, get-map, FinalState, thread_code, not-Contains-nil}
+use Rattle.lw_axiomatic.proofs.Common.{Contains-head, Contains-tail, Contains-cons, IsAscendingFrom}
+use Rattle.lw_axiomatic.proofs.Common.{IsAscendingFrom-lower_bound, path_up, Operation, Language, writes}
+use Rattle.lw_axiomatic.proofs.Common.{Test, IsWellFormed, ThreadExecutes, IsReadFrom, IsCandidate}
+use Rattle.lw_axiomatic.proofs.Common.{MemoryEvent, Execution, IsEvent, reads, operation_is, location, Reads}
+use Rattle.lw_axiomatic.proofs.Common.{Writes, Rf, Fr, Interleaved, read_value, after, IsStep}
+use Rattle.lw_axiomatic.proofs.Common.{InterleavedRunsTo, start, ScOrder, forward_of, ThreadState}
+use Rattle.lw_axiomatic.proofs.Common.{first_state, state_after, word_written}
 use Rattle.lw_axiomatic.proofs.Decisions.{same_event, decided_in, decided_and, decided_number, decided_true}
 use Rattle.lw_axiomatic.proofs.EventLists.{IsFirst, first_of}
 use Rattle.lw_axiomatic.proofs.FromInterleaving.{IsGood, good_start, good_next, was_next, others, kind}
@@ -33,7 +35,7 @@ total (path ∷ paths) = length path + total paths
 -- one step of a thread leaves one event fewer ahead
 total_less : (paths : List (List ℕ)) (t j : ℕ) (more : List ℕ)
     → t < length paths
-    → code_of paths t ≡ j ∷ more
+    → thread_code paths t ≡ j ∷ more
     → suc (total (slice_set paths t more)) ≡ total paths
 total_less [] t j more l e = absurd (omega (arith, l))
 total_less (path ∷ paths) zero j more l e = omega (arith, ap length e)
@@ -43,18 +45,18 @@ total_less (path ∷ paths) (suc t) j more l e = omega (arith, total_less paths 
 pub record AreFronts {S : Type 0} (language : Language S) (test : Test S) (x : Execution) (rank : MemoryEvent → ℕ)
     (fronts tails : List (List ℕ)) : Type 0 where
   pub many : length fronts ≡ length test.threads
-  pub parted : (t : ℕ) → code_of x.paths t ≡ code_of fronts t ++ code_of tails t
+  pub parted : (t : ℕ) → thread_code x.paths t ≡ thread_code fronts t ++ thread_code tails t
   pub up : (a b : MemoryEvent)
-      → Contains (code_of fronts a.thread) a.position
-      → Contains (code_of fronts b.thread) b.position
-      → InSequence language test x a b
+      → Contains (thread_code fronts a.thread) a.position
+      → Contains (thread_code fronts b.thread) b.position
+      → ScOrder language test x a b
       → rank a < rank b
   pub closed : (w r : MemoryEvent)
-      → Contains (code_of fronts r.thread) r.position
+      → Contains (thread_code fronts r.thread) r.position
       → Rf language test x w r
-      → Contains (code_of fronts w.thread) w.position
+      → Contains (thread_code fronts w.thread) w.position
 
-module _ {S : Type 0} {language : Language S} {test : Test S} (ok : IsWellFormed language test) {x : Execution} {o : Final}
+module _ {S : Type 0} {language : Language S} {test : Test S} (ok : IsWellFormed language test) {x : Execution} {o : FinalState}
     (candidate : IsCandidate language test x o) {rank : MemoryEvent → ℕ} {fronts tails : List (List ℕ)}
     (are : AreFronts language test x rank fronts tails) where
   abbrev event : ℕ → ℕ → MemoryEvent
@@ -62,7 +64,7 @@ module _ {S : Type 0} {language : Language S} {test : Test S} (ok : IsWellFormed
 
   -- the event is in what is ahead of its thread
   abbrev IsAhead : List (List ℕ) → MemoryEvent → Type 0
-  IsAhead rest e = Contains (code_of rest e.thread) e.position
+  IsAhead rest e = Contains (thread_code rest e.thread) e.position
 
   -- the event is in the front of its thread's path
   abbrev IsIn : MemoryEvent → Type 0
@@ -72,7 +74,7 @@ module _ {S : Type 0} {language : Language S} {test : Test S} (ok : IsWellFormed
   is_event : (e : MemoryEvent) → IsIn e → IsEvent x e
   is_event e c =
       subst (λ (path : List ℕ). Contains path e.position) (sym (are.parted e.thread))
-      (Contains-append_left (code_of fronts e.thread) (code_of tails e.thread) e.position c)
+      (Contains-append_left (thread_code fronts e.thread) (thread_code tails e.thread) e.position c)
 
   -- ---- what is ahead, and what is done
 
@@ -97,7 +99,7 @@ module _ {S : Type 0} {language : Language S} {test : Test S} (ok : IsWellFormed
     pub threads : (t : ℕ) (th : ThreadState)
         → slice_get s.threads t ≡ Some th
         → (end : ThreadState)
-        × Goes language x t (code_of test.threads t) (code_of rest t ++ code_of tails t) th end
+        × ThreadExecutes language x t (thread_code test.threads t) (thread_code rest t ++ thread_code tails t) th end
         × (slice_index_or o.regs t [] ≡ end.regs)
     pub among : (e : MemoryEvent) → IsAhead rest e → IsIn e
     pub behind : (e f : MemoryEvent) → IsDone rest e → IsAhead rest f → rank e ≤ rank f
@@ -109,7 +111,7 @@ module _ {S : Type 0} {language : Language S} {test : Test S} (ok : IsWellFormed
     th : ThreadState
     was : slice_get s.threads t ≡ Some th
     more : List ℕ
-    path_is : code_of rest t ≡ th.position ∷ more
+    path_is : thread_code rest t ≡ th.position ∷ more
     least : (f : MemoryEvent) → IsAhead rest f → rank (event t th.position) ≤ rank f
     fewer : suc (total (slice_set rest t more)) ≡ total rest
 
@@ -130,7 +132,7 @@ module _ {S : Type 0} {language : Language S} {test : Test S} (ok : IsWellFormed
 
     there : IsAhead rest e
     there =
-        subst (λ (path : List ℕ). Contains path th.position) (sym next.path_is) (Contains-here th.position th.position more refl)
+        subst (λ (path : List ℕ). Contains path th.position) (sym next.path_is) (Contains-head th.position th.position more refl)
 
     in_front : IsIn e
     in_front = is.among e there
@@ -141,10 +143,10 @@ module _ {S : Type 0} {language : Language S} {test : Test S} (ok : IsWellFormed
     abbrev end : ThreadState
     end = (is.threads t th next.was).0
 
-    goes : Goes language x t (code_of test.threads t) (th.position ∷ (more ++ code_of tails t)) th end
+    goes : ThreadExecutes language x t (thread_code test.threads t) (th.position ∷ (more ++ thread_code tails t)) th end
     goes =
-        subst (λ (path : List ℕ). Goes language x t (code_of test.threads t) (path ++ code_of tails t) th end) next.path_is
-        (is.threads t th next.was).1
+        subst (λ (path : List ℕ). ThreadExecutes language x t (thread_code test.threads t) (path ++ thread_code tails t) th end)
+        next.path_is (is.threads t th next.was).1
 
     abbrev i : S
     i = goes.1
@@ -164,30 +166,30 @@ module _ {S : Type 0} {language : Language S} {test : Test S} (ok : IsWellFormed
     in_rest : t < length rest
     in_rest = omega (arith, slice_get_within s.threads t th next.was, is.good.many, is.many)
 
-    own_path : code_of rest_after t ≡ more
+    own_path : thread_code rest_after t ≡ more
     own_path = get_or-set_same rest t more [] in_rest
 
-    other_path : (u : ℕ) → t ≢ u → code_of rest_after u ≡ code_of rest u
+    other_path : (u : ℕ) → t ≢ u → thread_code rest_after u ≡ thread_code rest u
     other_path u ne = get_or-set_other rest t u more [] (λ same. ne (sym same))
 
     -- the rest of its thread is behind it
     goes_up : (h : ℕ) → Contains more h → th.position < h
     goes_up h c =
-        let up : GoesUp th.position (th.position ∷ (more ++ code_of tails t)) =
-        path_up language (code_of test.threads t) th.position (th.position ∷ (more ++ code_of tails t))
+        let up : IsAscendingFrom th.position (th.position ∷ (more ++ thread_code tails t)) =
+        path_up language (thread_code test.threads t) th.position (th.position ∷ (more ++ thread_code tails t))
         (forward_of language test ok t)
-        (goes_path language x t (code_of test.threads t) (th.position ∷ (more ++ code_of tails t)) th end goes) in
-        goes_up_in (suc th.position) h (more ++ code_of tails t) up.1
-        (in_list (more ++ code_of tails t) h (Contains-append_left more (code_of tails t) h c))
+        (goes_path language x t (thread_code test.threads t) (th.position ∷ (more ++ thread_code tails t)) th end goes) in
+        IsAscendingFrom-lower_bound (suc th.position) h (more ++ thread_code tails t) up.1
+        (in_list (more ++ thread_code tails t) h (Contains-append_left more (thread_code tails t) h c))
 
     ahead_before : (f : MemoryEvent) → IsAhead rest_after f → IsAhead rest f
     ahead_before f a = elim (cases_eq t f.thread) [
       | inl same ↦
-          subst (λ u. Contains (code_of rest u) f.position) same
+          subst (λ u. Contains (thread_code rest u) f.position) same
           (subst (λ (path : List ℕ). Contains path f.position) (sym next.path_is)
-          (Contains-there th.position f.position more
+          (Contains-tail th.position f.position more
           (subst (λ (path : List ℕ). Contains path f.position) own_path
-          (subst (λ u. Contains (code_of rest_after u) f.position) (sym same) a))))
+          (subst (λ u. Contains (thread_code rest_after u) f.position) (sym same) a))))
       | inr ne ↦ subst (λ (path : List ℕ). Contains path f.position) (other_path f.thread ne) a
     ]
 
@@ -196,10 +198,10 @@ module _ {S : Type 0} {language : Language S} {test : Test S} (ok : IsWellFormed
       | inl same ↦
           elim (Contains-cons th.position f.position more
           (subst (λ (path : List ℕ). Contains path f.position) next.path_is
-          (subst (λ u. Contains (code_of rest u) f.position) (sym same) a))) [
+          (subst (λ u. Contains (thread_code rest u) f.position) (sym same) a))) [
             | inl index_in ↦ absurd (differ (ap₂ event (sym same) (sym index_in)))
             | inr c ↦
-                subst (λ u. Contains (code_of rest_after u) f.position) same
+                subst (λ u. Contains (thread_code rest_after u) f.position) same
                 (subst (λ (path : List ℕ). Contains path f.position) (sym own_path) c)
           ]
       | inr ne ↦ subst (λ (path : List ℕ). Contains path f.position) (sym (other_path f.thread ne)) a
@@ -227,7 +229,7 @@ module _ {S : Type 0} {language : Language S} {test : Test S} (ok : IsWellFormed
       source_done v writing from =
           let rf : Rf language test x v e = (l, writing, reading, from) in
           let v_in : IsIn v = are.closed v e in_front rf in
-          elim (decided_in (code_of rest v.thread) v.position) [
+          elim (decided_in (thread_code rest v.thread) v.position) [
             | inl a ↦ absurd (omega (arith, are.up v e v_in in_front (inr (inl rf)), next.least v a))
             | inr not ↦ (v_in, not)
           ]
@@ -256,22 +258,22 @@ module _ {S : Type 0} {language : Language S} {test : Test S} (ok : IsWellFormed
       reads_word : x.read e ≡ slice_index s.words l
       reads_word = word_is (x.rf e) refl (candidate.rf e l reading) (is.memory l)
 
-    found_is : reads op ≡ true → x.read e ≡ word_found op s.words
+    found_is : reads op ≡ true → x.read e ≡ read_value op s.words
     found_is r =
         let l = reads_located op r in
         let reading : Reads language test x e l.0 = (on, index_in ok d is.good ∙ l.1, kind ok d is.good reads ∙ r) in
         reads_word l.0 reading ∙ sym (found_there op l.0 s.words l.1)
 
-    state_is : state_after op th (x.read e) ≡ state_after op th (word_found op s.words)
+    state_is : state_after op th (x.read e) ≡ state_after op th (read_value op s.words)
     state_is = elim (cases_Bool (reads op)) [
       | inl r ↦ ap (state_after op th) (found_is r)
-      | inr n ↦ unread op th (x.read e) (word_found op s.words) n
+      | inr n ↦ unread op th (x.read e) (read_value op s.words) n
     ]
 
-    written_is : writes op ≡ true → x.written e ≡ word_written op th.regs (word_found op s.words)
+    written_is : writes op ≡ true → x.written e ≡ word_written op th.regs (read_value op s.words)
     written_is w = elim (cases_Bool (reads op)) [
       | inl r ↦ goes.3 w ∙ ap (word_written op th.regs) (found_is r)
-      | inr n ↦ goes.3 w ∙ (store_writes op (writes_unread op n w)).1 th.regs (x.read e) (word_found op s.words)
+      | inr n ↦ goes.3 w ∙ (store_writes op (writes_unread op n w)).1 th.regs (x.read e) (read_value op s.words)
     ]
 
     -- ---- what holds behind it
@@ -279,25 +281,29 @@ module _ {S : Type 0} {language : Language S} {test : Test S} (ok : IsWellFormed
     threads_go : (u : ℕ) (q : ThreadState)
         → slice_get mid.threads u ≡ Some q
         → (end : ThreadState)
-        × Goes language x u (code_of test.threads u) (code_of rest_after u ++ code_of tails u) q end
+        × ThreadExecutes language x u (thread_code test.threads u) (thread_code rest_after u ++ thread_code tails u) q end
         × (slice_index_or o.regs u [] ≡ end.regs)
     threads_go u q at = elim (cases_eq t u) [
       | inl same ↦
-          (let next_is : state_after op th (word_found op s.words) ≡ q =
-          same_Some (state_after op th (word_found op s.words)) q
+          (let next_is : state_after op th (read_value op s.words) ≡ q =
+          same_Some (state_after op th (read_value op s.words)) q
           (sym (was_next ok d is.good) ∙ subst (λ k. slice_get mid.threads k ≡ Some q) (sym same) at) in
-          let own : Goes language x t (code_of test.threads t) (code_of rest_after t ++ code_of tails t) q end =
-          subst (λ (path : List ℕ). Goes language x t (code_of test.threads t) (path ++ code_of tails t) q end) (sym own_path)
-          (subst (λ (z : ThreadState). Goes language x t (code_of test.threads t) (more ++ code_of tails t) z end)
+          let own : ThreadExecutes language x t (thread_code test.threads t) (thread_code rest_after t ++ thread_code tails t) q
+          end =
+          subst (λ (path : List ℕ). ThreadExecutes language x t (thread_code test.threads t) (path ++ thread_code tails t) q end)
+          (sym own_path)
+          (subst
+          (λ (z : ThreadState). ThreadExecutes language x t (thread_code test.threads t) (more ++ thread_code tails t) z end)
           (state_is ∙ next_is) goes.4) in
           subst (λ k.
           (end : ThreadState)
-          × Goes language x k (code_of test.threads k) (code_of rest_after k ++ code_of tails k) q end
+          × ThreadExecutes language x k (thread_code test.threads k) (thread_code rest_after k ++ thread_code tails k) q end
           × (slice_index_or o.regs k [] ≡ end.regs)) same (end, own, (is.threads t th next.was).2))
       | inr ne ↦
           (let old = is.threads u q (sym (others ok d is.good u ne) ∙ at) in (
             old.0,
-            subst (λ (path : List ℕ). Goes language x u (code_of test.threads u) (path ++ code_of tails u) q old.0)
+            subst (λ (path : List ℕ).
+                ThreadExecutes language x u (thread_code test.threads u) (path ++ thread_code tails u) q old.0)
                 (sym (other_path u ne)) old.1,
             old.2,
           ))
@@ -311,7 +317,7 @@ module _ {S : Type 0} {language : Language S} {test : Test S} (ok : IsWellFormed
 
     memory_holds : (l : ℕ) → LastDone rest_after l (slice_index mid.words l)
     memory_holds l =
-        elim (decided_and (decided_number (location language test e) l) (decided_true (does language test writes e))) [
+        elim (decided_and (decided_number (location language test e) l) (decided_true (operation_is language test writes e))) [
           | inl here ↦
               (let writing : Writes language test x e l = (on, here.0, here.1) in
               inr (
@@ -334,7 +340,8 @@ module _ {S : Type 0} {language : Language S} {test : Test S} (ok : IsWellFormed
           | inr not ↦ subst (LastDone rest_after l) (sym (old_word ok d is.good l not)) (elim (is.memory l) [
             | inl (never, word) ↦ inl (
               (λ f wf df. elim (done_cases f df) [
-                | inl same ↦ not (ap (location language test) (sym same) ∙ wf.1, ap (does language test writes) (sym same) ∙ wf.2)
+                | inl same ↦
+                    not (ap (location language test) (sym same) ∙ wf.1, ap (operation_is language test writes) (sym same) ∙ wf.2)
                 | inr old ↦ never f wf old
               ]),
               word,
@@ -344,8 +351,10 @@ module _ {S : Type 0} {language : Language S} {test : Test S} (ok : IsWellFormed
               writing,
               done_still v done,
               (λ f wf df. elim (done_cases f df) [
-                | inl same ↦
-                    absurd (not (ap (location language test) (sym same) ∙ wf.1, ap (does language test writes) (sym same) ∙ wf.2))
+                | inl same ↦ absurd (not (
+                  ap (location language test) (sym same) ∙ wf.1,
+                  ap (operation_is language test writes) (sym same) ∙ wf.2,
+                ))
                 | inr old ↦ most f wf old
               ]),
               word,
@@ -367,21 +376,22 @@ module _ {S : Type 0} {language : Language S} {test : Test S} (ok : IsWellFormed
 
   next_of_thread : (t j : ℕ) (path : List ℕ) (th end : ThreadState)
       → Contains path j
-      → Goes language x t (code_of test.threads t) (path ++ code_of tails t) th end
+      → ThreadExecutes language x t (thread_code test.threads t) (path ++ thread_code tails t) th end
       → ((h : ℕ) → Contains path h → IsIn (event t h))
       → ((h : ℕ) → Contains path h → rank (event t j) ≤ rank (event t h))
       → (more : List ℕ) × (path ≡ th.position ∷ more) × (th.position ≡ j)
-  next_of_thread t j [] th end c goes each least = absurd (none_in j c)
+  next_of_thread t j [] th end c goes each least = absurd (not-Contains-nil j c)
   next_of_thread t j (h ∷ more) th end c goes each least = elim (Contains-cons h j more c) [
     | inl same ↦ (more, ap (λ (k : ℕ). k ∷ more) (sym goes.0), goes.0 ∙ same)
     | inr behind ↦
-        absurd (let up : GoesUp th.position (h ∷ (more ++ code_of tails t)) =
-        path_up language (code_of test.threads t) th.position (h ∷ (more ++ code_of tails t)) (forward_of language test ok t)
-        (goes_path language x t (code_of test.threads t) (h ∷ (more ++ code_of tails t)) th end goes) in
+        absurd (let up : IsAscendingFrom th.position (h ∷ (more ++ thread_code tails t)) =
+        path_up language (thread_code test.threads t) th.position (h ∷ (more ++ thread_code tails t))
+        (forward_of language test ok t)
+        (goes_path language x t (thread_code test.threads t) (h ∷ (more ++ thread_code tails t)) th end goes) in
         let less : h < j =
-        goes_up_in (suc h) j (more ++ code_of tails t) up.1
-        (in_list (more ++ code_of tails t) j (Contains-append_left more (code_of tails t) j behind)) in
-        let first : Contains (h ∷ more) h = Contains-here h h more refl in
+        IsAscendingFrom-lower_bound (suc h) j (more ++ thread_code tails t) up.1
+        (in_list (more ++ thread_code tails t) j (Contains-append_left more (thread_code tails t) j behind)) in
+        let first : Contains (h ∷ more) h = Contains-head h h more refl in
         omega (
           arith,
           are.up (event t h) (event t j) (each h first) (each j c)
@@ -405,7 +415,7 @@ module _ {S : Type 0} {language : Language S} {test : Test S} (ok : IsWellFormed
   -- a walk by ranks is a run by interleaving
   pub ran_by : (events : List MemoryEvent) (s end : Interleaved)
       → RanBy events s end
-      → Ran language test.threads (map (λ (e : MemoryEvent). e.thread) events) s end
+      → InterleavedRunsTo language test.threads (map (λ (e : MemoryEvent). e.thread) events) s end
   ran_by [] s last ran = ran
   ran_by (e ∷ events) s last (next, step, at, least, ran) = (next, step, ran_by events next last ran)
 
@@ -425,13 +435,13 @@ module _ {S : Type 0} {language : Language S} {test : Test S} (ok : IsWellFormed
       let in_rest : e.thread < length rest = elim (cases_lt e.thread (length rest)) [
         | inl l ↦ l
         | inr ge ↦
-            absurd (none_in e.position
+            absurd (not-Contains-nil e.position
             (subst (λ (path : List ℕ). Contains path e.position) (get_or_past rest e.thread [] ge) first.there))
       ] in
       let g = get_some s.threads e.thread (omega (arith, in_rest, is.many, is.good.many)) in
       let now = is.threads e.thread g.0 g.1 in
       let head =
-      next_of_thread e.thread e.position (code_of rest e.thread) g.0 now.0 first.there now.1
+      next_of_thread e.thread e.position (thread_code rest e.thread) g.0 now.0 first.there now.1
       (λ h c. is.among (event e.thread h) c) (λ h c. first.least (event e.thread h) c) in
       record {
         t = e.thread;
@@ -448,7 +458,7 @@ module _ {S : Type 0} {language : Language S} {test : Test S} (ok : IsWellFormed
     events = [];
     end = s;
     ran = refl;
-    all = λ f c. absurd (none_in f c);
+    all = λ f c. absurd (not-Contains-nil f c);
     has = λ f a. absurd (none f a);
     left = rest;
     none = none;
@@ -470,8 +480,8 @@ module _ {S : Type 0} {language : Language S} {test : Test S} (ok : IsWellFormed
           | inr c ↦ ahead_before is a f (later.all f c)
         ];
         has = λ f c. elim (same_event f now) [
-          | inl same ↦ Contains-here now f later.events (sym same)
-          | inr differ ↦ Contains-there now f later.events (later.has f (ahead_after is a f c differ))
+          | inl same ↦ Contains-head now f later.events (sym same)
+          | inr differ ↦ Contains-tail now f later.events (later.has f (ahead_after is a f c differ))
         ];
         left = later.left;
         none = later.none;
@@ -497,15 +507,16 @@ module _ {S : Type 0} {language : Language S} {test : Test S} (ok : IsWellFormed
     many = are.many;
     good = good_start ok;
     threads = λ t th at.
-        (let from = got_map first_state test.head.init_regs t th at in
+        (let from = get-map first_state test.head.init_regs t th at in
         let l : t < length test.threads =
         omega (arith, slice_get_within test.head.init_regs t from.0 from.1, ok.head.regs, ok.as_many) in
         let regs : slice_index_or test.head.init_regs t [] ≡ from.0 =
         get_or_from_slice_get test.head.init_regs t from.0 [] from.1 in
         let goes = candidate.threads t l in (
           goes.0,
-          subst (λ (path : List ℕ). Goes language x t (code_of test.threads t) path th goes.0) (are.parted t)
-              (subst (λ (z : ThreadState). Goes language x t (code_of test.threads t) (code_of x.paths t) z goes.0)
+          subst (λ (path : List ℕ). ThreadExecutes language x t (thread_code test.threads t) path th goes.0) (are.parted t)
+              (subst
+              (λ (z : ThreadState). ThreadExecutes language x t (thread_code test.threads t) (thread_code x.paths t) z goes.0)
               (ap first_state regs ∙ sym from.2) goes.1),
           goes.2,
         ));

@@ -1,23 +1,24 @@
 -- An execution of a test is one of the test with MFENCEs inserted, in which each thread passes the inserted ones too. The test with
 -- them is called the longer one here, the test without them the shorter one.
-use Rattle.lw_axiomatic.proofs.Common.{Operation, Bool, Guard, Branch, does, option_map_or, false, location}
-use Rattle.lw_axiomatic.proofs.Common.{option_and_then, location_of, Some, none-some, slice_get_past}
-use Rattle.lw_axiomatic.proofs.Common.{IsWellFormedProgram, Final, IsCandidate, first_state, slice_index_or}
-use Rattle.lw_axiomatic.proofs.Common.{All-get_or, IsEvent, Reads, reads, Writes, IsReadFrom, Option, None}
-use Rattle.lw_axiomatic.proofs.Common.{TestHead, slice_index, IsLast, IsOutcomeOf, ℕ, List, ◌<◌, length, ◌≡◌}
-use Rattle.lw_axiomatic.proofs.Common.{code_of, zero, [], refl, arith, suc, ◌∷◌, IsFencedCode, ProgramTest}
-use Rattle.lw_axiomatic.proofs.Common.{IsFencedTest, ◌≤◌, get_or_past, subst, Instr, sym, ◌⊎◌, inl, inr}
-use Rattle.lw_axiomatic.proofs.Common.{cases_lt, MemoryEvent, Execution, option_map, IsThread, x86}
-use Rattle.lw_axiomatic.proofs.Common.{ThreadState, Goes, Contains, true≢false, Contains-cons}
-use Rattle.lw_axiomatic.proofs.Common.{slice_get_within, Contains-there, ◌+◌, ap, writes, x86_operation, true}
-use Rattle.lw_axiomatic.proofs.Common.{word_written, state_after, in_blocks, Leads, ◌∙◌, Contains-here}
-use Rattle.lw_axiomatic.proofs.Common.{none_in, same_Some, slice_get, IsInsertedAt, at_next, Mfence}
+use Rattle.lw_axiomatic.proofs.Common.{Operation, Bool, Guard, Branch, operation_is, option_map_or, false}
+use Rattle.lw_axiomatic.proofs.Common.{location, option_and_then, location_of, Some, none-some}
+use Rattle.lw_axiomatic.proofs.Common.{slice_get_past, IsWellFormedProgram, FinalState, IsCandidate}
+use Rattle.lw_axiomatic.proofs.Common.{first_state, slice_index_or, All-get_or, IsEvent, Reads, reads, Writes}
+use Rattle.lw_axiomatic.proofs.Common.{IsReadFrom, Option, None, TestHead, slice_index, IsLast}
+use Rattle.lw_axiomatic.proofs.Common.{HasOutcomeShape, ℕ, List, ◌<◌, length, ◌≡◌, thread_code, zero, []}
+use Rattle.lw_axiomatic.proofs.Common.{refl, arith, suc, ◌∷◌, IsFencedCode, X86Test, IsFencedTest, ◌≤◌}
+use Rattle.lw_axiomatic.proofs.Common.{get_or_past, subst, Instr, sym, ◌⊎◌, inl, inr, cases_lt, MemoryEvent}
+use Rattle.lw_axiomatic.proofs.Common.{Execution, option_map, IsWellFormedThread, x86_language, ThreadState}
+use Rattle.lw_axiomatic.proofs.Common.{ThreadExecutes, Contains, true≢false, Contains-cons, slice_get_within}
+use Rattle.lw_axiomatic.proofs.Common.{Contains-tail, ◌+◌, ap, writes, x86_operation, true, word_written}
+use Rattle.lw_axiomatic.proofs.Common.{state_after, retarget_to_blocks, IsSuccessor, ◌∙◌, Contains-head}
+use Rattle.lw_axiomatic.proofs.Common.{not-Contains-nil, same_Some, slice_get, IsInsertedAt, at_next, Mfence}
 use Rattle.lw_axiomatic.proofs.EventLists.{event}
 use Rattle.lw_axiomatic.proofs.Paths.{state_leads}
 use Rattle.lw_axiomatic.proofs.Inserted.{IsInsertedFence, IsKeptAt, inserted_or_kept, kept-not_inserted}
 use Rattle.lw_axiomatic.proofs.Inserted.{block-in_range, kept_index, kept_index-kept, kept_index-block}
-use Rattle.lw_axiomatic.proofs.Inserted.{at_block, kind-in_blocks, location-in_blocks, word_written-in_blocks}
-use Rattle.lw_axiomatic.proofs.Inserted.{state_after-in_blocks}
+use Rattle.lw_axiomatic.proofs.Inserted.{at_block, kind-retarget_to_blocks, location-retarget_to_blocks}
+use Rattle.lw_axiomatic.proofs.Inserted.{word_written-retarget_to_blocks, state_after-retarget_to_blocks}
 use Rattle.lw_axiomatic.proofs.FencedTests.{thread_there}
 
 -- ---- Lists of paths.
@@ -25,7 +26,7 @@ use Rattle.lw_axiomatic.proofs.FencedTests.{thread_there}
 -- If there is a path with the property P t for each t below n, there is a list of such paths.
 pub paths-from_each : (n : ℕ) (P : ℕ → List ℕ → Type 0)
     → ((t : ℕ) → t < n → (path : List ℕ) × P t path)
-    → (paths : List (List ℕ)) × (length paths ≡ n) × ((t : ℕ) → t < n → P t (code_of paths t))
+    → (paths : List (List ℕ)) × (length paths ≡ n) × ((t : ℕ) → t < n → P t (thread_code paths t))
 paths-from_each zero P each = ([], refl, λ t within. absurd (omega arith))
 paths-from_each (suc n) P each =
     let rest = paths-from_each n (λ t. P (suc t)) (λ t within. each (suc t) (omega arith)) in
@@ -33,9 +34,9 @@ paths-from_each (suc n) P each =
     (first.0 ∷ rest.0, omega (arith, rest.1), by_thread first rest)
   where
     by_thread : (first : (path : List ℕ) × P 0 path)
-        (rest : (paths : List (List ℕ)) × (length paths ≡ n) × ((t : ℕ) → t < n → P (suc t) (code_of paths t))) (t : ℕ)
+        (rest : (paths : List (List ℕ)) × (length paths ≡ n) × ((t : ℕ) → t < n → P (suc t) (thread_code paths t))) (t : ℕ)
         → t < suc n
-        → P t (code_of (first.0 ∷ rest.0) t)
+        → P t (thread_code (first.0 ∷ rest.0) t)
     by_thread first rest zero within = first.1
     by_thread first rest (suc t) within = rest.2 t (omega arith)
 
@@ -45,23 +46,23 @@ paths-from_each (suc n) P each =
 IsFencedCode-nil : IsFencedCode [] []
 IsFencedCode-nil = record { block = λ index. 0; first = refl; each = λ index i there. absurd cc; last = λ index past. refl }
 
-module _ {test fenced : ProgramTest} (f : IsFencedTest test fenced) where
+module _ {test fenced : X86Test} (f : IsFencedTest test fenced) where
   -- Past the last thread both codes are empty.
-  pub code_at-past : (t : ℕ) → length test.threads ≤ t → IsFencedCode (code_of test.threads t) (code_of fenced.threads t)
+  pub code_at-past : (t : ℕ) → length test.threads ≤ t → IsFencedCode (thread_code test.threads t) (thread_code fenced.threads t)
   code_at-past t past =
       let one = get_or_past test.threads t [] past in
       let other = get_or_past fenced.threads t [] (omega (arith, past, f.as_many)) in
-      subst (λ (code : List Instr). IsFencedCode code (code_of fenced.threads t)) (sym one)
+      subst (λ (code : List Instr). IsFencedCode code (thread_code fenced.threads t)) (sym one)
       (subst (λ (code : List Instr). IsFencedCode [] code) (sym other) IsFencedCode-nil)
 
   abbrev pub code_by : (t : ℕ)
       → (t < length test.threads) ⊎ (length test.threads ≤ t)
-      → IsFencedCode (code_of test.threads t) (code_of fenced.threads t)
+      → IsFencedCode (thread_code test.threads t) (thread_code fenced.threads t)
   code_by t (inl within) = f.threads t within
   code_by t (inr past) = code_at-past t past
 
   -- The code of each thread of the longer test is that of the shorter one with MFENCEs inserted.
-  abbrev pub code_at : (t : ℕ) → IsFencedCode (code_of test.threads t) (code_of fenced.threads t)
+  abbrev pub code_at : (t : ℕ) → IsFencedCode (thread_code test.threads t) (thread_code fenced.threads t)
   code_at t = code_by t (cases_lt t (length test.threads))
 
   -- Returns the event of the shorter test at the block of an event of the longer one.
@@ -84,13 +85,13 @@ module _ {test fenced : ProgramTest} (f : IsFencedTest test fenced) where
 
 -- ---- One thread.
 
-module _ {test fenced : ProgramTest} (f : IsFencedTest test fenced) (x : Execution) (t : ℕ) where
+module _ {test fenced : X86Test} (f : IsFencedTest test fenced) (x : Execution) (t : ℕ) where
   -- The thread's code in the shorter test, and in the longer one.
   abbrev code : List Instr
-  code = code_of test.threads t
+  code = thread_code test.threads t
 
   abbrev longer : List Instr
-  longer = code_of fenced.threads t
+  longer = thread_code fenced.threads t
 
   abbrev c : IsFencedCode code longer
   c = code_at f t
@@ -104,7 +105,7 @@ module _ {test fenced : ProgramTest} (f : IsFencedTest test fenced) (x : Executi
   -- A route through the longer code from a state to the end. It passes the instructions of a path of the shorter code, and MFENCEs.
   pub record IsRoute (path : List ℕ) (s end : ThreadState) (route : List ℕ) : Type 0 where
     pub last : ThreadState
-    pub goes : Goes x86 y t longer route s last
+    pub goes : ThreadExecutes x86_language y t longer route s last
     pub ends : end ≡ there last
     pub down : (index : ℕ)
         → Contains route index
@@ -132,7 +133,7 @@ module _ {test fenced : ProgramTest} (f : IsFencedTest test fenced) (x : Executi
         )
         | inr later ↦ rest.down index later
       ];
-      up = λ j among. Contains-there s.position (kept_index c j) route (rest.up j among);
+      up = λ j among. Contains-tail s.position (kept_index c j) route (rest.up j among);
     },
   )
 
@@ -144,8 +145,8 @@ module _ {test fenced : ProgramTest} (f : IsFencedTest test fenced) (x : Executi
   route-past_fences : (path : List ℕ) (end : ThreadState) (fuel : ℕ) (s : ThreadState)
       → length longer ≤ s.position + fuel
       → s.position ≤ length longer
-      → Goes x86 x t code path (there s) end
-      → ((r : ThreadState) → Goes x86 x t code path (there r) end → IsPastFences r → Route path r end)
+      → ThreadExecutes x86_language x t code path (there s) end
+      → ((r : ThreadState) → ThreadExecutes x86_language x t code path (there r) end → IsPastFences r → Route path r end)
       → Route path s end
   route-past_fences path end zero s enough within goes onward = onward s goes (inr (omega arith))
   route-past_fences path end (suc n) s enough within goes onward = elim (cases_lt s.position (length longer)) [
@@ -155,8 +156,8 @@ module _ {test fenced : ProgramTest} (f : IsFencedTest test fenced) (x : Executi
       | inl extra ↦
           route-pass_fence path s end extra
           (route-past_fences path end n (at_next s s.regs s.zero_flag) (omega arith) (omega arith)
-          (subst (λ (r : ThreadState). Goes x86 x t code path r end) (ap (λ p. record s { position = p }) (sym extra.inserted))
-          goes) onward)
+          (subst (λ (r : ThreadState). ThreadExecutes x86_language x t code path r end)
+          (ap (λ p. record s { position = p }) (sym extra.inserted)) goes) onward)
     ]
   ]
 
@@ -164,19 +165,22 @@ module _ {test fenced : ProgramTest} (f : IsFencedTest test fenced) (x : Executi
   abbrev DoesStep : List ℕ → ThreadState → ThreadState → ℕ → Instr → Type 0
   DoesStep path r end j i =
       (writes (x86_operation i) ≡ true → x.written (event t j) ≡ word_written (x86_operation i) r.regs (x.read (event t j)))
-      × Goes x86 x t code path (state_after (x86_operation i) (there r) (x.read (event t j))) end
+      × ThreadExecutes x86_language x t code path (state_after (x86_operation i) (there r) (x.read (event t j))) end
 
   -- A thread at an instruction of its path has a route if it has one after that instruction.
-  route-take_step : {locs : ℕ} (ok : IsThread x86 locs longer) (j : ℕ) (path : List ℕ) (r end : ThreadState)
+  route-take_step : {locs : ℕ} (ok : IsWellFormedThread x86_language locs longer) (j : ℕ) (path : List ℕ) (r end : ThreadState)
       (kept : IsKeptAt c r.position)
       → c.block r.position ≡ j
-      → DoesStep path r end (c.block r.position) (in_blocks c.block kept.instr)
-      → ((s : ThreadState) → s.position ≤ length longer → Goes x86 x t code path (there s) end → Route path s end)
+      → DoesStep path r end (c.block r.position) (retarget_to_blocks c.block kept.instr)
+      → ((s : ThreadState)
+      → s.position ≤ length longer
+      → ThreadExecutes x86_language x t code path (there s) end
+      → Route path s end)
       → Route (j ∷ path) r end
   route-take_step ok j path r end kept number did onward =
       by_rest (onward next next_within
-      (subst (λ (s : ThreadState). Goes x86 x t code path s end) (state_after-in_blocks c.block kept.instr r w kept.ends.1)
-      did.1))
+      (subst (λ (s : ThreadState). ThreadExecutes x86_language x t code path s end)
+      (state_after-retarget_to_blocks c.block kept.instr r w kept.ends.1) did.1))
     where
       w : ℕ
       w = x.read (event t (c.block r.position))
@@ -187,7 +191,7 @@ module _ {test fenced : ProgramTest} (f : IsFencedTest test fenced) (x : Executi
       next_within : next.position ≤ length longer
       next_within = by_leads (state_leads (x86_operation kept.instr) r w)
         where
-          by_leads : Leads (x86_operation kept.instr) r.position next.position → next.position ≤ length longer
+          by_leads : IsSuccessor (x86_operation kept.instr) r.position next.position → next.position ≤ length longer
           by_leads (inl (goes, is)) = omega (arith, is, slice_get_within longer r.position kept.instr kept.found)
           by_leads (inr target) = (ok.forward r.position kept.instr kept.found next.position target).1
 
@@ -201,37 +205,37 @@ module _ {test fenced : ProgramTest} (f : IsFencedTest test fenced) (x : Executi
             kept.instr,
             kept.found,
             λ writing.
-                did.0 (kind-in_blocks c.block writes (λ c to other. refl) kept.instr ∙ writing)
-                ∙ word_written-in_blocks c.block kept.instr r.regs w,
+                did.0 (kind-retarget_to_blocks c.block writes (λ c to other. refl) kept.instr ∙ writing)
+                ∙ word_written-retarget_to_blocks c.block kept.instr r.regs w,
             rest.goes,
           );
           ends = rest.ends;
           down = λ index among. elim (Contains-cons r.position index route among) [
             | inl first ↦ (
               subst (λ k. k < length longer) first (slice_get_within longer r.position kept.instr kept.found),
-              inr (Contains-here j (c.block index) path (sym number ∙ ap c.block first)),
+              inr (Contains-head j (c.block index) path (sym number ∙ ap c.block first)),
             )
             | inr later ↦ (
               (rest.down index later).0,
               elim ((rest.down index later).1) [
                 | inl inserted ↦ inl inserted
-                | inr on ↦ inr (Contains-there j (c.block index) path on)
+                | inr on ↦ inr (Contains-tail j (c.block index) path on)
               ],
             )
           ];
           up = λ k among. elim (Contains-cons j k path among) [
             | inl first ↦
-                Contains-here r.position (kept_index c k) route
+                Contains-head r.position (kept_index c k) route
                 (sym (kept_index-block c r.position kept) ∙ ap (kept_index c) (number ∙ first))
-            | inr later ↦ Contains-there r.position (kept_index c k) route (rest.up k later)
+            | inr later ↦ Contains-tail r.position (kept_index c k) route (rest.up k later)
           ];
         },
       )
 
   -- A thread that goes along a path of the shorter code has a route through the longer one.
-  pub route-exists : {locs : ℕ} (ok : IsThread x86 locs longer) (path : List ℕ) (s end : ThreadState)
+  pub route-exists : {locs : ℕ} (ok : IsWellFormedThread x86_language locs longer) (path : List ℕ) (s end : ThreadState)
       → s.position ≤ length longer
-      → Goes x86 x t code path (there s) end
+      → ThreadExecutes x86_language x t code path (there s) end
       → Route path s end
   route-exists ok [] s end within goes =
       route-past_fences [] end (length longer) s (omega arith) within goes (λ r ended stands. elim stands [
@@ -242,8 +246,8 @@ module _ {test fenced : ProgramTest} (f : IsFencedTest test fenced) (x : Executi
             last = r;
             goes = (last, refl);
             ends = ended.1;
-            down = λ index among. absurd (none_in index among);
-            up = λ j among. absurd (none_in j among);
+            down = λ index among. absurd (not-Contains-nil index among);
+            up = λ j among. absurd (not-Contains-nil j among);
           },
         )
       ])
@@ -251,12 +255,13 @@ module _ {test fenced : ProgramTest} (f : IsFencedTest test fenced) (x : Executi
       route-past_fences (j ∷ path) end (length longer) s (omega arith) within goes (λ r onward stands. elim stands [
         | inl kept ↦
             (let number : c.block r.position ≡ j = onward.0 in
-            let same : onward.1 ≡ in_blocks c.block kept.instr =
-            same_Some onward.1 (in_blocks c.block kept.instr) (sym onward.2 ∙ ap (slice_get code) (sym number) ∙ kept.ends.0) in
-            let here : DoesStep path r end j (in_blocks c.block kept.instr) =
+            let same : onward.1 ≡ retarget_to_blocks c.block kept.instr =
+            same_Some onward.1 (retarget_to_blocks c.block kept.instr)
+            (sym onward.2 ∙ ap (slice_get code) (sym number) ∙ kept.ends.0) in
+            let here : DoesStep path r end j (retarget_to_blocks c.block kept.instr) =
             subst (DoesStep path r end j) same (onward.3, onward.4) in
             route-take_step ok j path r end kept number
-            (subst (λ k. DoesStep path r end k (in_blocks c.block kept.instr)) (sym number) here)
+            (subst (λ k. DoesStep path r end k (retarget_to_blocks c.block kept.instr)) (sym number) here)
             (λ u in_range going. route-exists ok path u end in_range going))
         | inr last ↦
             absurd (omega (arith, c.last r.position (omega (arith, last)), onward.0, slice_get_within code j onward.1 onward.2))
@@ -264,31 +269,31 @@ module _ {test fenced : ProgramTest} (f : IsFencedTest test fenced) (x : Executi
 
 -- ---- Kinds of events.
 
-module _ {test fenced : ProgramTest} (f : IsFencedTest test fenced) where
+module _ {test fenced : X86Test} (f : IsFencedTest test fenced) where
   -- An event at an instruction of both codes is of the same kinds in both tests.
   pub kind-event_without : (kind : Operation → Bool)
       → ((c : Guard) (to other : ℕ) → kind (Branch c to) ≡ kind (Branch c other))
       → (e : MemoryEvent)
       → IsKeptAt (code_at f e.thread) e.position
-      → does x86 fenced kind e ≡ does x86 test kind (event_without f e)
+      → operation_is x86_language fenced kind e ≡ operation_is x86_language test kind (event_without f e)
   kind-event_without kind jumps e kept =
       ap (λ i. option_map_or kind (option_map x86_operation i) false) kept.found
-      ∙ sym (kind-in_blocks (code_at f e.thread).block kind jumps kept.instr)
+      ∙ sym (kind-retarget_to_blocks (code_at f e.thread).block kind jumps kept.instr)
       ∙ sym (ap (λ i. option_map_or kind (option_map x86_operation i) false) kept.ends.0)
 
   -- An event at an instruction of both codes accesses the same location in both tests.
   pub location-event_without : (e : MemoryEvent)
       → IsKeptAt (code_at f e.thread) e.position
-      → location x86 fenced e ≡ location x86 test (event_without f e)
+      → location x86_language fenced e ≡ location x86_language test (event_without f e)
   location-event_without e kept =
       ap (λ i. option_and_then location_of (option_map x86_operation i)) kept.found
-      ∙ sym (location-in_blocks (code_at f e.thread).block kept.instr)
+      ∙ sym (location-retarget_to_blocks (code_at f e.thread).block kept.instr)
       ∙ sym (ap (λ i. option_and_then location_of (option_map x86_operation i)) kept.ends.0)
 
   -- An event that accesses a location is at an instruction of both codes.
   pub is_kept-located : (e : MemoryEvent) (l : ℕ)
-      → e.position < length (code_of fenced.threads e.thread)
-      → location x86 fenced e ≡ Some l
+      → e.position < length (thread_code fenced.threads e.thread)
+      → location x86_language fenced e ≡ Some l
       → IsKeptAt (code_at f e.thread) e.position
   is_kept-located e l within located = elim (inserted_or_kept (code_at f e.thread) e.position within) [
     | inr kept ↦ kept
@@ -298,7 +303,7 @@ module _ {test fenced : ProgramTest} (f : IsFencedTest test fenced) where
 
   -- From an event of the shorter test to the longer one and back is the same event.
   pub event_without-event_with : (e : MemoryEvent)
-      → e.position < length (code_of test.threads e.thread)
+      → e.position < length (thread_code test.threads e.thread)
       → event_without f (event_with f e) ≡ e
   event_without-event_with e low = ap (event e.thread) (kept_index-kept (code_at f e.thread) e.position low).1
 
@@ -309,10 +314,10 @@ module _ {test fenced : ProgramTest} (f : IsFencedTest test fenced) where
   event_with-event_without e kept = ap (event e.thread) (kept_index-block (code_at f e.thread) e.position kept)
 
 -- An event that accesses a location is at an instruction of its thread's code.
-pub position-in_code : (test : ProgramTest) (e : MemoryEvent) (l : ℕ)
-    → location x86 test e ≡ Some l
-    → e.position < length (code_of test.threads e.thread)
-position-in_code test e l located = elim (cases_lt e.position (length (code_of test.threads e.thread))) [
+pub position-in_code : (test : X86Test) (e : MemoryEvent) (l : ℕ)
+    → location x86_language test e ≡ Some l
+    → e.position < length (thread_code test.threads e.thread)
+position-in_code test e l located = elim (cases_lt e.position (length (thread_code test.threads e.thread))) [
   | inl within ↦ within
   | inr past ↦
       absurd (none-some l
@@ -321,31 +326,32 @@ position-in_code test e l located = elim (cases_lt e.position (length (code_of t
 
 -- ---- The whole execution.
 
-module _ {test fenced : ProgramTest} (f : IsFencedTest test fenced) (ok : IsWellFormedProgram fenced) {x : Execution} {o : Final}
-    (candidate : IsCandidate x86 test x o) where
+module _ {test fenced : X86Test} (f : IsFencedTest test fenced) (ok : IsWellFormedProgram fenced) {x : Execution} {o : FinalState}
+    (candidate : IsCandidate x86_language test x o) where
   -- A route of a thread from its start, to an end with the registers of the outcome.
   pub record IsThreadRoute (t : ℕ) (route : List ℕ) : Type 0 where
     end : ThreadState
-    is_route : IsRoute f x t (code_of x.paths t) (first_state (slice_index_or test.head.init_regs t [])) end route
+    is_route : IsRoute f x t (thread_code x.paths t) (first_state (slice_index_or test.head.init_regs t [])) end route
     regs : slice_index_or o.regs t [] ≡ end.regs
 
   route_of : (t : ℕ) → t < length test.threads → (route : List ℕ) × IsThreadRoute t route
   route_of t before =
       let locs = length fenced.head.locs in
-      let thread_ok : IsThread x86 locs (code_of fenced.threads t) =
-      All-get_or (IsThread x86 locs) fenced.threads t [] (omega (arith, before, f.as_many)) ok.code in
+      let thread_ok : IsWellFormedThread x86_language locs (thread_code fenced.threads t) =
+      All-get_or (IsWellFormedThread x86_language locs) fenced.threads t [] (omega (arith, before, f.as_many)) ok.code in
       let g = candidate.threads t before in
       let s = first_state (slice_index_or test.head.init_regs t []) in
       let r =
-      route-exists f x t thread_ok (code_of x.paths t) s g.0 (omega arith)
-      (subst (λ p. Goes x86 x t (code_of test.threads t) (code_of x.paths t) (record s { position = p }) g.0)
+      route-exists f x t thread_ok (thread_code x.paths t) s g.0 (omega arith)
+      (subst
+      (λ p. ThreadExecutes x86_language x t (thread_code test.threads t) (thread_code x.paths t) (record s { position = p }) g.0)
       (sym (code_at f t).first) g.1) in
       (r.0, record { end = g.0; is_route = r.1; regs = g.2 })
 
   -- Each thread has a route.
   pub routes : (paths : List (List ℕ))
       × (length paths ≡ length test.threads)
-      × ((t : ℕ) → t < length test.threads → IsThreadRoute t (code_of paths t))
+      × ((t : ℕ) → t < length test.threads → IsThreadRoute t (thread_code paths t))
   routes = paths-from_each (length test.threads) IsThreadRoute route_of
 
   -- Returns the execution of the longer test along these routes.
@@ -357,12 +363,12 @@ module _ {test fenced : ProgramTest} (f : IsFencedTest test fenced) (ok : IsWell
   thread-in_range e among = elim (cases_lt e.thread (length test.threads)) [
     | inl before ↦ before
     | inr past ↦
-        (let none : code_of routes.0 e.thread ≡ [] = get_or_past routes.0 e.thread [] (omega (arith, past, routes.1)) in
-        absurd (none_in e.position (subst (λ (path : List ℕ). Contains path e.position) none among)))
+        (let none : thread_code routes.0 e.thread ≡ [] = get_or_past routes.0 e.thread [] (omega (arith, past, routes.1)) in
+        absurd (not-Contains-nil e.position (subst (λ (path : List ℕ). Contains path e.position) none among)))
   ]
 
   -- An event is at an instruction of its thread's code.
-  pub position-in_range : (e : MemoryEvent) → IsEvent with_fences e → e.position < length (code_of fenced.threads e.thread)
+  pub position-in_range : (e : MemoryEvent) → IsEvent with_fences e → e.position < length (thread_code fenced.threads e.thread)
   position-in_range e among = ((routes.2 e.thread (thread-in_range e among)).is_route.down e.position among).0
 
   -- An event at an instruction of both codes is one of the shorter test's execution.
@@ -382,12 +388,14 @@ module _ {test fenced : ProgramTest} (f : IsFencedTest test fenced) (ok : IsWell
   -- An event of the execution that accesses a location is at an instruction of both codes.
   pub is_kept-of_event : (e : MemoryEvent) (l : ℕ)
       → IsEvent with_fences e
-      → location x86 fenced e ≡ Some l
+      → location x86_language fenced e ≡ Some l
       → IsKeptAt (code_at f e.thread) e.position
   is_kept-of_event e l among located = is_kept-located f e l (position-in_range e among) located
 
   -- An event that reads a location reads it in the shorter test.
-  pub Reads-event_without : (e : MemoryEvent) (l : ℕ) → Reads x86 fenced with_fences e l → Reads x86 test x (event_without f e) l
+  pub Reads-event_without : (e : MemoryEvent) (l : ℕ)
+      → Reads x86_language fenced with_fences e l
+      → Reads x86_language test x (event_without f e) l
   Reads-event_without e l reading =
       let kept = is_kept-of_event e l reading.0 reading.1 in (
         IsEvent-event_without e reading.0 kept,
@@ -397,8 +405,8 @@ module _ {test fenced : ProgramTest} (f : IsFencedTest test fenced) (ok : IsWell
 
   -- An event that writes a location writes it in the shorter test.
   pub Writes-event_without : (e : MemoryEvent) (l : ℕ)
-      → Writes x86 fenced with_fences e l
-      → Writes x86 test x (event_without f e) l
+      → Writes x86_language fenced with_fences e l
+      → Writes x86_language test x (event_without f e) l
   Writes-event_without e l writing =
       let kept = is_kept-of_event e l writing.0 writing.1 in (
         IsEvent-event_without e writing.0 kept,
@@ -407,25 +415,29 @@ module _ {test fenced : ProgramTest} (f : IsFencedTest test fenced) (ok : IsWell
       )
 
   -- An event of the shorter test that writes a location writes it in the longer one.
-  Writes-event_with : (e : MemoryEvent) (l : ℕ) → Writes x86 test x e l → Writes x86 fenced with_fences (event_with f e) l
+  Writes-event_with : (e : MemoryEvent) (l : ℕ)
+      → Writes x86_language test x e l
+      → Writes x86_language fenced with_fences (event_with f e) l
   Writes-event_with e l writing =
       let low = position-in_code test e l writing.1 in
       let kept = (kept_index-kept (code_at f e.thread) e.position low).0 in
       let back : event_without f (event_with f e) ≡ e = event_without-event_with f e low in (
         IsEvent-event_with e writing.0,
-        location-event_without f (event_with f e) kept ∙ ap (location x86 test) back ∙ writing.1,
-        kind-event_without f writes (λ c to other. refl) (event_with f e) kept ∙ ap (does x86 test writes) back ∙ writing.2,
+        location-event_without f (event_with f e) kept ∙ ap (location x86_language test) back ∙ writing.1,
+        kind-event_without f writes (λ c to other. refl) (event_with f e) kept
+            ∙ ap (operation_is x86_language test writes) back
+            ∙ writing.2,
       )
 
   IsReadFrom-with_fences : (r : MemoryEvent) (l : ℕ)
-      → Reads x86 fenced with_fences r l
-      → IsReadFrom x86 fenced with_fences r l (with_fences.rf r)
+      → Reads x86_language fenced with_fences r l
+      → IsReadFrom x86_language fenced with_fences r l (with_fences.rf r)
   IsReadFrom-with_fences r l reading =
       by_source (x.rf (event_without f r)) (candidate.rf (event_without f r) l (Reads-event_without r l reading))
     where
       by_source : (q : Option MemoryEvent)
-          → IsReadFrom x86 test x (event_without f r) l q
-          → IsReadFrom x86 fenced with_fences r l (option_map (event_with f) q)
+          → IsReadFrom x86_language test x (event_without f r) l q
+          → IsReadFrom x86_language fenced with_fences r l (option_map (event_with f) q)
       by_source None from = from ∙ ap (λ (h : TestHead). slice_index h.init_words l) (sym f.head)
       by_source (Some w) from = (
         Writes-event_with w l from.0,
@@ -433,8 +445,8 @@ module _ {test fenced : ProgramTest} (f : IsFencedTest test fenced) (ok : IsWell
       )
 
   co-unique : (w v : MemoryEvent) (l : ℕ)
-      → Writes x86 fenced with_fences w l
-      → Writes x86 fenced with_fences v l
+      → Writes x86_language fenced with_fences w l
+      → Writes x86_language fenced with_fences v l
       → with_fences.co w ≡ with_fences.co v
       → w ≡ v
   co-unique w v l writing also same =
@@ -445,7 +457,7 @@ module _ {test fenced : ProgramTest} (f : IsFencedTest test fenced) (ok : IsWell
       ∙ ap (event_with f) one
       ∙ event_with-event_without f v (is_kept-of_event v l also.0 also.1)
 
-  IsLast-with_fences : (l : ℕ) → l < length fenced.head.locs → IsLast x86 fenced with_fences l (slice_index o.words l)
+  IsLast-with_fences : (l : ℕ) → l < length fenced.head.locs → IsLast x86_language fenced with_fences l (slice_index o.words l)
   IsLast-with_fences l before = elim (candidate.words l (omega (arith, before, ap (λ (h : TestHead). length h.locs) f.head))) [
     | inl none ↦ inl (
       λ e writing. none.0 (event_without f e) (Writes-event_without e l writing),
@@ -464,7 +476,7 @@ module _ {test fenced : ProgramTest} (f : IsFencedTest test fenced) (ok : IsWell
   ]
 
   -- The execution is a candidate of the longer test, with the same outcome.
-  pub IsCandidate-with_fences : IsCandidate x86 fenced with_fences o
+  pub IsCandidate-with_fences : IsCandidate x86_language fenced with_fences o
   IsCandidate-with_fences = record {
     as_many = routes.1 ∙ sym f.as_many;
     threads = λ t before.
@@ -473,15 +485,15 @@ module _ {test fenced : ProgramTest} (f : IsFencedTest test fenced) (ok : IsWell
         ap (λ (h : TestHead). slice_index_or h.init_regs t []) (sym f.head) in (
           route.is_route.last,
           subst (λ (rows : List ℕ).
-              Goes x86 with_fences t (code_of fenced.threads t) (code_of routes.0 t) (first_state rows) route.is_route.last) regs
-              route.is_route.goes,
+              ThreadExecutes x86_language with_fences t (thread_code fenced.threads t) (thread_code routes.0 t) (first_state rows)
+              route.is_route.last) regs route.is_route.goes,
           route.regs ∙ ap (λ (s : ThreadState). s.regs) route.is_route.ends,
         ));
     rf = IsReadFrom-with_fences;
     co = co-unique;
     words = IsLast-with_fences;
     of_test =
-        subst (λ n. IsOutcomeOf n (length fenced.head.locs) o) (sym f.as_many)
-        (subst (λ n. IsOutcomeOf (length test.threads) n o) (ap (λ (h : TestHead). length h.locs) (sym f.head))
+        subst (λ n. HasOutcomeShape n (length fenced.head.locs) o) (sym f.as_many)
+        (subst (λ n. HasOutcomeShape (length test.threads) n o) (ap (λ (h : TestHead). length h.locs) (sym f.head))
         candidate.of_test);
   }

@@ -1,11 +1,12 @@
 -- Store buffering, worked: an execution in which both loads read the initial words keeps the axioms.
 use Rattle.lw_axiomatic.proofs.Common.{◌≡◌, ℕ, zero, suc, ◌-◌, ◌<◌, ◌⊎◌, inl, inr, Bool, true, Some, None}
 use Rattle.lw_axiomatic.proofs.Common.{refl, sym, ap₂, ◌∙◌, subst, arith, true≢false, [], ◌∷◌, Contains}
-use Rattle.lw_axiomatic.proofs.Common.{slice_index, slice_index_or, replicate, none-some, same_Some, code_of}
-use Rattle.lw_axiomatic.proofs.Common.{MemoryEvent, Execution, reads, does, location, Reads, Writes, Po, Rf}
-use Rattle.lw_axiomatic.proofs.Common.{Fr, PoLoc, Ppo, Goes, IsLast, Coherence, GlobalHappensBefore}
-use Rattle.lw_axiomatic.proofs.Common.{IsAllowed, ThreadState, first_state, x86, ◌||◌, store_buffering_in_x86}
-use Rattle.lw_axiomatic.proofs.Common.{both_loads_early, none_in, Contains-cons}
+use Rattle.lw_axiomatic.proofs.Common.{slice_index, slice_index_or, replicate, none-some, same_Some}
+use Rattle.lw_axiomatic.proofs.Common.{thread_code, MemoryEvent, Execution, reads, operation_is, location}
+use Rattle.lw_axiomatic.proofs.Common.{Reads, Writes, Po, Rf, Fr, PoLoc, Ppo, ThreadExecutes, IsLast}
+use Rattle.lw_axiomatic.proofs.Common.{Coherence, GlobalHappensBefore, IsAllowed, ThreadState, first_state}
+use Rattle.lw_axiomatic.proofs.Common.{x86_language, ◌||◌, store_buffering_in_x86, both_loads_early}
+use Rattle.lw_axiomatic.proofs.Common.{not-Contains-nil, Contains-cons}
 use Rattle.lw_axiomatic.proofs.EventLists.{event}
 use Rattle.lw_litmus.specs.Operations as operations
 
@@ -17,30 +18,30 @@ x = record { paths = replicate 2 (0 ∷ 1 ∷ []); read = λ e. 0; written = λ 
 two : (j : ℕ) → Contains (0 ∷ 1 ∷ []) j → (j ≡ 0) ⊎ (j ≡ 1)
 two j c = elim (Contains-cons 0 j (1 ∷ []) c) [
   | inl e ↦ inl (sym e)
-  | inr r ↦ elim (Contains-cons 1 j [] r) [ inl e ↦ inr (sym e) | inr n ↦ absurd (none_in j n) ]
+  | inr r ↦ elim (Contains-cons 1 j [] r) [ inl e ↦ inr (sym e) | inr n ↦ absurd (not-Contains-nil j n) ]
 ]
 
 -- what holds of the four events holds of all
-each : (P : ℕ → ℕ → Type 0) → P 0 0 → P 0 1 → P 1 0 → P 1 1 → (t j : ℕ) → Contains (code_of x.paths t) j → P t j
+each : (P : ℕ → ℕ → Type 0) → P 0 0 → P 0 1 → P 1 0 → P 1 1 → (t j : ℕ) → Contains (thread_code x.paths t) j → P t j
 each P a b c d zero j on = elim (two j on) [ inl e ↦ subst (P 0) (sym e) a | inr e ↦ subst (P 0) (sym e) b ]
 each P a b c d (suc zero) j on = elim (two j on) [ inl e ↦ subst (P 1) (sym e) c | inr e ↦ subst (P 1) (sym e) d ]
-each P a b c d (suc (suc t)) j on = absurd (none_in j on)
+each P a b c d (suc (suc t)) j on = absurd (not-Contains-nil j on)
 
 -- a write to l is the store of thread l, and a read of l the load of the other thread
-write_is : (e : MemoryEvent) (l : ℕ) → Writes x86 store_buffering_in_x86 x e l → (e.position ≡ 0) × (e.thread ≡ l)
+write_is : (e : MemoryEvent) (l : ℕ) → Writes x86_language store_buffering_in_x86 x e l → (e.position ≡ 0) × (e.thread ≡ l)
 write_is e l (on, at, w) =
     each (λ t j.
-    location x86 store_buffering_in_x86 (event t j) ≡ Some l
-    → does x86 store_buffering_in_x86 (operations.writes) (event t j) ≡ true
+    location x86_language store_buffering_in_x86 (event t j) ≡ Some l
+    → operation_is x86_language store_buffering_in_x86 (operations.writes) (event t j) ≡ true
     → (j ≡ 0) × (t ≡ l)) (λ a b. (refl, same_Some 0 l a)) (λ a b. absurd (true≢false (sym b))) (λ a b. (refl, same_Some 1 l a))
     (λ a b. absurd (true≢false (sym b))) e.thread e.position on at w
 
 -- a read is a thread's second event, the load, of one of the two locations
-read_is : (e : MemoryEvent) (l : ℕ) → Reads x86 store_buffering_in_x86 x e l → (e.position ≡ 1) × (l < 2)
+read_is : (e : MemoryEvent) (l : ℕ) → Reads x86_language store_buffering_in_x86 x e l → (e.position ≡ 1) × (l < 2)
 read_is e l (on, at, r) =
     each (λ t j.
-    location x86 store_buffering_in_x86 (event t j) ≡ Some l
-    → does x86 store_buffering_in_x86 reads (event t j) ≡ true
+    location x86_language store_buffering_in_x86 (event t j) ≡ Some l
+    → operation_is x86_language store_buffering_in_x86 reads (event t j) ≡ true
     → (j ≡ 1) × (l < 2)) (λ a b. absurd (true≢false (sym b))) (λ a b. (refl, omega (arith, same_Some 1 l a)))
     (λ a b. absurd (true≢false (sym b))) (λ a b. (refl, omega (arith, same_Some 0 l a))) e.thread e.position on at r
 
@@ -49,19 +50,20 @@ abbrev rank : MemoryEvent → ℕ
 rank e = 1 - e.position
 
 -- from-reads goes up, from a load to a store
-fr_up : (r w : MemoryEvent) → Fr x86 store_buffering_in_x86 x r w → rank r < rank w
+fr_up : (r w : MemoryEvent) → Fr x86_language store_buffering_in_x86 x r w → rank r < rank w
 fr_up r w (l, reading, writing, ne, behind) = omega (arith, (read_is r l reading).0, (write_is w l writing).0)
 
 -- no event reads from another
-none_read : (w r : MemoryEvent) → Rf x86 store_buffering_in_x86 x w r → ⊥
+none_read : (w r : MemoryEvent) → Rf x86_language store_buffering_in_x86 x w r → ⊥
 none_read w r (l, writing, reading, from) = none-some w from
 
 -- whether the kinds of two events preserve their program order: by the test of `Ppo`
 abbrev keeps : MemoryEvent → MemoryEvent → Bool
 keeps a b =
-    does x86 store_buffering_in_x86 reads a
-    || (does x86 store_buffering_in_x86 operations.writes b
-    || (does x86 store_buffering_in_x86 operations.is_fence a || does x86 store_buffering_in_x86 operations.is_fence b))
+    operation_is x86_language store_buffering_in_x86 reads a
+    || (operation_is x86_language store_buffering_in_x86 operations.writes b
+    || (operation_is x86_language store_buffering_in_x86 operations.is_fence a
+    || operation_is x86_language store_buffering_in_x86 operations.is_fence b))
 
 -- what holds of each pair in program order: of the store and the load of each thread
 pairs : (P : MemoryEvent → MemoryEvent → Type 0)
@@ -71,7 +73,7 @@ pairs : (P : MemoryEvent → MemoryEvent → Type 0)
     → Po x a b
     → P a b
 pairs P p q a b (ia, ib, one, less) =
-    each (λ t j. (u k : ℕ) → Contains (code_of x.paths u) k → t ≡ u → j < k → P (event t j) (event u k))
+    each (λ t j. (u k : ℕ) → Contains (thread_code x.paths u) k → t ≡ u → j < k → P (event t j) (event u k))
     (each (λ u k. 0 ≡ u → 0 < k → P (event 0 0) (event u k)) (λ e l. absurd (omega (arith, l))) (λ e l. p)
     (λ e l. absurd (omega (arith, e))) (λ e l. absurd (omega (arith, e))))
     (each (λ u k. 0 ≡ u → 1 < k → P (event 0 1) (event u k)) (λ e l. absurd (omega (arith, l))) (λ e l. absurd (omega (arith, l)))
@@ -82,13 +84,14 @@ pairs P p q a b (ia, ib, one, less) =
     (λ e l. absurd (omega (arith, l))) (λ e l. absurd (omega (arith, l)))) a.thread a.position ia b.thread b.position ib one less
 
 -- no program order is preserved: each thread has a store and then a load
-none_kept : (a b : MemoryEvent) → Ppo x86 store_buffering_in_x86 x a b → ⊥
+none_kept : (a b : MemoryEvent) → Ppo x86_language store_buffering_in_x86 x a b → ⊥
 none_kept a b (po, kept) = pairs (λ a b. keeps a b ≡ true → ⊥) (λ f. true≢false (sym f)) (λ f. true≢false (sym f)) a b po kept
 
 -- no two events of a thread are on one location
-none_on_one : (a b : MemoryEvent) → PoLoc x86 store_buffering_in_x86 x a b → ⊥
+none_on_one : (a b : MemoryEvent) → PoLoc x86_language store_buffering_in_x86 x a b → ⊥
 none_on_one a b (po, l, la, lb) =
-    pairs (λ a b. location x86 store_buffering_in_x86 a ≡ Some l → location x86 store_buffering_in_x86 b ≡ Some l → ⊥)
+    pairs
+    (λ a b. location x86_language store_buffering_in_x86 a ≡ Some l → location x86_language store_buffering_in_x86 b ≡ Some l → ⊥)
     (λ f g. omega (arith, same_Some 0 l f, same_Some 1 l g)) (λ f g. omega (arith, same_Some 1 l f, same_Some 0 l g)) a b po la lb
 
 -- the relations on one location go round in no cycle
@@ -119,7 +122,7 @@ happens_before = (
 threads : (t : ℕ)
     → t < 2
     → (end : ThreadState)
-    × Goes x86 x t (code_of store_buffering_in_x86.threads t) (code_of x.paths t)
+    × ThreadExecutes x86_language x t (thread_code store_buffering_in_x86.threads t) (thread_code x.paths t)
     (first_state (slice_index_or store_buffering_in_x86.head.init_regs t [])) end
     × (slice_index_or both_loads_early.regs t [] ≡ end.regs)
 threads zero l = (_, (refl, _, refl, (λ w. refl), (refl, _, refl, (λ w. absurd (true≢false (sym w))), (refl, refl))), refl)
@@ -133,7 +136,7 @@ initial (suc zero) lt = refl
 initial (suc (suc l)) lt = absurd (omega (arith, lt))
 
 -- the last word of each location is what its one store wrote
-ends : (l : ℕ) → l < 2 → IsLast x86 store_buffering_in_x86 x l (slice_index both_loads_early.words l)
+ends : (l : ℕ) → l < 2 → IsLast x86_language store_buffering_in_x86 x l (slice_index both_loads_early.words l)
 ends zero lt = inr (event 0 0, ((0, omega arith, refl), refl, refl), (λ f w. omega arith), refl)
 ends (suc zero) lt = inr (event 1 0, ((0, omega arith, refl), refl, refl), (λ f w. omega arith), refl)
 ends (suc (suc l)) lt = absurd (omega (arith, lt))

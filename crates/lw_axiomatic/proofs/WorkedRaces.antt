@@ -1,13 +1,14 @@
 -- Triangular races, worked: store buffering has one as soon as a thread has stored, and in message passing no thread both
 -- stores and loads.
 use Rattle.lw_axiomatic.proofs.Common.{◌≡◌, ℕ, zero, suc, true, [], Some, refl, sym, ap, ◌∙◌, arith}
-use Rattle.lw_axiomatic.proofs.Common.{true≢false, slice_get, none-some, same_Some, code_of}
+use Rattle.lw_axiomatic.proofs.Common.{true≢false, slice_get, none-some, same_Some, thread_code}
 use Rattle.lw_axiomatic.proofs.Common.{store_buffering_in_x86, message_passing_in_x86, Instr, is_store}
-use Rattle.lw_axiomatic.proofs.Common.{is_load, x86, x86_operation, Interleaved, start, HasTriangularRace}
+use Rattle.lw_axiomatic.proofs.Common.{is_load, x86_language, x86_operation, Interleaved, start}
+use Rattle.lw_axiomatic.proofs.Common.{HasTriangularRace}
 
 -- the start of store buffering
 abbrev first : Interleaved
-first = start x86 store_buffering_in_x86
+first = start x86_language store_buffering_in_x86
 
 -- store buffering has a triangular race
 pub some_race : HasTriangularRace store_buffering_in_x86
@@ -32,7 +33,7 @@ some_race = record {
 
 -- in message passing the first thread has no load
 no_load : (j : ℕ) (i : Instr)
-    → slice_get (code_of message_passing_in_x86.threads 0) j ≡ Some i
+    → slice_get (thread_code message_passing_in_x86.threads 0) j ≡ Some i
     → is_load (x86_operation i) ≡ true
     → ⊥
 no_load zero i at load = true≢false (sym load ∙ ap (λ h. is_load (x86_operation h)) (sym (same_Some _ i at)))
@@ -41,7 +42,7 @@ no_load (suc (suc j)) i at load = none-some i at
 
 -- in message passing the second thread has no store
 no_store : (t j : ℕ) (i : Instr)
-    → slice_get (code_of message_passing_in_x86.threads (suc t)) j ≡ Some i
+    → slice_get (thread_code message_passing_in_x86.threads (suc t)) j ≡ Some i
     → is_store (x86_operation i) ≡ true
     → ⊥
 no_store zero zero i at store = true≢false (sym store ∙ ap (λ h. is_store (x86_operation h)) (sym (same_Some _ i at)))
@@ -56,10 +57,10 @@ no_race race =
     race.loads.instruction race.loads.at race.loads.is
   where
     by_thread : (q j : ℕ) (i : Instr)
-        → slice_get (code_of message_passing_in_x86.threads q) j ≡ Some i
+        → slice_get (thread_code message_passing_in_x86.threads q) j ≡ Some i
         → is_store (x86_operation i) ≡ true
         → (k : ℕ) (h : Instr)
-        → slice_get (code_of message_passing_in_x86.threads q) k ≡ Some h
+        → slice_get (thread_code message_passing_in_x86.threads q) k ≡ Some h
         → is_load (x86_operation h) ≡ true
         → ⊥
     by_thread zero j i at store k h at_k load = no_load k h at_k load

@@ -1,20 +1,21 @@
 -- Spare fences, worked: in a test whose threads load only what no other thread writes, the fence between store and load is spare.
-use Rattle.lw_axiomatic.proofs.Common.{List, Bool, Instr, AreFences, IsFencedCode, code_without, ℕ, ◌<◌}
-use Rattle.lw_axiomatic.proofs.Common.{code_of, zero, false, ◌∷◌, true, [], refl, suc, arith, IsFencedTest}
-use Rattle.lw_axiomatic.proofs.Common.{IsOwn, Some, ◌≡◌, ap, location_of, x86_operation, same_Some, ◌∙◌}
-use Rattle.lw_axiomatic.proofs.Common.{true≢false, sym, writes, none-some, AreOnPath, HasOtherFence, ◌⊎◌, inr}
-use Rattle.lw_axiomatic.proofs.Common.{subst, AreSpare, own_loads, own_loads_fenced}
+use Rattle.lw_axiomatic.proofs.Common.{List, Bool, Instr, MarksAreFences, IsFencedCode, code_without, ℕ, ◌<◌}
+use Rattle.lw_axiomatic.proofs.Common.{thread_code, zero, false, ◌∷◌, true, [], refl, suc, arith}
+use Rattle.lw_axiomatic.proofs.Common.{IsFencedTest, IsLocationOnlyWrittenBy, Some, ◌≡◌, ap, location_of}
+use Rattle.lw_axiomatic.proofs.Common.{x86_operation, same_Some, ◌∙◌, true≢false, sym, writes, none-some}
+use Rattle.lw_axiomatic.proofs.Common.{AreOnPath, HasOtherFence, ◌⊎◌, inr, subst, AreSpare, own_loads}
+use Rattle.lw_axiomatic.proofs.Common.{own_loads_fenced}
 use Rattle.lw_litmus.specs.declared.instr.Instr.TheVariants as instr
 
 -- Any MFENCEs of a code can be left out.
 abbrev CanBeLeftOut : Type 0
-CanBeLeftOut = (marks : List Bool) (code : List Instr) → AreFences marks code → IsFencedCode (code_without marks code) code
+CanBeLeftOut = (marks : List Bool) (code : List Instr) → MarksAreFences marks code → IsFencedCode (code_without marks code) code
 
 module _ (left_out : CanBeLeftOut) where
   -- Each thread's code is the one without the fence, with the fence inserted.
-  pub inserted_in : (t : ℕ) → t < 2 → IsFencedCode (code_of own_loads.threads t) (code_of own_loads_fenced.threads t)
-  inserted_in zero within = left_out (false ∷ true ∷ false ∷ []) (code_of own_loads_fenced.threads 0) (refl, tt)
-  inserted_in (suc zero) within = left_out (false ∷ false ∷ []) (code_of own_loads_fenced.threads 1) tt
+  pub inserted_in : (t : ℕ) → t < 2 → IsFencedCode (thread_code own_loads.threads t) (thread_code own_loads_fenced.threads t)
+  inserted_in zero within = left_out (false ∷ true ∷ false ∷ []) (thread_code own_loads_fenced.threads 0) (refl, tt)
+  inserted_in (suc zero) within = left_out (false ∷ false ∷ []) (thread_code own_loads_fenced.threads 1) tt
   inserted_in (suc (suc t)) within = absurd (omega arith)
 
   -- So the test is the one without the fence, with the fence inserted.
@@ -22,7 +23,7 @@ module _ (left_out : CanBeLeftOut) where
   inserted = record { head = refl; as_many = refl; threads = inserted_in }
 
   -- No other thread writes what the first thread loads.
-  is_own : IsOwn own_loads_fenced 0 (instr.Load 0 0)
+  is_own : IsLocationOnlyWrittenBy own_loads_fenced 0 (instr.Load 0 0)
   is_own zero k l c at writing to from = refl
   is_own (suc zero) zero l c at writing to from =
       let at_y : Some 1 ≡ Some l = ap (λ i. location_of (x86_operation i)) (same_Some _ c at) ∙ to in
@@ -34,14 +35,14 @@ module _ (left_out : CanBeLeftOut) where
 
   -- Its fence is spare, since its only load is of that location; the second thread has no fence.
   spare_in : (t : ℕ) (within : t < 2) (path : List ℕ) (i index j : ℕ) (load : Instr)
-      → AreOnPath (code_of own_loads_fenced.threads t) path i j load
+      → AreOnPath (thread_code own_loads_fenced.threads t) path i j load
       → i < index
       → index < j
-      → HasOtherFence (inserted_in t within) path i j ⊎ IsOwn own_loads_fenced t load
+      → HasOtherFence (inserted_in t within) path i j ⊎ IsLocationOnlyWrittenBy own_loads_fenced t load
   spare_in zero within path i index zero load on before behind = absurd (omega arith)
   spare_in zero within path i index (suc zero) load on before behind = absurd (omega arith)
   spare_in zero within path i index (suc (suc zero)) load on before behind =
-      inr (subst (IsOwn own_loads_fenced 0) (same_Some (instr.Load 0 0) load on.load_at) is_own)
+      inr (subst (IsLocationOnlyWrittenBy own_loads_fenced 0) (same_Some (instr.Load 0 0) load on.load_at) is_own)
   spare_in zero within path i index (suc (suc (suc j))) load on before behind = absurd (none-some load on.load_at)
   spare_in (suc zero) within path i index zero load on before behind = absurd (omega arith)
   spare_in (suc zero) within path i index (suc zero) load on before behind = absurd (omega arith)

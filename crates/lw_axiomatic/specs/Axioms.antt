@@ -3,9 +3,9 @@
 -- better x86 memory model: x86-TSO', TPHOLs 2009) in the form of 'Herding Cats' (Alglave, Maranget and Tautschnig, TOPLAS
 -- 2014).
 use Rattle.std.specs.Prelude.{ℕ, ◌<◌, ◌⊎◌}
-use Rattle.lw_base.specs.Outcomes.{Final}
-use Rattle.lw_litmus.specs.Programs.{x86}
-use Rattle.lw_litmus.specs.Tests.{ProgramTest}
+use Rattle.lw_base.specs.Outcomes.{FinalState}
+use Rattle.lw_litmus.specs.Programs.{x86_language}
+use Rattle.lw_litmus.specs.Tests.{X86Test}
 use Rattle.lw_axiomatic.specs.Executions.{MemoryEvent, Execution, Rf, Co, Fr, PoLoc, Ppo, Rfe}
 use Rattle.lw_axiomatic.specs.Candidates.{IsCandidate}
 
@@ -15,14 +15,14 @@ module _ {E : Type 0} (R : E → E → Type 0) where
   abbrev pub Acyclic : Type 0
   Acyclic = (rank : E → ℕ) × ((a b : E) → R a b → rank a < rank b)
 
-module _ (test : ProgramTest) (x : Execution) where
+module _ (test : X86Test) (x : Execution) where
   -- the relations of coherence: program order on one location, reads-from, coherence order and from-reads
   abbrev pub OnOneLocation : MemoryEvent → MemoryEvent → Type 0
-  OnOneLocation a b = PoLoc x86 test x a b ⊎ (Rf x86 test x a b ⊎ (Co x86 test x a b ⊎ Fr x86 test x a b))
+  OnOneLocation a b = PoLoc x86_language test x a b ⊎ (Rf x86_language test x a b ⊎ (Co x86_language test x a b ⊎ Fr x86_language test x a b))
 
   -- the relations of global happens-before: preserved program order, reads-from between threads, coherence order, from-reads
   abbrev pub HappensBefore : MemoryEvent → MemoryEvent → Type 0
-  HappensBefore a b = Ppo x86 test x a b ⊎ (Rfe x86 test x a b ⊎ (Co x86 test x a b ⊎ Fr x86 test x a b))
+  HappensBefore a b = Ppo x86_language test x a b ⊎ (Rfe x86_language test x a b ⊎ (Co x86_language test x a b ⊎ Fr x86_language test x a b))
 
   -- Coherence: on each location the events go as if it were the only one.
   abbrev pub Coherence : Type 0
@@ -33,12 +33,12 @@ module _ (test : ProgramTest) (x : Execution) where
   GlobalHappensBefore = Acyclic HappensBefore
 
   -- The axioms of x86-TSO: coherence and global happens-before.
-  pub record KeepsAxioms : Type 0 where
+  pub record SatisfiesAxioms : Type 0 where
     pub coherence : Coherence
     pub happens_before : GlobalHappensBefore
 
 -- Some execution of the test with this outcome keeps the axioms.
-pub record IsAllowed (test : ProgramTest) (o : Final) : Type 0 where
+pub record IsAllowed (test : X86Test) (o : FinalState) : Type 0 where
   pub execution : Execution
-  pub candidate : IsCandidate x86 test execution o
-  pub axioms : KeepsAxioms test execution
+  pub candidate : IsCandidate x86_language test execution o
+  pub axioms : SatisfiesAxioms test execution

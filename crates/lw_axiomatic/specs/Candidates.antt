@@ -5,8 +5,8 @@
 -- flow.
 use Rattle.std.specs.Prelude.{◌≡◌, ℕ, ◌<◌, ◌≤◌, ◌⊎◌, true, Option, Some, None, List, [], ◌∷◌, length, slice_get, slice_index}
 use Rattle.std.specs.Prelude.{slice_index_or}
-use Rattle.lw_base.specs.Outcomes.{Final, IsOutcomeOf}
-use Rattle.lw_base.specs.Threads.{code_of}
+use Rattle.lw_base.specs.Outcomes.{FinalState, HasOutcomeShape}
+use Rattle.lw_base.specs.Threads.{thread_code}
 use Rattle.lw_litmus.specs.Languages.{Language}
 use Rattle.lw_litmus.specs.Operations.{writes}
 use Rattle.lw_litmus.specs.Tests.{Test}
@@ -15,14 +15,14 @@ use Rattle.lw_axiomatic.specs.Executions.{MemoryEvent, Execution, Reads, Writes}
 
 module _ {S : Type 0} (language : Language S) where
   -- Thread t goes along a path to the end of its code, where its events read and write the words that the execution says.
-  abbrev pub Goes : Execution → ℕ → List S → List ℕ → ThreadState → ThreadState → Type 0
-  Goes x t code [] s end = (s.position ≡ length code) × (end ≡ s)
-  Goes x t code (j ∷ path) s end =
+  abbrev pub ThreadExecutes : Execution → ℕ → List S → List ℕ → ThreadState → ThreadState → Type 0
+  ThreadExecutes x t code [] s end = (s.position ≡ length code) × (end ≡ s)
+  ThreadExecutes x t code (j ∷ path) s end =
       let e : MemoryEvent = record { thread = t; position = j } in
       (s.position ≡ j)
       × (i : S) × (slice_get code j ≡ Some i)
       × (writes (language.operation_of i) ≡ true → x.written e ≡ word_written (language.operation_of i) s.regs (x.read e))
-      × Goes x t code path (state_after (language.operation_of i) s (x.read e)) end
+      × ThreadExecutes x t code path (state_after (language.operation_of i) s (x.read e)) end
 
   module _ (test : Test S) (x : Execution) where
     -- what r reads of the location l is the initial word, or what this event wrote there
@@ -40,12 +40,12 @@ module _ {S : Type 0} (language : Language S) where
 
     -- A candidate execution with this outcome: the threads go to their ends, each read has its write, and two writes to a
     -- location never stand at one index in coherence order.
-    pub record IsCandidate (o : Final) : Type 0 where
+    pub record IsCandidate (o : FinalState) : Type 0 where
       pub as_many : length x.paths ≡ length test.threads
       pub threads : (t : ℕ) → t < length test.threads → (end : ThreadState)
-          × Goes x t (code_of test.threads t) (code_of x.paths t) (first_state (slice_index_or test.head.init_regs t [])) end
+          × ThreadExecutes x t (thread_code test.threads t) (thread_code x.paths t) (first_state (slice_index_or test.head.init_regs t [])) end
           × (slice_index_or o.regs t [] ≡ end.regs)
       pub rf : (r : MemoryEvent) (l : ℕ) → Reads language test x r l → IsReadFrom r l (x.rf r)
       pub co : (w v : MemoryEvent) (l : ℕ) → Writes language test x w l → Writes language test x v l → x.co w ≡ x.co v → w ≡ v
       pub words : (l : ℕ) → l < length test.head.locs → IsLast l (slice_index o.words l)
-      pub of_test : IsOutcomeOf (length test.threads) (length test.head.locs) o
+      pub of_test : HasOutcomeShape (length test.threads) (length test.head.locs) o

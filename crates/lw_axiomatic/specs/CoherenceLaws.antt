@@ -2,31 +2,31 @@
 -- The source of the names is 'Herding Cats' (Alglave, Maranget and Tautschnig, TOPLAS 2014), which has five patterns that
 -- coherence forbids; its coRW1 and coRW2 are one law here.
 use Rattle.std.specs.Prelude.{◌≡◌, ◌⊎◌, ℕ}
-use Rattle.lw_litmus.specs.Programs.{x86}
-use Rattle.lw_litmus.specs.Tests.{ProgramTest}
+use Rattle.lw_litmus.specs.Programs.{x86_language}
+use Rattle.lw_litmus.specs.Tests.{X86Test}
 use Rattle.lw_axiomatic.specs.Executions.{MemoryEvent, Execution, Po, Reads, Writes, Rf, Co}
 
-module _ (test : ProgramTest) (x : Execution) where
+module _ (test : X86Test) (x : Execution) where
   -- a write, and then a write: the first comes before the second in coherence order
   abbrev pub CoWW : Type 0
   CoWW =
-      (w v : MemoryEvent) (l : ℕ) → Po x w v → Writes x86 test x w l → Writes x86 test x v l
-      → Co x86 test x w v
+      (w v : MemoryEvent) (l : ℕ) → Po x w v → Writes x86_language test x w l → Writes x86_language test x v l
+      → Co x86_language test x w v
 
   -- a write, and then a read: it reads from that write, or from one behind it
   abbrev pub CoWR : Type 0
   CoWR =
-      (w r : MemoryEvent) (l : ℕ) → Po x w r → Writes x86 test x w l → Reads x86 test x r l
-      → (v : MemoryEvent) × Rf x86 test x v r × ((v ≡ w) ⊎ Co x86 test x w v)
+      (w r : MemoryEvent) (l : ℕ) → Po x w r → Writes x86_language test x w l → Reads x86_language test x r l
+      → (v : MemoryEvent) × Rf x86_language test x v r × ((v ≡ w) ⊎ Co x86_language test x w v)
 
   -- a read, and then a write: what the read reads from comes before the write
   abbrev pub CoRW : Type 0
   CoRW =
-      (r w v : MemoryEvent) (l : ℕ) → Po x r w → Reads x86 test x r l → Writes x86 test x w l → Rf x86 test x v r
-      → Co x86 test x v w
+      (r w v : MemoryEvent) (l : ℕ) → Po x r w → Reads x86_language test x r l → Writes x86_language test x w l → Rf x86_language test x v r
+      → Co x86_language test x v w
 
   -- a read, and then a read: the second reads from what the first does, or from a write behind it
   abbrev pub CoRR : Type 0
   CoRR =
-      (r s v : MemoryEvent) (l : ℕ) → Po x r s → Reads x86 test x r l → Reads x86 test x s l → Rf x86 test x v r
-      → (u : MemoryEvent) × Rf x86 test x u s × ((u ≡ v) ⊎ Co x86 test x v u)
+      (r s v : MemoryEvent) (l : ℕ) → Po x r s → Reads x86_language test x r l → Reads x86_language test x s l → Rf x86_language test x v r
+      → (u : MemoryEvent) × Rf x86_language test x u s × ((u ≡ v) ⊎ Co x86_language test x v u)

@@ -4,9 +4,9 @@
 use Rattle.std.specs.Prelude.{◌≢◌, ◌||◌, ℕ, Bool, List}
 use Rattle.lw_litmus.specs.declared.operation.Operation.{Operation}
 use Rattle.lw_litmus.specs.Operations.{is_store, is_load, writes}
-use Rattle.lw_litmus.specs.Programs.{x86}
-use Rattle.lw_litmus.specs.Tests.{ProgramTest}
-use Rattle.lw_axiomatic.specs.Interleavings.{Interleaved, Ran, start}
+use Rattle.lw_litmus.specs.Programs.{x86_language}
+use Rattle.lw_litmus.specs.Tests.{X86Test}
+use Rattle.lw_axiomatic.specs.Interleavings.{Interleaved, InterleavedRunsTo, start}
 use Rattle.lw_axiomatic.specs.Races.{IsNext}
 
 abbrev pub is_plain : Operation → Bool  -- It is a load or a store, and no locked instruction.
@@ -14,13 +14,13 @@ is_plain o = is_load o || is_store o
 
 -- In some run by interleaving, the next instruction of thread q is a load or a store of a location, which the next instruction of
 -- another thread p writes.
-pub record HasDataRace (test : ProgramTest) : Type 0 where
+pub record HasDataRace (test : X86Test) : Type 0 where
   pub q : ℕ
   pub p : ℕ
   pub two : p ≢ q
   pub before : List ℕ
   pub now : Interleaved
-  pub reached : Ran x86 test.threads before (start x86 test) now
+  pub reached : InterleavedRunsTo x86_language test.threads before (start x86_language test) now
   pub l : ℕ
   pub accesses : IsNext test is_plain l q now
   pub written : IsNext test writes l p now

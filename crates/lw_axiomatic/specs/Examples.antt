@@ -1,22 +1,22 @@
 -- Outcomes of classic tests, which stand as values in lw_bench's Classics, and a test with a spare fence.
 use Rattle.std.specs.Prelude.{replicate, [], ◌∷◌}
-use Rattle.lw_base.specs.Outcomes.{Final}
+use Rattle.lw_base.specs.Outcomes.{FinalState}
 use Rattle.lw_base.specs.declared.operand.Operand.TheVariants.{Number}
 use Rattle.lw_bench.specs.Classics.{store_buffering_in_x86}
-use Rattle.lw_litmus.specs.Tests.{ProgramTest}
+use Rattle.lw_litmus.specs.Tests.{X86Test}
 use Rattle.lw_litmus.specs.declared.instr.Instr.TheVariants.{Load, Mfence, Store}
 
-abbrev pub both_loads_early : Final  -- of store buffering: both loads have taken the 0 from before the stores
+abbrev pub both_loads_early : FinalState  -- of store buffering: both loads have taken the 0 from before the stores
 both_loads_early = record { regs = replicate 2 (replicate 6 0); words = replicate 2 1 }
 
 -- `MOV [x],1; MOV EAX,[x]` beside `MOV [y],1; MOV EAX,[y]`: each thread loads what no other thread writes.
-abbrev pub own_loads : ProgramTest
+abbrev pub own_loads : X86Test
 own_loads = record store_buffering_in_x86 {
   threads = (Store 0 (Number 1) ∷ Load 0 0 ∷ []) ∷ (Store 1 (Number 1) ∷ Load 0 1 ∷ []) ∷ [];
 }
 
 -- The same test with an `MFENCE` between store and load of the first thread.
-abbrev pub own_loads_fenced : ProgramTest
+abbrev pub own_loads_fenced : X86Test
 own_loads_fenced = record store_buffering_in_x86 {
   threads = (Store 0 (Number 1) ∷ Mfence ∷ Load 0 0 ∷ []) ∷ (Store 1 (Number 1) ∷ Load 0 1 ∷ []) ∷ [];
 }

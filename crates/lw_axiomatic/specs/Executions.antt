@@ -5,7 +5,7 @@
 use Rattle.std.specs.Prelude.{◌≡◌, ◌≢◌, ℕ, ◌<◌, ◌||◌, Bool, true, false, Option, Some, List, Contains, slice_get, option_map}
 use Rattle.std.specs.Prelude.{option_and_then}
 use Rattle.std.specs.Option.{ForSome, option_map_or}
-use Rattle.lw_base.specs.Threads.{code_of}
+use Rattle.lw_base.specs.Threads.{thread_code}
 use Rattle.lw_litmus.specs.declared.operation.Operation.{Operation}
 use Rattle.lw_litmus.specs.Languages.{Language}
 use Rattle.lw_litmus.specs.Operations.{location_of, is_load, is_locked, is_fence}
@@ -28,7 +28,7 @@ pub record Execution : Type 0 where
 
 module _ (x : Execution) where
   abbrev pub IsEvent : MemoryEvent → Type 0  -- it is one of the execution: its thread does it
-  IsEvent e = Contains (code_of x.paths e.thread) e.position
+  IsEvent e = Contains (thread_code x.paths e.thread) e.position
 
   abbrev pub Po : MemoryEvent → MemoryEvent → Type 0  -- program order: a comes before b in their thread
   Po a b = IsEvent a × IsEvent b × (a.thread ≡ b.thread) × (a.position < b.position)
@@ -40,10 +40,10 @@ reads o = is_load o || is_locked o
 module _ {S : Type 0} (language : Language S) (test : Test S) where
   -- the operation of an event's instruction
   abbrev pub operation_at : MemoryEvent → Option Operation
-  operation_at e = option_map language.operation_of (slice_get (code_of test.threads e.thread) e.position)
+  operation_at e = option_map language.operation_of (slice_get (thread_code test.threads e.thread) e.position)
 
-  abbrev pub does : (Operation → Bool) → MemoryEvent → Bool  -- its operation is of this kind
-  does kind e = option_map_or kind (operation_at e) false
+  abbrev pub operation_is : (Operation → Bool) → MemoryEvent → Bool  -- its operation is of this kind
+  operation_is kind e = option_map_or kind (operation_at e) false
 
   -- the location that an event accesses, if it accesses one
   abbrev pub location : MemoryEvent → Option ℕ
@@ -51,10 +51,10 @@ module _ {S : Type 0} (language : Language S) (test : Test S) where
 
   module _ (x : Execution) where
     abbrev pub Reads : MemoryEvent → ℕ → Type 0  -- an event that reads this location, and one that writes it
-    Reads e l = IsEvent x e × (location e ≡ Some l) × (does reads e ≡ true)
+    Reads e l = IsEvent x e × (location e ≡ Some l) × (operation_is reads e ≡ true)
 
     abbrev pub Writes : MemoryEvent → ℕ → Type 0
-    Writes e l = IsEvent x e × (location e ≡ Some l) × (does operations.writes e ≡ true)
+    Writes e l = IsEvent x e × (location e ≡ Some l) × (operation_is operations.writes e ≡ true)
 
     abbrev pub Rf : MemoryEvent → MemoryEvent → Type 0  -- r reads what w wrote
     Rf w r = (l : ℕ) × Writes w l × Reads r l × (x.rf r ≡ Some w)
@@ -72,7 +72,7 @@ module _ {S : Type 0} (language : Language S) (test : Test S) where
     -- preserved program order: the first reads, the second writes, or one is a fence. What is not preserved is a store and then
     -- a load
     abbrev pub Ppo : MemoryEvent → MemoryEvent → Type 0
-    Ppo a b = Po x a b × ((does reads a || (does operations.writes b || (does is_fence a || does is_fence b))) ≡ true)
+    Ppo a b = Po x a b × ((operation_is reads a || (operation_is operations.writes b || (operation_is is_fence a || operation_is is_fence b))) ≡ true)
 
     abbrev pub Rfe : MemoryEvent → MemoryEvent → Type 0  -- external: of two threads
     Rfe w r = Rf w r × (w.thread ≢ r.thread)

@@ -1,23 +1,23 @@
 -- Fences between stores and loads, in an execution and in a code.
 use Rattle.std.specs.Prelude.{◌≡◌, ◌≢◌, ℕ, ◌<◌, ◌⊎◌, true, None, Some, List, Contains, slice_get}
-use Rattle.lw_base.specs.Threads.{code_of}
+use Rattle.lw_base.specs.Threads.{thread_code}
 use Rattle.lw_litmus.specs.declared.instr.Instr.{Instr}
-use Rattle.lw_litmus.specs.Flow.{IsPathFrom}
-use Rattle.lw_litmus.specs.Operations.{location_of, is_store, is_load, is_locked, waits, writes}
-use Rattle.lw_litmus.specs.Programs.{x86, x86_operation}
-use Rattle.lw_litmus.specs.Tests.{ProgramTest}
-use Rattle.lw_axiomatic.specs.Executions.{MemoryEvent, Execution, does, location, Writes, Po, Rf, Co, Fr}
+use Rattle.lw_litmus.specs.Flow.{IsFlowPathFrom}
+use Rattle.lw_litmus.specs.Operations.{location_of, is_store, is_load, is_locked, needs_empty_buffer, writes}
+use Rattle.lw_litmus.specs.Programs.{x86_language, x86_operation}
+use Rattle.lw_litmus.specs.Tests.{X86Test}
+use Rattle.lw_axiomatic.specs.Executions.{MemoryEvent, Execution, operation_is, location, Writes, Po, Rf, Co, Fr}
 
-module _ (test : ProgramTest) (x : Execution) where
+module _ (test : X86Test) (x : Execution) where
   -- a store and a load behind it in its thread
   pub record AreStoreAndLoad (a b : MemoryEvent) : Type 0 where
     pub po : Po x a b
-    pub store : does x86 test is_store a ≡ true
-    pub load : does x86 test is_load b ≡ true
+    pub store : operation_is x86_language test is_store a ≡ true
+    pub load : operation_is x86_language test is_load b ≡ true
 
   -- between two events of a thread stands what waits for an empty store buffer: a fence or a locked instruction
   abbrev pub HasFenceBetween : MemoryEvent → MemoryEvent → Type 0
-  HasFenceBetween a b = (f : MemoryEvent) × Po x a f × Po x f b × (does x86 test waits f ≡ true)
+  HasFenceBetween a b = (f : MemoryEvent) × Po x a f × Po x f b × (operation_is x86_language test needs_empty_buffer f ≡ true)
 
   -- between every store and every load behind it in its thread there is a fence or a locked instruction
   abbrev pub IsFenced : Type 0
@@ -25,7 +25,7 @@ module _ (test : ProgramTest) (x : Execution) where
 
   -- no other thread of the execution writes the location that this event, a load, reads
   abbrev pub IsOfOneThread : MemoryEvent → Type 0
-  IsOfOneThread b = (c : MemoryEvent) (l : ℕ) → location x86 test b ≡ Some l → Writes x86 test x c l → c.thread ≡ b.thread
+  IsOfOneThread b = (c : MemoryEvent) (l : ℕ) → location x86_language test b ≡ Some l → Writes x86_language test x c l → c.thread ≡ b.thread
 
   -- between stores and loads there is a fence, unless no other thread writes what the load reads
   abbrev pub IsFencedWhereShared : Type 0
@@ -35,22 +35,22 @@ module _ (test : ProgramTest) (x : Execution) where
   -- thread. This is of executions; the triangular races of runs by interleaving are in Races.
   abbrev pub IsFencedWhereOverwritten : Type 0
   IsFencedWhereOverwritten =
-      (a b c : MemoryEvent) → AreStoreAndLoad a b → Fr x86 test x b c → b.thread ≢ c.thread → HasFenceBetween a b
+      (a b c : MemoryEvent) → AreStoreAndLoad a b → Fr x86_language test x b c → b.thread ≢ c.thread → HasFenceBetween a b
 
   -- Locked instructions are atomic: no write comes in coherence order between what a locked instruction r reads and what it
   -- writes. Either r reads from a write w, or it reads the initial word, which comes before every write.
   pub record IsAtomic : Type 0 where
     pub after_write :
-        (r w v : MemoryEvent) → does x86 test is_locked r ≡ true → Rf x86 test x w r → Co x86 test x w v → Co x86 test x v r
+        (r w v : MemoryEvent) → operation_is x86_language test is_locked r ≡ true → Rf x86_language test x w r → Co x86_language test x w v → Co x86_language test x v r
         → ⊥
-    pub after_initial : (r v : MemoryEvent) → does x86 test is_locked r ≡ true → x.rf r ≡ None → Co x86 test x v r → ⊥
+    pub after_initial : (r v : MemoryEvent) → operation_is x86_language test is_locked r ≡ true → x.rf r ≡ None → Co x86_language test x v r → ⊥
 
 -- ---- on the paths of a code
 
 module _ (code : List Instr) (path : List ℕ) (i j : ℕ) where
   -- on this path there is a store at i, and behind it at j this load
   pub record AreOnPath (load : Instr) : Type 0 where
-    pub path_is : IsPathFrom x86 code 0 path
+    pub path_is : IsFlowPathFrom x86_language code 0 path
     pub on_path : Contains path i
     pub also_on : Contains path j
     pub less : i < j
@@ -68,23 +68,23 @@ module _ (code : List Instr) (path : List ℕ) (i j : ℕ) where
     pub before : index_in < j
     pub fence : Instr
     pub at : slice_get code index_in ≡ Some fence
-    pub is : waits (x86_operation fence) ≡ true
+    pub is : needs_empty_buffer (x86_operation fence) ≡ true
 
 -- no thread but t has an instruction that writes the location that this load of t reads
-abbrev pub IsOwn : ProgramTest → ℕ → Instr → Type 0
-IsOwn test t load =
-    (u k l : ℕ) (c : Instr) → slice_get (code_of test.threads u) k ≡ Some c → writes (x86_operation c) ≡ true
+abbrev pub IsLocationOnlyWrittenBy : X86Test → ℕ → Instr → Type 0
+IsLocationOnlyWrittenBy test t load =
+    (u k l : ℕ) (c : Instr) → slice_get (thread_code test.threads u) k ≡ Some c → writes (x86_operation c) ≡ true
     → location_of (x86_operation c) ≡ Some l → location_of (x86_operation load) ≡ Some l → u ≡ t
 
 -- On each path of each thread a fence or a locked instruction stands between each store and each load behind it.
-abbrev pub IsFencedInAllThreads : ProgramTest → Type 0
+abbrev pub IsFencedInAllThreads : X86Test → Type 0
 IsFencedInAllThreads test =
-    (t : ℕ) (path : List ℕ) (i j : ℕ) (load : Instr) → AreOnPath (code_of test.threads t) path i j load
-    → HasFenceOnPath (code_of test.threads t) path i j
+    (t : ℕ) (path : List ℕ) (i j : ℕ) (load : Instr) → AreOnPath (thread_code test.threads t) path i j load
+    → HasFenceOnPath (thread_code test.threads t) path i j
 
 -- On each path a fence or a locked instruction stands between each store and each load behind it, but of what no other thread has
 -- an instruction to write.
-abbrev pub IsFencedWhereOthersWrite : ProgramTest → Type 0
+abbrev pub IsFencedWhereOthersWrite : X86Test → Type 0
 IsFencedWhereOthersWrite test =
-    (t : ℕ) (path : List ℕ) (i j : ℕ) (load : Instr) → AreOnPath (code_of test.threads t) path i j load
-    → HasFenceOnPath (code_of test.threads t) path i j ⊎ IsOwn test t load
+    (t : ℕ) (path : List ℕ) (i j : ℕ) (load : Instr) → AreOnPath (thread_code test.threads t) path i j load
+    → HasFenceOnPath (thread_code test.threads t) path i j ⊎ IsLocationOnlyWrittenBy test t load

@@ -3,12 +3,12 @@
 -- The source is Lamport ('How to make a multiprocessor computer that correctly executes multiprocess programs', 1979).
 use Rattle.std.specs.Prelude.{◌≡◌, ℕ, ◌≤◌, Some, List, [], ◌∷◌, length, map, slice_get}
 use Rattle.std.specs.Prelude.{slice_set}
-use Rattle.lw_base.specs.Changes.{word_at, changed_at}
-use Rattle.lw_base.specs.Outcomes.{Final}
-use Rattle.lw_base.specs.Threads.{code_of}
+use Rattle.lw_base.specs.Changes.{word_or_zero, apply_change_if_some}
+use Rattle.lw_base.specs.Outcomes.{FinalState}
+use Rattle.lw_base.specs.Threads.{thread_code}
 use Rattle.lw_litmus.specs.declared.operation.Operation.{Operation}
 use Rattle.lw_litmus.specs.Languages.{Language}
-use Rattle.lw_litmus.specs.Operations.{location_of, change_of}
+use Rattle.lw_litmus.specs.Operations.{location_of, written_change}
 use Rattle.lw_litmus.specs.Tests.{Test}
 use Rattle.lw_axiomatic.specs.ThreadStates.{ThreadState, first_state, state_after}
 
@@ -16,15 +16,15 @@ pub record Interleaved : Type 0 where  -- the threads, and one map from location
   pub threads : List ThreadState
   pub words : List ℕ
 
-abbrev pub word_found : Operation → List ℕ → ℕ  -- the word that an operation finds at its location
-word_found o words = word_at (location_of o) words
+abbrev pub read_value : Operation → List ℕ → ℕ  -- the word that an operation finds at its location
+read_value o words = word_or_zero (location_of o) words
 
 abbrev pub words_after : Operation → List ℕ → List ℕ → List ℕ  -- the memory after an operation of a thread with these registers
-words_after o regs words = changed_at (location_of o) (change_of o regs) words
+words_after o regs words = apply_change_if_some (location_of o) (written_change o regs) words
 
 abbrev pub after : ℕ → ThreadState → Operation → Interleaved → Interleaved  -- after an operation of thread t
 after t th o s = record {
-  threads = slice_set s.threads t (state_after o th (word_found o s.words));
+  threads = slice_set s.threads t (state_after o th (read_value o s.words));
   words = words_after o th.regs s.words;
 }
 
@@ -34,26 +34,26 @@ module _ {S : Type 0} (language : Language S) where
     pub thread : ThreadState
     pub statement : S
     pub was : slice_get s.threads t ≡ Some thread
-    pub at : slice_get (code_of program t) thread.position ≡ Some statement
+    pub at : slice_get (thread_code program t) thread.position ≡ Some statement
     pub is : next ≡ after t thread (language.operation_of statement) s
 
   -- The threads of the order do a step each, one after another.
-  abbrev pub Ran : List (List S) → List ℕ → Interleaved → Interleaved → Type 0
-  Ran program [] s end = end ≡ s
-  Ran program (t ∷ order) s end = (mid : Interleaved) × IsStep program t s mid × Ran program order mid end
+  abbrev pub InterleavedRunsTo : List (List S) → List ℕ → Interleaved → Interleaved → Type 0
+  InterleavedRunsTo program [] s end = end ≡ s
+  InterleavedRunsTo program (t ∷ order) s end = (mid : Interleaved) × IsStep program t s mid × InterleavedRunsTo program order mid end
 
   abbrev pub IsEnd : List (List S) → Interleaved → Type 0  -- all threads are at their ends
-  IsEnd program s = (t : ℕ) (th : ThreadState) → slice_get s.threads t ≡ Some th → length (code_of program t) ≤ th.position
+  IsEnd program s = (t : ℕ) (th : ThreadState) → slice_get s.threads t ≡ Some th → length (thread_code program t) ≤ th.position
 
   module _ (test : Test S) where
     abbrev pub start : Interleaved
     start = record { threads = map first_state test.head.init_regs; words = test.head.init_words }
 
-    pub record EndsWith (order : List ℕ) (o : Final) : Type 0 where
+    pub record InterleavedOutcome (order : List ℕ) (o : FinalState) : Type 0 where
       pub end : Interleaved
-      pub ran : Ran test.threads order start end
+      pub ran : InterleavedRunsTo test.threads order start end
       pub final : IsEnd test.threads end
       pub is : o ≡ record { regs = map (λ (th : ThreadState). th.regs) end.threads; words = end.words }
 
-    abbrev pub InterleavingOutcome : Final → Type 0  -- Some list of threads leads there.
-    InterleavingOutcome o = (order : List ℕ) × EndsWith order o
+    abbrev pub InterleavingOutcome : FinalState → Type 0  -- Some list of threads leads there.
+    InterleavingOutcome o = (order : List ℕ) × InterleavedOutcome order o

@@ -5,7 +5,7 @@ pub mod Axioms
 pub mod Interleavings
 pub mod Sequential
 pub mod Cycles
-pub mod Halves
+pub mod SplitEvents
 pub mod CoherenceOrders
 pub mod CoherenceLaws
 pub mod Fenced

@@ -1,29 +1,29 @@
 -- Triangular races of an x86 test, in its runs by interleaving.
 -- The source is Owens ('Reasoning about the implementation of concurrency abstractions on x86-TSO', ECOOP 2010).
 use Rattle.std.specs.Prelude.{◌≡◌, ◌≢◌, ℕ, Bool, true, false, Some, List, [], ◌∷◌, slice_get}
-use Rattle.lw_base.specs.Threads.{code_of}
+use Rattle.lw_base.specs.Threads.{thread_code}
 use Rattle.lw_litmus.specs.declared.instr.Instr.{Instr}
 use Rattle.lw_litmus.specs.declared.operation.Operation.{Operation}
-use Rattle.lw_litmus.specs.Operations.{location_of, is_store, is_load, waits, writes}
-use Rattle.lw_litmus.specs.Programs.{x86, x86_operation}
-use Rattle.lw_litmus.specs.Tests.{ProgramTest}
-use Rattle.lw_axiomatic.specs.Interleavings.{Interleaved, IsStep, Ran, start}
+use Rattle.lw_litmus.specs.Operations.{location_of, is_store, is_load, needs_empty_buffer, writes}
+use Rattle.lw_litmus.specs.Programs.{x86_language, x86_operation}
+use Rattle.lw_litmus.specs.Tests.{X86Test}
+use Rattle.lw_axiomatic.specs.Interleavings.{Interleaved, IsStep, InterleavedRunsTo, start}
 use Rattle.lw_axiomatic.specs.ThreadStates.{ThreadState}
 
-module _ (test : ProgramTest) where
+module _ (test : X86Test) where
   -- a run in which thread q does nothing that waits for an empty store buffer: no fence, and no locked instruction
-  abbrev pub RanQuietly : ℕ → List ℕ → Interleaved → Interleaved → Type 0
-  RanQuietly q [] s end = end ≡ s
-  RanQuietly q (t ∷ order) s end =
-      (mid : Interleaved) × (step : IsStep x86 test.threads t s mid)
-      × (t ≡ q → waits (x86_operation step.statement) ≡ false) × RanQuietly q order mid end
+  abbrev pub RunsToWithoutBarrier : ℕ → List ℕ → Interleaved → Interleaved → Type 0
+  RunsToWithoutBarrier q [] s end = end ≡ s
+  RunsToWithoutBarrier q (t ∷ order) s end =
+      (mid : Interleaved) × (step : IsStep x86_language test.threads t s mid)
+      × (t ≡ q → needs_empty_buffer (x86_operation step.statement) ≡ false) × RunsToWithoutBarrier q order mid end
 
   -- the next instruction of thread t is of this kind, on this location
   pub record IsNext (kind : Operation → Bool) (l t : ℕ) (s : Interleaved) : Type 0 where
     pub thread : ThreadState
     pub instruction : Instr
     pub was : slice_get s.threads t ≡ Some thread
-    pub at : slice_get (code_of test.threads t) thread.position ≡ Some instruction
+    pub at : slice_get (thread_code test.threads t) thread.position ≡ Some instruction
     pub is : kind (x86_operation instruction) ≡ true
     pub on : location_of (x86_operation instruction) ≡ Some l
 
@@ -35,13 +35,13 @@ module _ (test : ProgramTest) where
     pub two : p ≢ q
     pub before : List ℕ
     pub first : Interleaved
-    pub reached : Ran x86 test.threads before (start x86 test) first
+    pub reached : InterleavedRunsTo x86_language test.threads before (start x86_language test) first
     pub stored : Interleaved
-    pub store : IsStep x86 test.threads q first stored
+    pub store : IsStep x86_language test.threads q first stored
     pub stores : is_store (x86_operation store.statement) ≡ true
     pub since : List ℕ
     pub now : Interleaved
-    pub quiet : RanQuietly q since stored now
+    pub quiet : RunsToWithoutBarrier q since stored now
     pub l : ℕ
     pub apart : location_of (x86_operation store.statement) ≢ Some l
     pub loads : IsNext is_load l q now

@@ -2,7 +2,7 @@
 -- The source is Lamport ('How to make a multiprocessor computer that correctly executes multiprocess programs', 1979), as the
 -- axiom of herd's sc.cat: program order, reads-from, coherence order and from-reads together go round in no cycle.
 use Rattle.std.specs.Prelude.{◌⊎◌}
-use Rattle.lw_base.specs.Outcomes.{Final}
+use Rattle.lw_base.specs.Outcomes.{FinalState}
 use Rattle.lw_litmus.specs.Languages.{Language}
 use Rattle.lw_litmus.specs.Tests.{Test}
 use Rattle.lw_axiomatic.specs.Executions.{MemoryEvent, Execution, Po, Rf, Co, Fr}
@@ -12,14 +12,14 @@ use Rattle.lw_axiomatic.specs.Axioms.{Acyclic}
 module _ {S : Type 0} (language : Language S) (test : Test S) where
   module _ (x : Execution) where
     -- program order, and what threads see of each other
-    abbrev pub InSequence : MemoryEvent → MemoryEvent → Type 0
-    InSequence a b = Po x a b ⊎ (Rf language test x a b ⊎ (Co language test x a b ⊎ Fr language test x a b))
+    abbrev pub ScOrder : MemoryEvent → MemoryEvent → Type 0
+    ScOrder a b = Po x a b ⊎ (Rf language test x a b ⊎ (Co language test x a b ⊎ Fr language test x a b))
 
-    abbrev pub IsSequential : Type 0
-    IsSequential = Acyclic InSequence
+    abbrev pub IsSequentiallyConsistent : Type 0
+    IsSequentiallyConsistent = Acyclic ScOrder
 
   -- Some sequentially consistent execution of the test has this outcome.
-  pub record IsSequentialOutcome (o : Final) : Type 0 where
+  pub record IsScOutcome (o : FinalState) : Type 0 where
     pub execution : Execution
     pub candidate : IsCandidate language test execution o
-    pub sequential : IsSequential execution
+    pub sequential : IsSequentiallyConsistent execution

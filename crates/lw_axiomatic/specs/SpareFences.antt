@@ -1,11 +1,11 @@
 -- MFENCEs that can be left out of a test one by one or together, without a new outcome.
 -- What it is to leave MFENCEs out is said in lw_tso's Fencing.
 use Rattle.std.specs.Prelude.{◌≡◌, ℕ, ◌+◌, ◌<◌, ◌⊎◌, List, Contains, length}
-use Rattle.lw_base.specs.Threads.{code_of}
+use Rattle.lw_base.specs.Threads.{thread_code}
 use Rattle.lw_litmus.specs.declared.instr.Instr.{Instr}
-use Rattle.lw_litmus.specs.Tests.{ProgramTest}
+use Rattle.lw_litmus.specs.Tests.{X86Test}
 use Rattle.lw_tso.specs.Fencing.{IsFencedCode, IsFencedTest}
-use Rattle.lw_axiomatic.specs.Fenced.{AreOnPath, HasFenceOnPath, IsOwn}
+use Rattle.lw_axiomatic.specs.Fenced.{AreOnPath, HasFenceOnPath, IsLocationOnlyWrittenBy}
 
 module _ {code fenced : List Instr} (inserted : IsFencedCode code fenced) where
   -- The instruction of `fenced` at this index is one of the MFENCEs that `code` lacks.
@@ -19,9 +19,9 @@ module _ {code fenced : List Instr} (inserted : IsFencedCode code fenced) where
 -- The MFENCEs of `fenced` that `test` lacks are spare. On each path, take a store, a later load, and such an MFENCE between
 -- them: another fence or a locked instruction, which `test` has too, is between them as well, or no other thread has an
 -- instruction that writes the location that the load reads.
-abbrev pub AreSpare : (test fenced : ProgramTest) → IsFencedTest test fenced → Type 0
+abbrev pub AreSpare : (test fenced : X86Test) → IsFencedTest test fenced → Type 0
 AreSpare test fenced inserted =
     (t : ℕ) (within : t < length test.threads) (path : List ℕ) (i index j : ℕ) (load : Instr)
-    → AreOnPath (code_of fenced.threads t) path i j load → Contains path index → i < index → index < j
+    → AreOnPath (thread_code fenced.threads t) path i j load → Contains path index → i < index → index < j
     → IsInsertedAt (inserted.threads t within) index
-    → HasOtherFence (inserted.threads t within) path i j ⊎ IsOwn fenced t load
+    → HasOtherFence (inserted.threads t within) path i j ⊎ IsLocationOnlyWrittenBy fenced t load

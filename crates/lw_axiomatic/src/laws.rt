@@ -3,36 +3,36 @@
 ghost use Rattle.std.specs.Prelude.{◌↔◌, ℕ, List};
 ghost use Rattle.lw_axiomatic.specs.Axioms.{IsAllowed};
 ghost use Rattle.lw_axiomatic.specs.Interleavings.{InterleavingOutcome};
-ghost use Rattle.lw_axiomatic.specs.Sequential.{IsSequentialOutcome};
-ghost use Rattle.lw_base.specs.Outcomes.{Final};
+ghost use Rattle.lw_axiomatic.specs.Sequential.{IsScOutcome};
+ghost use Rattle.lw_base.specs.Outcomes.{FinalState};
 ghost use Rattle.lw_base.specs.Types.{Bytes};
 ghost use Rattle.lw_bench.specs.LitmusTests.{Of_source, Of_x86};
-ghost use Rattle.lw_bench.specs.Lists.{HasList, IsStatesReport};
-ghost use Rattle.lw_bench.specs.Outputs.{Makes};
+ghost use Rattle.lw_bench.specs.Lists.{IsWithinListLimits, IsStatesReport};
+ghost use Rattle.lw_bench.specs.Outputs.{IsOutputOf};
 ghost use Rattle.lw_bench.specs.TestTexts.{HasTest};
 ghost use Rattle.lw_fence.specs.Compiling.{IsCompiled};
 ghost use Rattle.lw_interleaving.specs.Runs.{SourceOutcome};
-ghost use Rattle.lw_litmus.specs.Programs.{x86};
-ghost use Rattle.lw_litmus.specs.Sources.{source};
-ghost use Rattle.lw_litmus.specs.Tests.{SourceTest, ProgramTest};
+ghost use Rattle.lw_litmus.specs.Programs.{x86_language};
+ghost use Rattle.lw_litmus.specs.Sources.{source_language};
+ghost use Rattle.lw_litmus.specs.Tests.{SourceTest, X86Test};
 ghost use Rattle.lw_litmus.specs.WellFormedTests.{IsWellFormedSource, IsWellFormedProgram};
-ghost use Rattle.lw_memory.specs.Flat.{flat};
+ghost use Rattle.lw_memory.specs.Flat.{flat_memory};
 ghost use Rattle.lw_mesi.specs.declared.protocol.Protocol.{Protocol};
 ghost use Rattle.lw_report.specs.Reports.{IsReport};
 ghost use Rattle.lw_report.specs.declared.judgement.Claim.TheVariants.{Exact};
-ghost use Rattle.lw_tso.specs.Runs.{MachineOutcome};
-ghost use Rattle.lw_whole.specs.OverCaches.{OutcomeOverCaches};
+ghost use Rattle.lw_tso.specs.Runs.{IsMachineOutcome};
+ghost use Rattle.lw_tso_caches.specs.OverCaches.{OutcomeOverCaches};
 
 use lw_bench::{a_text_has_one_test, what_a_text_says_is_well_formed};
 use lw_finals::x86_outcomes_are_those_of_choices;
-use lw_whole::{outcomes_over_caches_are_flat, replays_over_caches_are_flat};
+use lw_tso_caches::{outcomes_over_caches_are_flat, replays_over_caches_are_flat};
 
 /// The theorem: the outcomes of a well-formed x86 test on the machine, store buffers over flat memory, are exactly those that
 /// the axioms allow; and so they are over caches of each protocol that hold nothing at the start, evictions at any time.
 pub fn the_machine_is_what_the_axioms_allow()
-    ensures flat_memory { (test : ProgramTest) (o : Final) → IsWellFormedProgram test
-        → MachineOutcome flat test test.head.init_words o ↔ IsAllowed test o }
-    ensures caches { (protocol : Protocol) (test : ProgramTest) (o : Final) → IsWellFormedProgram test
+    ensures flat_memory { (test : X86Test) (o : FinalState) → IsWellFormedProgram test
+        → IsMachineOutcome flat_memory test test.head.init_words o ↔ IsAllowed test o }
+    ensures caches { (protocol : Protocol) (test : X86Test) (o : FinalState) → IsWellFormedProgram test
         → OutcomeOverCaches protocol test o ↔ IsAllowed test o }
 {
     x86_outcomes_are_those_of_choices();
@@ -43,7 +43,7 @@ pub fn the_machine_is_what_the_axioms_allow()
 /// The outcomes of a well-formed source test, by interleaving on one memory, are exactly those that the axioms of x86-TSO allow
 /// its compiled program.
 pub fn compiled_programs_are_what_the_axioms_allow()
-    ensures { (test : SourceTest) (program : ProgramTest) (starts : List (List ℕ)) (o : Final) → IsWellFormedSource test
+    ensures { (test : SourceTest) (program : X86Test) (starts : List (List ℕ)) (o : FinalState) → IsWellFormedSource test
         → IsCompiled test program starts → SourceOutcome test o ↔ IsAllowed program o }
 {
     the_machine_is_what_the_axioms_allow();
@@ -53,24 +53,24 @@ pub fn compiled_programs_are_what_the_axioms_allow()
 /// executions: program order, reads-from, coherence order and from-reads together go round in no cycle. So it is of source
 /// tests, and of x86 tests, where each instruction is then done at once on one memory.
 pub fn interleaving_outcomes_are_sequential()
-    ensures source { (test : SourceTest) (o : Final) → IsWellFormedSource test
-        → SourceOutcome test o ↔ IsSequentialOutcome source test o }
-    ensures x86 { (test : ProgramTest) (o : Final) → IsWellFormedProgram test
-        → InterleavingOutcome x86 test o ↔ IsSequentialOutcome x86 test o }
+    ensures source { (test : SourceTest) (o : FinalState) → IsWellFormedSource test
+        → SourceOutcome test o ↔ IsScOutcome source_language test o }
+    ensures x86 { (test : X86Test) (o : FinalState) → IsWellFormedProgram test
+        → InterleavingOutcome x86_language test o ↔ IsScOutcome x86_language test o }
 {}
 
 /// What `lw states` prints of the text of a test is exactly the report of the outcomes that the axioms allow, where the test is
 /// within the limits of lists: those of an x86 test itself, and those of a source test's compiled program, which are the ones
 /// of the source test's sequentially consistent executions.
 pub fn states_prints_what_the_axioms_allow()
-    ensures x86 { (text made : Bytes) (test : ProgramTest) → HasTest text (Of_x86 test)
-        → Makes IsStatesReport text made ↔ (HasList (Of_x86 test) × IsReport test.head (IsAllowed test) Exact made) }
-    ensures compiled { (text made : Bytes) (test : SourceTest) (program : ProgramTest) (starts : List (List ℕ))
+    ensures x86 { (text made : Bytes) (test : X86Test) → HasTest text (Of_x86 test)
+        → IsOutputOf IsStatesReport text made ↔ (IsWithinListLimits (Of_x86 test) × IsReport test.head (IsAllowed test) Exact made) }
+    ensures compiled { (text made : Bytes) (test : SourceTest) (program : X86Test) (starts : List (List ℕ))
         → HasTest text (Of_source test) → IsCompiled test program starts
-        → Makes IsStatesReport text made ↔ (HasList (Of_source test) × IsReport test.head (IsAllowed program) Exact made) }
+        → IsOutputOf IsStatesReport text made ↔ (IsWithinListLimits (Of_source test) × IsReport test.head (IsAllowed program) Exact made) }
     ensures sequential { (text made : Bytes) (test : SourceTest) → HasTest text (Of_source test)
-        → Makes IsStatesReport text made
-        ↔ (HasList (Of_source test) × IsReport test.head (IsSequentialOutcome source test) Exact made) }
+        → IsOutputOf IsStatesReport text made
+        ↔ (IsWithinListLimits (Of_source test) × IsReport test.head (IsScOutcome source_language test) Exact made) }
 {
     the_machine_is_what_the_axioms_allow();
     compiled_programs_are_what_the_axioms_allow();

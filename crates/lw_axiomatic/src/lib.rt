@@ -7,8 +7,8 @@
 //! of relations, `programs` what follows for those who program, and `examples` classic tests.
 //!
 //! It names lw_base, of lw_litmus the tests of both languages, and of lw_tso what it is to insert an MFENCE into a code. Its
-//! laws and proofs name lw_interleaving, lw_memory, lw_mesi, lw_tso and lw_whole, whose outcomes they speak of; lw_fence, of
-//! what a source test is compiled to; lw_orders, lw_choices and lw_finals, by whose orders of items the theorem is proved; and
+//! laws and proofs name lw_interleaving, lw_memory, lw_mesi, lw_tso and lw_tso_caches, whose outcomes they speak of; lw_fence, of
+//! what a source test is compiled to; lw_orders, lw_paths and lw_finals, by whose orders of items the theorem is proved; and
 //! lw_report and lw_bench, of what `lw states` prints. Nothing of the program stands on it.
 #![tactic(auto)]
 

@@ -1,28 +1,28 @@
 //! What follows from the axioms for those who program.
 //! A law is a function without a result, whose contract is the law.
 ghost use Rattle.std.specs.Prelude.{◌≡◌, ◌↔◌, ◌⊎◌, ℕ, true};
-ghost use Rattle.lw_axiomatic.specs.Axioms.{Acyclic, KeepsAxioms, IsAllowed};
+ghost use Rattle.lw_axiomatic.specs.Axioms.{Acyclic, SatisfiesAxioms, IsAllowed};
 ghost use Rattle.lw_axiomatic.specs.Candidates.{IsCandidate};
 ghost use Rattle.lw_axiomatic.specs.CoherenceLaws.{CoWW, CoWR, CoRW, CoRR};
 ghost use Rattle.lw_axiomatic.specs.DataRaces.{HasDataRace};
-ghost use Rattle.lw_axiomatic.specs.Executions.{MemoryEvent, Execution, Po, Reads, Rf, does};
+ghost use Rattle.lw_axiomatic.specs.Executions.{MemoryEvent, Execution, Po, Reads, Rf, operation_is};
 ghost use Rattle.lw_axiomatic.specs.Fenced.{IsFenced, IsFencedWhereShared, IsFencedWhereOverwritten};
 ghost use Rattle.lw_axiomatic.specs.Fenced.{IsAtomic, IsFencedInAllThreads, IsFencedWhereOthersWrite};
 ghost use Rattle.lw_axiomatic.specs.Interleavings.{InterleavingOutcome};
 ghost use Rattle.lw_axiomatic.specs.Races.{HasTriangularRace};
-ghost use Rattle.lw_axiomatic.specs.Sequential.{IsSequential, IsSequentialOutcome};
+ghost use Rattle.lw_axiomatic.specs.Sequential.{IsSequentiallyConsistent, IsScOutcome};
 ghost use Rattle.lw_axiomatic.specs.SpareFences.{AreSpare};
 ghost use Rattle.lw_base.specs.Names.{IsTestName};
-ghost use Rattle.lw_base.specs.Outcomes.{Final};
+ghost use Rattle.lw_base.specs.Outcomes.{FinalState};
 ghost use Rattle.lw_litmus.specs.Operations.{is_locked};
-ghost use Rattle.lw_litmus.specs.Programs.{x86};
-ghost use Rattle.lw_litmus.specs.Tests.{ProgramTest};
+ghost use Rattle.lw_litmus.specs.Programs.{x86_language};
+ghost use Rattle.lw_litmus.specs.Tests.{X86Test};
 ghost use Rattle.lw_litmus.specs.WellFormedTests.{IsWellFormedProgram};
-ghost use Rattle.lw_memory.specs.Flat.{flat};
+ghost use Rattle.lw_memory.specs.Flat.{flat_memory};
 ghost use Rattle.lw_mesi.specs.declared.protocol.Protocol.{Protocol};
 ghost use Rattle.lw_tso.specs.Fencing.{IsFencedTest};
-ghost use Rattle.lw_tso.specs.Runs.{MachineOutcome};
-ghost use Rattle.lw_whole.specs.OverCaches.{OutcomeOverCaches};
+ghost use Rattle.lw_tso.specs.Runs.{IsMachineOutcome};
+ghost use Rattle.lw_tso_caches.specs.OverCaches.{OutcomeOverCaches};
 
 use crate::laws::{interleaving_outcomes_are_sequential, the_machine_is_what_the_axioms_allow};
 use crate::times::executions_have_times;
@@ -32,13 +32,13 @@ use lw_tso::{fences_only_take_outcomes_away, tests_without_fences_are_well_forme
 /// write before it, or from one behind that; what a read reads from comes before a write behind it; and of two reads the second
 /// reads from nothing older.
 pub fn accesses_of_one_location_are_coherent()
-    ensures co_ww { (test : ProgramTest) (x : Execution) (o : Final) → IsCandidate x86 test x o → KeepsAxioms test x
+    ensures co_ww { (test : X86Test) (x : Execution) (o : FinalState) → IsCandidate x86_language test x o → SatisfiesAxioms test x
         → CoWW test x }
-    ensures co_wr { (test : ProgramTest) (x : Execution) (o : Final) → IsCandidate x86 test x o → KeepsAxioms test x
+    ensures co_wr { (test : X86Test) (x : Execution) (o : FinalState) → IsCandidate x86_language test x o → SatisfiesAxioms test x
         → CoWR test x }
-    ensures co_rw { (test : ProgramTest) (x : Execution) (o : Final) → IsCandidate x86 test x o → KeepsAxioms test x
+    ensures co_rw { (test : X86Test) (x : Execution) (o : FinalState) → IsCandidate x86_language test x o → SatisfiesAxioms test x
         → CoRW test x }
-    ensures co_rr { (test : ProgramTest) (x : Execution) (o : Final) → IsCandidate x86 test x o → KeepsAxioms test x
+    ensures co_rr { (test : X86Test) (x : Execution) (o : FinalState) → IsCandidate x86_language test x o → SatisfiesAxioms test x
         → CoRR test x }
 {}
 
@@ -46,42 +46,42 @@ pub fn accesses_of_one_location_are_coherent()
 /// it writes. So no two locked instructions read the same write, and no two read the initial word of one location: of all threads
 /// that exchange with a free lock, at most one takes it.
 pub fn locked_instructions_are_atomic()
-    ensures between { (test : ProgramTest) (x : Execution) → KeepsAxioms test x → IsAtomic test x }
-    ensures apart { (test : ProgramTest) (x : Execution) (o : Final) → IsCandidate x86 test x o → KeepsAxioms test x
-        → (r s : MemoryEvent) (l : ℕ) → does x86 test is_locked r ≡ true → does x86 test is_locked s ≡ true
-        → Reads x86 test x r l → Reads x86 test x s l → x.rf r ≡ x.rf s → r ≡ s }
+    ensures between { (test : X86Test) (x : Execution) → SatisfiesAxioms test x → IsAtomic test x }
+    ensures apart { (test : X86Test) (x : Execution) (o : FinalState) → IsCandidate x86_language test x o → SatisfiesAxioms test x
+        → (r s : MemoryEvent) (l : ℕ) → operation_is x86_language test is_locked r ≡ true → operation_is x86_language test is_locked s ≡ true
+        → Reads x86_language test x r l → Reads x86_language test x s l → x.rf r ≡ x.rf s → r ≡ s }
 {}
 
 /// No word comes out of thin air: program order and reads-from make no cycle.
 pub fn no_word_comes_out_of_thin_air()
-    ensures { (test : ProgramTest) (x : Execution) (o : Final) → IsWellFormedProgram test → IsCandidate x86 test x o
-        → KeepsAxioms test x → Acyclic (λ a b. Po x a b ⊎ Rf x86 test x a b) }
+    ensures { (test : X86Test) (x : Execution) (o : FinalState) → IsWellFormedProgram test → IsCandidate x86_language test x o
+        → SatisfiesAxioms test x → Acyclic (λ a b. Po x a b ⊎ Rf x86_language test x a b) }
 {
     executions_have_times();
 }
 
 /// Every sequentially consistent execution keeps the axioms: what interleaving can do, x86-TSO can.
 pub fn sequential_outcomes_are_allowed()
-    ensures executions { (test : ProgramTest) (x : Execution) → IsSequential x86 test x → KeepsAxioms test x }
-    ensures outcomes { (test : ProgramTest) (o : Final) → IsSequentialOutcome x86 test o → IsAllowed test o }
+    ensures executions { (test : X86Test) (x : Execution) → IsSequentiallyConsistent x86_language test x → SatisfiesAxioms test x }
+    ensures outcomes { (test : X86Test) (o : FinalState) → IsScOutcome x86_language test o → IsAllowed test o }
 {}
 
 /// An execution that keeps the axioms is sequentially consistent if a fence or a locked instruction is between each store and
 /// each later load of its thread that reads what was there before another thread's write. So an outcome is one of interleaving if
 /// this holds of every execution with it.
 pub fn executions_fenced_where_overwritten_are_sequential()
-    ensures executions { (test : ProgramTest) (x : Execution) → IsWellFormedProgram test → KeepsAxioms test x
-        → IsFencedWhereOverwritten test x → IsSequential x86 test x }
-    ensures outcomes { (test : ProgramTest) (o : Final) → IsWellFormedProgram test
-        → ((x : Execution) → IsCandidate x86 test x o → KeepsAxioms test x → IsFencedWhereOverwritten test x)
-        → IsAllowed test o → IsSequentialOutcome x86 test o }
+    ensures executions { (test : X86Test) (x : Execution) → IsWellFormedProgram test → SatisfiesAxioms test x
+        → IsFencedWhereOverwritten test x → IsSequentiallyConsistent x86_language test x }
+    ensures outcomes { (test : X86Test) (o : FinalState) → IsWellFormedProgram test
+        → ((x : Execution) → IsCandidate x86_language test x o → SatisfiesAxioms test x → IsFencedWhereOverwritten test x)
+        → IsAllowed test o → IsScOutcome x86_language test o }
 {}
 
 /// An execution is sequentially consistent if a fence or a locked instruction is between each store and each later load of its
 /// thread.
 pub fn well_fenced_executions_are_sequential()
-    ensures { (test : ProgramTest) (x : Execution) → IsWellFormedProgram test → KeepsAxioms test x → IsFenced test x
-        → IsSequential x86 test x }
+    ensures { (test : X86Test) (x : Execution) → IsWellFormedProgram test → SatisfiesAxioms test x → IsFenced test x
+        → IsSequentiallyConsistent x86_language test x }
 {
     executions_fenced_where_overwritten_are_sequential();
 }
@@ -90,8 +90,8 @@ pub fn well_fenced_executions_are_sequential()
 /// thread, except loads of locations that no other thread writes in the execution. This is a law of all loads at once: where
 /// another load lacks its fence, the one before such a load may be needed (`spare_fences_change_no_outcome`).
 pub fn executions_fenced_where_shared_are_sequential()
-    ensures { (test : ProgramTest) (x : Execution) → IsWellFormedProgram test → KeepsAxioms test x → IsFencedWhereShared test x
-        → IsSequential x86 test x }
+    ensures { (test : X86Test) (x : Execution) → IsWellFormedProgram test → SatisfiesAxioms test x → IsFencedWhereShared test x
+        → IsSequentiallyConsistent x86_language test x }
 {
     executions_fenced_where_overwritten_are_sequential();
 }
@@ -99,10 +99,10 @@ pub fn executions_fenced_where_shared_are_sequential()
 /// A test has exactly the outcomes of its sequentially consistent executions, and on the machine exactly those of interleaving, if
 /// on each path a fence or a locked instruction is between each store and each later load.
 pub fn fenced_tests_have_sequential_outcomes()
-    ensures axioms { (test : ProgramTest) (o : Final) → IsWellFormedProgram test → IsFencedInAllThreads test
-        → IsAllowed test o ↔ IsSequentialOutcome x86 test o }
-    ensures flat_memory { (test : ProgramTest) (o : Final) → IsWellFormedProgram test → IsFencedInAllThreads test
-        → MachineOutcome flat test test.head.init_words o ↔ InterleavingOutcome x86 test o }
+    ensures axioms { (test : X86Test) (o : FinalState) → IsWellFormedProgram test → IsFencedInAllThreads test
+        → IsAllowed test o ↔ IsScOutcome x86_language test o }
+    ensures flat_memory { (test : X86Test) (o : FinalState) → IsWellFormedProgram test → IsFencedInAllThreads test
+        → IsMachineOutcome flat_memory test test.head.init_words o ↔ InterleavingOutcome x86_language test o }
 {
     sequential_outcomes_are_allowed();
     executions_fenced_where_overwritten_are_sequential();
@@ -114,10 +114,10 @@ pub fn fenced_tests_have_sequential_outcomes()
 /// store and each later load, except loads of what no other thread has an instruction to write. This is a law of all loads at once,
 /// as `executions_fenced_where_shared_are_sequential` is.
 pub fn tests_fenced_where_others_write_are_interleaving()
-    ensures axioms { (test : ProgramTest) (o : Final) → IsWellFormedProgram test → IsFencedWhereOthersWrite test
-        → IsAllowed test o ↔ IsSequentialOutcome x86 test o }
-    ensures flat_memory { (test : ProgramTest) (o : Final) → IsWellFormedProgram test → IsFencedWhereOthersWrite test
-        → MachineOutcome flat test test.head.init_words o ↔ InterleavingOutcome x86 test o }
+    ensures axioms { (test : X86Test) (o : FinalState) → IsWellFormedProgram test → IsFencedWhereOthersWrite test
+        → IsAllowed test o ↔ IsScOutcome x86_language test o }
+    ensures flat_memory { (test : X86Test) (o : FinalState) → IsWellFormedProgram test → IsFencedWhereOthersWrite test
+        → IsMachineOutcome flat_memory test test.head.init_words o ↔ InterleavingOutcome x86_language test o }
 {
     sequential_outcomes_are_allowed();
     executions_fenced_where_overwritten_are_sequential();
@@ -130,12 +130,12 @@ pub fn tests_fenced_where_others_write_are_interleaving()
 /// other thread has an instruction that writes what the load reads. The laws above speak of all loads at once, this one of each
 /// fence by itself.
 pub fn spare_fences_change_no_outcome()
-    ensures axioms { (test fenced : ProgramTest) (o : Final) (inserted : IsFencedTest test fenced) → IsTestName test.head.name
+    ensures axioms { (test fenced : X86Test) (o : FinalState) (inserted : IsFencedTest test fenced) → IsTestName test.head.name
         → IsWellFormedProgram fenced → AreSpare test fenced inserted → IsAllowed test o ↔ IsAllowed fenced o }
-    ensures flat_memory { (test fenced : ProgramTest) (o : Final) (inserted : IsFencedTest test fenced) → IsTestName test.head.name
+    ensures flat_memory { (test fenced : X86Test) (o : FinalState) (inserted : IsFencedTest test fenced) → IsTestName test.head.name
         → IsWellFormedProgram fenced → AreSpare test fenced inserted
-        → MachineOutcome flat test test.head.init_words o ↔ MachineOutcome flat fenced fenced.head.init_words o }
-    ensures caches { (protocol : Protocol) (test fenced : ProgramTest) (o : Final) (inserted : IsFencedTest test fenced)
+        → IsMachineOutcome flat_memory test test.head.init_words o ↔ IsMachineOutcome flat_memory fenced fenced.head.init_words o }
+    ensures caches { (protocol : Protocol) (test fenced : X86Test) (o : FinalState) (inserted : IsFencedTest test fenced)
         → IsTestName test.head.name → IsWellFormedProgram fenced → AreSpare test fenced inserted
         → OutcomeOverCaches protocol test o ↔ OutcomeOverCaches protocol fenced o }
 {
@@ -148,12 +148,12 @@ pub fn spare_fences_change_no_outcome()
 /// axioms allow, and the machine's, over flat memory and over caches of each protocol. So who programs without triangular races
 /// may think of one memory.
 pub fn tests_without_triangular_races_are_interleaving()
-    ensures axioms { (test : ProgramTest) (o : Final) → IsWellFormedProgram test → (HasTriangularRace test → ⊥)
-        → IsAllowed test o ↔ InterleavingOutcome x86 test o }
-    ensures flat_memory { (test : ProgramTest) (o : Final) → IsWellFormedProgram test → (HasTriangularRace test → ⊥)
-        → MachineOutcome flat test test.head.init_words o ↔ InterleavingOutcome x86 test o }
-    ensures caches { (protocol : Protocol) (test : ProgramTest) (o : Final) → IsWellFormedProgram test
-        → (HasTriangularRace test → ⊥) → OutcomeOverCaches protocol test o ↔ InterleavingOutcome x86 test o }
+    ensures axioms { (test : X86Test) (o : FinalState) → IsWellFormedProgram test → (HasTriangularRace test → ⊥)
+        → IsAllowed test o ↔ InterleavingOutcome x86_language test o }
+    ensures flat_memory { (test : X86Test) (o : FinalState) → IsWellFormedProgram test → (HasTriangularRace test → ⊥)
+        → IsMachineOutcome flat_memory test test.head.init_words o ↔ InterleavingOutcome x86_language test o }
+    ensures caches { (protocol : Protocol) (test : X86Test) (o : FinalState) → IsWellFormedProgram test
+        → (HasTriangularRace test → ⊥) → OutcomeOverCaches protocol test o ↔ InterleavingOutcome x86_language test o }
 {
     the_machine_is_what_the_axioms_allow();
     interleaving_outcomes_are_sequential();
@@ -165,20 +165,20 @@ pub fn tests_without_triangular_races_are_interleaving()
 /// notions of a data race (DRF-SC). The law of triangular races says more: of data races only those count in which a load follows a store
 /// of its thread to another location, with neither a fence nor a locked instruction between.
 pub fn tests_without_data_races_are_interleaving()
-    ensures axioms { (test : ProgramTest) (o : Final) → IsWellFormedProgram test → (HasDataRace test → ⊥)
-        → IsAllowed test o ↔ InterleavingOutcome x86 test o }
-    ensures flat_memory { (test : ProgramTest) (o : Final) → IsWellFormedProgram test → (HasDataRace test → ⊥)
-        → MachineOutcome flat test test.head.init_words o ↔ InterleavingOutcome x86 test o }
-    ensures caches { (protocol : Protocol) (test : ProgramTest) (o : Final) → IsWellFormedProgram test
-        → (HasDataRace test → ⊥) → OutcomeOverCaches protocol test o ↔ InterleavingOutcome x86 test o }
+    ensures axioms { (test : X86Test) (o : FinalState) → IsWellFormedProgram test → (HasDataRace test → ⊥)
+        → IsAllowed test o ↔ InterleavingOutcome x86_language test o }
+    ensures flat_memory { (test : X86Test) (o : FinalState) → IsWellFormedProgram test → (HasDataRace test → ⊥)
+        → IsMachineOutcome flat_memory test test.head.init_words o ↔ InterleavingOutcome x86_language test o }
+    ensures caches { (protocol : Protocol) (test : X86Test) (o : FinalState) → IsWellFormedProgram test
+        → (HasDataRace test → ⊥) → OutcomeOverCaches protocol test o ↔ InterleavingOutcome x86_language test o }
 {
     tests_without_triangular_races_are_interleaving();
 }
 
 /// Where an outcome is one of x86-TSO and none of interleaving, the test has a triangular race.
 pub fn relaxed_outcomes_come_of_triangular_races()
-    ensures { (test : ProgramTest) (o : Final) → IsWellFormedProgram test → IsAllowed test o
-        → InterleavingOutcome x86 test o ⊎ HasTriangularRace test }
+    ensures { (test : X86Test) (o : FinalState) → IsWellFormedProgram test → IsAllowed test o
+        → InterleavingOutcome x86_language test o ⊎ HasTriangularRace test }
 {
     interleaving_outcomes_are_sequential();
 }

@@ -27,34 +27,34 @@ pub use Rattle.std.specs.Char.{is_ascii_digit, is_ascii_graphic}
 pub use Rattle.std.specs.Cmp.{unsigned_Decides}
 pub use Rattle.std.specs.Cmp.Lexicographic.{pointwise, pointwise_decides}
 pub use Rattle.std.specs.List.{AllByRecursion, list_all, list_any, range_with_len}
-pub use Rattle.lw_base.specs.Changes.{changed_at, sum_of, word_after, word_at}
-pub use Rattle.lw_base.specs.Characters.{IsCutAt, Lacks, begins, byte, digit, is_blank, is_key_byte}
-pub use Rattle.lw_base.specs.Characters.{is_name_byte, is_space}
-pub use Rattle.lw_base.specs.ConditionTexts.{assignment, condition_text, in_parentheses, is_joined, is_or}
+pub use Rattle.lw_base.specs.Changes.{apply_change_if_some, changed_word, word_or_zero, wrapping_sum}
+pub use Rattle.lw_base.specs.Characters.{DoesNotContain, IsSplitAtFirst, byte, digit, first_byte_is, is_blank}
+pub use Rattle.lw_base.specs.Characters.{is_key_byte, is_name_byte, is_space}
+pub use Rattle.lw_base.specs.ConditionTexts.{assignment, condition_text, is_binary, is_or, parenthesized}
 pub use Rattle.lw_base.specs.ConditionTexts.{parenthesized_if, proposition_text, quantifier_text, site_text}
 pub use Rattle.lw_base.specs.Formula.{And, Formula, No, Not, Or, Reg_is, Word_is, Yes, nodes}
-pub use Rattle.lw_base.specs.Heads.{TestHead, head_of, with_table}
+pub use Rattle.lw_base.specs.Heads.{TestHead, head_of, set_location_names}
 pub use Rattle.lw_base.specs.Languages.{arch_keyword}
 pub use Rattle.lw_base.specs.Limits.{most_locations, most_threads, registers}
 pub use Rattle.lw_base.specs.ListedOutcomes.{IsListedOutcome}
-pub use Rattle.lw_base.specs.Lists.{EachOnce}
-pub use Rattle.lw_base.specs.Names.{IsLocation, IsName, IsNameShaped, IsTable, IsTestName, are_digits}
-pub use Rattle.lw_base.specs.Names.{is_numbered, is_reserved, keywords, x86_registers}
-pub use Rattle.lw_base.specs.Outcomes.{Final, IsOutcomeOf, final_cmp}
+pub use Rattle.lw_base.specs.Lists.{IsDuplicateFree}
+pub use Rattle.lw_base.specs.Names.{IsLocationName, IsName, IsNameShaped, IsNameTable, IsTestName, are_digits}
+pub use Rattle.lw_base.specs.Names.{is_numbered_register, is_reserved, keywords, x86_registers}
+pub use Rattle.lw_base.specs.NoParse.{HoldsOfNothing, ParsesNothing}
+pub use Rattle.lw_base.specs.Outcomes.{FinalState, HasOutcomeShape, final_state_cmp}
 pub use Rattle.lw_base.specs.Propositions.{formula_of}
-pub use Rattle.lw_base.specs.Refusals.{NoSuch, NoneRead}
-pub use Rattle.lw_base.specs.Registers.{IsRegister, register_name, without_case}
-pub use Rattle.lw_base.specs.Replays.{EndsAs, Ran}
-pub use Rattle.lw_base.specs.Schedules.{HasParts, HasShape, IsCpu, IsEvent, IsFaulty, IsSchedule, event_text}
-pub use Rattle.lw_base.specs.Schedules.{event_texts, pieces, schedule_text}
-pub use Rattle.lw_base.specs.SeenLists.{all_registers, locations, same_seen, thread_registers}
-pub use Rattle.lw_base.specs.Stops.{stop_name, stop_number}
-pub use Rattle.lw_base.specs.Tables.{contains_name, index_of, with_name, with_names}
+pub use Rattle.lw_base.specs.Registers.{IsRegisterName, lowercase_if_x86, register_name}
+pub use Rattle.lw_base.specs.Replays.{HasReplayEnd, RunsTo}
+pub use Rattle.lw_base.specs.Schedules.{HasEventParts, HasEventShape, IsCpu, IsEvent, IsFaultyPiece}
+pub use Rattle.lw_base.specs.Schedules.{IsSchedule, event_text, event_texts, schedule_text, split_blanks}
+pub use Rattle.lw_base.specs.SeenLists.{all_registers, locations, seen_eq, thread_registers}
+pub use Rattle.lw_base.specs.Stops.{stop_code, stop_name}
+pub use Rattle.lw_base.specs.Tables.{contains_name, insert_name, insert_names, position_of_name}
 pub use Rattle.lw_base.specs.Texts.{joined}
-pub use Rattle.lw_base.specs.Threads.{code_of, value_of, with_word}
+pub use Rattle.lw_base.specs.Threads.{operand_value, set_word_if_some, thread_code}
 pub use Rattle.lw_base.specs.Types.{Bytes, CellGrid, Cells, NameTable, TokenList}
-pub use Rattle.lw_base.specs.WellFormed.{Ascending, ComesBefore, HasLocations, IsRegisterIndex, IsSeen}
-pub use Rattle.lw_base.specs.WellFormed.{IsWellFormedHead, IsWordNumber, SpeaksOf}
+pub use Rattle.lw_base.specs.WellFormed.{IsAscending, IsRegisterIndex, IsSeenInRange, IsSeenLess}
+pub use Rattle.lw_base.specs.WellFormed.{IsWellFormedHead, IsWordNumber, MentionsLocationsBelow, MentionsOnly}
 pub use Rattle.lw_base.specs.declared.event.Event.{Event}
 pub use Rattle.lw_base.specs.declared.event.Event.TheVariants.{Drain, Evict, Step}
 pub use Rattle.lw_base.specs.declared.fault.ScheduleCause.{ScheduleCause}

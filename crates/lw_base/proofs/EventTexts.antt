@@ -2,14 +2,14 @@
 use Rattle.lw_base.proofs.Common.{append_assoc, drop, ◌-◌, length-append, ◌≡◌, ◌<◌, ◌≤◌, ◌==◌, ℕ, zero, suc}
 use Rattle.lw_base.proofs.Common.{true, false, not, List, [], ◌∷◌, ◌++◌, length, refl, sym, ap, ◌∙◌, arith}
 use Rattle.lw_base.proofs.Common.{true≢false, eqb-true, append-nil, map, not-true, not-false, map-append}
-use Rattle.lw_base.proofs.Common.{drop-append_seam, AllByRecursion, Bytes, NameTable, is_blank, begins, Event}
-use Rattle.lw_base.proofs.Common.{pieces, event_texts, IsEvent, event_text, IsSchedule}
+use Rattle.lw_base.proofs.Common.{drop-append_seam, AllByRecursion, Bytes, NameTable, is_blank, first_byte_is}
+use Rattle.lw_base.proofs.Common.{Event, split_blanks, event_texts, IsEvent, event_text, IsSchedule}
 
 -- bytes that are no blanks, before a blank or the end of the text, are one piece
 first_piece : (w r : Bytes) (ps : List Bytes)
     → AllByRecursion (λ b. not (is_blank b) ≡ true) w
-    → pieces r ≡ [] ∷ ps
-    → pieces (w ++ r) ≡ w ∷ ps
+    → split_blanks r ≡ [] ∷ ps
+    → split_blanks (w ++ r) ≡ w ∷ ps
 first_piece [] r ps others e = e
 first_piece (b ∷ w) r ps others e = rw (not-true (is_blank b) others.0, first_piece w r ps others.1 e) refl
 
@@ -25,14 +25,15 @@ event_texts-behind text (b ∷ w) r e all = rw (e, all.0) (event_texts-behind (w
 pub record BeginsWithPiece (text piece after : Bytes) : Type 0 where
   pub parts : text ≡ piece ++ after
   pub some : 0 < length text
-  pub front : begins is_blank text ≡ false
+  pub front : first_byte_is is_blank text ≡ false
   pub others : AllByRecursion (λ b. not (is_blank b) ≡ true) piece
-  pub ends : begins (λ b. not (is_blank b)) after ≡ false
+  pub ends : first_byte_is (λ b. not (is_blank b)) after ≡ false
 
 -- the piece that a text begins with is not empty
 not_empty : (text after : Bytes) → BeginsWithPiece text [] after → ⊥
 not_empty text [] x = omega (arith, ap length x.parts, x.some)
-not_empty text (c ∷ r) x = true≢false (sym (not-false (is_blank c) x.ends) ∙ (ap (begins is_blank) (sym x.parts) ∙ x.front))
+not_empty text (c ∷ r) x =
+    true≢false (sym (not-false (is_blank c) x.ends) ∙ (ap (first_byte_is is_blank) (sym x.parts) ∙ x.front))
 
 -- if a text begins with a piece, its pieces are that one and those of what stands behind it
 pub event_texts-first : (text w r : Bytes) → BeginsWithPiece text w r → event_texts text ≡ w ∷ event_texts r
@@ -40,7 +41,7 @@ event_texts-first text [] r x = absurd (not_empty text r x)
 event_texts-first text (b ∷ w) [] x = rw (x.parts, first_piece (b ∷ w) [] [] x.others refl) refl
 event_texts-first text (b ∷ w) (c ∷ r) x =
     let blank : is_blank c ≡ true = not-false (is_blank c) x.ends in
-    rw (x.parts, first_piece (b ∷ w) (c ∷ r) (pieces r) x.others (rw blank refl), blank) refl
+    rw (x.parts, first_piece (b ∷ w) (c ∷ r) (split_blanks r) x.others (rw blank refl), blank) refl
 
 -- if the texts of a list of events are those of some events, and then others, the first of the others is the text of an event
 event_at : (names : NameTable) (done events : List Event) (w : Bytes) (ws : List Bytes)

@@ -1,13 +1,13 @@
 -- The text of an event says which event it is, so a schedule is read in one way.
 use Rattle.lw_base.proofs.Common.{◌≡◌, ℕ, zero, suc, ◌<◌, ◌+◌, List, [], ◌∷◌, length, refl, sym, ap, ◌∙◌}
 use Rattle.lw_base.proofs.Common.{subst, arith, map, slice_index_or, Contains, AllByRecursion}
-use Rattle.lw_base.proofs.Common.{Contains-get_or, Bytes, NameTable, EachOnce, IsTable, IsEvent, event_text}
-use Rattle.lw_base.proofs.Common.{IsSchedule, Event, Step, Drain, Evict}
-use Rattle.lw_base.proofs.api.Lists.{apart}
+use Rattle.lw_base.proofs.Common.{Contains-get_or, Bytes, NameTable, IsDuplicateFree, IsNameTable, IsEvent}
+use Rattle.lw_base.proofs.Common.{event_text, IsSchedule, Event, Step, Drain, Evict}
+use Rattle.lw_base.proofs.api.Lists.{cons-ne}
 
 -- where each name stands once, a name has one index
 pub one_index : (names : NameTable) (i j : ℕ)
-    → EachOnce names
+    → IsDuplicateFree names
     → i < length names
     → j < length names
     → slice_index_or names i [] ≡ slice_index_or names j []
@@ -22,7 +22,7 @@ one_index (n ∷ names) (suc i) (suc j) once l m e = ap suc (one_index names i j
 
 -- events with the same text are the same, where each name stands once
 one_event : (names : NameTable)
-    → EachOnce names
+    → IsDuplicateFree names
     → (e f : Event)
     → IsEvent names e
     → IsEvent names f
@@ -32,16 +32,16 @@ one_event names once (Step c) (Step d) h k same =
     let e : 48 + c ≡ 48 + d = cc in
     let g : c ≡ d = omega arith in
     ap Step g
-one_event names once (Step c) (Drain d) h k same = absurd (apart 80 68 _ _ (λ differ. omega arith) same)
-one_event names once (Step c) (Evict d l) h k same = absurd (apart 80 69 _ _ (λ differ. omega arith) same)
-one_event names once (Drain c) (Step d) h k same = absurd (apart 68 80 _ _ (λ differ. omega arith) same)
+one_event names once (Step c) (Drain d) h k same = absurd (cons-ne 80 68 _ _ (λ differ. omega arith) same)
+one_event names once (Step c) (Evict d l) h k same = absurd (cons-ne 80 69 _ _ (λ differ. omega arith) same)
+one_event names once (Drain c) (Step d) h k same = absurd (cons-ne 68 80 _ _ (λ differ. omega arith) same)
 one_event names once (Drain c) (Drain d) h k same =
     let e : 48 + c ≡ 48 + d = cc in
     let g : c ≡ d = omega arith in
     ap Drain g
-one_event names once (Drain c) (Evict d l) h k same = absurd (apart 68 69 _ _ (λ differ. omega arith) same)
-one_event names once (Evict c l) (Step d) h k same = absurd (apart 69 80 _ _ (λ differ. omega arith) same)
-one_event names once (Evict c l) (Drain d) h k same = absurd (apart 69 68 _ _ (λ differ. omega arith) same)
+one_event names once (Drain c) (Evict d l) h k same = absurd (cons-ne 68 69 _ _ (λ differ. omega arith) same)
+one_event names once (Evict c l) (Step d) h k same = absurd (cons-ne 69 80 _ _ (λ differ. omega arith) same)
+one_event names once (Evict c l) (Drain d) h k same = absurd (cons-ne 69 68 _ _ (λ differ. omega arith) same)
 one_event names once (Evict c l) (Evict d m) h k same =
     let e : 48 + c ≡ 48 + d = cc in
     let g : c ≡ d = omega arith in
@@ -51,7 +51,7 @@ one_event names once (Evict c l) (Evict d m) h k same =
 
 -- lists of events with the same texts are the same
 one_list : (names : NameTable)
-    → EachOnce names
+    → IsDuplicateFree names
     → (es fs : List Event)
     → AllByRecursion (IsEvent names) es
     → AllByRecursion (IsEvent names) fs
@@ -68,7 +68,7 @@ one_list names once _ _ h k same = absurd cc
 
 -- a text is a schedule of one list of events at most
 pub one_schedule : (names : NameTable)
-    → IsTable names
+    → IsNameTable names
     → (text : Bytes) (events others : List Event)
     → IsSchedule names text events
     → IsSchedule names text others

@@ -4,11 +4,11 @@ use Rattle.lw_base.proofs.Common.{true, false, [], ◌∷◌, ◌++◌, length, 
 use Rattle.lw_base.proofs.Common.{true≢false, eqb-true, append-nil, slice_get, slice_index_or, Some, Contains}
 use Rattle.lw_base.proofs.Common.{not-false, agree_below_at, nat_tests, Contains-get_or, slice_get_within}
 use Rattle.lw_base.proofs.Common.{get_or_from_slice_get, is_ascii_digit, AllByRecursion, list_all, Bytes}
-use Rattle.lw_base.proofs.Common.{NameTable, Lacks, IsCutAt, begins, most_threads, IsLocation, IsNameShaped}
-use Rattle.lw_base.proofs.Common.{IsTable, are_digits, HasParts, HasShape, IsCpu, IsFaulty, IsEvent}
-use Rattle.lw_base.proofs.Common.{event_text, HasBadDigits, Event, Step, Drain, Evict, ScheduleCause, Word}
-use Rattle.lw_base.proofs.Common.{Cpu, Memory}
-use Rattle.lw_base.proofs.api.Lists.{apart}
+use Rattle.lw_base.proofs.Common.{NameTable, DoesNotContain, IsSplitAtFirst, first_byte_is, most_threads}
+use Rattle.lw_base.proofs.Common.{IsLocationName, IsNameShaped, IsNameTable, are_digits, HasEventParts}
+use Rattle.lw_base.proofs.Common.{HasEventShape, IsCpu, IsFaultyPiece, IsEvent, event_text, HasBadDigits}
+use Rattle.lw_base.proofs.Common.{Event, Step, Drain, Evict, ScheduleCause, Word, Cpu, Memory}
+use Rattle.lw_base.proofs.api.Lists.{cons-ne}
 use Rattle.lw_base.specs.declared.fault.ScheduleCause.TheVariants.{Location}
 
 -- where two texts are equal, so is what stands behind their first bytes
@@ -45,41 +45,41 @@ colon_there [] n h = h.0 refl
 colon_there (b ∷ ds) n h = colon_there ds n h.1
 
 -- a text behind `E` that has no `:` is refused, for it has no event's shape
-pub uncut : (names : NameTable) (text : Bytes) → AllByRecursion (λ b. b ≢ 58) text → IsFaulty names (69 ∷ text) Word
+pub uncut : (names : NameTable) (text : Bytes) → AllByRecursion (λ b. b ≢ 58) text → IsFaultyPiece names (69 ∷ text) Word
 uncut names text others ds shape = go shape.1
   where
-    go : HasParts (69 ∷ text) ds → ⊥
-    go (inl e) = apart 69 80 _ _ (λ k. omega arith) e
-    go (inr (inl e)) = apart 69 68 _ _ (λ k. omega arith) e
+    go : HasEventParts (69 ∷ text) ds → ⊥
+    go (inl e) = cons-ne 69 80 _ _ (λ k. omega arith) e
+    go (inr (inl e)) = cons-ne 69 68 _ _ (λ k. omega arith) e
     go (inr (inr h)) = colon_there ds h.0 (subst (AllByRecursion (λ b. b ≢ 58)) (same_rest 69 69 _ _ h.2) others)
 
 -- A text behind `E`, cut at its first `:`.
 module _ (names : NameTable) (text digits name : Bytes) (cut : text ≡ digits ++ 58 ∷ name)
     (others : AllByRecursion (λ b. b ≢ 58) digits) where
   -- if `E` and the text have an event's shape with the digits ds, these stand before the `:`, and behind it a name's shape
-  eviction : (ds : Bytes) → HasShape (69 ∷ text) ds → (digits ≡ ds) × IsNameShaped name
+  eviction : (ds : Bytes) → HasEventShape (69 ∷ text) ds → (digits ≡ ds) × IsNameShaped name
   eviction ds shape = go shape.1
     where
-      go : HasParts (69 ∷ text) ds → (digits ≡ ds) × IsNameShaped name
-      go (inl e) = absurd (apart 69 80 _ _ (λ k. omega arith) e)
-      go (inr (inl e)) = absurd (apart 69 68 _ _ (λ k. omega arith) e)
+      go : HasEventParts (69 ∷ text) ds → (digits ≡ ds) × IsNameShaped name
+      go (inl e) = absurd (cons-ne 69 80 _ _ (λ k. omega arith) e)
+      go (inr (inl e)) = absurd (cons-ne 69 68 _ _ (λ k. omega arith) e)
       go (inr (inr h)) =
           let e : digits ++ 58 ∷ name ≡ ds ++ 58 ∷ h.0 = sym cut ∙ same_rest 69 69 _ _ h.2 in
           let p = cut_once digits ds name h.0 others (digits_no_colon ds shape.0) e in
           (p.0, subst IsNameShaped (sym p.1) h.1)
 
   -- if what stands behind the `:` is not name-shaped, the text is refused, for it has no event's shape
-  pub no_name : (IsNameShaped name → ⊥) → IsFaulty names (69 ∷ text) Word
+  pub no_name : (IsNameShaped name → ⊥) → IsFaultyPiece names (69 ∷ text) Word
   no_name none ds shape = none (eviction ds shape).1
 
   -- if what stands before the `:` is refused for a cause, as no digits or no processor's, so is the text
-  pub no_cpu : IsNameShaped name → (e : ScheduleCause) → HasBadDigits digits e → IsFaulty names (69 ∷ text) e
+  pub no_cpu : IsNameShaped name → (e : ScheduleCause) → HasBadDigits digits e → IsFaultyPiece names (69 ∷ text) e
   no_cpu named Word bad = λ ds shape. true≢false (sym shape.0 ∙ ap are_digits (sym (eviction ds shape).0) ∙ bad)
   no_cpu named Cpu bad = (digits, (bad.0, inr (inr (name, named, ap (λ t. 69 ∷ t) cut))), bad.1)
   no_cpu named _ bad = absurd bad
 
   -- if a processor's digit stands before the `:`, and behind it a name that is not in the table, the text is refused for that
-  pub no_location : IsNameShaped name → IsCpu digits → (Contains names name → ⊥) → IsFaulty names (69 ∷ text) Location
+  pub no_location : IsNameShaped name → IsCpu digits → (Contains names name → ⊥) → IsFaultyPiece names (69 ∷ text) Location
   no_location named cpu missing = (digits, name, cpu, named, ap (λ t. 69 ∷ t) cut, missing)
 
   -- if the digit of processor c stands before the `:`, and behind it the name of location l, `E` and the text are that eviction's
@@ -98,53 +98,56 @@ one_digit c h = agree_below_at (λ d. are_digits ((48 + d) ∷ [])) (λ d. true)
 
 -- an event's text has an event's shape, with the digit of a processor
 shape_of : (names : NameTable)
-    → IsTable names
+    → IsNameTable names
     → (e : Event)
     → IsEvent names e
-    → (ds : Bytes) × IsCpu ds × HasShape (event_text names e) ds
+    → (ds : Bytes) × IsCpu ds × HasEventShape (event_text names e) ds
 shape_of names table (Step c) is = ((48 + c) ∷ [], (c, is, refl), (one_digit c is, inl refl))
 shape_of names table (Drain c) is = ((48 + c) ∷ [], (c, is, refl), (one_digit c is, inr (inl refl)))
 shape_of names table (Evict c l) is = (
   (48 + c) ∷ [],
   (c, is.0, refl),
-  (one_digit c is.0, inr (inr (slice_index_or names l [], (All-from_recursion IsLocation names table.all l [] is.1).0.0, refl))),
+  (
+    one_digit c is.0,
+    inr (inr (slice_index_or names l [], (All-from_recursion IsLocationName names table.all l [] is.1).0.0, refl)),
+  ),
 )
 
 -- a piece has an event's shape with one text of digits only
-one_shape : (w ds es : Bytes) → HasShape w ds → HasShape w es → ds ≡ es
+one_shape : (w ds es : Bytes) → HasEventShape w ds → HasEventShape w es → ds ≡ es
 one_shape w ds es shape other = go shape.1 other.1
   where
-    go : HasParts w ds → HasParts w es → ds ≡ es
+    go : HasEventParts w ds → HasEventParts w es → ds ≡ es
     go (inl e) (inl f) = same_rest 80 80 _ _ (sym e ∙ f)
-    go (inl e) (inr (inl f)) = absurd (apart 80 68 _ _ (λ k. omega arith) (sym e ∙ f))
-    go (inl e) (inr (inr f)) = absurd (apart 80 69 _ _ (λ k. omega arith) (sym e ∙ f.2))
-    go (inr (inl e)) (inl f) = absurd (apart 68 80 _ _ (λ k. omega arith) (sym e ∙ f))
+    go (inl e) (inr (inl f)) = absurd (cons-ne 80 68 _ _ (λ k. omega arith) (sym e ∙ f))
+    go (inl e) (inr (inr f)) = absurd (cons-ne 80 69 _ _ (λ k. omega arith) (sym e ∙ f.2))
+    go (inr (inl e)) (inl f) = absurd (cons-ne 68 80 _ _ (λ k. omega arith) (sym e ∙ f))
     go (inr (inl e)) (inr (inl f)) = same_rest 68 68 _ _ (sym e ∙ f)
-    go (inr (inl e)) (inr (inr f)) = absurd (apart 68 69 _ _ (λ k. omega arith) (sym e ∙ f.2))
-    go (inr (inr e)) (inl f) = absurd (apart 69 80 _ _ (λ k. omega arith) (sym e.2 ∙ f))
-    go (inr (inr e)) (inr (inl f)) = absurd (apart 69 68 _ _ (λ k. omega arith) (sym e.2 ∙ f))
+    go (inr (inl e)) (inr (inr f)) = absurd (cons-ne 68 69 _ _ (λ k. omega arith) (sym e ∙ f.2))
+    go (inr (inr e)) (inl f) = absurd (cons-ne 69 80 _ _ (λ k. omega arith) (sym e.2 ∙ f))
+    go (inr (inr e)) (inr (inl f)) = absurd (cons-ne 69 68 _ _ (λ k. omega arith) (sym e.2 ∙ f))
     go (inr (inr e)) (inr (inr f)) =
         let same : ds ++ 58 ∷ e.0 ≡ es ++ 58 ∷ f.0 = same_rest 69 69 _ _ (sym e.2 ∙ f.2) in
         (cut_once ds es e.0 f.0 (digits_no_colon ds shape.0) (digits_no_colon es other.0) same).0
 
 -- a piece that is refused is no event's text
 pub no_event : (names : NameTable)
-    → IsTable names
+    → IsNameTable names
     → (w : Bytes) (cause : ScheduleCause)
-    → IsFaulty names w cause
+    → IsFaultyPiece names w cause
     → (e : Event)
     → IsEvent names e
     → event_text names e ≡ w
     → ⊥
 no_event names table w Word faulty e is same =
-    let s = shape_of names table e is in faulty s.0 (subst (λ v. HasShape v s.0) same s.2)
+    let s = shape_of names table e is in faulty s.0 (subst (λ v. HasEventShape v s.0) same s.2)
 no_event names table w Cpu faulty e is same =
     let s = shape_of names table e is in
-    faulty.2 (subst IsCpu (one_shape w s.0 faulty.0 (subst (λ v. HasShape v s.0) same s.2) faulty.1) s.1)
+    faulty.2 (subst IsCpu (one_shape w s.0 faulty.0 (subst (λ v. HasEventShape v s.0) same s.2) faulty.1) s.1)
 no_event names table w Location (ds, n, cpu, text, is_word, missing) (Step c) is same =
-    apart 80 69 _ _ (λ k. omega arith) (same ∙ is_word)
+    cons-ne 80 69 _ _ (λ k. omega arith) (same ∙ is_word)
 no_event names table w Location (ds, n, cpu, text, is_word, missing) (Drain c) is same =
-    apart 68 69 _ _ (λ k. omega arith) (same ∙ is_word)
+    cons-ne 68 69 _ _ (λ k. omega arith) (same ∙ is_word)
 no_event names table w Location (ds, n, cpu, text, is_word, missing) (Evict c l) is same =
     let e : (48 + c) ∷ 58 ∷ slice_index_or names l [] ≡ ds ++ 58 ∷ n = same_rest 69 69 _ _ (same ∙ is_word) in
     let d : ds ≡ (48 + cpu.0) ∷ [] = cpu.2 in
@@ -155,7 +158,7 @@ no_event names table w Memory faulty e is same = absurd faulty
 -- ---- pieces without a `:`, and without an event's letter
 
 -- where all bytes of a text differ from b, it lacks b
-lacks_all : (b : ℕ) (front : Bytes) → AllByRecursion (λ c. not (c == b) ≡ true) front → Lacks b front
+lacks_all : (b : ℕ) (front : Bytes) → AllByRecursion (λ c. not (c == b) ≡ true) front → DoesNotContain b front
 lacks_all b [] all = tt
 lacks_all b (c ∷ front) all = (differ, lacks_all b front all.1)
   where
@@ -167,49 +170,54 @@ pub cut_nowhere : {text : Bytes} (b : ℕ) (front rest : Bytes)
     → text ≡ front ++ rest
     → AllByRecursion (λ c. not (c == b) ≡ true) front
     → length rest ≡ 0
-    → Lacks b text
-cut_nowhere b front [] parts all none = subst (Lacks b) (sym (parts ∙ append-nil front)) (lacks_all b front all)
+    → DoesNotContain b text
+cut_nowhere b front [] parts all none = subst (DoesNotContain b) (sym (parts ∙ append-nil front)) (lacks_all b front all)
 cut_nowhere b front (c ∷ rest) parts all none = absurd (omega (arith, none))
 
 -- a text is cut at b, if b stands behind the bytes at its front that differ from b
 pub cut_there : {text rest others : Bytes} {x : ℕ} (b : ℕ) (front : Bytes)
     → text ≡ front ++ rest
     → AllByRecursion (λ c. not (c == b) ≡ true) front
-    → begins (λ c. not (c == b)) rest ≡ false
+    → first_byte_is (λ c. not (c == b)) rest ≡ false
     → rest ≡ x ∷ others
-    → IsCutAt b text front others
+    → IsSplitAtFirst b text front others
 cut_there {others} {x} b front parts all longest is =
     (parts ∙ ap (λ r. front ++ r) (is ∙ ap (λ y. y ∷ others) first), lacks_all b front all)
   where
     first : x ≡ b
-    first = eqb-true x b (not-false (x == b) (ap (begins (λ c. not (c == b))) (sym is) ∙ longest))
+    first = eqb-true x b (not-false (x == b) (ap (first_byte_is (λ c. not (c == b))) (sym is) ∙ longest))
 
 -- a piece without bytes has no event's shape
-pub none_shaped : (w ds : Bytes) → length w ≡ 0 → HasShape w ds → ⊥
+pub none_shaped : (w ds : Bytes) → length w ≡ 0 → HasEventShape w ds → ⊥
 none_shaped [] ds none shape = go shape.1
   where
-    go : HasParts [] ds → ⊥
+    go : HasEventParts [] ds → ⊥
     go (inl e) = cc
     go (inr (inl e)) = cc
     go (inr (inr h)) = let e = h.2 in cc
 none_shaped (b ∷ w) ds none shape = omega (arith, none)
 
 -- if a piece with an event's parts begins with `P` or `D`, its digits are what stands behind that
-digits_are : (w rest ds : Bytes) → (w ≡ 80 ∷ rest) ⊎ (w ≡ 68 ∷ rest) → HasParts w ds → rest ≡ ds
+digits_are : (w rest ds : Bytes) → (w ≡ 80 ∷ rest) ⊎ (w ≡ 68 ∷ rest) → HasEventParts w ds → rest ≡ ds
 digits_are w rest ds (inl e) (inl f) = same_rest 80 80 _ _ (sym e ∙ f)
-digits_are w rest ds (inl e) (inr (inl f)) = absurd (apart 80 68 _ _ (λ k. omega arith) (sym e ∙ f))
-digits_are w rest ds (inl e) (inr (inr f)) = absurd (apart 80 69 _ _ (λ k. omega arith) (sym e ∙ f.2))
-digits_are w rest ds (inr e) (inl f) = absurd (apart 68 80 _ _ (λ k. omega arith) (sym e ∙ f))
+digits_are w rest ds (inl e) (inr (inl f)) = absurd (cons-ne 80 68 _ _ (λ k. omega arith) (sym e ∙ f))
+digits_are w rest ds (inl e) (inr (inr f)) = absurd (cons-ne 80 69 _ _ (λ k. omega arith) (sym e ∙ f.2))
+digits_are w rest ds (inr e) (inl f) = absurd (cons-ne 68 80 _ _ (λ k. omega arith) (sym e ∙ f))
 digits_are w rest ds (inr e) (inr (inl f)) = same_rest 68 68 _ _ (sym e ∙ f)
-digits_are w rest ds (inr e) (inr (inr f)) = absurd (apart 68 69 _ _ (λ k. omega arith) (sym e ∙ f.2))
+digits_are w rest ds (inr e) (inr (inr f)) = absurd (cons-ne 68 69 _ _ (λ k. omega arith) (sym e ∙ f.2))
 
 -- a piece that begins with `P` or `D` has an event's parts, with what stands behind that for its digits
-parts_there : (w rest : Bytes) → (w ≡ 80 ∷ rest) ⊎ (w ≡ 68 ∷ rest) → HasParts w rest
+parts_there : (w rest : Bytes) → (w ≡ 80 ∷ rest) ⊎ (w ≡ 68 ∷ rest) → HasEventParts w rest
 parts_there w rest (inl e) = inl e
 parts_there w rest (inr e) = inr (inl e)
 
 -- a piece that begins with `P` or `D`, and has something else than digits behind that, has no event's shape
-not_shaped : (w rest : Bytes) → (w ≡ 80 ∷ rest) ⊎ (w ≡ 68 ∷ rest) → are_digits rest ≡ false → (ds : Bytes) → HasShape w ds → ⊥
+not_shaped : (w rest : Bytes)
+    → (w ≡ 80 ∷ rest) ⊎ (w ≡ 68 ∷ rest)
+    → are_digits rest ≡ false
+    → (ds : Bytes)
+    → HasEventShape w ds
+    → ⊥
 not_shaped w rest is bad ds shape =
     true≢false (sym (subst (λ r. are_digits r ≡ true) (sym (digits_are w rest ds is shape.1)) shape.0) ∙ bad)
 
@@ -218,7 +226,7 @@ bad_digits : (names : NameTable) (w rest : Bytes)
     → (w ≡ 80 ∷ rest) ⊎ (w ≡ 68 ∷ rest)
     → (cause : ScheduleCause)
     → HasBadDigits rest cause
-    → IsFaulty names w cause
+    → IsFaultyPiece names w cause
 bad_digits names w rest is Word bad = not_shaped w rest is bad
 bad_digits names w rest is Cpu bad = (rest, (bad.0, parts_there w rest is), bad.1)
 bad_digits names w rest is _ bad = absurd bad
@@ -228,7 +236,7 @@ pub bad_step : (names : NameTable) (w rest : Bytes) (x : ℕ) (cause : ScheduleC
     → w ≡ x ∷ rest
     → x ≡ 80
     → HasBadDigits rest cause
-    → IsFaulty names w cause
+    → IsFaultyPiece names w cause
 bad_step names w rest x cause is letter bad = bad_digits _ w rest (inl (is ∙ ap (λ y. y ∷ rest) letter)) _ bad
 
 -- a piece that begins with `D` is refused for a cause for which what stands behind that is refused as digits
@@ -236,7 +244,7 @@ pub bad_drain : (names : NameTable) (w rest : Bytes) (x : ℕ) (cause : Schedule
     → w ≡ x ∷ rest
     → x ≡ 68
     → HasBadDigits rest cause
-    → IsFaulty names w cause
+    → IsFaultyPiece names w cause
 bad_drain names w rest x cause is letter bad = bad_digits _ w _ (inr (is ∙ ap (λ y. y ∷ rest) letter)) _ bad
 
 -- a piece w that is x and then rest is also y and then told, where x is y and rest is told

@@ -2,9 +2,10 @@
 use Rattle.lw_base.proofs.Common.{◌≡◌, ℕ, zero, suc, ◌<◌, inl, inr, true, false, not, List, [], ◌∷◌, ◌++◌}
 use Rattle.lw_base.proofs.Common.{length, refl, sym, ap, ◌∙◌, arith, drop, flat_map, map, slice_index_or}
 use Rattle.lw_base.proofs.Common.{codes, AllByRecursion, not-true, cases_Bool, agree_below_at, Bytes}
-use Rattle.lw_base.proofs.Common.{NameTable, digit, is_blank, is_name_byte, begins, most_threads, IsLocation}
-use Rattle.lw_base.proofs.Common.{IsTable, IsEvent, event_text, schedule_text, event_texts, IsSchedule, Event}
-use Rattle.lw_base.proofs.Common.{Step, Drain, Evict, append-nil, append_assoc}
+use Rattle.lw_base.proofs.Common.{NameTable, digit, is_blank, is_name_byte, first_byte_is, most_threads}
+use Rattle.lw_base.proofs.Common.{IsLocationName, IsNameTable, IsEvent, event_text, schedule_text}
+use Rattle.lw_base.proofs.Common.{event_texts, IsSchedule, Event, Step, Drain, Evict, append-nil}
+use Rattle.lw_base.proofs.Common.{append_assoc}
 use Rattle.lw_base.proofs.api.Blanks.{blank_all}
 use Rattle.lw_base.proofs.EventTexts.{event_texts-behind, event_texts-first}
 
@@ -59,23 +60,26 @@ all_show [] all = tt
 all_show (b ∷ w) all = (name_byte_shows b all.0, all_show w all.1)
 
 -- the name of a location has no blank in it
-name_shows : (names : NameTable) (l : ℕ) → AllByRecursion IsLocation names → l < length names → Shows (slice_index_or names l [])
+name_shows : (names : NameTable) (l : ℕ)
+    → AllByRecursion IsLocationName names
+    → l < length names
+    → Shows (slice_index_or names l [])
 name_shows [] l all lt = absurd (omega (arith, lt))
 name_shows (n ∷ names) zero all lt = all_show n all.0.0.0.all
 name_shows (n ∷ names) (suc l) all lt = name_shows names l all.1 (omega (arith, lt))
 
 -- an event's text has no blank in it
-event_text_shows : (names : NameTable) (e : Event) → IsTable names → IsEvent names e → Shows (event_text names e)
+event_text_shows : (names : NameTable) (e : Event) → IsNameTable names → IsEvent names e → Shows (event_text names e)
 event_text_shows names (Step c) table is = (refl, (digit_shows c is, tt))
 event_text_shows names (Drain c) table is = (refl, (digit_shows c is, tt))
 event_text_shows names (Evict c l) table is = (refl, (digit_shows c is.0, (refl, name_shows _ l table.all is.1)))
 
 -- The texts of events, one behind another.
-module _ (names : NameTable) (table : IsTable names) where
+module _ (names : NameTable) (table : IsNameTable names) where
   -- an event's text, before a blank or the end, is the first piece of the whole
   first_piece : (e : Event) (r : Bytes)
       → IsEvent names e
-      → begins (λ b. not (is_blank b)) r ≡ false
+      → first_byte_is (λ b. not (is_blank b)) r ≡ false
       → event_texts (event_text names e ++ r) ≡ event_text names e ∷ event_texts r
   first_piece (Step c) r is ends =
       event_texts-first (event_text names (Step c) ++ r) (event_text names (Step c)) r
@@ -109,7 +113,7 @@ module _ (names : NameTable) (table : IsTable names) where
 
 -- a schedule that is written is read again as these events
 pub written_is_read : (names : NameTable) (events : List Event)
-    → IsTable names
+    → IsNameTable names
     → AllByRecursion (IsEvent names) events
     → IsSchedule names (schedule_text names events) events
 written_is_read names [] table all = (tt, refl)

@@ -2,10 +2,10 @@
 pub mod Returns
 pub mod Lists
 pub mod Members
-pub mod SideBySide
+pub mod Zips
 pub mod Elements
 pub mod SeenLists
-pub mod ListedAgain
+pub mod SeenMembership
 pub mod Tables
 pub mod GrowingTables
 pub mod Registers

@@ -23,12 +23,12 @@ is_key_byte b = is_name_byte b || b == byte "-"
 abbrev pub is_space : ℕ → Bool  -- whether a byte is a space or a tab
 is_space b = list_any (λ c. c == b) (codes " \t")
 
-abbrev pub Lacks : ℕ → Bytes → Type 0  -- this byte is nowhere in the text
-Lacks b text = AllByRecursion (λ c. c ≢ b) text
+abbrev pub DoesNotContain : ℕ → Bytes → Type 0  -- this byte is nowhere in the text
+DoesNotContain b text = AllByRecursion (λ c. c ≢ b) text
 
-abbrev pub IsCutAt : ℕ → Bytes → Bytes → Bytes → Type 0  -- The text is cut in two at the first such byte, which is in neither part.
-IsCutAt b text front rest = (text ≡ front ++ b ∷ rest) × Lacks b front
+abbrev pub IsSplitAtFirst : ℕ → Bytes → Bytes → Bytes → Type 0  -- The text is cut in two at the first such byte, which is in neither part.
+IsSplitAtFirst b text front rest = (text ≡ front ++ b ∷ rest) × DoesNotContain b front
 
-abbrev pub begins : (ℕ → Bool) → Bytes → Bool  -- whether the first byte of a text passes a test
-begins p [] = false
-begins p (b ∷ text) = p b
+abbrev pub first_byte_is : (ℕ → Bool) → Bytes → Bool  -- whether the first byte of a text passes a test
+first_byte_is p [] = false
+first_byte_is p (b ∷ text) = p b

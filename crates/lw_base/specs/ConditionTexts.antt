@@ -19,11 +19,11 @@ site_text arch names (Location x) = slice_index_or names x []
 abbrev pub assignment : Bytes → ℕ → Bytes  -- `name=word`
 assignment name word = name ++ (codes "=" ++ decimal word)
 
-abbrev pub in_parentheses : Bytes → Bytes  -- a text between parentheses
-in_parentheses text = codes "(" ++ (text ++ codes ")")
+abbrev pub parenthesized : Bytes → Bytes  -- a text between parentheses
+parenthesized text = codes "(" ++ (text ++ codes ")")
 
 abbrev pub parenthesized_if : Bool → Bytes → Bytes  -- a text, between parentheses where they are needed
-parenthesized_if needed text = if needed then in_parentheses text else text
+parenthesized_if needed text = if needed then parenthesized text else text
 
 abbrev pub is_and : Formula → Bool  -- whether its outermost connective is a `/\`
 is_and (And p q) = true
@@ -33,8 +33,8 @@ abbrev pub is_or : Formula → Bool  -- whether its outermost connective is a `\
 is_or (Or p q) = true
 is_or p = false
 
-abbrev pub is_joined : Formula → Bool  -- whether it is either, so that it has two parts
-is_joined p = is_and p || is_or p
+abbrev pub is_binary : Formula → Bool  -- whether it is either, so that it has two parts
+is_binary p = is_and p || is_or p
 
 -- A proposition. Parentheses stand round a `\/` that is a part of a `/\`, round a `/\` that is the right part of a `/\`,
 -- round a `\/` that is the right part of a `\/`, and round either behind a `~`.
@@ -44,10 +44,10 @@ proposition_text arch names No = codes "false"
 proposition_text arch names (Reg_is t r n) = assignment (site_text arch names (Register t r)) n
 proposition_text arch names (Word_is x n) = assignment (site_text arch names (Location x)) n
 proposition_text arch names (Not p) =
-    codes "~" ++ parenthesized_if (is_joined p) (proposition_text arch names p)
+    codes "~" ++ parenthesized_if (is_binary p) (proposition_text arch names p)
 proposition_text arch names (And p q) =
     parenthesized_if (is_or p) (proposition_text arch names p)
-    ++ (codes " /\\ " ++ parenthesized_if (is_joined q) (proposition_text arch names q))
+    ++ (codes " /\\ " ++ parenthesized_if (is_binary q) (proposition_text arch names q))
 proposition_text arch names (Or p q) =
     proposition_text arch names p
     ++ (codes " \\/ " ++ parenthesized_if (is_or q) (proposition_text arch names q))
@@ -59,4 +59,4 @@ quantifier_text Forall = codes "forall"
 
 abbrev pub condition_text : TestHead → Bytes  -- a head's condition: the quantifier, and the proposition in parentheses
 condition_text head =
-    quantifier_text head.quant ++ (codes " " ++ in_parentheses (proposition_text head.arch head.locs head.condition))
+    quantifier_text head.quant ++ (codes " " ++ parenthesized (proposition_text head.arch head.locs head.condition))

@@ -7,14 +7,14 @@ use Rattle.lw_base.specs.declared.fault.ScheduleCause.{ScheduleCause}
 use Rattle.lw_base.specs.declared.fault.ScheduleCause.TheVariants as schedule
 
 -- the number under which people are told why a cell is refused
-abbrev pub cell_cause_number : CellCause → ℕ
-cell_cause_number cell.Form = 1
-cell_cause_number cell.Register = 2
-cell_cause_number cell.LabelMissing = 3
-cell_cause_number cell.LabelTwice = 4
-cell_cause_number cell.Backward = 5
-cell_cause_number cell.TooMany = 6
-cell_cause_number cell.Memory = 7
+abbrev pub cell_cause_code : CellCause → ℕ
+cell_cause_code cell.Form = 1
+cell_cause_code cell.Register = 2
+cell_cause_code cell.LabelMissing = 3
+cell_cause_code cell.LabelTwice = 4
+cell_cause_code cell.Backward = 5
+cell_cause_code cell.TooMany = 6
+cell_cause_code cell.Memory = 7
 
 -- the name under which people are told why a cell is refused
 abbrev pub cell_cause_name : CellCause → Bytes
@@ -27,11 +27,11 @@ cell_cause_name cell.TooMany = codes "TooMany"
 cell_cause_name cell.Memory = codes "Memory"
 
 -- the number under which people are told why a schedule is refused
-abbrev pub schedule_cause_number : ScheduleCause → ℕ
-schedule_cause_number schedule.Word = 1
-schedule_cause_number schedule.Cpu = 2
-schedule_cause_number schedule.Location = 3
-schedule_cause_number schedule.Memory = 4
+abbrev pub schedule_cause_code : ScheduleCause → ℕ
+schedule_cause_code schedule.Word = 1
+schedule_cause_code schedule.Cpu = 2
+schedule_cause_code schedule.Location = 3
+schedule_cause_code schedule.Memory = 4
 
 -- the name under which people are told why a schedule is refused
 abbrev pub schedule_cause_name : ScheduleCause → Bytes

@@ -32,8 +32,8 @@ head_of h =
       condition = formula_of h.prop;
     }
 
-abbrev pub with_table : TestHead → List (List ℕ) → TestHead  -- the head with a longer table; each new location begins with 0
-with_table head names =
+abbrev pub set_location_names : TestHead → List (List ℕ) → TestHead  -- the head with a longer table; each new location begins with 0
+set_location_names head names =
     record {
       name = head.name;
       arch = head.arch;

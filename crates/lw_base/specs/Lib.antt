@@ -2,7 +2,7 @@ pub mod Types
 pub mod Limits
 pub mod Lists
 pub mod Changes
-pub mod Refusals
+pub mod NoParse
 pub mod Characters
 pub mod Texts
 pub mod Names

@@ -2,6 +2,6 @@
 use Rattle.std.specs.Prelude.{List, [], ◌∷◌, Contains}
 
 -- each element stands in the list once
-abbrev pub EachOnce : {X : Type 0} → List X → Type 0
-EachOnce [] = Unit {0}
-EachOnce (x ∷ xs) = (Contains xs x → ⊥) × EachOnce xs
+abbrev pub IsDuplicateFree : {X : Type 0} → List X → Type 0
+IsDuplicateFree [] = Unit {0}
+IsDuplicateFree (x ∷ xs) = (Contains xs x → ⊥) × IsDuplicateFree xs

@@ -3,16 +3,16 @@ use Rattle.std.specs.Prelude.{◌≡◌, ◌<◌, ◌≤◌, ◌&&◌, ◌||◌,
 use Rattle.std.specs.List.{list_any, list_all, AllByRecursion}
 use Rattle.std.specs.Char.{is_ascii_digit, is_ascii_graphic, to_ascii_lowercase}
 use Rattle.std.specs.Str.{bytes_eq}
-use Rattle.lw_base.specs.Lists.{EachOnce}
+use Rattle.lw_base.specs.Lists.{IsDuplicateFree}
 use Rattle.lw_base.specs.Limits.{most_locations, most_name_bytes, most_test_name_bytes}
 use Rattle.lw_base.specs.Types.{Bytes, NameTable}
-use Rattle.lw_base.specs.Characters.{byte, is_name_byte, begins}
+use Rattle.lw_base.specs.Characters.{byte, is_name_byte, first_byte_is}
 
 -- a letter or `_`, and then letters, digits and `_`
 pub record IsNameShaped (w : Bytes) : Type 0 where
   pub some : 0 < length w
   pub all : AllByRecursion (λ b. is_name_byte b ≡ true) w
-  pub front : begins is_ascii_digit w ≡ false
+  pub front : first_byte_is is_ascii_digit w ≡ false
 
 -- a name: name-shaped, and of at most 32 bytes
 abbrev pub IsName : Bytes → Type 0
@@ -35,26 +35,26 @@ abbrev pub are_digits : Bytes → Bool
 are_digits ds = not (length ds == 0) && list_all is_ascii_digit ds
 
 -- whether a text is `r` and then digits alone
-abbrev pub is_numbered : Bytes → Bool
-is_numbered [] = false
-is_numbered (b ∷ ds) = (b == byte "r") && are_digits ds
+abbrev pub is_numbered_register : Bytes → Bool
+is_numbered_register [] = false
+is_numbered_register (b ∷ ds) = (b == byte "r") && are_digits ds
 
 -- whether a text is reserved, so that it names no location and no label: a keyword, `r` with digits, or a register
 -- of x86 in any case
 abbrev pub is_reserved : Bytes → Bool
 is_reserved w =
-    (is_numbered w || list_any (λ k. bytes_eq w k) keywords)
+    (is_numbered_register w || list_any (λ k. bytes_eq w k) keywords)
     || list_any (λ r. bytes_eq (map to_ascii_lowercase w) r) x86_registers
 
 -- a name that a location or a label may have: one that is not reserved
-abbrev pub IsLocation : Bytes → Type 0
-IsLocation w = IsName w × (is_reserved w ≡ false)
+abbrev pub IsLocationName : Bytes → Type 0
+IsLocationName w = IsName w × (is_reserved w ≡ false)
 
 -- A table of locations: at most eight allowed names, each once.
-pub record IsTable (names : NameTable) : Type 0 where
+pub record IsNameTable (names : NameTable) : Type 0 where
   pub few : length names ≤ most_locations
-  pub all : AllByRecursion IsLocation names
-  pub once : EachOnce names
+  pub all : AllByRecursion IsLocationName names
+  pub once : IsDuplicateFree names
 
 -- a test's name: 1 to 128 printing ASCII bytes
 pub record IsTestName (name : Bytes) : Type 0 where

@@ -6,12 +6,12 @@ use Rattle.std.specs.Ordering.{nat_cmp, ordering_then}
 use Rattle.std.specs.declared.cmp.Ordering.{Ordering}
 use Rattle.lw_base.specs.Limits.{registers}
 
-pub record Final : Type 0 where  -- an outcome: six words for each thread, and one word for each location
+pub record FinalState : Type 0 where  -- an outcome: six words for each thread, and one word for each location
   pub regs : List (List ℕ)
   pub words : List ℕ
 
 -- An outcome of so many threads, each with its registers, and of so many locations.
-pub record IsOutcomeOf (threads locs : ℕ) (o : Final) : Type 0 where
+pub record HasOutcomeShape (threads locs : ℕ) (o : FinalState) : Type 0 where
   pub regs_of : length o.regs ≡ threads
   pub six : AllByRecursion (λ row. length row ≡ registers) o.regs
   pub words_of : length o.words ≡ locs
@@ -19,6 +19,6 @@ pub record IsOutcomeOf (threads locs : ℕ) (o : Final) : Type 0 where
 -- The order of outcomes: by the registers, and by the words where the registers are the same.
 -- Lists go by the first items that differ,
 -- and a list comes before its longer ones.
-abbrev pub final_cmp : Final → Final → Ordering
-final_cmp o p =
+abbrev pub final_state_cmp : FinalState → FinalState → Ordering
+final_state_cmp o p =
     ordering_then (slice_cmp (slice_cmp nat_cmp) o.regs p.regs) (slice_cmp nat_cmp o.words p.words)

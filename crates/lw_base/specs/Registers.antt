@@ -14,10 +14,10 @@ abbrev pub register_name : Arch → ℕ → Bytes  -- a register's name as it is
 register_name Source r = byte "r" ∷ digit r ∷ []
 register_name X86 r = slice_index_or x86_names r []
 
-abbrev pub without_case : Arch → Bytes → Bytes  -- a text, for x86 in small letters: so names of registers are compared
-without_case Source w = w
-without_case X86 w = map to_ascii_lowercase w
+abbrev pub lowercase_if_x86 : Arch → Bytes → Bytes  -- a text, for x86 in small letters: so names of registers are compared
+lowercase_if_x86 Source w = w
+lowercase_if_x86 X86 w = map to_ascii_lowercase w
 
-abbrev pub IsRegister : Arch → Bytes → ℕ → Type 0  -- the token names the register of this index; x86's names in any case
-IsRegister arch w r =
-    (r < registers) × (without_case arch (register_name arch r) ≡ without_case arch w)
+abbrev pub IsRegisterName : Arch → Bytes → ℕ → Type 0  -- the token names the register of this index; x86's names in any case
+IsRegisterName arch w r =
+    (r < registers) × (lowercase_if_x86 arch (register_name arch r) ≡ lowercase_if_x86 arch w)

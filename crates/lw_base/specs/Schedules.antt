@@ -3,7 +3,7 @@ use Rattle.std.specs.Prelude.{◌≡◌, ℕ, ◌<◌, true, false, if◌then◌
 use Rattle.std.specs.List.{AllByRecursion}
 use Rattle.lw_base.specs.Texts.{joined}
 use Rattle.lw_base.specs.Types.{Bytes, NameTable}
-use Rattle.lw_base.specs.Characters.{byte, digit, is_blank, begins}
+use Rattle.lw_base.specs.Characters.{byte, digit, is_blank, first_byte_is}
 use Rattle.lw_base.specs.Names.{IsNameShaped, are_digits}
 use Rattle.lw_base.specs.Limits.{most_threads}
 use Rattle.lw_base.specs.declared.event.Event.{Event}
@@ -28,18 +28,18 @@ abbrev pub IsEventText : NameTable → Event → Bytes → Type 0
 IsEventText names e w = IsEvent names e × (event_text names e ≡ w)
 
 -- some pieces, with one byte more at the front of the first
-abbrev pub grown : ℕ → List Bytes → List Bytes
-grown b [] = (b ∷ []) ∷ []
-grown b (w ∷ ws) = (b ∷ w) ∷ ws
+abbrev pub prepend_to_first : ℕ → List Bytes → List Bytes
+prepend_to_first b [] = (b ∷ []) ∷ []
+prepend_to_first b (w ∷ ws) = (b ∷ w) ∷ ws
 
 -- a text, cut at its blanks
-abbrev pub pieces : Bytes → List Bytes
-pieces [] = [] ∷ []
-pieces (b ∷ text) = if is_blank b then [] ∷ pieces text else grown b (pieces text)
+abbrev pub split_blanks : Bytes → List Bytes
+split_blanks [] = [] ∷ []
+split_blanks (b ∷ text) = if is_blank b then [] ∷ split_blanks text else prepend_to_first b (split_blanks text)
 
 -- the pieces of a text that are not empty, each of which should be an event's text
 abbrev pub event_texts : Bytes → List Bytes
-event_texts text = filter (begins (λ b. true)) (pieces text)
+event_texts text = filter (first_byte_is (λ b. true)) (split_blanks text)
 
 -- the texts of some events, joined by one space
 abbrev pub schedule_text : NameTable → List Event → Bytes
@@ -55,14 +55,14 @@ abbrev pub IsEviction : Bytes → Bytes → Bytes → Type 0
 IsEviction w ds n = w ≡ byte "E" ∷ ds ++ byte ":" ∷ n
 
 -- A piece of these parts: `P` or `D`, and then ds; or `E`, ds, `:` and a name of any length.
-abbrev pub HasParts : Bytes → Bytes → Type 0
-HasParts w ds =
+abbrev pub HasEventParts : Bytes → Bytes → Type 0
+HasEventParts w ds =
     (w ≡ byte "P" ∷ ds)
     ⊎ ((w ≡ byte "D" ∷ ds) ⊎ ((n : Bytes) × IsNameShaped n × IsEviction w ds n))
 
 -- the piece has an event's shape, with the digits ds
-abbrev pub HasShape : Bytes → Bytes → Type 0
-HasShape w ds = (are_digits ds ≡ true) × HasParts w ds
+abbrev pub HasEventShape : Bytes → Bytes → Type 0
+HasEventShape w ds = (are_digits ds ≡ true) × HasEventParts w ds
 
 -- the digits are one digit, the index of a processor
 abbrev pub IsCpu : Bytes → Type 0
@@ -70,12 +70,12 @@ IsCpu ds = (c : ℕ) × (c < most_threads) × (ds ≡ digit c ∷ [])
 
 -- The cause for which a piece is refused: it has no event's shape; or its digits are no processor's; or
 -- they are, and its name is not in the table.
-abbrev pub IsFaulty : NameTable → Bytes → ScheduleCause → Type 0
-IsFaulty names w Word = (ds : Bytes) → HasShape w ds → ⊥
-IsFaulty names w Cpu = (ds : Bytes) × HasShape w ds × (IsCpu ds → ⊥)
-IsFaulty names w Location =
+abbrev pub IsFaultyPiece : NameTable → Bytes → ScheduleCause → Type 0
+IsFaultyPiece names w Word = (ds : Bytes) → HasEventShape w ds → ⊥
+IsFaultyPiece names w Cpu = (ds : Bytes) × HasEventShape w ds × (IsCpu ds → ⊥)
+IsFaultyPiece names w Location =
     (ds n : Bytes) × IsCpu ds × IsNameShaped n × IsEviction w ds n × (Contains names n → ⊥)
-IsFaulty names w Memory = ⊥
+IsFaultyPiece names w Memory = ⊥
 
 -- The first faulty piece of a text begins at a byte: the pieces before it are events', and it is refused
 -- for this cause.
@@ -86,6 +86,6 @@ pub record IsFirstFault (names : NameTable) (text : Bytes) (at : ℕ) (cause : S
     pub further : List Bytes
     pub events : AllByRecursion (IsEvent names) before
     pub place : event_texts (drop at text) ≡ piece ∷ further
-    pub front : begins is_blank (drop at text) ≡ false
+    pub front : first_byte_is is_blank (drop at text) ≡ false
     pub whole : event_texts text ≡ map (event_text names) before ++ piece ∷ further
-    pub fault : IsFaulty names piece cause
+    pub fault : IsFaultyPiece names piece cause

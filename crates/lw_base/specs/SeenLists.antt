@@ -5,10 +5,10 @@ use Rattle.lw_base.specs.Limits.{registers}
 use Rattle.lw_base.specs.declared.head.Seen.{Seen}
 use Rattle.lw_base.specs.declared.head.Seen.TheVariants.{Register, Location}
 
-abbrev pub same_seen : Seen → Seen → Bool  -- whether two registers or locations are the same
-same_seen (Register t r) (Register u s) = (t == u) && (r == s)
-same_seen (Location x) (Location y) = x == y
-same_seen s other = false
+abbrev pub seen_eq : Seen → Seen → Bool  -- whether two registers or locations are the same
+seen_eq (Register t r) (Register u s) = (t == u) && (r == s)
+seen_eq (Location x) (Location y) = x == y
+seen_eq s other = false
 
 abbrev pub thread_registers : ℕ → List Seen  -- the registers of a thread, by their indices
 thread_registers t = map (λ r. Register t r) (range_with_len 0 registers)

@@ -5,15 +5,15 @@ use Rattle.lw_base.specs.declared.stop.Stop.{Stop}
 use Rattle.lw_base.specs.declared.stop.Stop.TheVariants.{NoCpu, NoLocation, Ended, FenceWaits, SwapWaits, BufferEmpty, NotHeld, Memory}
 
 -- the number under which people are told why an event is refused
-abbrev pub stop_number : Stop → ℕ
-stop_number NoCpu = 1
-stop_number NoLocation = 2
-stop_number Ended = 3
-stop_number FenceWaits = 4
-stop_number SwapWaits = 5
-stop_number BufferEmpty = 6
-stop_number NotHeld = 7
-stop_number Memory = 8
+abbrev pub stop_code : Stop → ℕ
+stop_code NoCpu = 1
+stop_code NoLocation = 2
+stop_code Ended = 3
+stop_code FenceWaits = 4
+stop_code SwapWaits = 5
+stop_code BufferEmpty = 6
+stop_code NotHeld = 7
+stop_code Memory = 8
 
 -- the name under which people are told why an event is refused
 abbrev pub stop_name : Stop → Bytes

@@ -9,14 +9,14 @@ abbrev pub contains_name : NameTable → Bytes → Bool
 contains_name names n = list_any (λ m. bytes_eq m n) names
 
 -- a table after a name appeared: it is put last, unless it is there
-abbrev pub with_name : NameTable → Bytes → NameTable
-with_name names n = if contains_name names n then names else names ++ n ∷ []
+abbrev pub insert_name : NameTable → Bytes → NameTable
+insert_name names n = if contains_name names n then names else names ++ n ∷ []
 
 -- a table after names appeared, one after another
-abbrev pub with_names : NameTable → List Bytes → NameTable
-with_names names [] = names
-with_names names (n ∷ ns) = with_names (with_name names n) ns
+abbrev pub insert_names : NameTable → List Bytes → NameTable
+insert_names names [] = names
+insert_names names (n ∷ ns) = insert_names (insert_name names n) ns
 
 -- the index of a name in a table: the table's length, where it is not there
-abbrev pub index_of : NameTable → Bytes → ℕ
-index_of names n = position_or_len (λ m. bytes_eq m n) names
+abbrev pub position_of_name : NameTable → Bytes → ℕ
+position_of_name names n = position_or_len (λ m. bytes_eq m n) names

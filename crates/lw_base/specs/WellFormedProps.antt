@@ -8,9 +8,9 @@ use Rattle.lw_base.specs.declared.head.Seen.{Seen}
 use Rattle.lw_base.specs.declared.head.Seen.TheVariants.{Register, Location}
 use Rattle.lw_base.specs.Formula.{Formula, Yes, No, Reg_is, Word_is, Not, And, Or}
 use Rattle.lw_base.specs.Heads.{TestHead}
-use Rattle.lw_base.specs.Lists.{EachOnce}
-use Rattle.lw_base.specs.Names.{IsLocation, IsTable}
-use Rattle.lw_base.specs.WellFormed.{IsSeen, ComesBefore, Ascending, SpeaksOf, IsWellFormedHead}
+use Rattle.lw_base.specs.Lists.{IsDuplicateFree}
+use Rattle.lw_base.specs.Names.{IsLocationName, IsNameTable}
+use Rattle.lw_base.specs.WellFormed.{IsSeenInRange, IsSeenLess, IsAscending, MentionsOnly, IsWellFormedHead}
 
 -- either of two facts that exclude each other is so in one way
 either : {A B : Type 0} → IsProp A → IsProp B → (A → B → ⊥) → IsProp (A ⊎ B)
@@ -20,45 +20,45 @@ either a b apart (inr x) (inl y) = absurd (apart y x)
 either a b apart (inr x) (inr y) = ap inr (b x y)
 
 -- a text is a location's name in one way
-IsLocation-prop : (w : List ℕ) → IsProp (IsLocation w)
-IsLocation-prop w = hlevel props
+IsLocationName-prop : (w : List ℕ) → IsProp (IsLocationName w)
+IsLocationName-prop w = hlevel props
 
 -- names stand once each in one way
-EachOnce-prop : (names : List (List ℕ)) → IsProp (EachOnce names)
-EachOnce-prop [] = Unit-prop
-EachOnce-prop (n ∷ ns) = hlevel (props, EachOnce-prop ns)
+IsDuplicateFree-prop : (names : List (List ℕ)) → IsProp (IsDuplicateFree names)
+IsDuplicateFree-prop [] = Unit-prop
+IsDuplicateFree-prop (n ∷ ns) = hlevel (props, IsDuplicateFree-prop ns)
 
 -- names are a table in one way
-IsTable-prop : (names : List (List ℕ)) → IsProp (IsTable names)
-IsTable-prop names = hlevel (props, IsLocation-prop, EachOnce-prop)
+IsNameTable-prop : (names : List (List ℕ)) → IsProp (IsNameTable names)
+IsNameTable-prop names = hlevel (props, IsLocationName-prop, IsDuplicateFree-prop)
 
 -- a register or location is there in one way
-IsSeen-prop : (threads locs : ℕ) (s : Seen) → IsProp (IsSeen threads locs s)
-IsSeen-prop threads locs (Register t r) = hlevel props
-IsSeen-prop threads locs (Location x) = hlevel props
+IsSeenInRange-prop : (threads locs : ℕ) (s : Seen) → IsProp (IsSeenInRange threads locs s)
+IsSeenInRange-prop threads locs (Register t r) = hlevel props
+IsSeenInRange-prop threads locs (Location x) = hlevel props
 
 -- of two registers or locations one comes before the other in one way
-ComesBefore-prop : (s t : Seen) → IsProp (ComesBefore s t)
-ComesBefore-prop (Register t r) (Register u s) = either (hlevel props) (hlevel props) (λ lt same. omega (arith, lt, same.0))
-ComesBefore-prop (Register t r) (Location x) = hlevel props
-ComesBefore-prop (Location x) (Register t r) = hlevel props
-ComesBefore-prop (Location x) (Location y) = hlevel props
+IsSeenLess-prop : (s t : Seen) → IsProp (IsSeenLess s t)
+IsSeenLess-prop (Register t r) (Register u s) = either (hlevel props) (hlevel props) (λ lt same. omega (arith, lt, same.0))
+IsSeenLess-prop (Register t r) (Location x) = hlevel props
+IsSeenLess-prop (Location x) (Register t r) = hlevel props
+IsSeenLess-prop (Location x) (Location y) = hlevel props
 
 -- a list is in order in one way
-Ascending-prop : (ss : List Seen) → IsProp (Ascending ss)
-Ascending-prop [] = hlevel props
-Ascending-prop (s ∷ ss) = hlevel (props, ComesBefore-prop, Ascending-prop ss)
+IsAscending-prop : (ss : List Seen) → IsProp (IsAscending ss)
+IsAscending-prop [] = hlevel props
+IsAscending-prop (s ∷ ss) = hlevel (props, IsSeenLess-prop, IsAscending-prop ss)
 
 -- a formula speaks of what is there in one way
-SpeaksOf-prop : (threads locs : ℕ) (p : Formula) → IsProp (SpeaksOf threads locs p)
-SpeaksOf-prop threads locs Yes = hlevel props
-SpeaksOf-prop threads locs No = hlevel props
-SpeaksOf-prop threads locs (Reg_is t r n) = hlevel props
-SpeaksOf-prop threads locs (Word_is x n) = hlevel props
-SpeaksOf-prop threads locs (Not p) = SpeaksOf-prop threads locs p
-SpeaksOf-prop threads locs (And p q) = ×_prop (SpeaksOf-prop threads locs p) (SpeaksOf-prop threads locs q)
-SpeaksOf-prop threads locs (Or p q) = ×_prop (SpeaksOf-prop threads locs p) (SpeaksOf-prop threads locs q)
+MentionsOnly-prop : (threads locs : ℕ) (p : Formula) → IsProp (MentionsOnly threads locs p)
+MentionsOnly-prop threads locs Yes = hlevel props
+MentionsOnly-prop threads locs No = hlevel props
+MentionsOnly-prop threads locs (Reg_is t r n) = hlevel props
+MentionsOnly-prop threads locs (Word_is x n) = hlevel props
+MentionsOnly-prop threads locs (Not p) = MentionsOnly-prop threads locs p
+MentionsOnly-prop threads locs (And p q) = ×_prop (MentionsOnly-prop threads locs p) (MentionsOnly-prop threads locs q)
+MentionsOnly-prop threads locs (Or p q) = ×_prop (MentionsOnly-prop threads locs p) (MentionsOnly-prop threads locs q)
 
 -- a head is well-formed in one way
 pub IsWellFormedHead-prop : (h : TestHead) → IsProp (IsWellFormedHead h)
-IsWellFormedHead-prop h = hlevel (props, IsTable-prop, IsSeen-prop, Ascending-prop, SpeaksOf-prop)
+IsWellFormedHead-prop h = hlevel (props, IsNameTable-prop, IsSeenInRange-prop, IsAscending-prop, MentionsOnly-prop)

@@ -2,7 +2,7 @@
 ghost use Rattle.std.specs.Prelude.{◌≡◌};
 ghost use Rattle.lw_base.specs.Changes as table;
 
-use crate::number::Word;
+use crate::indices::Word;
 
 /// What a store or a read-modify-write makes of a location's word.
 #[derive(Clone, Copy)]
@@ -16,7 +16,7 @@ pub enum Change {
 impl Change {
     /// A location's word after the change, by the one before.
     pub fn word_after(self, old: Word) -> Word
-        ensures { result ≡ table.word_after self old }
+        ensures { result ≡ table.changed_word self old }
     {
         match self {
             Change::Put(word) => word,

@@ -5,11 +5,11 @@ ghost use Rattle.lw_base.specs.ConditionTexts as printed;
 ghost use Rattle.lw_base.specs.ConditionTexts.{condition_text, proposition_text, parenthesized_if, site_text, assignment};
 ghost use Rattle.lw_base.specs.Heads.{head_of};
 ghost use Rattle.lw_base.specs.Propositions.{formula_of};
-ghost use Rattle.lw_base.specs.WellFormed.{HasLocations};
+ghost use Rattle.lw_base.specs.WellFormed.{MentionsLocationsBelow};
 ghost use Rattle.lw_base.specs.declared.head.Seen.TheVariants.{Register};
 
 use crate::head::{Arch, Head, Quant};
-use crate::number::{Cpu, Reg, Word};
+use crate::indices::{Cpu, Reg, Word};
 use crate::proposition::Prop;
 use crate::register::reg_name;
 use crate::text::Text;
@@ -21,7 +21,7 @@ pub fn write_condition<A: Allocator, B: Allocator>(
     head: &Head<B>,
 ) -> Result<Text<A>, AllocError>
     // The table has the proposition's locations.
-    requires { HasLocations (length head.now.locs) (formula_of head.now.prop) }
+    requires { MentionsLocationsBelow (length head.now.locs) (formula_of head.now.prop) }
     ensures { IfOk result (λ text. text ≡ condition_text (head_of head.now)) }
 {
     let mut out = String::new(alloc);
@@ -49,7 +49,7 @@ fn write_proposition<A: Allocator, B: Allocator>(
     head: &Head<B>,
     prop: &Prop<B>,
 ) -> Result<(), AllocError>
-    requires { HasLocations (length head.now.locs) (formula_of prop.now) }
+    requires { MentionsLocationsBelow (length head.now.locs) (formula_of prop.now) }
     ensures { OnOk result (string_bytes out.new
         ≡ string_bytes out.old ++ proposition_text head.now.arch head.now.locs (formula_of prop.now)) }
 {
@@ -58,14 +58,14 @@ fn write_proposition<A: Allocator, B: Allocator>(
         Prop::Never => out.push_str("false"),
         Prop::RegIs(cpu, reg, word) => write_register_is(out, head.arch, *cpu, *reg, *word),
         Prop::WordIs(loc, word) => write!(out, "{}={}", head.locs.name(*loc), word),
-        Prop::Neg(part) => write_behind(out, head, "~", part, part.is_joined()),
+        Prop::Neg(part) => write_right_operand(out, head, "~", part, part.is_joined()),
         Prop::Both(left, right) => {
             write_part(out, head, left, left.is_either())?;
-            write_behind(out, head, " /\\ ", right, right.is_joined())
+            write_right_operand(out, head, " /\\ ", right, right.is_joined())
         }
         Prop::Either(left, right) => {
             write_proposition(out, head, left)?;
-            write_behind(out, head, " \\/ ", right, right.is_either())
+            write_right_operand(out, head, " \\/ ", right, right.is_either())
         }
     }
 }
@@ -86,14 +86,14 @@ fn write_register_is<A: Allocator>(
 
 /// Writes a connective, and behind it a part of a proposition, in parentheses where they are needed.
 #[cycle(propositions)]
-fn write_behind<A: Allocator, B: Allocator>(
+fn write_right_operand<A: Allocator, B: Allocator>(
     out: &mut String<A>,
     head: &Head<B>,
     mark: &str,
     part: &Prop<B>,
     needs_parentheses: bool,
 ) -> Result<(), AllocError>
-    requires { HasLocations (length head.now.locs) (formula_of part.now) }
+    requires { MentionsLocationsBelow (length head.now.locs) (formula_of part.now) }
     ensures { OnOk result (string_bytes out.new ≡ string_bytes out.old
         ++ (mark.now ++ parenthesized_if needs_parentheses (proposition_text head.now.arch head.now.locs (formula_of part.now)))) }
 {
@@ -109,7 +109,7 @@ fn write_part<A: Allocator, B: Allocator>(
     part: &Prop<B>,
     needs_parentheses: bool,
 ) -> Result<(), AllocError>
-    requires { HasLocations (length head.now.locs) (formula_of part.now) }
+    requires { MentionsLocationsBelow (length head.now.locs) (formula_of part.now) }
     ensures { OnOk result (string_bytes out.new ≡ string_bytes out.old
         ++ parenthesized_if needs_parentheses (proposition_text head.now.arch head.now.locs (formula_of part.now))) }
 {

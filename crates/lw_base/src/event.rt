@@ -1,6 +1,6 @@
 //! The events that a schedule is made of.
 
-use crate::number::{Cpu, Loc};
+use crate::indices::{Cpu, Loc};
 
 /// One act of the machine, or one step of a source test.
 #[derive(Clone, Copy, PartialEq, Eq)]

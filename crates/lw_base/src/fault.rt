@@ -1,6 +1,6 @@
 //! Why a cell of a test, or a schedule, is refused.
 ghost use Rattle.std.specs.Prelude.{◌≡◌};
-ghost use Rattle.lw_base.specs.Faults.{cell_cause_number, cell_cause_name, schedule_cause_number, schedule_cause_name};
+ghost use Rattle.lw_base.specs.Faults.{cell_cause_code, cell_cause_name, schedule_cause_code, schedule_cause_name};
 ghost use Rattle.lw_base.specs.declared.fault.CellCause.TheVariants as cell;
 ghost use Rattle.lw_base.specs.declared.fault.ScheduleCause.TheVariants as schedule;
 
@@ -28,7 +28,7 @@ pub enum CellCause {
 impl CellCause {
     /// The number under which people are told why a cell is refused: 1 to 7.
     pub fn number(self) -> u8
-        ensures { result ≡ cell_cause_number self }
+        ensures { result ≡ cell_cause_code self }
     {
         match self {
             CellCause::Form => 1,
@@ -106,7 +106,7 @@ pub enum ScheduleCause {
 impl ScheduleCause {
     /// The number under which people are told why a schedule is refused: 1 to 4.
     pub fn number(self) -> u8
-        ensures { result ≡ schedule_cause_number self }
+        ensures { result ≡ schedule_cause_code self }
     {
         match self {
             ScheduleCause::Word => 1,

@@ -2,9 +2,9 @@
 ghost use Rattle.std.specs.Prelude.{◌≡◌, IfOk};
 ghost use Rattle.lw_base.specs.Heads.{head_of};
 
+use crate::indices::{Cpu, Loc, Reg, Word};
 use crate::limits::REGISTERS;
 use crate::location::LocNames;
-use crate::number::{Cpu, Loc, Reg, Word};
 use crate::proposition::Prop;
 use crate::sequence::Sequence;
 use crate::text::Text;

@@ -6,45 +6,45 @@
 //! number, a list, or a record of lists. What proofs of other crates cite stands in `proofs/api/`.
 #![tactic(auto)]
 
+mod byte_kinds;
 mod change;
 mod condition;
 mod event;
 mod fault;
 mod head;
+mod indices;
 mod limits;
 mod location;
 mod name;
-mod number;
 mod operand;
 mod outcome;
 mod proposition;
 mod register;
-mod scan;
 mod schedule;
 mod sequence;
 mod stop;
 mod text;
 
+pub use byte_kinds::{ByteKind, prefix_of_kind};
 pub use change::Change;
 pub use condition::write_condition;
 pub use event::Event;
 pub use fault::{CellCause, CellFault, ScheduleCause, ScheduleFault};
 pub use head::{Arch, Head, Quant, Seen};
+pub use indices::{Cpu, Loc, Reg, Word};
 pub use limits::{
     MAX_LOCATIONS, MAX_NAME_BYTES, MAX_NODES, MAX_ROWS, MAX_TEST_NAME_BYTES, MAX_TEXT_BYTES,
     MAX_THREADS, REGISTERS, the_constants_are_the_limits,
 };
 pub use location::LocNames;
 pub use name::{
-    ascii_text, is_blank, is_location, is_name, is_name_byte, is_name_shaped, is_numbered,
-    is_same_but_case,
+    ascii_text, eq_ignore_ascii_case, is_blank, is_location, is_name, is_name_byte, is_name_shaped,
+    is_numbered,
 };
-pub use number::{Cpu, Loc, Reg, Word};
 pub use operand::Operand;
 pub use outcome::{Outcome, registers_come_first};
 pub use proposition::Prop;
-pub use register::{reg_name, reg_named};
-pub use scan::{ByteKind, front};
+pub use register::{reg_from_name, reg_name};
 pub use schedule::{
     a_text_has_one_schedule, a_written_schedule_is_read_back, read_schedule, write_schedule,
 };

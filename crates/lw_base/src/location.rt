@@ -1,11 +1,11 @@
 //! The table of a test's locations.
 ghost use Rattle.lw_base.specs.Limits.{most_locations};
-ghost use Rattle.lw_base.specs.Names.{IsLocation, IsTable};
+ghost use Rattle.lw_base.specs.Names.{IsLocationName, IsNameTable};
 ghost use Rattle.std.specs.Prelude.{◌≡◌, [], ◌∷◌, ◌++◌, ◌<◌, length, Contains, MatchOption, IfOk, OnOk, OnErr, OnSome, IfNone, Some, slice_get};
-ghost use Rattle.lw_base.specs.Tables.{with_name, index_of};
+ghost use Rattle.lw_base.specs.Tables.{insert_name, position_of_name};
 
+use crate::indices::Loc;
 use crate::limits::MAX_LOCATIONS;
-use crate::number::Loc;
 use std::alloc::{AllocError, Allocator, Global};
 use std::marker::Model;
 
@@ -19,13 +19,13 @@ pub struct LocNames<A: Allocator = Global> {
 impl<A: Allocator> Model for LocNames<A> {
     ghost use Rattle.std.specs.Prelude.{ℕ, List, map};
     ghost use Rattle.std.specs.String.{string_bytes};
-    ghost use Rattle.lw_base.specs.Names.{IsTable};
+    ghost use Rattle.lw_base.specs.Names.{IsNameTable};
 
     ghost Value = { List (List ℕ) };
 
     ghost view = { λ l. map string_bytes l.names.items };
 
-    ghost invariant = { λ l. IsTable (map string_bytes l.names.items) };
+    ghost invariant = { λ l. IsNameTable (map string_bytes l.names.items) };
 }
 
 impl<A: Allocator> LocNames<A> {
@@ -41,7 +41,7 @@ impl<A: Allocator> LocNames<A> {
     /// The number of names in the table.
     pub fn len(&self) -> usize
         ensures len { result ≡ length self.now }
-        ensures table { IsTable self.now }
+        ensures table { IsNameTable self.now }
     {
         self.names.len()
     }
@@ -77,11 +77,11 @@ impl<A: Allocator + Copy> LocNames<A> {
     /// Puts a name last, and answers its location.
     pub fn add(&mut self, name: &str) -> Result<Loc, AllocError>
         requires few { length self.old < most_locations }
-        requires name { IsLocation name.now }
+        requires name { IsLocationName name.now }
         requires fresh { ¬ Contains self.old name.now }
         ensures index { IfOk result (λ loc. loc ≡ length self.old) }
         ensures ok { OnOk result (self.new ≡ self.old ++ name.now ∷ []) }
-        ensures table { OnOk result (IsTable self.new) }
+        ensures table { OnOk result (IsNameTable self.new) }
         ensures err { OnErr result (self.new ≡ self.old) }
     {
         let index = self.names.len();
@@ -93,13 +93,13 @@ impl<A: Allocator + Copy> LocNames<A> {
     /// The location of a name that appears: where the table has the name, that; else the name is put last. `None` where
     /// it would be the ninth.
     pub fn find_or_add(&mut self, name: &str) -> Result<Option<Loc>, AllocError>
-        requires { IsLocation name.now }
+        requires { IsLocationName name.now }
         ensures index { IfOk result
-            (λ o. MatchOption o (most_locations < length (with_name self.old name.now))
-            (λ loc. loc ≡ index_of self.new name.now)) }
-        ensures names { IfOk result (λ o. OnSome o (self.new ≡ with_name self.old name.now)) }
+            (λ o. MatchOption o (most_locations < length (insert_name self.old name.now))
+            (λ loc. loc ≡ position_of_name self.new name.now)) }
+        ensures names { IfOk result (λ o. OnSome o (self.new ≡ insert_name self.old name.now)) }
         ensures full { IfOk result (λ o. IfNone o (self.new ≡ self.old)) }
-        ensures table { OnOk result (IsTable self.new) }
+        ensures table { OnOk result (IsNameTable self.new) }
         ensures err { OnErr result (self.new ≡ self.old) }
     {
         let len = self.len();

@@ -4,7 +4,7 @@ ghost use Rattle.std.specs.Str.{IsAscii, bytes_eq};
 ghost use Rattle.std.specs.Char.{to_ascii_lowercase, is_ascii_digit};
 ghost use Rattle.std.specs.List.{list_any, list_all, AllByRecursion};
 ghost use Rattle.lw_base.specs.Characters as characters;
-ghost use Rattle.lw_base.specs.Names.{IsNameShaped, IsName, IsLocation, keywords, x86_registers};
+ghost use Rattle.lw_base.specs.Names.{IsNameShaped, IsName, IsLocationName, keywords, x86_registers};
 ghost use Rattle.lw_base.specs.Names as names;
 
 use crate::limits::MAX_NAME_BYTES;
@@ -51,7 +51,7 @@ pub fn is_name(text: &str) -> bool
 
 /// Whether the text can name a location or a label: a name that is not reserved.
 pub fn is_location(text: &str) -> bool
-    ensures { IsTrue result ↔ IsLocation text.now }
+    ensures { IsTrue result ↔ IsLocationName text.now }
 {
     is_name(text) && !is_reserved(text)
 }
@@ -66,7 +66,7 @@ pub fn ascii_text(bytes: &[u8]) -> &str
 }
 
 /// Whether two texts are equal but for the case of their letters.
-pub fn is_same_but_case(text: &str, other: &str) -> bool
+pub fn eq_ignore_ascii_case(text: &str, other: &str) -> bool
     ensures { result ≡ bytes_eq (map to_ascii_lowercase text.now) (map to_ascii_lowercase other.now) }
 {
     text.eq_ignore_ascii_case(other)
@@ -81,7 +81,7 @@ fn is_reserved(text: &str) -> bool
 
 /// Whether the bytes are `r` and then digits alone.
 pub fn is_numbered(bytes: &[u8]) -> bool
-    ensures { result ≡ names.is_numbered bytes.now }
+    ensures { result ≡ names.is_numbered_register bytes.now }
 {
     let Some((first, rest)) = bytes.split_first() else {
         return false;
@@ -131,12 +131,12 @@ fn is_keyword(text: &str) -> bool
 fn is_x86_register(text: &str) -> bool
     ensures { result ≡ list_any (λ r. bytes_eq (map to_ascii_lowercase text.now) r) x86_registers }
 {
-    is_same_but_case(text, "eax")
-        || is_same_but_case(text, "ebx")
-        || is_same_but_case(text, "ecx")
-        || is_same_but_case(text, "edx")
-        || is_same_but_case(text, "esi")
-        || is_same_but_case(text, "edi")
-        || is_same_but_case(text, "ebp")
-        || is_same_but_case(text, "esp")
+    eq_ignore_ascii_case(text, "eax")
+        || eq_ignore_ascii_case(text, "ebx")
+        || eq_ignore_ascii_case(text, "ecx")
+        || eq_ignore_ascii_case(text, "edx")
+        || eq_ignore_ascii_case(text, "esi")
+        || eq_ignore_ascii_case(text, "edi")
+        || eq_ignore_ascii_case(text, "ebp")
+        || eq_ignore_ascii_case(text, "esp")
 }

@@ -1,9 +1,9 @@
 //! What is left at the end of a run. A clause sees an outcome as a record of two lists.
 ghost use Rattle.std.specs.Prelude.{◌≡◌};
-ghost use Rattle.lw_base.specs.Outcomes.{Final, final_cmp};
+ghost use Rattle.lw_base.specs.Outcomes.{FinalState, final_state_cmp};
 
+use crate::indices::Word;
 use crate::limits::REGISTERS;
-use crate::number::Word;
 use crate::sequence::Sequence;
 use std::alloc::{Allocator, Global};
 use std::marker::Model;
@@ -21,9 +21,9 @@ pub struct Outcome<A: Allocator = Global> {
 }
 
 impl<A: Allocator> Model for Outcome<A> {
-    ghost use Rattle.lw_base.specs.Outcomes.{Final};
+    ghost use Rattle.lw_base.specs.Outcomes.{FinalState};
 
-    ghost Value = { Final };
+    ghost Value = { FinalState };
 
     ghost view = { λ o. record { regs = o.regs; words = o.words } };
 
@@ -33,5 +33,5 @@ impl<A: Allocator> Model for Outcome<A> {
 /// A theorem for readers: outcomes are compared by their registers, and by their words where the registers are the
 /// same.
 pub fn registers_come_first<A: Allocator>()
-    ensures { (left right : Final) → ⟦<Outcome<A> as Ord>⟧.cmp left right ≡ final_cmp left right }
+    ensures { (left right : FinalState) → ⟦<Outcome<A> as Ord>⟧.cmp left right ≡ final_state_cmp left right }
 {}

@@ -1,9 +1,9 @@
 //! Propositions over final states. A clause sees a proposition as a formula without boxes.
 ghost use Rattle.std.specs.Prelude.{◌≡◌, IfOk};
-ghost use Rattle.lw_base.specs.ConditionTexts.{is_or, is_joined};
+ghost use Rattle.lw_base.specs.ConditionTexts.{is_or, is_binary};
 ghost use Rattle.lw_base.specs.Propositions.{formula_of};
 
-use crate::number::{Cpu, Loc, Reg, Word};
+use crate::indices::{Cpu, Loc, Reg, Word};
 use std::alloc::{AllocError, Allocator, Global};
 
 /// What a condition asks of a final state.
@@ -61,7 +61,7 @@ impl<A: Allocator> Prop<A> {
 
     /// Whether the proposition joins two by a `/\` or a `\/`.
     pub(crate) fn is_joined(&self) -> bool
-        ensures { result ≡ is_joined (formula_of self.now) }
+        ensures { result ≡ is_binary (formula_of self.now) }
     {
         matches!(self, Prop::Both(_, _) | Prop::Either(_, _))
     }

@@ -1,12 +1,12 @@
 //! The names of registers.
 ghost use Rattle.std.specs.Prelude.{◌≡◌, MatchOption};
 ghost use Rattle.std.specs.Str.{bytes_eq};
-ghost use Rattle.lw_base.specs.Refusals.{NoSuch};
-ghost use Rattle.lw_base.specs.Registers.{register_name, without_case, IsRegister};
+ghost use Rattle.lw_base.specs.NoParse.{HoldsOfNothing};
+ghost use Rattle.lw_base.specs.Registers.{register_name, lowercase_if_x86, IsRegisterName};
 
 use crate::head::Arch;
-use crate::name::is_same_but_case;
-use crate::number::Reg;
+use crate::indices::Reg;
+use crate::name::eq_ignore_ascii_case;
 
 /// The name of a register as it is printed: `r0` to `r5` in source tests; `EAX`, `EBX`, `ECX`,
 /// `EDX`, `ESI` and `EDI` in x86 tests.
@@ -30,11 +30,11 @@ pub fn reg_name(arch: Arch, reg: Reg) -> &'static str
 }
 
 /// The register of a language that has this name. Names of x86 are read in any case.
-pub fn reg_named(arch: Arch, name: &str) -> Option<Reg>
-    ensures { MatchOption result (NoSuch (IsRegister arch name.now)) (IsRegister arch name.now) }
+pub fn reg_from_name(arch: Arch, name: &str) -> Option<Reg>
+    ensures { MatchOption result (HoldsOfNothing (IsRegisterName arch name.now)) (IsRegisterName arch name.now) }
 {
     for reg in &Reg::all() {
-        if is_named(arch, *reg, name) {
+        if has_name(arch, *reg, name) {
             return Some(*reg);
         }
     }
@@ -42,13 +42,13 @@ pub fn reg_named(arch: Arch, name: &str) -> Option<Reg>
 }
 
 /// Whether a register has this name, which x86 takes in any case.
-fn is_named(arch: Arch, reg: Reg, name: &str) -> bool
+fn has_name(arch: Arch, reg: Reg, name: &str) -> bool
     ensures { result ≡ bytes_eq
-        (without_case arch (register_name arch reg)) (without_case arch name.now) }
+        (lowercase_if_x86 arch (register_name arch reg)) (lowercase_if_x86 arch name.now) }
 {
     let known = reg_name(arch, reg);
     match arch {
         Arch::Source => return known == name,
-        Arch::X86 => return is_same_but_case(known, name),
+        Arch::X86 => return eq_ignore_ascii_case(known, name),
     }
 }

@@ -2,22 +2,22 @@
 ghost use Rattle.std.specs.Prelude.{◌≡◌, ◌≢◌, ◌<◌, ◌≤◌, List, [], ◌∷◌, ◌++◌, length, MatchOption, IfOk, IfErr, OnOk};
 ghost use Rattle.std.specs.List.{AllByRecursion};
 ghost use Rattle.std.specs.String.{string_bytes};
-ghost use Rattle.lw_base.specs.Characters.{byte, digit, Lacks, IsCutAt};
+ghost use Rattle.lw_base.specs.Characters.{byte, digit, DoesNotContain, IsSplitAtFirst};
 ghost use Rattle.lw_base.specs.Types.{Bytes, NameTable};
 ghost use Rattle.lw_base.specs.Limits.{most_threads};
-ghost use Rattle.lw_base.specs.Names.{IsTable};
-ghost use Rattle.lw_base.specs.Refusals.{NotFound};
-ghost use Rattle.lw_base.specs.Schedules.{IsEvent, event_text, schedule_text, IsEventText, IsSchedule, IsFaulty, IsFirstFault};
+ghost use Rattle.lw_base.specs.Names.{IsNameTable};
+ghost use Rattle.lw_base.specs.NoParse.{HoldsOfNothingOrOutOfMemory};
+ghost use Rattle.lw_base.specs.Schedules.{IsEvent, event_text, schedule_text, IsEventText, IsSchedule, IsFaultyPiece, IsFirstFault};
 ghost use Rattle.lw_base.specs.inner.Digits.{HasBadDigits};
 ghost use Rattle.lw_base.specs.declared.event.Event.{Event};
 ghost use Rattle.lw_base.specs.declared.fault.ScheduleCause.TheVariants as causes;
 
+use crate::byte_kinds::{ByteKind, prefix_of_kind};
 use crate::event::Event;
 use crate::fault::{ScheduleCause, ScheduleFault};
+use crate::indices::{Cpu, Loc};
 use crate::location::LocNames;
 use crate::name::{are_digits, ascii_text, is_name_shaped};
-use crate::number::{Cpu, Loc};
-use crate::scan::{ByteKind, front};
 use crate::sequence::Sequence;
 use crate::text::Text;
 use std::alloc::{AllocError, Allocator};
@@ -36,7 +36,7 @@ pub fn read_schedule<A: Allocator, B: Allocator>(
     // What is read is a schedule of these events.
     ensures found { IfOk result (λ events. IsSchedule names.now text.now events) }
     // Where nothing is read, the text is no schedule, unless memory ran out.
-    ensures fault { IfErr result (λ f. NotFound causes.Memory f.cause (IsSchedule names.now text.now)) }
+    ensures fault { IfErr result (λ f. HoldsOfNothingOrOutOfMemory causes.Memory f.cause (IsSchedule names.now text.now)) }
     // The first faulty piece is told, at its first byte, with its cause.
     ensures first { IfErr result
         (λ f. f.cause ≢ causes.Memory → IsFirstFault names.now text.now f.at f.cause) }
@@ -45,32 +45,32 @@ pub fn read_schedule<A: Allocator, B: Allocator>(
     // What the names of a table are.
     let _len = names.len();
     let mut events = Sequence::new(alloc);
-    let (_, mut rest) = front(text.as_bytes(), ByteKind::Blank);
+    let (_, mut rest) = prefix_of_kind(text.as_bytes(), ByteKind::Blank);
     while !rest.is_empty() {
         let at = text.len() - rest.len();
-        let (piece, after) = front(rest, ByteKind::NotBlank);
-        match event_of(piece, names) {
+        let (piece, after) = prefix_of_kind(rest, ByteKind::NotBlank);
+        match parse_event(piece, names) {
             Ok(event) => events.push(event)?,
             Err(cause) => return Err(ScheduleFault { at, cause }),
         }
-        rest = front(after, ByteKind::Blank).1;
+        rest = prefix_of_kind(after, ByteKind::Blank).1;
     }
     Ok(events)
 }
 
 /// The event that a piece between blanks says, or why it says none.
-fn event_of<B: Allocator>(piece: &[u8], names: &LocNames<B>) -> Result<Event, ScheduleCause>
+fn parse_event<B: Allocator>(piece: &[u8], names: &LocNames<B>) -> Result<Event, ScheduleCause>
     ensures ok { IfOk result (λ e. IsEventText names.now e piece.now) }
-    ensures err { IfErr result (IsFaulty names.now piece.now) }
+    ensures err { IfErr result (IsFaultyPiece names.now piece.now) }
 {
     let Some((letter, rest)) = piece.split_first() else {
         return Err(ScheduleCause::Word);
     };
     match letter {
-        b'P' => Ok(Event::Step(cpu_of(rest)?)),
-        b'D' => Ok(Event::Drain(cpu_of(rest)?)),
+        b'P' => Ok(Event::Step(parse_cpu(rest)?)),
+        b'D' => Ok(Event::Drain(parse_cpu(rest)?)),
         b'E' => {
-            let (cpu, loc) = evicted_of(rest, names)?;
+            let (cpu, loc) = parse_eviction(rest, names)?;
             Ok(Event::Evict(cpu, loc))
         }
         _ => Err(ScheduleCause::Word),
@@ -78,7 +78,7 @@ fn event_of<B: Allocator>(piece: &[u8], names: &LocNames<B>) -> Result<Event, Sc
 }
 
 /// The processor whose index stands in these digits of an event, or why they are refused.
-fn cpu_of(digits: &[u8]) -> Result<Cpu, ScheduleCause>
+fn parse_cpu(digits: &[u8]) -> Result<Cpu, ScheduleCause>
     ensures ok { IfOk result (λ c. (c < most_threads) × (digits.now ≡ digit c ∷ [])) }
     ensures err { IfErr result (HasBadDigits digits.now) }
 {
@@ -92,17 +92,20 @@ fn cpu_of(digits: &[u8]) -> Result<Cpu, ScheduleCause>
 }
 
 /// What an eviction speaks of, by its text behind the `E`: digits, a `:` and a name.
-fn evicted_of<B: Allocator>(text: &[u8], names: &LocNames<B>) -> Result<(Cpu, Loc), ScheduleCause>
+fn parse_eviction<B: Allocator>(
+    text: &[u8],
+    names: &LocNames<B>,
+) -> Result<(Cpu, Loc), ScheduleCause>
     ensures ok { IfOk result (λ x. IsEventText names.now (Event.Evict x.0 x.1) (byte "E" ∷ text.now)) }
-    ensures err { IfErr result (IsFaulty names.now (byte "E" ∷ text.now)) }
+    ensures err { IfErr result (IsFaultyPiece names.now (byte "E" ∷ text.now)) }
 {
-    let Some((digits, name)) = at_colon(text) else {
+    let Some((digits, name)) = split_at_colon(text) else {
         return Err(ScheduleCause::Word);
     };
     if !is_name_shaped(name) {
         return Err(ScheduleCause::Word);
     }
-    let cpu = cpu_of(digits)?;
+    let cpu = parse_cpu(digits)?;
     match names.find(ascii_text(name)) {
         Some(loc) => Ok((cpu, loc)),
         None => Err(ScheduleCause::Location),
@@ -110,11 +113,11 @@ fn evicted_of<B: Allocator>(text: &[u8], names: &LocNames<B>) -> Result<(Cpu, Lo
 }
 
 /// What stands before the first `:` of a text, and what behind it; `None` where it has no `:`.
-fn at_colon(text: &[u8]) -> Option<(&[u8], &[u8])>
-    ensures { MatchOption result (Lacks (byte ":") text.now)
-        (λ x. IsCutAt (byte ":") text.now x.0.now x.1.now) }
+fn split_at_colon(text: &[u8]) -> Option<(&[u8], &[u8])>
+    ensures { MatchOption result (DoesNotContain (byte ":") text.now)
+        (λ x. IsSplitAtFirst (byte ":") text.now x.0.now x.1.now) }
 {
-    let (digits, rest) = front(text, ByteKind::Not(b':'));
+    let (digits, rest) = prefix_of_kind(text, ByteKind::Not(b':'));
     let (_, name) = rest.split_first()?;
     Some((digits, name))
 }
@@ -171,12 +174,12 @@ fn write_cpu<A: Allocator>(out: &mut String<A>, letter: char, cpu: Cpu) -> Resul
 /// A theorem for readers: what `write_schedule` writes is a schedule of the same events; so `read_schedule` reads them
 /// again.
 pub fn a_written_schedule_is_read_back()
-    ensures { (names : NameTable) (events : List Event) → IsTable names → AllByRecursion (IsEvent names) events
+    ensures { (names : NameTable) (events : List Event) → IsNameTable names → AllByRecursion (IsEvent names) events
         → IsSchedule names (schedule_text names events) events }
 {}
 
 /// A theorem for readers: a text is a schedule of at most one list of events.
 pub fn a_text_has_one_schedule()
-    ensures { (names : NameTable) → IsTable names → (text : Bytes) (events others : List Event)
+    ensures { (names : NameTable) → IsNameTable names → (text : Bytes) (events others : List Event)
         → IsSchedule names text events → IsSchedule names text others → events ≡ others }
 {}

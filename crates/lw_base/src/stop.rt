@@ -1,6 +1,6 @@
 //! Why an event is refused, and how a replay ends.
 ghost use Rattle.std.specs.Prelude.{◌≡◌};
-ghost use Rattle.lw_base.specs.Stops.{stop_number, stop_name};
+ghost use Rattle.lw_base.specs.Stops.{stop_code, stop_name};
 
 /// Why an event of a schedule could not be carried out. Nothing has changed then.
 #[derive(Clone, Copy, PartialEq, Eq)]
@@ -26,7 +26,7 @@ pub enum Stop {
 impl Stop {
     /// The number under which people are told why an event is refused: 1 to 8.
     pub fn number(self) -> u8
-        ensures { result ≡ stop_number self }
+        ensures { result ≡ stop_code self }
     {
         match self {
             Stop::NoCpu => 1,

@@ -4,56 +4,59 @@ use Rattle.lw_bench.proofs.Common.{◌≡◌, ℕ, zero, suc, ◌^◌, ◌<◌, 
 use Rattle.lw_bench.proofs.Common.{◌∷◌, refl, sym, ap, ◌∙◌, subst, arith, slice_index, length, None, Some}
 use Rattle.lw_bench.proofs.Common.{slice_get, codes, replicate, slice_index_or, Contains, is_ascii_digit}
 use Rattle.lw_bench.proofs.Common.{AllByRecursion, ForSome, false≢true, All-nil, All-cons, none-some}
-use Rattle.lw_bench.proofs.Common.{same_Some, is_name_byte, Formula, nodes, is_reserved, IsLocation}
-use Rattle.lw_bench.proofs.Common.{IsTestName, Final, IsRegisterIndex, IsWordNumber, SpeaksOf}
-use Rattle.lw_bench.proofs.Common.{IsWellFormedHead, Arch, X86, Quant, Exists, NotExists, Number, target_of}
-use Rattle.lw_bench.proofs.Common.{x86, x86_operation, IsWellFormedProgram, ProgramTest, IsStatement}
-use Rattle.lw_bench.proofs.Common.{IsThread, Instr, Event, Step, Drain, start_of, SourceOutcome, flat}
-use Rattle.lw_bench.proofs.Common.{is_true, MachineState, Processor, MachineOutcome, MachineRan}
-use Rattle.lw_bench.proofs.Common.{machine_start, machine_outcome, state, EventDone, Ok, two_threads}
+use Rattle.lw_bench.proofs.Common.{same_Some, is_name_byte, Formula, nodes, is_reserved, IsLocationName}
+use Rattle.lw_bench.proofs.Common.{IsTestName, FinalState, IsRegisterIndex, IsWordNumber, MentionsOnly}
+use Rattle.lw_bench.proofs.Common.{IsWellFormedHead, Arch, X86, Quant, Exists, NotExists, Number}
+use Rattle.lw_bench.proofs.Common.{branch_target, x86_language, x86_operation, IsWellFormedProgram, X86Test}
+use Rattle.lw_bench.proofs.Common.{IsWellFormedStatement, IsWellFormedThread, Instr, Event, Step, Drain}
+use Rattle.lw_bench.proofs.Common.{initial_state, SourceOutcome, flat_memory, is_true, MachineState}
+use Rattle.lw_bench.proofs.Common.{Processor, IsMachineOutcome, MachineRunsTo, initial_machine_state}
+use Rattle.lw_bench.proofs.Common.{machine_outcome, state, MachineTransition, Ok, two_threads}
 use Rattle.lw_bench.proofs.Common.{both_loads_are_early, flag_without_message, store_buffering}
 use Rattle.lw_bench.proofs.Common.{store_buffering_in_x86, message_passing_in_x86, not-true}
 use Rattle.lw_bench.proofs.Searches.{ends_so, searched, machine_ends_so, machine_searched}
 use Rattle.lw_litmus.specs.declared.instr.Instr.TheVariants as instr
 
 -- whether an outcome shows that not both loads of store buffering were early
-abbrev is_late : Final → Bool
+abbrev is_late : FinalState → Bool
 is_late o = not (is_true store_buffering.head.condition o)
 
 -- within five steps every run of store buffering on one memory ends, with an outcome in which not both loads were early
-search_of_store_buffering : ends_so store_buffering.threads is_late 5 (start_of store_buffering) ≡ true
+search_of_store_buffering : ends_so store_buffering.threads is_late 5 (initial_state store_buffering) ≡ true
 unfolding ends_so
 search_of_store_buffering = refl
 
 -- by interleaving no outcome of store buffering has both loads early
-pub store_buffering_forbidden : (o : Final) → SourceOutcome store_buffering o → is_true store_buffering.head.condition o ≡ false
+pub store_buffering_forbidden : (o : FinalState)
+    → SourceOutcome store_buffering o
+    → is_true store_buffering.head.condition o ≡ false
 store_buffering_forbidden o run =
     not-true _
     (subst (λ e. is_late e ≡ true) (sym run.1.is)
-    (searched store_buffering.threads is_late 5 run.0 (start_of store_buffering) run.1.end search_of_store_buffering run.1.ran
-    run.1.final))
+    (searched store_buffering.threads is_late 5 run.0 (initial_state store_buffering) run.1.end search_of_store_buffering
+    run.1.ran run.1.final))
 
 -- whether an outcome shows that the flag was not read without the message
-abbrev lacks_message : Final → Bool
+abbrev lacks_message : FinalState → Bool
 lacks_message o = not (is_true message_passing_in_x86.head.condition o)
 
 -- within seven events every run of message passing over flat memory ends, and its outcome has not the flag without the message
 search_of_message_passing : machine_ends_so message_passing_in_x86.threads lacks_message 7
-    (machine_start message_passing_in_x86 message_passing_in_x86.head.init_words)
+    (initial_machine_state message_passing_in_x86 message_passing_in_x86.head.init_words)
     ≡ true
 unfolding machine_ends_so
 search_of_message_passing = refl
 
 -- no outcome of message passing in x86 has the flag without the message
-pub message_passing_forbidden : (o : Final)
-    → MachineOutcome flat message_passing_in_x86 message_passing_in_x86.head.init_words o
+pub message_passing_forbidden : (o : FinalState)
+    → IsMachineOutcome flat_memory message_passing_in_x86 message_passing_in_x86.head.init_words o
     → is_true message_passing_in_x86.head.condition o ≡ false
 message_passing_forbidden o run =
     not-true _
     (subst (λ e. lacks_message e ≡ true) (sym run.1.is)
     (machine_searched message_passing_in_x86.threads lacks_message 7 run.0
-    (machine_start message_passing_in_x86 message_passing_in_x86.head.init_words) run.1.end search_of_message_passing run.1.ran
-    run.1.final))
+    (initial_machine_state message_passing_in_x86 message_passing_in_x86.head.init_words) run.1.end search_of_message_passing
+    run.1.ran run.1.final))
 
 -- ---- the x86 tests are well-formed, so what they do over flat memory they do over caches
 
@@ -63,7 +66,7 @@ pub one_letter : (w : List ℕ) (b : ℕ)
     → is_name_byte b ≡ true
     → is_ascii_digit b ≡ false
     → is_reserved (b ∷ []) ≡ false
-    → IsLocation w
+    → IsLocationName w
 one_letter w b is word front free = rw is ((record { some = omega arith; all = (word, tt); front = front }, omega arith), free)
 
 -- `x` is not in a table of `y` alone: so no name stands twice in the table of both
@@ -78,7 +81,7 @@ apart c = go c.0 c.1 c.2
 head_formed : (name : List ℕ) (arch : Arch) (quant : Quant) (condition : Formula)
     → IsTestName name
     → nodes condition ≤ 256
-    → SpeaksOf 2 2 condition
+    → MentionsOnly 2 2 condition
     → IsWellFormedHead (two_threads name arch quant condition)
 head_formed name arch quant condition named few speaks = record {
   name = named;
@@ -105,8 +108,8 @@ head_formed name arch quant condition named few speaks = record {
 
 -- a well-formed instruction of a test of two locations that is no jump
 record IsPlain (i : Instr) : Type 0 where
-  formed : IsStatement x86 2 i
-  goes_on : target_of (x86_operation i) ≡ None
+  formed : IsWellFormedStatement x86_language 2 i
+  goes_on : branch_target (x86_operation i) ≡ None
 
 -- a store of a word to one of the two locations is a plain instruction
 store_plain : (x n : ℕ) → x < 2 → n < 2 ^ 32 → IsPlain (instr.Store x (Number n))
@@ -131,25 +134,27 @@ load_plain d x register there = record {
 }
 
 -- two plain instructions are a well-formed thread
-two_formed : {first second : Instr} → IsPlain first → IsPlain second → IsThread x86 2 (first ∷ second ∷ [])
+two_formed : {first second : Instr} → IsPlain first → IsPlain second → IsWellFormedThread x86_language 2 (first ∷ second ∷ [])
 two_formed {first} {second} a b = record {
   short = omega arith;
-  there = All-cons (IsStatement x86 2) first (second ∷ []) a.formed (All-cons (IsStatement x86 2) second [] b.formed (All-nil _));
+  there =
+      All-cons (IsWellFormedStatement x86_language 2) first (second ∷ []) a.formed
+      (All-cons (IsWellFormedStatement x86_language 2) second [] b.formed (All-nil _));
   forward = forward;
 }
   where
-    no_jump : (i : Instr) (k : ℕ) → IsPlain i → ForSome (target_of (x86_operation i)) (λ to. (k < to) × (to ≤ 2))
+    no_jump : (i : Instr) (k : ℕ) → IsPlain i → ForSome (branch_target (x86_operation i)) (λ to. (k < to) × (to ≤ 2))
     no_jump i k plain to is = absurd (none-some to (sym plain.goes_on ∙ is))
 
     forward : (k : ℕ) (s : Instr)
         → slice_get (first ∷ second ∷ []) k ≡ Some s
-        → ForSome (target_of (x86_operation s)) (λ to. (k < to) × (to ≤ 2))
+        → ForSome (branch_target (x86_operation s)) (λ to. (k < to) × (to ≤ 2))
     forward zero s e = no_jump s 0 (subst IsPlain (same_Some first s e) a)
     forward (suc zero) s e = no_jump s 1 (subst IsPlain (same_Some second s e) b)
     forward (suc (suc k)) s e = cc
 
 -- an x86 test of two well-formed threads and two locations, with a well-formed head
-record IsOfTwo (test : ProgramTest) : Type 0 where
+record IsOfTwo (test : X86Test) : Type 0 where
   first : List Instr
   second : List Instr
   threads : test.threads ≡ first ∷ second ∷ []
@@ -157,19 +162,20 @@ record IsOfTwo (test : ProgramTest) : Type 0 where
   locations : length test.head.locs ≡ 2
   arch : test.head.arch ≡ X86
   head : IsWellFormedHead test.head
-  first_formed : IsThread x86 2 first
-  second_formed : IsThread x86 2 second
+  first_formed : IsWellFormedThread x86_language 2 first
+  second_formed : IsWellFormedThread x86_language 2 second
 
 -- an x86 test of two well-formed threads, with a well-formed head, is well-formed
-program_formed : (test : ProgramTest) → IsOfTwo test → IsWellFormedProgram test
+program_formed : (test : X86Test) → IsOfTwo test → IsWellFormedProgram test
 program_formed test two = record {
   head = two.head;
   arch = two.arch;
   as_many = ap length two.threads ∙ sym two.as_many;
   code =
       rw (two.threads, two.locations)
-      (All-cons (IsThread x86 2) two.first (two.second ∷ []) two.first_formed
-      (All-cons (IsThread x86 2) two.second [] two.second_formed (All-nil (IsThread x86 2))));
+      (All-cons (IsWellFormedThread x86_language 2) two.first (two.second ∷ []) two.first_formed
+      (All-cons (IsWellFormedThread x86_language 2) two.second [] two.second_formed
+      (All-nil (IsWellFormedThread x86_language 2))));
 }
 
 -- store buffering in x86 is well-formed
@@ -218,7 +224,7 @@ at k buffer = record { position = k; regs = replicate 6 0; zero_flag = false; bu
 
 -- the state in which store buffering begins
 abbrev beginning : MachineState (List ℕ)
-beginning = machine_start store_buffering_in_x86 (replicate 2 0)
+beginning = initial_machine_state store_buffering_in_x86 (replicate 2 0)
 
 -- the state in which the first thread's store waits in its store buffer, and nothing else is done
 abbrev one_stored : MachineState (List ℕ)
@@ -246,7 +252,7 @@ both_drained = state (at 2 [] ∷ at 2 [] ∷ []) (1 ∷ 1 ∷ [])
 
 -- the event is carried out in the first state and leads to the second
 abbrev Leads : Event → MachineState (List ℕ) → MachineState (List ℕ) → Type 0
-Leads e s mid = EventDone flat store_buffering_in_x86.threads e s (Ok tt) mid
+Leads e s mid = MachineTransition flat_memory store_buffering_in_x86.threads e s (Ok tt) mid
 
 -- the first thread's store goes into its store buffer
 first_stores : Leads (Step 0) beginning one_stored
@@ -273,7 +279,7 @@ second_drains : Leads (Drain 1) one_drained both_drained
 second_drains = (at 2 [], 1 ∷ 1 ∷ [], (None, refl, refl, (refl, refl)), refl)
 
 -- the events in which both loads are early are a run of the flat machine, to the end
-early_run : MachineRan flat store_buffering_in_x86.threads early_events beginning both_drained
+early_run : MachineRunsTo flat_memory store_buffering_in_x86.threads early_events beginning both_drained
 unfolding early_events
 early_run = (
   one_stored,
@@ -286,11 +292,11 @@ early_run = (
 )
 
 -- store buffering in x86 has an outcome with both loads early
-pub store_buffering_allowed : (o : Final)
-    × MachineOutcome flat store_buffering_in_x86 store_buffering_in_x86.head.init_words o
+pub store_buffering_allowed : (o : FinalState)
+    × IsMachineOutcome flat_memory store_buffering_in_x86 store_buffering_in_x86.head.init_words o
     × (is_true store_buffering_in_x86.head.condition o ≡ true)
 store_buffering_allowed = (
-  machine_outcome flat both_drained,
+  machine_outcome flat_memory both_drained,
   (early_events, record { end = both_drained; ran = early_run; final = refl; is = refl }),
   refl,
 )

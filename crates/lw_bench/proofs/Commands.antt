@@ -3,7 +3,7 @@
 use Rattle.lw_bench.proofs.Common.{◌≡◌, ◌≤◌, ◌<◌, ◌-◌, ◌==◌, ℕ, Bool, true, false, not, nat_eq, Option, Some}
 use Rattle.lw_bench.proofs.Common.{None, List, [], ◌∷◌, length, map, take, drop, inl, inr, refl, sym, ap, ◌∙◌}
 use Rattle.lw_bench.proofs.Common.{subst, codes, arith, Bor, MatchOption, slice_index_or, take_all}
-use Rattle.lw_bench.proofs.Common.{unsigned_Decides, pointwise, pointwise_decides, NoSuch, cons_head}
+use Rattle.lw_bench.proofs.Common.{unsigned_Decides, pointwise, pointwise_decides, HoldsOfNothing, cons_head}
 use Rattle.lw_bench.proofs.Common.{Protocol, Task, States, Compile, Schedules, protocol_name}
 use Rattle.lw_bench.proofs.Common.{IsProtocolOption, IsCommand}
 use Rattle.lw_bench.specs.declared.command.Task.TheVariants.{Replay}
@@ -30,7 +30,7 @@ behind words = take (length words - 1) (drop 1 words)
 
 -- an answer r about the arguments is right by the definition `Is`: what it has is theirs, and where it has nothing there is none
 abbrev Gives : {X : Type 0} → (List (List ℕ) → X → Type 0) → List (List ℕ) → Option X → Type 0
-Gives Is words r = MatchOption r (NoSuch (Is words)) (Is words)
+Gives Is words r = MatchOption r (HoldsOfNothing (Is words)) (Is words)
 
 -- equal lists of arguments are equal behind their first
 rest_same : {a b : List ℕ} {l k : List (List ℕ)} → a ∷ l ≡ b ∷ k → l ≡ k
@@ -78,7 +78,7 @@ module _ (words : Arguments) (many : 2 ≤ length words) (few : length words < 3
   -- where the first of two arguments is `--protocol`, they give the protocol that the second names, or none if it names none
   pub option_told : (r : Option Protocol)
       → differs ≡ false
-      → MatchOption r (NoSuch (λ p. protocol_name p ≡ argument_at words 1)) (λ p. protocol_name p ≡ argument_at words 1)
+      → MatchOption r (HoldsOfNothing (λ p. protocol_name p ≡ argument_at words 1)) (λ p. protocol_name p ≡ argument_at words 1)
       → Gives IsProtocolOption (texts words) r
   option_told (Some p) same known =
       inl (two_arguments words many few
@@ -153,7 +153,7 @@ replay_told words r many is told =
 -- where the arguments behind the schedule are no option of a protocol, `replay` with the schedule and these is no command
 pub no_replay : (words : Arguments)
     → 1 ≤ length words
-    → NoSuch (IsProtocolOption (texts (behind words)))
+    → HoldsOfNothing (IsProtocolOption (texts (behind words)))
     → (task : Task)
     → IsCommand (codes "replay" ∷ texts words) task
     → ⊥

@@ -1,7 +1,7 @@
 -- What proofs cite of std, of lower crates and of this crate's definitions, passed on from one place. Declares nothing.
-pub use Rattle.std.proofs.Common.{All, AllPairs, Bool, Bor, Contains, Err, IfOk, IfSome, IsAscii, IsTrue}
-pub use Rattle.std.proofs.Common.{Less, List, MatchOption, None, Ok, OnOk, Option, Result, Some, [], ap}
-pub use Rattle.std.proofs.Common.{append-nil, append_assoc, ap₂, arith, codes, decimal, drop, drop-cons}
+pub use Rattle.std.proofs.Common.{All, AllPairs, Bool, Bor, Contains, Err, IfErr, IfOk, IfSome, IsAscii}
+pub use Rattle.std.proofs.Common.{IsTrue, Less, List, MatchOption, None, Ok, OnOk, Option, Result, Some, []}
+pub use Rattle.std.proofs.Common.{ap, append-nil, append_assoc, ap₂, arith, codes, decimal, drop, drop-cons}
 pub use Rattle.std.proofs.Common.{eqb-true, false, if◌then◌else◌, inl, inr, is_ok, length, length-append}
 pub use Rattle.std.proofs.Common.{length-take, length-take-le, ltb-true, map, nat_cmp, nat_eq, nat_lt, not}
 pub use Rattle.std.proofs.Common.{option_map, refl, replicate, rules, slice_get, slice_index, slice_index_or}
@@ -23,14 +23,15 @@ pub use Rattle.std.specs.Cmp.Lexicographic.{pointwise, pointwise_decides, slice_
 pub use Rattle.std.specs.Io.KnownBytes.{Appends, Consumes, IsAtEnd, Keeps}
 pub use Rattle.std.specs.List.{AllByRecursion, list_all}
 pub use Rattle.std.specs.Option.{ForSome}
-pub use Rattle.lw_base.proofs.Common.{Bytes, Final, Formula, IsEvent, IsListedOutcome, IsLocation}
-pub use Rattle.lw_base.proofs.Common.{IsOutcomeOf, IsRegister, IsRegisterIndex, IsSchedule, IsTestName}
-pub use Rattle.lw_base.proofs.Common.{IsWellFormedHead, IsWordNumber, NoSuch, Reg_is, SpeaksOf, TestHead}
-pub use Rattle.lw_base.proofs.Common.{TokenList, begins, code_of, final_cmp, head_of, is_blank, is_name_byte}
-pub use Rattle.lw_base.proofs.Common.{is_reserved, most_threads, nodes, register_name, stop_name, stop_number}
+pub use Rattle.lw_base.proofs.Common.{Bytes, FinalState, Formula, HasOutcomeShape, HoldsOfNothing, IsEvent}
+pub use Rattle.lw_base.proofs.Common.{IsListedOutcome, IsLocationName, IsRegisterIndex, IsRegisterName}
+pub use Rattle.lw_base.proofs.Common.{IsSchedule, IsTestName, IsWellFormedHead, IsWordNumber, MentionsOnly}
+pub use Rattle.lw_base.proofs.Common.{Reg_is, TestHead, TokenList, final_state_cmp, first_byte_is, head_of}
+pub use Rattle.lw_base.proofs.Common.{is_blank, is_name_byte, is_reserved, most_threads, nodes, register_name}
+pub use Rattle.lw_base.proofs.Common.{stop_code, stop_name, thread_code}
 pub use Rattle.lw_base.proofs.api.Formulas.{has_locations}
 pub use Rattle.lw_base.proofs.api.Lists.{cons_head, get_some}
-pub use Rattle.lw_base.proofs.api.Returns.{passed_on}
+pub use Rattle.lw_base.proofs.api.Returns.{Err-clause_propagated}
 pub use Rattle.lw_base.proofs.api.Writing.{both_written, pushed, then_written, written_as}
 pub use Rattle.lw_base.specs.declared.event.Event.{Event}
 pub use Rattle.lw_base.specs.declared.event.Event.TheVariants.{Drain, Evict, Step}
@@ -49,87 +50,97 @@ pub use Rattle.lw_base.specs.declared.stop.End.TheVariants.{Stopped}
 pub use Rattle.lw_base.specs.declared.stop.Replay.{Replay}
 pub use Rattle.lw_base.specs.declared.stop.Stop.{Stop}
 pub use Rattle.lw_base.specs.declared.stop.Stop.TheVariants.{NoCpu}
-pub use Rattle.lw_litmus.proofs.Common.{IsStatement, IsThread, IsWellFormedProgram, IsWellFormedSource}
-pub use Rattle.lw_litmus.proofs.Common.{ProgramTest, SourceTest, program_of, source_of, target_of, x86}
-pub use Rattle.lw_litmus.proofs.Common.{x86_operation}
+pub use Rattle.lw_litmus.proofs.Common.{IsWellFormedProgram, IsWellFormedSource, IsWellFormedStatement}
+pub use Rattle.lw_litmus.proofs.Common.{IsWellFormedThread, SourceTest, X86Test, branch_target, program_of}
+pub use Rattle.lw_litmus.proofs.Common.{source_of, x86_language, x86_operation}
 pub use Rattle.lw_litmus.specs.declared.instr.Instr.{Instr}
 pub use Rattle.lw_litmus.specs.declared.stmt.Stmt.{Stmt}
-pub use Rattle.lw_interleaving.proofs.Common.{SourceOutcome, SourceRan, State, is_source_final, outcome_of}
-pub use Rattle.lw_interleaving.proofs.Common.{source_step, start_of, step_of}
+pub use Rattle.lw_interleaving.proofs.Common.{SourceOutcome, SourceRunsTo, State, initial_state}
+pub use Rattle.lw_interleaving.proofs.Common.{is_source_final, source_outcome, source_step, thread_step}
 pub use Rattle.lw_interleaving.specs.declared.thread.Thread.{Thread}
-pub use Rattle.lw_memory.proofs.Common.{flat}
+pub use Rattle.lw_memory.proofs.Common.{flat_memory}
 pub use Rattle.lw_memory.specs.declared.system.LineState.{LineState}
-pub use Rattle.lw_mesi.proofs.Common.{content_of, protocol_lawful, protocol_name, unheld_cache_line}
+pub use Rattle.lw_mesi.proofs.Common.{coherent_word, protocol_lawful, protocol_name, unheld_cache_line}
 pub use Rattle.lw_mesi.specs.declared.protocol.Protocol.{Protocol}
 pub use Rattle.lw_mesi.specs.declared.protocol.Protocol.TheVariants.{Mesi}
-pub use Rattle.lw_tso.proofs.Common.{Act, ActDone, Answer, DoneBy, EventDone, IsFencedCode, IsFencedTest}
-pub use Rattle.lw_tso.proofs.Common.{MachineOutcome, MachineRan, MachineState, Processor, buffer_of, cpu_of}
-pub use Rattle.lw_tso.proofs.Common.{event_act, machine_outcome, machine_start}
-pub use Rattle.lw_tso.proofs.api.Effects.{Does, Leaves, act_after, done_does, leads_from, no_eviction, state}
+pub use Rattle.lw_tso.proofs.Common.{EffectTransition, EventEffect, EventResult, IsFencedCode, IsFencedTest}
+pub use Rattle.lw_tso.proofs.Common.{IsMachineOutcome, MachineRunsTo, MachineState, MachineTransition}
+pub use Rattle.lw_tso.proofs.Common.{Processor, ProcessorTransition, buffer_of, cpu_of, event_effect}
+pub use Rattle.lw_tso.proofs.Common.{initial_machine_state, machine_outcome}
+pub use Rattle.lw_tso.proofs.api.Effects.{EffectLeadsTo, Leaves, act_after, done_does, event_of_effect}
+pub use Rattle.lw_tso.proofs.api.Effects.{no_eviction, state}
 pub use Rattle.lw_tso.proofs.api.Endings.{can_end}
-pub use Rattle.lw_tso.proofs.api.LeavingOut.{left_out}
-pub use Rattle.lw_tso.proofs.api.Lift.{within_reached}
+pub use Rattle.lw_tso.proofs.api.FenceRemoval.{left_out}
+pub use Rattle.lw_tso.proofs.api.FlatSimulation.{within_reached}
 pub use Rattle.lw_fence.proofs.Common.{IsCompiled, IsCompiledWith}
 pub use Rattle.lw_fence.proofs.api.Compilations.{has_outcome, has_outcomes, is_program, is_program_with}
 pub use Rattle.lw_fence.proofs.api.Compilations.{more_fences, none_among, one_program, same_outcomes}
 pub use Rattle.lw_fence.proofs.api.Compilations.{some_program, without_needless_fences}
-pub use Rattle.lw_listing.specs.Listings.{IsStrictlySorted, ListedOutcomes, outcomes_of, schedules_of}
-pub use Rattle.lw_choices.proofs.Common.{HasFewOrders, HasTooManyItems, IsForward, choices_of}
-pub use Rattle.lw_choices.proofs.Common.{items_at_choice, total_of}
-pub use Rattle.lw_choices.proofs.api.Enumerated.{choices_are_all}
-pub use Rattle.lw_choices.proofs.api.Totals.{total_is}
-pub use Rattle.lw_whole.proofs.api.Starts.{starts}
-pub use Rattle.lw_whole.specs.CompleteLists.{ListsMachine}
-pub use Rattle.lw_whole.specs.OverCaches.{OutcomeOverCaches, ReplaysOverCaches}
-pub use Rattle.lw_report.proofs.Common.{AreListedStates, AreStatesOf, IsReport, IsScheduleList, IsSmallestOf}
-pub use Rattle.lw_report.proofs.Common.{ListedState, Shown, ShowsFirst, final_word, is_true, report_text}
-pub use Rattle.lw_report.proofs.Common.{schedule_list_text, scheduled, shown, shown_of}
+pub use Rattle.lw_outcome_map.specs.Listings.{IsStrictlySorted, OutcomeEntries, outcomes_of, schedules_of}
+pub use Rattle.lw_paths.proofs.Common.{HasTooManyItems, IsWithinOrderLimit, JumpsForward, items_at_choice}
+pub use Rattle.lw_paths.proofs.Common.{path_assignments, total_of}
+pub use Rattle.lw_paths.proofs.api.Enumerated.{choices_are_all}
+pub use Rattle.lw_paths.proofs.api.Totals.{total_is}
+pub use Rattle.lw_tso_caches.proofs.api.Starts.{starts}
+pub use Rattle.lw_tso_caches.specs.CompleteLists.{ListsMachine}
+pub use Rattle.lw_tso_caches.specs.OverCaches.{OutcomeOverCaches, ReplaysToOverCaches}
+pub use Rattle.lw_report.proofs.Common.{AreListedStates, AreStatesOf, IsFirstWithWords, IsReport}
+pub use Rattle.lw_report.proofs.Common.{IsScheduleList, IsSmallestOf, ListedState, ProjectedState, final_word}
+pub use Rattle.lw_report.proofs.Common.{is_true, project_state, projection_of, report_text}
+pub use Rattle.lw_report.proofs.Common.{schedule_list_text, scheduled}
 pub use Rattle.lw_report.proofs.api.OneList.{one_report}
 pub use Rattle.lw_report.specs.declared.judgement.Claim.{Claim}
 pub use Rattle.lw_report.specs.declared.judgement.Claim.TheVariants.{Exact}
 pub use Rattle.lw_text.proofs.Common.{Atom, Close, Comment, Condition, Conjunction, Derives, DisjunctionLevel}
-pub use Rattle.lw_text.proofs.Common.{HasFrame, Holds, InThread, IsKind, IsNumber, IsSymbol, IsToken, Open}
-pub use Rattle.lw_text.proofs.Common.{Parts, Preamble, Terminal, TestFrame, TestSyntax, Tokens, and, atom}
-pub use Rattle.lw_text.proofs.Common.{begins_mark, blank, closed, comment, conjunction, ends_cell, frame_of}
-pub use Rattle.lw_text.proofs.Common.{is_pair, is_single, made_of, none, opens_comment, other, parens, part}
-pub use Rattle.lw_text.proofs.Common.{placed_cells}
+pub use Rattle.lw_text.proofs.Common.{HasFrame, Holds, InThread, IsNameOrNumber, IsNumber, IsSymbol, IsToken}
+pub use Rattle.lw_text.proofs.Common.{Open, ParsesTest, Preamble, Terminal, TestFrame, TestSyntax, Tokens}
+pub use Rattle.lw_text.proofs.Common.{and, atom, begins_mark, blank, closed, comment, conjunction, ends_cell}
+pub use Rattle.lw_text.proofs.Common.{frame_of, frame_of_syntax, is_one_byte_symbol, is_two_byte_symbol, none}
+pub use Rattle.lw_text.proofs.Common.{opens_comment, other, parens, part, placed_cells}
 pub use Rattle.lw_text.proofs.api.Frames.{frame_columns, frame_well_formed}
 pub use Rattle.lw_text.proofs.api.Indices.{is_index}
 pub use Rattle.lw_text.proofs.api.Places.{grid_placed}
 pub use Rattle.lw_text.proofs.api.Spelling.{all_pass, is_name_text, name_by_test}
 pub use Rattle.lw_text.specs.declared.fault.TextCause.{TextCause}
 pub use Rattle.lw_text.specs.declared.fault.TextFault.{TextFault}
-pub use Rattle.lw_cells.proofs.Common.{CellSays, CellSyntax, Column, LeadsForward, Said, statements}
+pub use Rattle.lw_statements.proofs.Common.{CellSyntax, Column, LabelsLeadForward, ParsesCell}
+pub use Rattle.lw_statements.proofs.Common.{ParsesStatement, statements}
 pub use Rattle.lw_source.proofs.api.Tests.{well_formed_source}
 pub use Rattle.lw_source.specs.Grammar.{HasSource}
-pub use Rattle.lw_x86.proofs.Common.{HasProgram, IsTextOf, canonical_text, printed_as, x86_grammar}
+pub use Rattle.lw_x86.proofs.Common.{HasProgram, IsTextOf, canonical_text, printed_form, x86_grammar}
 pub use Rattle.lw_x86.proofs.Common.{x86_spelling}
 pub use Rattle.lw_x86.proofs.api.Tests.{well_formed_program}
 pub use Rattle.lw_bench.specs.Classics.{both_loads_are_early, flag_without_message, message_passing_in_x86}
 pub use Rattle.lw_bench.specs.Classics.{store_buffering, store_buffering_in_x86, two_threads}
 pub use Rattle.lw_bench.specs.Commands.{IsCommand, IsProtocolOption}
 pub use Rattle.lw_bench.specs.Compilations.{IsCompilation, IsCompiledText}
-pub use Rattle.lw_bench.specs.Devices.{Gets, IsInput, Loses, Puts, TakesInput, TakesSome}
+pub use Rattle.lw_bench.specs.Devices.{IsInput, LosesInput, ReadsMore, TakesInput, TakesSome, WritesPrefix}
+pub use Rattle.lw_bench.specs.Endings.{EndsTask, Reports}
 pub use Rattle.lw_bench.specs.Examples.{store_buffering_body, store_buffering_notes, store_buffering_report}
 pub use Rattle.lw_bench.specs.Examples.{store_buffering_text}
-pub use Rattle.lw_bench.specs.Faults.{cell_fault, schedule_fault, text_fault, told_cell, told_schedule}
-pub use Rattle.lw_bench.specs.Faults.{told_text}
-pub use Rattle.lw_bench.specs.Lists.{HasList, IsExactReport, IsExactScheduleList, IsListOf}
-pub use Rattle.lw_bench.specs.Lists.{IsReachedOnMachine, IsReachedOverCaches, IsStatesReport}
+pub use Rattle.lw_bench.specs.FaultTruth.{CellFaultIsTrueOf, InputFaultIsTrue, IsNotDeviceFault}
+pub use Rattle.lw_bench.specs.FaultTruth.{ReadFaultIsTrue, ReplayFaultIsTrue, RunFaultIsTrue}
+pub use Rattle.lw_bench.specs.FaultTruth.{TakesBeforeFault, TextFaultIsTrue}
+pub use Rattle.lw_bench.specs.Faults.{cell_fault, cell_run_fault, schedule_fault, schedule_run_fault}
+pub use Rattle.lw_bench.specs.Faults.{text_fault, text_run_fault}
+pub use Rattle.lw_bench.specs.Lists.{IsExactReport, IsExactScheduleList, IsListOf, IsReachedOnMachine}
+pub use Rattle.lw_bench.specs.Lists.{IsReachedOverCaches, IsStatesReport, IsWithinListLimits}
 pub use Rattle.lw_bench.specs.LitmusTests.{LitmusTest, Of_source, Of_x86, head_of_test, litmus_test_of}
-pub use Rattle.lw_bench.specs.Outcomes.{HasOverCaches, IsProgramOf, IsRunFor, LeadsTo, OutcomeOf}
-pub use Rattle.lw_bench.specs.Outputs.{Makes, Writes}
+pub use Rattle.lw_bench.specs.Outcomes.{HasOverCaches, IsProgramOf, IsProgramRunFor, OutcomeOf}
+pub use Rattle.lw_bench.specs.Outcomes.{ProgramReplaysTo}
+pub use Rattle.lw_bench.specs.Outputs.{IsOutputOf, Writes}
 pub use Rattle.lw_bench.specs.Pages.{buffer_line, end_text, entry_text, first_lines, letter, machine_page}
 pub use Rattle.lw_bench.specs.Pages.{named, numbered, processor_lines, processor_title, register_names}
 pub use Rattle.lw_bench.specs.Pages.{source_page, thread_line, word_at, word_line}
 pub use Rattle.lw_bench.specs.Replays.{IsPageOf, IsReplayPage}
 pub use Rattle.lw_bench.specs.Runs.{Devices, IsRun, devices}
-pub use Rattle.lw_bench.specs.TestTexts.{FrameSays, HasTest}
-pub use Rattle.lw_bench.specs.Told.{IsNoDevice, TakesAt, TellsCell, TellsInput, TellsReplay, TellsRun}
-pub use Rattle.lw_bench.specs.Told.{TellsTest, TellsText}
+pub use Rattle.lw_bench.specs.Tasks.{TaskFaultIsTrue}
+pub use Rattle.lw_bench.specs.TestTexts.{FrameHasTest, HasTest}
 pub use Rattle.lw_bench.specs.WellFormedTests.{IsWellFormedTest}
 pub use Rattle.lw_bench.specs.declared.command.Task.{Task}
 pub use Rattle.lw_bench.specs.declared.command.Task.TheVariants.{Compile, Schedules, States}
+pub use Rattle.lw_bench.specs.declared.ending.Ending.{Ending}
+pub use Rattle.lw_bench.specs.declared.ending.Ending.TheVariants.{Answer, Refusal}
 pub use Rattle.lw_bench.specs.declared.fault.BenchFault.{BenchFault}
 pub use Rattle.lw_bench.specs.declared.fault.BenchFault.TheVariants.{Cell, Limit, Memory, Read, Schedule}
 pub use Rattle.lw_bench.specs.declared.fault.BenchFault.TheVariants.{Text, Write}

@@ -1,16 +1,16 @@
 -- Outcomes of compiled programs over caches.
-use Rattle.lw_bench.proofs.Common.{◌↔◌, Final, flat, Protocol, SourceOutcome, SourceTest, ProgramTest}
-use Rattle.lw_bench.proofs.Common.{MachineOutcome, IsWellFormedProgram, OutcomeOverCaches}
+use Rattle.lw_bench.proofs.Common.{◌↔◌, FinalState, flat_memory, Protocol, SourceOutcome, SourceTest, X86Test}
+use Rattle.lw_bench.proofs.Common.{IsMachineOutcome, IsWellFormedProgram, OutcomeOverCaches}
 
 -- where a program has its source's outcomes over flat memory, and outcomes over caches are those over flat memory, it has its
 -- source's over caches
-pub by_flat : (test : SourceTest) (program : ProgramTest)
-    → ((protocol : Protocol) (p : ProgramTest) (o : Final)
+pub by_flat : (test : SourceTest) (program : X86Test)
+    → ((protocol : Protocol) (p : X86Test) (o : FinalState)
     → IsWellFormedProgram p
-    → OutcomeOverCaches protocol p o ↔ MachineOutcome flat p p.head.init_words o)
+    → OutcomeOverCaches protocol p o ↔ IsMachineOutcome flat_memory p p.head.init_words o)
     → IsWellFormedProgram program
-    → ((o : Final) → MachineOutcome flat program program.head.init_words o ↔ SourceOutcome test o)
-    → (protocol : Protocol) (o : Final)
+    → ((o : FinalState) → IsMachineOutcome flat_memory program program.head.init_words o ↔ SourceOutcome test o)
+    → (protocol : Protocol) (o : FinalState)
     → OutcomeOverCaches protocol program o ↔ SourceOutcome test o
 by_flat test program caches ok outcomes protocol o =
     let over = caches protocol program o ok in

@@ -3,8 +3,8 @@
 use Rattle.lw_bench.proofs.Common.{arith, inl, inr, refl, ◌≡◌, ◌≢◌, ℕ, zero, suc, ◌-◌, ◌<◌, ◌≤◌, Option, Some}
 use Rattle.lw_bench.proofs.Common.{None, List, [], ◌∷◌, ◌++◌, length, length-append, take, drop, sym, ap, ◌∙◌}
 use Rattle.lw_bench.proofs.Common.{subst, append_assoc, length-take-le, take-append-drop, take-append-le}
-use Rattle.lw_bench.proofs.Common.{Appends, Consumes, IsAtEnd, Keeps, IsInput, TakesInput, TakesSome, Gets}
-use Rattle.lw_bench.proofs.Common.{Loses, Puts}
+use Rattle.lw_bench.proofs.Common.{Appends, Consumes, IsAtEnd, Keeps, IsInput, TakesInput, TakesSome}
+use Rattle.lw_bench.proofs.Common.{ReadsMore, LosesInput, WritesPrefix}
 
 -- bytes that were added, and then more, were all added
 Appends-more : (a b c : Option (List ℕ)) (xs ys : List ℕ) → Appends a b xs → Appends b c ys → Appends a c (xs ++ ys)
@@ -22,9 +22,9 @@ Consumes-more (Some x) (Some y) (Some z) xs ys h k = h ∙ ap (λ w. xs ++ w) k 
 
 -- where the first n bytes of the rest were written too, what is left to write is the rest behind them
 pub puts_more : (a b c : Option (List ℕ)) (bytes rest : List ℕ) (n : ℕ)
-    → Puts a b bytes rest
+    → WritesPrefix a b bytes rest
     → Appends b c (take n rest)
-    → Puts a c bytes (drop n rest)
+    → WritesPrefix a c bytes (drop n rest)
 puts_more a b c bytes rest n puts more = record {
   written = puts.written ++ take n rest;
   parts =
@@ -48,7 +48,7 @@ pub gets_front : {before after : List ℕ} (known left : Option (List ℕ)) (buf
     → IsFront before buffer count
     → Consumes known left (take count buffer) × (count ≡ 0 → 0 < length buffer → IsAtEnd left)
     → after ≡ before ++ take count (buffer ++ behind)
-    → Gets known left before after count
+    → ReadsMore known left before after count
 gets_front {before} known left buffer behind count front consumed added =
     let got = take count buffer in
     let many : length got ≡ count = length-take-le count buffer front.within in
@@ -71,7 +71,7 @@ takes_none (Some x) bytes none = ap (λ (b : List ℕ). b ++ x) (sym none)
 -- bytes that came in behind those taken are taken with them: all bytes that are there now were taken since the start
 pub gets_more : (a b c : Option (List ℕ)) (before after : List ℕ) (n : ℕ)
     → Consumes a b before
-    → Gets b c before after n
+    → ReadsMore b c before after n
     → Consumes a c after
 gets_more a b c before after n before_that gets =
     subst (Consumes a c) (sym gets.added) (Consumes-more a b c before gets.got before_that gets.consumed)
@@ -134,7 +134,7 @@ taken_some (Some x) None bytes h le = absurd h
 taken_some (Some x) (Some y) bytes h le = (length bytes, le, ap Some (sym (left_is x bytes y h)))
 
 -- where bytes were taken, and then more came in and were lost, a part of what a run may take of its input was taken
-pub taken_lost : (a b c : Option (List ℕ)) (bytes : List ℕ) → Consumes a b bytes → Loses b c bytes → TakesSome a c
+pub taken_lost : (a b c : Option (List ℕ)) (bytes : List ℕ) → Consumes a b bytes → LosesInput b c bytes → TakesSome a c
 taken_lost a b c bytes h loses =
     taken_some a c (bytes ++ loses.got) (Consumes-more a b c bytes loses.got h loses.consumed)
     (omega (arith, length-append bytes loses.got, loses.limit))
@@ -154,7 +154,7 @@ kept_consumes (Some x) (Some y) h = sym h
 pub loses_none : (known left : Option (List ℕ)) (before : List ℕ)
     → length before < 65537
     → Keeps known left
-    → Loses known left before
+    → LosesInput known left before
 loses_none known left before short kept =
     record { got = []; limit = omega (arith, short); consumed = kept_consumes known left kept }
 
@@ -162,7 +162,7 @@ loses_none known left before short kept =
 pub loses_front : (known left : Option (List ℕ)) (before buffer : List ℕ) (count : ℕ)
     → IsFront before buffer count
     → Consumes known left (take count buffer)
-    → Loses known left before
+    → LosesInput known left before
 loses_front known left before buffer count front consumed = record {
   got = take count buffer;
   limit = omega (arith, length-take-le count buffer front.within, front.within, front.whole, front.is_room, front.short);
@@ -171,7 +171,7 @@ loses_front known left before buffer count front consumed = record {
 
 -- where some bytes came in, fewer are still to be read
 pub fewer_left : (known left : Option (List ℕ)) (before after : List ℕ) (count : ℕ)
-    → Gets known left before after count
+    → ReadsMore known left before after count
     → count ≢ 0
     → 65537 - length after < 65537 - length before
 fewer_left known left before after count gets some =

@@ -2,15 +2,16 @@
 use Rattle.lw_bench.proofs.Common.{◌≡◌, ℕ, zero, suc, ◌<◌, ◌&&◌, ◌==◌, true, false, Bool, Option, Some, None}
 use Rattle.lw_bench.proofs.Common.{List, [], ◌∷◌, refl, sym, subst, arith, slice_get, slice_set}
 use Rattle.lw_bench.proofs.Common.{slice_index_or, length, Contains, and_parts, nat_lt, option_map, none-some}
-use Rattle.lw_bench.proofs.Common.{same_Some, Ok, Final, Event, Step, Drain, IsTrue, All, AllByRecursion}
-use Rattle.lw_bench.proofs.Common.{All-weaker, x86, Instr, flat, Act, Processor, EventDone, MachineState}
-use Rattle.lw_bench.proofs.Common.{MachineOutcome, MachineRan, machine_start, machine_outcome, state}
-use Rattle.lw_bench.proofs.Common.{event_act, cpu_of, IsThread, store_buffering_in_x86, Shown, AreStatesOf}
+use Rattle.lw_bench.proofs.Common.{same_Some, Ok, FinalState, Event, Step, Drain, IsTrue, All, AllByRecursion}
+use Rattle.lw_bench.proofs.Common.{All-weaker, x86_language, Instr, flat_memory, EventEffect, Processor}
+use Rattle.lw_bench.proofs.Common.{MachineTransition, MachineState, IsMachineOutcome, MachineRunsTo}
+use Rattle.lw_bench.proofs.Common.{initial_machine_state, machine_outcome, state, event_effect, cpu_of}
+use Rattle.lw_bench.proofs.Common.{IsWellFormedThread, store_buffering_in_x86, ProjectedState, AreStatesOf}
 use Rattle.lw_bench.proofs.Common.{Of_x86, IsStatesReport, OutcomeOf, AllPairs, slice_cmp, nat_cmp, Less}
-use Rattle.lw_bench.proofs.Common.{ltb-true, AllPairs-cons, All-from_recursion, Register, shown, final_word}
-use Rattle.lw_bench.proofs.Common.{choices_are_all, IsForward, choices_of, HasTooManyItems, HasFewOrders}
-use Rattle.lw_bench.proofs.Common.{items_at_choice, total_of, total_is, Does, leads_from}
-use Rattle.lw_bench.proofs.Common.{store_buffering_report, Leaves, act_after}
+use Rattle.lw_bench.proofs.Common.{ltb-true, AllPairs-cons, All-from_recursion, Register, project_state}
+use Rattle.lw_bench.proofs.Common.{final_word, choices_are_all, JumpsForward, path_assignments}
+use Rattle.lw_bench.proofs.Common.{HasTooManyItems, IsWithinOrderLimit, items_at_choice, total_of, total_is}
+use Rattle.lw_bench.proofs.Common.{EffectLeadsTo, event_of_effect, store_buffering_report, Leaves, act_after}
 use Rattle.std.specs.Fmt.{digits}
 use Rattle.lw_bench.proofs.Classics.{store_buffering_formed}
 use Rattle.lw_bench.proofs.Searches.{done_after, event_after, machine_ends_so, machine_searched}
@@ -19,29 +20,30 @@ use Rattle.lw_tso.specs.Runs as machine
 -- ---- runs by events that are carried out
 
 -- where what an act leaves can be computed over flat memory, the act does that
-act_does : (act : Act) (m : List ℕ) (r : Processor × List ℕ) → act_after act m ≡ Some r → Does m act r.0 r.1
+act_does : (act : EventEffect) (m : List ℕ) (r : Processor × List ℕ) → act_after act m ≡ Some r → EffectLeadsTo m act r.0 r.1
 act_does act m r h = subst (λ o. Leaves o r.0 r.1) (sym h) (refl, refl)
 
 module _ (program : List (List Instr)) where
   event_leads : (e : Event) (s after : MachineState (List ℕ))
       → event_after program e s ≡ Some after
-      → EventDone flat program e s (Ok tt) after
+      → MachineTransition flat_memory program e s (Ok tt) after
   event_leads e s after = go (slice_get s.processors (cpu_of e)) refl
     where
       done : (p : Processor)
           → slice_get s.processors (cpu_of e) ≡ Some p
           → (o : Option (Processor × List ℕ))
-          → act_after (event_act program (length s.memory) e p) s.memory ≡ o
+          → act_after (event_effect program (length s.memory) e p) s.memory ≡ o
           → option_map (λ (r : Processor × List ℕ). state (slice_set s.processors (cpu_of e) r.0) r.1) o ≡ Some after
-          → EventDone flat program e s (Ok tt) after
+          → MachineTransition flat_memory program e s (Ok tt) after
       done p was None is h = absurd (none-some after h)
       done p was (Some r) is h =
-          rw (sym (same_Some _ after h)) (leads_from program e s.processors p r.0 s.memory r.1 was (act_does _ s.memory r is))
+          rw (sym (same_Some _ after h))
+          (event_of_effect program e s.processors p r.0 s.memory r.1 was (act_does _ s.memory r is))
 
       go : (o : Option Processor)
           → slice_get s.processors (cpu_of e) ≡ o
           → done_after program o e s ≡ Some after
-          → EventDone flat program e s (Ok tt) after
+          → MachineTransition flat_memory program e s (Ok tt) after
       go None was h = absurd (none-some after h)
       go (Some p) was h = done p was _ refl h
 
@@ -59,7 +61,7 @@ module _ (program : List (List Instr)) where
   -- events that are possible in turn are a run to the state that is computed
   pub state_ran : (events : List Event) (s end : MachineState (List ℕ))
       → state_after events s ≡ Some end
-      → MachineRan flat program events s end
+      → MachineRunsTo flat_memory program events s end
   unfolding state_after
   state_ran [] s end h = sym (same_Some s end h)
   state_ran (e ∷ es) s end h = go (event_after program e s) refl h (λ mid on. state_ran es mid end on)
@@ -67,8 +69,8 @@ module _ (program : List (List Instr)) where
       go : (o : Option (MachineState (List ℕ)))
           → event_after program e s ≡ o
           → and_on (state_after es) o ≡ Some end
-          → ((mid : MachineState (List ℕ)) → state_after es mid ≡ Some end → MachineRan flat program es mid end)
-          → MachineRan flat program (e ∷ es) s end
+          → ((mid : MachineState (List ℕ)) → state_after es mid ≡ Some end → MachineRunsTo flat_memory program es mid end)
+          → MachineRunsTo flat_memory program (e ∷ es) s end
       go None is h on = absurd (none-some end h)
       go (Some mid) is h on = (mid, event_leads e s mid is, on mid h)
 
@@ -80,31 +82,31 @@ sb = store_buffering_in_x86.threads
 
 -- the state in which store buffering in x86 begins
 abbrev start : MachineState (List ℕ)
-start = machine_start store_buffering_in_x86 store_buffering_in_x86.head.init_words
+start = initial_machine_state store_buffering_in_x86 store_buffering_in_x86.head.init_words
 
 -- a state of the report with the words of the two registers, and whether the condition holds
-abbrev two : ℕ → ℕ → Bool → Shown
+abbrev two : ℕ → ℕ → Bool → ProjectedState
 two a b holds = record { words = a ∷ b ∷ []; holds = holds }
 
 -- the four states of the report
-abbrev states : List Shown
+abbrev states : List ProjectedState
 states = two 0 0 true ∷ two 0 1 false ∷ two 1 0 false ∷ two 1 1 false ∷ []
 
 -- some outcome shows this state
-abbrev Shows : Shown → Type 0
+abbrev Shows : ProjectedState → Type 0
 Shows s =
-    (o : Final)
-    × MachineOutcome flat store_buffering_in_x86 store_buffering_in_x86.head.init_words o
-    × (shown store_buffering_in_x86.head o ≡ s)
+    (o : FinalState)
+    × IsMachineOutcome flat_memory store_buffering_in_x86 store_buffering_in_x86.head.init_words o
+    × (project_state store_buffering_in_x86.head o ≡ s)
 
 -- where a run by these events comes to a final state, and its outcome shows s, some outcome shows s
-shows : (events : List Event) (end : MachineState (List ℕ)) (s : Shown)
+shows : (events : List Event) (end : MachineState (List ℕ)) (s : ProjectedState)
     → state_after sb events start ≡ Some end
     → IsTrue (machine.is_final sb end)
-    → shown store_buffering_in_x86.head (machine_outcome flat end) ≡ s
+    → project_state store_buffering_in_x86.head (machine_outcome flat_memory end) ≡ s
     → Shows s
 shows events end s ran final is = (
-  machine_outcome flat end,
+  machine_outcome flat_memory end,
   (events, record { end = end; ran = state_ran sb events start end ran; final = final; is = refl }),
   is,
 )
@@ -137,7 +139,7 @@ unfolding state_after
 none_early = shows (Step 0 ∷ Drain 0 ∷ Step 1 ∷ Drain 1 ∷ Step 0 ∷ Step 1 ∷ []) (end_with 1 1) _ refl refl refl
 
 -- each of the four states is shown
-each_shown : (s : Shown) → Contains states s → Shows s
+each_shown : (s : ProjectedState) → Contains states s → Shows s
 each_shown s (k, there, is) = go k there is
   where
     go : (k : ℕ) → k < 4 → slice_index_or states k s ≡ s → Shows s
@@ -148,11 +150,11 @@ each_shown s (k, there, is) = go k there is
     go (suc (suc (suc (suc k)))) l e = absurd (omega (arith, l))
 
 -- the word that a thread's first register ends with
-abbrev read_of : ℕ → Final → ℕ
+abbrev read_of : ℕ → FinalState → ℕ
 read_of t o = final_word o (Register t 0)
 
 -- whether both registers have 0 or 1
-abbrev is_small : Final → Bool
+abbrev is_small : FinalState → Bool
 is_small o = nat_lt (read_of 0 o) 2 && nat_lt (read_of 1 o) 2
 
 -- within seven events every run of store buffering in x86 ends, with 0 or 1 in both registers
@@ -170,7 +172,7 @@ two_shown (suc (suc a)) b l m = absurd (omega (arith, l))
 two_shown a (suc (suc b)) l m = absurd (omega (arith, m))
 
 -- a state that is shown is one of the four
-all_shown : (s : Shown) → Shows s → Contains states s
+all_shown : (s : ProjectedState) → Shows s → Contains states s
 all_shown s (o, outcome, is) =
     let small =
     subst (λ e. is_small e ≡ true) (sym outcome.1.is)
@@ -179,16 +181,16 @@ all_shown s (o, outcome, is) =
     subst (Contains states) is (two_shown (read_of 0 o) (read_of 1 o) (ltb-true _ 2 both.0) (ltb-true _ 2 both.1))
 
 -- a state's words come before another's
-abbrev IsFirst : Shown → Shown → Type 0
+abbrev IsFirst : ProjectedState → ProjectedState → Type 0
 IsFirst a b = slice_cmp nat_cmp a.words b.words ≡ Less
 
 -- the states are sorted by their words
-abbrev Ascend : List Shown → Type 0
+abbrev Ascend : List ProjectedState → Type 0
 Ascend [] = Unit {0}
 Ascend (s ∷ ss) = AllByRecursion (IsFirst s) ss × Ascend ss
 
 -- states that are sorted one by one are so in all pairs
-ascending : (ss : List Shown) → Ascend ss → AllPairs IsFirst ss
+ascending : (ss : List ProjectedState) → Ascend ss → AllPairs IsFirst ss
 ascending [] up = λ i j d l m. absurd (omega (arith, m))
 ascending (s ∷ ss) up = AllPairs-cons IsFirst s ss (All-from_recursion (IsFirst s) ss up.0) (ascending ss up.1)
 
@@ -199,20 +201,22 @@ states_ascend = ascending states ((refl, (refl, (refl, tt))), ((refl, (refl, tt)
 -- ---- the limits
 
 -- the threads of store buffering have no jump back
-forward : All (IsForward x86) sb
-forward = All-weaker _ _ (λ (code : List Instr) (is : IsThread x86 2 code). is.forward) sb store_buffering_formed.code
+forward : All (JumpsForward x86_language) sb
+forward =
+    All-weaker _ _ (λ (code : List Instr) (is : IsWellFormedThread x86_language 2 code). is.forward) sb
+    store_buffering_formed.code
 
 -- store buffering has not too many items for a list
-few_items : HasTooManyItems x86 sb → ⊥
-few_items (paths, choice, many) = go ((choices_are_all x86 sb paths forward).1 choice)
+few_items : HasTooManyItems x86_language sb → ⊥
+few_items (paths, choice, many) = go ((choices_are_all x86_language sb paths forward).1 choice)
   where
-    go : Contains (choices_of x86 sb) paths → ⊥
-    go (zero, l, e) = omega (arith, subst (λ p. 128 < items_at_choice x86 sb p) (sym e) many)
+    go : Contains (path_assignments x86_language sb) paths → ⊥
+    go (zero, l, e) = omega (arith, subst (λ p. 128 < items_at_choice x86_language sb p) (sym e) many)
     go (suc k, l, e) = omega (arith, l)
 
 -- store buffering has not too many orders for a list
-few_orders : HasFewOrders x86 sb
-few_orders = (total_of x86 sb, total_is x86 sb forward, omega arith)
+few_orders : IsWithinOrderLimit x86_language sb
+few_orders = (total_of x86_language sb, total_is x86_language sb forward, omega arith)
 
 -- ---- the report
 

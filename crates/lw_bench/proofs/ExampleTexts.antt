@@ -3,14 +3,14 @@ use Rattle.lw_bench.proofs.Common.{◌≡◌, ℕ, zero, suc, inl, inr, true, So
 use Rattle.lw_bench.proofs.Common.{arith, slice_get, same_Some, none-some, sym, ap, ◌∙◌, Bytes, Number, X86}
 use Rattle.lw_bench.proofs.Common.{Exists, TestFrame, HasProgram, HasTest, Of_x86, store_buffering_in_x86}
 use Rattle.lw_bench.proofs.Common.{both_loads_are_early, and_parts, not, false, None, AllByRecursion, Formula}
-use Rattle.lw_bench.proofs.Common.{list_all, not-true, Reg_is, IsUtf8-from_ascii, TokenList, IsLocation}
-use Rattle.lw_bench.proofs.Common.{IsRegister, store_buffering_notes, store_buffering_body}
-use Rattle.lw_bench.proofs.Common.{store_buffering_text, CellSyntax, CellSays, Column, LeadsForward}
-use Rattle.lw_bench.proofs.Common.{statements, Said, IsNumber, Tokens, none, blank, comment, Preamble}
-use Rattle.lw_bench.proofs.Common.{InThread, Terminal, Open, Close, Conjunction, Atom, Derives}
+use Rattle.lw_bench.proofs.Common.{list_all, not-true, Reg_is, IsUtf8-from_ascii, TokenList, IsLocationName}
+use Rattle.lw_bench.proofs.Common.{IsRegisterName, store_buffering_notes, store_buffering_body}
+use Rattle.lw_bench.proofs.Common.{store_buffering_text, CellSyntax, ParsesCell, Column, LabelsLeadForward}
+use Rattle.lw_bench.proofs.Common.{statements, ParsesStatement, IsNumber, Tokens, none, blank, comment}
+use Rattle.lw_bench.proofs.Common.{Preamble, InThread, Terminal, Open, Close, Conjunction, Atom, Derives}
 use Rattle.lw_bench.proofs.Common.{DisjunctionLevel, atom, parens, part, and, conjunction, Holds, Condition}
-use Rattle.lw_bench.proofs.Common.{ends_cell, TestSyntax, Parts, HasFrame, made_of, x86_grammar, x86_spelling}
-use Rattle.lw_bench.proofs.Common.{printed_as}
+use Rattle.lw_bench.proofs.Common.{ends_cell, TestSyntax, ParsesTest, HasFrame, frame_of_syntax, x86_grammar}
+use Rattle.lw_bench.proofs.Common.{x86_spelling, printed_form}
 use Rattle.lw_text.specs.Preambles.{none as no_notes}
 use Rattle.lw_bench.proofs.Classics.{one_letter}
 use Rattle.lw_bench.proofs.TokenTexts.{are_tokens, tokens_stand, token_of, plain_comment, ascii_by_test}
@@ -92,7 +92,7 @@ syntax = record {
 
 -- the frame that the text has: its head, and the tokens of its cells
 abbrev frame : TestFrame
-frame = made_of X86 (codes "SB-x86") syntax both_loads_are_early
+frame = frame_of_syntax X86 (codes "SB-x86") syntax both_loads_are_early
 
 -- `0` is the number 0
 zero_number : IsNumber (codes "0") 0
@@ -103,7 +103,7 @@ one_number : IsNumber (codes "1") 1
 one_number = (omega arith, inl (omega arith, (omega arith, refl)))
 
 -- `EAX` is register 0
-eax : IsRegister X86 (codes "EAX") 0
+eax : IsRegisterName X86 (codes "EAX") 0
 eax = (omega arith, refl)
 
 -- the tokens of the condition say the quantifier and the terminals
@@ -135,7 +135,7 @@ plain [] h = tt
 plain (t ∷ cell) h = let parts = and_parts (not (ends_cell t)) _ h in (not-true _ parts.0, plain cell parts.1)
 
 -- all tokens are the block, the header, the rows and the condition of this syntax
-parts : Parts X86 all_tokens syntax
+parts : ParsesTest X86 all_tokens syntax
 parts = record {
   behind_block = behind_block;
   behind_header = behind_header;
@@ -209,46 +209,46 @@ framed = record {
 -- ---- the cells
 
 -- what a cell with the store says
-abbrev says_store : Bytes → CellSyntax (Said x86_spelling)
-says_store x = record { labels = []; stmt = Some (printed_as (x ∷ []) (instr.Store 0 (Number 1))) }
+abbrev says_store : Bytes → CellSyntax (ParsesStatement x86_spelling)
+says_store x = record { labels = []; stmt = Some (printed_form (x ∷ []) (instr.Store 0 (Number 1))) }
 
 -- what a cell with the load says
-abbrev says_load : Bytes → CellSyntax (Said x86_spelling)
-says_load x = record { labels = []; stmt = Some (printed_as (x ∷ []) (instr.Load 0 0)) }
+abbrev says_load : Bytes → CellSyntax (ParsesStatement x86_spelling)
+says_load x = record { labels = []; stmt = Some (printed_form (x ∷ []) (instr.Load 0 0)) }
 
 -- the tokens of a store say it
-store_said : (x : Bytes) → IsLocation x → CellSays x86_grammar (store_tokens x) (says_store x)
+store_said : (x : Bytes) → IsLocationName x → ParsesCell x86_grammar (store_tokens x) (says_store x)
 store_said x place =
     (store_tokens x, refl, ((1, omega arith, refl), (refl, (refl, ((refl, place), (refl, (refl, (refl, (one_number, tt)))))))))
 
 -- the tokens of a load say it
-load_said : (x : Bytes) → IsLocation x → CellSays x86_grammar (load_tokens x) (says_load x)
+load_said : (x : Bytes) → IsLocationName x → ParsesCell x86_grammar (load_tokens x) (says_load x)
 load_said x place = (load_tokens x, refl, ((2, omega arith, refl), (refl, (eax, (refl, (refl, ((refl, place), (refl, tt))))))))
 
 -- `x` is a location's name
-x_index : IsLocation (codes "x")
+x_index : IsLocationName (codes "x")
 x_index = one_letter (codes "x") 120 refl refl refl refl
 
 -- `y` is a location's name
-y_index : IsLocation (codes "y")
+y_index : IsLocationName (codes "y")
 y_index = one_letter (codes "y") 121 refl refl refl refl
 
 -- a thread's column: a store, and below it a load
 column : (x y : Bytes)
-    → IsLocation x
-    → IsLocation y
+    → IsLocationName x
+    → IsLocationName y
     → Column x86_grammar (store_tokens x ∷ load_tokens y ∷ []) (says_store x ∷ says_load y ∷ [])
 column x y x_is y_is =
     record { says = (store_said x x_is, (load_said y y_is, tt)); few = omega arith; once = tt; forward = forward }
   where
-    no_label : (s : Said x86_spelling) (k : ℕ)
+    no_label : (s : ParsesStatement x86_spelling) (k : ℕ)
         → x86_grammar.label_of s ≡ None
-        → LeadsForward x86_grammar (says_store x ∷ says_load y ∷ []) k s
+        → LabelsLeadForward x86_grammar (says_store x ∷ says_load y ∷ []) k s
     no_label s k lacks l is = absurd (none-some l (sym lacks ∙ is))
 
-    forward : (k : ℕ) (s : Said x86_spelling)
+    forward : (k : ℕ) (s : ParsesStatement x86_spelling)
         → slice_get (statements (says_store x ∷ says_load y ∷ [])) k ≡ Some s
-        → LeadsForward x86_grammar (says_store x ∷ says_load y ∷ []) k s
+        → LabelsLeadForward x86_grammar (says_store x ∷ says_load y ∷ []) k s
     forward zero s e = no_label s 0 (ap x86_grammar.label_of (sym (same_Some _ s e)))
     forward (suc zero) s e = no_label s 1 (ap x86_grammar.label_of (sym (same_Some _ s e)))
     forward (suc (suc k)) s e = cc

@@ -1,13 +1,13 @@
 -- Store buffering with a fence between the store and the load of each thread, by a search through its runs.
 use Rattle.lw_bench.proofs.Common.{◌≡◌, ℕ, zero, suc, ◌<◌, not, Bool, true, false, List, [], ◌∷◌, refl, sym}
-use Rattle.lw_bench.proofs.Common.{subst, arith, Number, ProgramTest, Final, flat, is_true, MachineOutcome}
-use Rattle.lw_bench.proofs.Common.{machine_start, store_buffering_in_x86, code_of, IsFencedCode, IsFencedTest}
-use Rattle.lw_bench.proofs.Common.{left_out, not-true}
+use Rattle.lw_bench.proofs.Common.{subst, arith, Number, X86Test, FinalState, flat_memory, is_true}
+use Rattle.lw_bench.proofs.Common.{IsMachineOutcome, initial_machine_state, store_buffering_in_x86}
+use Rattle.lw_bench.proofs.Common.{thread_code, IsFencedCode, IsFencedTest, left_out, not-true}
 use Rattle.lw_bench.proofs.Searches.{machine_ends_so, machine_searched}
 use Rattle.lw_litmus.specs.declared.instr.Instr.TheVariants as instr
 
 -- `MOV [x],1; MFENCE; MOV EAX,[y]` beside `MOV [y],1; MFENCE; MOV EAX,[x]`
-abbrev fenced : ProgramTest
+abbrev fenced : X86Test
 fenced = record {
   head = store_buffering_in_x86.head;
   threads =
@@ -23,30 +23,32 @@ second = false ∷ true ∷ false ∷ []
 fences_inserted : IsFencedTest store_buffering_in_x86 fenced
 fences_inserted = record { head = refl; as_many = refl; threads = threads }
   where
-    threads : (t : ℕ) → t < 2 → IsFencedCode (code_of store_buffering_in_x86.threads t) (code_of fenced.threads t)
-    threads zero within = left_out second (code_of fenced.threads 0) (refl, tt)
-    threads (suc zero) within = left_out second (code_of fenced.threads 1) (refl, tt)
+    threads : (t : ℕ) → t < 2 → IsFencedCode (thread_code store_buffering_in_x86.threads t) (thread_code fenced.threads t)
+    threads zero within = left_out second (thread_code fenced.threads 0) (refl, tt)
+    threads (suc zero) within = left_out second (thread_code fenced.threads 1) (refl, tt)
     threads (suc (suc t)) within = absurd (omega (arith, within))
 
 -- whether an outcome shows that not both loads were early
-abbrev is_late : Final → Bool
+abbrev is_late : FinalState → Bool
 is_late o = not (is_true fenced.head.condition o)
 
 -- within nine events every run of the fenced test ends, with an outcome in which not both loads were early
-search : machine_ends_so fenced.threads is_late 9 (machine_start fenced fenced.head.init_words) ≡ true
+search : machine_ends_so fenced.threads is_late 9 (initial_machine_state fenced fenced.head.init_words) ≡ true
 unfolding machine_ends_so
 search = refl
 
 -- no outcome of the fenced test has both loads early
-forbidden : (o : Final) → MachineOutcome flat fenced fenced.head.init_words o → is_true fenced.head.condition o ≡ false
+forbidden : (o : FinalState)
+    → IsMachineOutcome flat_memory fenced fenced.head.init_words o
+    → is_true fenced.head.condition o ≡ false
 forbidden o run =
     not-true _
     (subst (λ e. is_late e ≡ true) (sym run.1.is)
-    (machine_searched fenced.threads is_late 9 run.0 (machine_start fenced fenced.head.init_words) run.1.end search run.1.ran
-    run.1.final))
+    (machine_searched fenced.threads is_late 9 run.0 (initial_machine_state fenced fenced.head.init_words) run.1.end search
+    run.1.ran run.1.final))
 
 -- some way to insert fences forbids the outcome with both loads early
-pub fenced_store_buffering : (test : ProgramTest)
+pub fenced_store_buffering : (test : X86Test)
     × IsFencedTest store_buffering_in_x86 test
-    × ((o : Final) → MachineOutcome flat test test.head.init_words o → is_true test.head.condition o ≡ false)
+    × ((o : FinalState) → IsMachineOutcome flat_memory test test.head.init_words o → is_true test.head.condition o ≡ false)
 fenced_store_buffering = (fenced, fences_inserted, forbidden)

@@ -9,7 +9,7 @@ pub mod Pages
 pub mod Outputs
 pub mod Replays
 pub mod Compilations
-pub mod Told
+pub mod FaultTruths
 pub mod Endings
 pub mod Runs
 pub mod TokenTexts

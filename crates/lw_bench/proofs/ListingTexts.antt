@@ -3,16 +3,18 @@
 use Rattle.lw_bench.proofs.Common.{◌≡◌, ◌⊎◌, inl, inr, ℕ, ◌<◌, ◌↔◌, List, [], ◌∷◌, zero, suc, Some, map, refl}
 use Rattle.lw_bench.proofs.Common.{sym, ap, ◌∙◌, subst, slice_get, arith, All, Contains, slice_index_or, Less}
 use Rattle.lw_bench.proofs.Common.{same_Some, cases_lt, All-map, All-weaker, slice_get-get_or}
-use Rattle.lw_bench.proofs.Common.{slice_get_within, get_or_from_slice_get, TestHead, Final, final_cmp, Event}
-use Rattle.lw_bench.proofs.Common.{ListedOutcomes, outcomes_of, schedules_of, IsStrictlySorted, IsReport}
-use Rattle.lw_bench.proofs.Common.{IsScheduleList, report_text, schedule_list_text, scheduled, Shown}
-use Rattle.lw_bench.proofs.Common.{AreStatesOf, IsSmallestOf, ListedState, shown_of, ShowsFirst}
-use Rattle.lw_bench.proofs.Common.{AreListedStates, Claim}
+use Rattle.lw_bench.proofs.Common.{slice_get_within, get_or_from_slice_get, TestHead, FinalState}
+use Rattle.lw_bench.proofs.Common.{final_state_cmp, Event, OutcomeEntries, outcomes_of, schedules_of}
+use Rattle.lw_bench.proofs.Common.{IsStrictlySorted, IsReport, IsScheduleList, report_text}
+use Rattle.lw_bench.proofs.Common.{schedule_list_text, scheduled, ProjectedState, AreStatesOf, IsSmallestOf}
+use Rattle.lw_bench.proofs.Common.{ListedState, projection_of, IsFirstWithWords, AreListedStates, Claim}
 
-module _ (head : TestHead) (Has : Final → Type 0) (entries : ListedOutcomes)
-    (same : (o : Final) → Contains (outcomes_of entries) o ↔ Has o) where
+module _ (head : TestHead) (Has : FinalState → Type 0) (entries : OutcomeEntries)
+    (same : (o : FinalState) → Contains (outcomes_of entries) o ↔ Has o) where
   -- where a set has exactly the listed outcomes, the states of these are the states of the set
-  states_of_set : (states : List Shown) → AreStatesOf head (Contains (outcomes_of entries)) states → AreStatesOf head Has states
+  states_of_set : (states : List ProjectedState)
+      → AreStatesOf head (Contains (outcomes_of entries)) states
+      → AreStatesOf head Has states
   states_of_set states are = record {
     sorted = are.sorted;
     exactly = λ s. (
@@ -24,29 +26,29 @@ module _ (head : TestHead) (Has : Final → Type 0) (entries : ListedOutcomes)
   -- a report of the states of a listing is the report of the set of its outcomes
   pub report_is : (claim : Claim) (states : List ListedState) (text : List ℕ)
       → AreListedStates head (outcomes_of entries) states
-      → text ≡ report_text head claim (map shown_of states)
+      → text ≡ report_text head claim (map projection_of states)
       → IsReport head Has claim text
   report_is claim states text listed is =
-      record { states = map shown_of states; are = states_of_set (map shown_of states) listed.are; is = is }
+      record { states = map projection_of states; are = states_of_set (map projection_of states) listed.are; is = is }
 
   module _ (sorted : IsStrictlySorted entries) where
     -- of two outcomes of a sorted listing the one behind is larger
-    larger : (i j : ℕ) (o other : Final)
+    larger : (i j : ℕ) (o other : FinalState)
         → slice_get (outcomes_of entries) i ≡ Some o
         → slice_get (outcomes_of entries) j ≡ Some other
         → i < j
-        → final_cmp o other ≡ Less
+        → final_state_cmp o other ≡ Less
     larger i j o other at to lt =
         let first = get_or_from_slice_get (outcomes_of entries) i o o at in
         let later = get_or_from_slice_get (outcomes_of entries) j other o to in
-        (λ k. final_cmp (sym first k) (sym later k)) ∙ sorted i j o lt (slice_get_within _ j other to)
+        (λ k. final_state_cmp (sym first k) (sym later k)) ∙ sorted i j o lt (slice_get_within _ j other to)
 
     -- an outcome of a sorted listing is the same as one that is not before it, or smaller
-    least : (i j : ℕ) (o other : Final)
+    least : (i j : ℕ) (o other : FinalState)
         → slice_get (outcomes_of entries) i ≡ Some o
         → slice_get (outcomes_of entries) j ≡ Some other
         → (j < i → ⊥)
-        → (o ≡ other) ⊎ (final_cmp o other ≡ Less)
+        → (o ≡ other) ⊎ (final_state_cmp o other ≡ Less)
     least i j o other at to none = elim (cases_lt i j) [
       | inl lt ↦ inr (larger i j o other at to lt)
       | inr le ↦ elim (cases_lt j i) [
@@ -57,28 +59,29 @@ module _ (head : TestHead) (Has : Final → Type 0) (entries : ListedOutcomes)
     ]
 
     -- the outcome that shows a state first in the listing is the smallest of the set that shows it
-    smallest : (s : ListedState) (shows : ShowsFirst head (outcomes_of entries) s) → IsSmallestOf head Has s.words shows.outcome
+    smallest : (s : ListedState) (shows : IsFirstWithWords head (outcomes_of entries) s)
+        → IsSmallestOf head Has s.words shows.outcome
     smallest s shows = record {
       has = (same shows.outcome).0 (
         s.entry,
         slice_get_within (outcomes_of entries) s.entry shows.outcome shows.at,
         get_or_from_slice_get (outcomes_of entries) s.entry shows.outcome shows.outcome shows.at,
       );
-      shows = ap (λ (x : Shown). x.words) shows.shows;
+      shows = ap (λ (x : ProjectedState). x.words) shows.shows;
       least = λ other has words.
           let c = (same other).1 has in
           let to = slice_get-get_or (outcomes_of entries) c.0 other c.1 ∙ ap Some c.2 in
           least s.entry c.0 shows.outcome other shows.at to (λ before. shows.first c.0 other before to words);
     }
 
-    module _ (Leads : List Event → Final → Type 0) (lead : All (λ e. Leads e.1 e.0) entries) where
+    module _ (Leads : List Event → FinalState → Type 0) (lead : All (λ e. Leads e.1 e.0) entries) where
       -- the schedule of the entry at an index leads to the outcome of that entry
-      leads_at : (i : ℕ) (o : Final)
+      leads_at : (i : ℕ) (o : FinalState)
           → slice_get (outcomes_of entries) i ≡ Some o
           → Leads (slice_index_or (schedules_of entries) i []) o
       leads_at i o at = go entries i lead at
         where
-          go : (es : ListedOutcomes) (k : ℕ)
+          go : (es : OutcomeEntries) (k : ℕ)
               → All (λ e. Leads e.1 e.0) es
               → slice_get (outcomes_of es) k ≡ Some o
               → Leads (slice_index_or (schedules_of es) k []) o
@@ -95,13 +98,15 @@ module _ (head : TestHead) (Has : Final → Type 0) (entries : ListedOutcomes)
         states = map (scheduled (schedules_of entries)) states;
         are = subst (AreStatesOf head Has) (sym (shown_again states)) (states_of_set _ listed.are);
         lead =
-            All-map (λ s. (o : Final) × IsSmallestOf head Has s.0.words o × Leads s.1 o) (scheduled (schedules_of entries)) states
-            (All-weaker (ShowsFirst head (outcomes_of entries)) (λ (s : ListedState).
-            (o : Final) × IsSmallestOf head Has s.words o × Leads (slice_index_or (schedules_of entries) s.entry []) o)
+            All-map (λ s. (o : FinalState) × IsSmallestOf head Has s.0.words o × Leads s.1 o) (scheduled (schedules_of entries))
+            states
+            (All-weaker (IsFirstWithWords head (outcomes_of entries)) (λ (s : ListedState).
+            (o : FinalState) × IsSmallestOf head Has s.words o × Leads (slice_index_or (schedules_of entries) s.entry []) o)
             (λ s shows. (shows.outcome, smallest s shows, leads_at s.entry shows.outcome shows.at)) states listed.entries);
         is = is;
       }
         where
-          shown_again : (ss : List ListedState) → map (λ s. s.0) (map (scheduled (schedules_of entries)) ss) ≡ map shown_of ss
+          shown_again : (ss : List ListedState)
+              → map (λ s. s.0) (map (scheduled (schedules_of entries)) ss) ≡ map projection_of ss
           shown_again [] = refl
-          shown_again (s ∷ ss) = ap (λ l. shown_of s ∷ l) (shown_again ss)
+          shown_again (s ∷ ss) = ap (λ l. projection_of s ∷ l) (shown_again ss)

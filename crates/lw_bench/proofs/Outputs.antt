@@ -1,7 +1,7 @@
 -- What is said of the input, from what is said of the bytes of it that were read.
 use Rattle.lw_bench.proofs.Common.{◌≡◌, ◌≤◌, ◌⊎◌, inl, inr, ℕ, Option, Some, None, List, [], ◌++◌, length}
 use Rattle.lw_bench.proofs.Common.{sym, ap, ◌∙◌, subst, arith, append-nil, Appends, IsInput, LitmusTest}
-use Rattle.lw_bench.proofs.Common.{HasTest, Makes, Writes}
+use Rattle.lw_bench.proofs.Common.{HasTest, IsOutputOf, Writes}
 
 -- Bytes that came in: the whole input, or more than a test has.
 module _ (input bytes : List ℕ) (is : (rest : List ℕ) × (input ≡ bytes ++ rest) × ((rest ≡ []) ⊎ (length bytes ≡ 65537))) where
@@ -20,7 +20,7 @@ module _ (input bytes : List ℕ) (is : (rest : List ℕ) × (input ≡ bytes ++
 -- what is written is made of the test that the whole input is
 pub output_written : (IsMade : LitmusTest → List ℕ → Type 0) (known before after : Option (List ℕ)) (bytes made : List ℕ)
     → IsInput known bytes
-    → Makes IsMade bytes made
+    → IsOutputOf IsMade bytes made
     → Appends before after made
     → Writes IsMade known before after
 output_written IsMade None before after bytes made is makes put = tt

@@ -4,7 +4,7 @@ use Rattle.lw_bench.proofs.Common.{slice_get, refl, sym, ap, ◌∙◌, append_a
 use Rattle.lw_bench.proofs.Common.{is_ok, if◌then◌else◌, arith, option_map, decimal, append-nil, drop-cons}
 use Rattle.lw_bench.proofs.Common.{drop_all, slice_get-map, slice_get_within, get_or_from_slice_get}
 use Rattle.lw_bench.proofs.Common.{on_ok_weaker, both_written, TestHead, Arch, Replay, Stop, End, Stopped}
-use Rattle.lw_bench.proofs.Common.{register_name, stop_number, stop_name, State, Thread, Processor, LineState}
+use Rattle.lw_bench.proofs.Common.{register_name, stop_code, stop_name, State, Thread, Processor, LineState}
 use Rattle.lw_bench.proofs.Common.{numbered, first_lines, end_text, register_names, thread_line, word_line}
 use Rattle.lw_bench.proofs.Common.{processor_title, processor_lines, source_page, machine_page}
 
@@ -25,17 +25,18 @@ told_of {X} {Y} f xs k x y at read = let e : Some (f x) ≡ Some y = sym (slice_
 
 -- Items are written one behind another, each with its index: what is written, `out`, with the texts of those from k on, is
 -- `start` with the texts of all.
-pub record Told {X : Type 0} (tell : ℕ → X → List ℕ) (xs : List X) (start : List ℕ) (k : ℕ) (out : List ℕ) : Type 0 where
+pub record AllWritten {X : Type 0} (tell : ℕ → X → List ℕ) (xs : List X) (start : List ℕ) (k : ℕ) (out : List ℕ) : Type 0 where
   pub left : out ++ numbered tell k (drop k xs) ≡ start ++ numbered tell 0 xs
 
-module _ {X : Type 0} {tell : ℕ → X → List ℕ} {xs : List X} {start out : List ℕ} {k : ℕ} (told : Told tell xs start k out) where
+module _ {X : Type 0} {tell : ℕ → X → List ℕ} {xs : List X} {start out : List ℕ} {k : ℕ}
+    (told : AllWritten tell xs start k out) where
   -- where the first k items are written, and then the text of the one at k, the first k + 1 are written
-  pub told_more : (x : X) (part new : List ℕ)
+  pub AllWritten-step : (x : X) (part new : List ℕ)
       → slice_get xs k ≡ Some x
       → part ≡ tell k x
       → new ≡ out ++ part
-      → Told tell xs start (k + 1) new
-  told_more x part new at is written = record {
+      → AllWritten tell xs start (k + 1) new
+  AllWritten-step x part new at is written = record {
     left =
         ap (λ t. t ++ rest) written
         ∙ append_assoc out part rest
@@ -52,8 +53,8 @@ module _ {X : Type 0} {tell : ℕ → X → List ℕ} {xs : List X} {start out :
           ∙ ap (λ (n : ℕ). tell k x ++ numbered tell n (drop (k + 1) xs)) (let e : suc k ≡ k + 1 = omega arith in e)
 
   -- where as many items are written as there are, all are: what is written is `start` with the texts of all
-  pub told_all : length xs ≤ k → out ≡ start ++ numbered tell 0 xs
-  told_all whole =
+  pub AllWritten-of_every : length xs ≤ k → out ≡ start ++ numbered tell 0 xs
+  AllWritten-of_every whole =
       sym (append-nil out) ∙ ap (λ (rest : List X). out ++ numbered tell k rest) (sym (drop_all k xs whole)) ∙ told.left
 
 -- where a title, then the parts, and then the line's end were written, the whole line was
@@ -116,13 +117,13 @@ ended_as answer start new text done is told written =
 -- the text that is written of a refused event, with its number and name, is that of the end
 pub stop_told : (done number : ℕ) (name : List ℕ) (stop : Stop) (end : End)
     → end ≡ Stopped stop
-    → number ≡ stop_number stop
+    → number ≡ stop_code stop
     → name ≡ stop_name stop
     → codes "Stopped at " ++ (decimal done ++ (codes " by " ++ (decimal number ++ (codes " " ++ (name ++ codes "\n")))))
     ≡ end_text done end ++ codes "\n"
 stop_told done number name stop end e n m =
     rw (e, n, m)
-    (sym (in_front (codes "Stopped at ") (decimal done) (codes " by ") (decimal (stop_number stop)) (32 ∷ stop_name stop)
+    (sym (in_front (codes "Stopped at ") (decimal done) (codes " by ") (decimal (stop_code stop)) (32 ∷ stop_name stop)
     (10 ∷ [])))
 
 -- ---- a page, by its parts

@@ -2,12 +2,13 @@
 use Rattle.lw_bench.proofs.Common.{◌≡◌, ◌↔◌, Bool, true, false, if◌then◌else◌, Result, Ok, Err, refl, inl, ap}
 use Rattle.lw_bench.proofs.Common.{Bytes, Option, Some, None, IfSome, Appends, BenchFault, Memory, Read}
 use Rattle.lw_bench.proofs.Common.{Write, LitmusTest, IsInput, TakesInput, TakesSome, IsReachedOnMachine}
-use Rattle.lw_bench.proofs.Common.{Makes, Writes, TellsRun, IsNoDevice, IsReachedOverCaches, Devices, IsRun}
+use Rattle.lw_bench.proofs.Common.{IsOutputOf, Writes, RunFaultIsTrue, IsNotDeviceFault, IsReachedOverCaches}
+use Rattle.lw_bench.proofs.Common.{Devices, IsRun}
 use Rattle.lw_bench.proofs.DeviceFaults.{input_told, input_apart, write_apart, fault_apart, answer_apart}
 use Rattle.lw_bench.proofs.DeviceFaults.{err_is, ok_apart}
 use Rattle.lw_bench.proofs.Outputs.{output_written}
 use Rattle.lw_bench.proofs.Taken.{taken_at, some_taken_at}
-use Rattle.lw_bench.proofs.Told.{device_told, some_told, told_of_input}
+use Rattle.lw_bench.proofs.FaultTruths.{device_told, some_told, told_of_input}
 
 module _ {R W : Type 0} (readers : Devices R) (writers : Devices W) (Tells : LitmusTest → BenchFault → Type 0) (r s : R)
     (w : W) where
@@ -23,7 +24,7 @@ module _ {R W : Type 0} (readers : Devices R) (writers : Devices W) (Tells : Lit
       written = tt;
       machine = machine;
       caches = caches;
-      told = device_told (TellsRun Tells) (readers.bytes r) f (readers.failed s) (λ bytes. inl tt) (λ bytes. inl tt) is;
+      told = device_told (RunFaultIsTrue Tells) (readers.bytes r) f (readers.failed s) (λ bytes. inl tt) (λ bytes. inl tt) is;
       taken = tt;
       left = some_taken_at _ _ f (readers.failed s) is some;
       read = input_told (Err f) f f (readers.failed s) refl refl is;
@@ -35,8 +36,8 @@ module _ {R W : Type 0} (readers : Devices R) (writers : Devices W) (Tells : Lit
         (reading : readers.failed s ≡ false) where
       -- where all was read, and nothing is made of the text, the run is as promised: it tells why
       pub unmade : (f : BenchFault)
-          → TellsRun Tells bytes f
-          → IsNoDevice f
+          → RunFaultIsTrue Tells bytes f
+          → IsNotDeviceFault f
           → writers.failed w ≡ false
           → IsRun readers writers IsMade Tells r s w w (Err f)
       unmade f told device writing = record {
@@ -57,7 +58,7 @@ module _ {R W : Type 0} (readers : Devices R) (writers : Devices W) (Tells : Lit
         written = tt;
         machine = machine;
         caches = caches;
-        told = some_told (TellsRun Tells) _ Write (λ bytes. inl tt);
+        told = some_told (RunFaultIsTrue Tells) _ Write (λ bytes. inl tt);
         taken = tt;
         left = taken_at _ _ Write taken;
         read = write_apart _ reading;
@@ -67,7 +68,7 @@ module _ {R W : Type 0} (readers : Devices R) (writers : Devices W) (Tells : Lit
 
       -- where what is made of the test was written, the run is as promised: it answers
       pub done : (v : W) (answer : T) (made : Bytes)
-          → Makes (IsMade answer) bytes made
+          → IsOutputOf (IsMade answer) bytes made
           → Appends (writers.bytes w) (writers.bytes v) made
           → writers.failed v ≡ false
           → IsRun readers writers IsMade Tells r s w v (Ok answer)

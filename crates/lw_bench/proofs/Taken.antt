@@ -1,11 +1,11 @@
 -- That a run takes from its reader what it may take, whichever fault it tells.
 use Rattle.lw_bench.proofs.Common.{◌≡◌, Bool, true, false, ℕ, Option, List, if◌then◌else◌, subst, sym}
-use Rattle.lw_bench.proofs.Common.{TakesInput, TakesSome, TakesAt, BenchFault, Memory, Read}
+use Rattle.lw_bench.proofs.Common.{TakesInput, TakesSome, TakesBeforeFault, BenchFault, Memory, Read}
 use Rattle.lw_bench.proofs.Devices.{all_is_some}
 
 module _ (before after : Option (List ℕ)) where
   -- where the whole input was taken, a run that tells any fault has taken what it takes at that fault
-  pub taken_at : (f : BenchFault) → TakesInput before after → TakesAt f before after
+  pub taken_at : (f : BenchFault) → TakesInput before after → TakesBeforeFault f before after
   taken_at Memory taken = all_is_some before after taken
   taken_at Read taken = all_is_some before after taken
   taken_at _ taken = taken
@@ -14,6 +14,6 @@ module _ (before after : Option (List ℕ)) where
   pub some_taken_at : (f : BenchFault) (failed : Bool)
       → f ≡ (if failed then Read else Memory)
       → TakesSome before after
-      → TakesAt f before after
-  some_taken_at f true is taken = subst (λ (x : BenchFault). TakesAt x before after) (sym is) taken
-  some_taken_at f false is taken = subst (λ (x : BenchFault). TakesAt x before after) (sym is) taken
+      → TakesBeforeFault f before after
+  some_taken_at f true is taken = subst (λ (x : BenchFault). TakesBeforeFault x before after) (sym is) taken
+  some_taken_at f false is taken = subst (λ (x : BenchFault). TakesBeforeFault x before after) (sym is) taken

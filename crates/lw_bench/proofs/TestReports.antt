@@ -1,22 +1,22 @@
 -- From the list of a test to its report and to its list of schedules.
 use Rattle.lw_bench.proofs.Common.{◌≡◌, ℕ, List, length, map, sym, subst, All, AllByRecursion, All-map}
-use Rattle.lw_bench.proofs.Common.{All-weaker, TestHead, Final, IsOutcomeOf, IsEvent, Event, IsListedOutcome}
-use Rattle.lw_bench.proofs.Common.{ListedOutcomes, outcomes_of, schedules_of, report_text, schedule_list_text}
-use Rattle.lw_bench.proofs.Common.{scheduled, ListedState, shown_of, AreListedStates, Exact, LitmusTest}
-use Rattle.lw_bench.proofs.Common.{head_of_test, OutcomeOf, LeadsTo, IsExactReport, IsExactScheduleList}
-use Rattle.lw_bench.proofs.Common.{IsListOf}
+use Rattle.lw_bench.proofs.Common.{All-weaker, TestHead, FinalState, HasOutcomeShape, IsEvent, Event}
+use Rattle.lw_bench.proofs.Common.{IsListedOutcome, OutcomeEntries, outcomes_of, schedules_of, report_text}
+use Rattle.lw_bench.proofs.Common.{schedule_list_text, scheduled, ListedState, projection_of, AreListedStates}
+use Rattle.lw_bench.proofs.Common.{Exact, LitmusTest, head_of_test, OutcomeOf, ProgramReplaysTo}
+use Rattle.lw_bench.proofs.Common.{IsExactReport, IsExactScheduleList, IsListOf}
 use Rattle.lw_bench.proofs.ListingTexts.{report_is, schedule_list_is}
 
-module _ (test : LitmusTest) (entries : ListedOutcomes) (list : IsListOf test entries) (head : TestHead)
+module _ (test : LitmusTest) (entries : OutcomeEntries) (list : IsListOf test entries) (head : TestHead)
     (same : head ≡ head_of_test test) where
   -- the report that is made of a test's list is the test's report
   pub report_of_list : (states : List ListedState) (text : List ℕ)
       → AreListedStates head (outcomes_of entries) states
-      → text ≡ report_text head Exact (map shown_of states)
+      → text ≡ report_text head Exact (map projection_of states)
       → IsExactReport test text
   report_of_list states text listed is =
       report_is _ _ _ list.exactly Exact states text (subst (λ d. AreListedStates d (outcomes_of entries) states) same listed)
-      (subst (λ d. text ≡ report_text d Exact (map shown_of states)) same is)
+      (subst (λ d. text ≡ report_text d Exact (map projection_of states)) same is)
 
   -- the list of schedules that is made of a test's list is the test's list of schedules
   pub schedules_of_list : (states : List ListedState) (text : List ℕ)
@@ -27,21 +27,21 @@ module _ (test : LitmusTest) (entries : ListedOutcomes) (list : IsListOf test en
     program = list.program;
     of_test = list.of_test;
     is =
-        schedule_list_is _ (OutcomeOf test) entries list.exactly list.sorted (LeadsTo list.program) list.lead states text
+        schedule_list_is _ (OutcomeOf test) entries list.exactly list.sorted (ProgramReplaysTo list.program) list.lead states text
         (subst (λ d. AreListedStates d (outcomes_of entries) states) same listed) (rw same at is);
   }
 
   -- the outcomes of a test's list are of the test's threads and locations
-  pub outcomes_there : All (IsOutcomeOf head.threads (length head.locs)) (outcomes_of entries)
+  pub outcomes_there : All (HasOutcomeShape head.threads (length head.locs)) (outcomes_of entries)
   outcomes_there =
-      All-map (IsOutcomeOf head.threads (length head.locs)) (λ (e : Final × List Event). e.0) entries
+      All-map (HasOutcomeShape head.threads (length head.locs)) (λ (e : FinalState × List Event). e.0) entries
       (All-weaker (IsListedOutcome (head_of_test test))
-      (λ (e : Final × List Event). IsOutcomeOf head.threads (length head.locs) e.0) (λ e is. rw (← same) at is.outcome) entries
-      list.entries_are)
+      (λ (e : FinalState × List Event). HasOutcomeShape head.threads (length head.locs) e.0) (λ e is. rw (← same) at is.outcome)
+      entries list.entries_are)
 
   -- the schedules of the list speak of the test's locations
   pub schedules_there : All (AllByRecursion (IsEvent head.locs)) (schedules_of entries)
   schedules_there =
-      All-map (AllByRecursion (IsEvent head.locs)) (λ (e : Final × List Event). e.1) entries
+      All-map (AllByRecursion (IsEvent head.locs)) (λ (e : FinalState × List Event). e.1) entries
       (All-weaker (IsListedOutcome (head_of_test test)) (λ e. AllByRecursion (IsEvent head.locs) e.1)
       (λ e is. subst (λ d. AllByRecursion (IsEvent d.locs) e.1) (sym same) is.schedule) entries list.entries_are)

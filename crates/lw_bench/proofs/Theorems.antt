@@ -1,21 +1,21 @@
 -- The theorems on tests as values, by those of the crates below. That outcomes over caches are those over flat memory is a premise,
 -- which the laws meet by a call.
-use Rattle.lw_bench.proofs.Common.{◌≡◌, ◌↔◌, ℕ, List, Bool, refl, sym, subst, Final, Bytes, SourceOutcome}
-use Rattle.lw_bench.proofs.Common.{SourceTest, ProgramTest, IsWellFormedSource, IsWellFormedProgram, flat}
-use Rattle.lw_bench.proofs.Common.{Protocol, MachineOutcome, OutcomeOverCaches, IsCompiled, IsCompiledWith}
-use Rattle.lw_bench.proofs.Common.{is_program, is_program_with, some_program, same_outcomes, has_outcomes}
-use Rattle.lw_bench.proofs.Common.{has_outcome, one_report, frame_well_formed, frame_columns}
-use Rattle.lw_bench.proofs.Common.{well_formed_source, well_formed_program, LitmusTest, Of_source, Of_x86}
-use Rattle.lw_bench.proofs.Common.{IsWellFormedTest, IsStatesReport, OutcomeOf, IsRunFor, IsProgramOf, Makes}
-use Rattle.lw_bench.proofs.Common.{HasTest, Exact, X86, ap, HasOverCaches, IsCompilation, canonical_text}
-use Rattle.lw_bench.proofs.Common.{IsTextOf}
+use Rattle.lw_bench.proofs.Common.{◌≡◌, ◌↔◌, ℕ, List, Bool, refl, sym, subst, FinalState, Bytes}
+use Rattle.lw_bench.proofs.Common.{SourceOutcome, SourceTest, X86Test, IsWellFormedSource}
+use Rattle.lw_bench.proofs.Common.{IsWellFormedProgram, flat_memory, Protocol, IsMachineOutcome}
+use Rattle.lw_bench.proofs.Common.{OutcomeOverCaches, IsCompiled, IsCompiledWith, is_program, is_program_with}
+use Rattle.lw_bench.proofs.Common.{some_program, same_outcomes, has_outcomes, has_outcome, one_report}
+use Rattle.lw_bench.proofs.Common.{frame_well_formed, frame_columns, well_formed_source, well_formed_program}
+use Rattle.lw_bench.proofs.Common.{LitmusTest, Of_source, Of_x86, IsWellFormedTest, IsStatesReport, OutcomeOf}
+use Rattle.lw_bench.proofs.Common.{IsProgramRunFor, IsProgramOf, IsOutputOf, HasTest, Exact, X86, ap}
+use Rattle.lw_bench.proofs.Common.{HasOverCaches, IsCompilation, canonical_text, IsTextOf}
 
 -- Outcomes over caches are those over flat memory.
 abbrev pub CachesAreFlat : Type 0
 CachesAreFlat =
-    (protocol : Protocol) (p : ProgramTest) (o : Final)
+    (protocol : Protocol) (p : X86Test) (o : FinalState)
     → IsWellFormedProgram p
-    → OutcomeOverCaches protocol p o ↔ MachineOutcome flat p p.head.init_words o
+    → OutcomeOverCaches protocol p o ↔ IsMachineOutcome flat_memory p p.head.init_words o
 
 -- ---- texts
 
@@ -29,8 +29,8 @@ well_formed text (Of_x86 test) h =
 -- a text has one report, where it says one test
 pub one_report_of : ((text : Bytes) (s t : LitmusTest) → HasTest text s → HasTest text t → s ≡ t)
     → (text a b : Bytes)
-    → Makes IsStatesReport text a
-    → Makes IsStatesReport text b
+    → IsOutputOf IsStatesReport text a
+    → IsOutputOf IsStatesReport text b
     → a ≡ b
 one_report_of one text a b m n =
     let other = subst (λ (test : LitmusTest). IsStatesReport test b) (sym (one text m.test n.test m.has_test n.has_test)) n.is in
@@ -40,10 +40,10 @@ one_report_of one text a b m n =
 
 -- a compiled program has over caches the outcomes of its source test by interleaving
 pub outcomes_over_caches : CachesAreFlat
-    → (s : SourceTest) (p : ProgramTest) (starts : List (List ℕ))
+    → (s : SourceTest) (p : X86Test) (starts : List (List ℕ))
     → IsWellFormedSource s
     → IsCompiled s p starts
-    → (protocol : Protocol) (o : Final)
+    → (protocol : Protocol) (o : FinalState)
     → OutcomeOverCaches protocol p o ↔ SourceOutcome s o
 outcomes_over_caches caches s p starts ok compiled protocol o =
     let over = caches protocol p o (is_program s p starts ok compiled) in
@@ -51,11 +51,11 @@ outcomes_over_caches caches s p starts ok compiled protocol o =
     ((λ outcome. same.0 (over.0 outcome)), (λ outcome. over.1 (same.1 outcome)))
 
 -- a program compiled with any choice of fences has at least its source test's outcomes
-pub outcomes_with_fences : {fences : List (List Bool)} {s : SourceTest} {p : ProgramTest} {starts : List (List ℕ)}
+pub outcomes_with_fences : {fences : List (List Bool)} {s : SourceTest} {p : X86Test} {starts : List (List ℕ)}
     → CachesAreFlat
     → IsWellFormedSource s
     → IsCompiledWith fences s p starts
-    → (protocol : Protocol) (o : Final)
+    → (protocol : Protocol) (o : FinalState)
     → SourceOutcome s o
     → OutcomeOverCaches protocol p o
 outcomes_with_fences {s} {p} caches ok compiled protocol o outcome =
@@ -64,30 +64,30 @@ outcomes_with_fences {s} {p} caches ok compiled protocol o outcome =
 -- ---- the program that runs for a test
 
 -- the program that runs for a test reaches exactly the test's outcomes on the machine
-pub program_runs : (test : LitmusTest) (program : ProgramTest)
+pub program_runs : (test : LitmusTest) (program : X86Test)
     → IsWellFormedTest test
-    → IsRunFor test program
+    → IsProgramRunFor test program
     → IsProgramOf test program
 program_runs (Of_source test) program ok runs =
     record { runs = runs; outcomes = λ o. same_outcomes test program runs.0 o ok runs.1 }
 program_runs (Of_x86 test) program ok runs = record {
   runs = runs;
   outcomes = λ o.
-      let same = ap (λ (p : ProgramTest). MachineOutcome flat p p.head.init_words o) runs in
+      let same = ap (λ (p : X86Test). IsMachineOutcome flat_memory p p.head.init_words o) runs in
       ((λ outcome. subst (λ X. X) same outcome), (λ outcome. subst (λ X. X) (sym same) outcome));
 }
 
 -- for each well-formed test a program runs that reaches its outcomes on the machine
-pub has_program : (test : LitmusTest) → IsWellFormedTest test → (program : ProgramTest) × IsProgramOf test program
+pub has_program : (test : LitmusTest) → IsWellFormedTest test → (program : X86Test) × IsProgramOf test program
 has_program (Of_source test) ok =
     let some = some_program test ok in (some.0, program_runs (Of_source test) some.0 ok (some.1, some.2))
 has_program (Of_x86 test) ok = (test, program_runs (Of_x86 test) test ok refl)
 
 -- the program that runs for a test reaches exactly the test's outcomes over caches
 pub runs_over_caches : CachesAreFlat
-    → (test : LitmusTest) (program : ProgramTest)
+    → (test : LitmusTest) (program : X86Test)
     → IsWellFormedTest test
-    → IsRunFor test program
+    → IsProgramRunFor test program
     → HasOverCaches test program
 runs_over_caches caches (Of_source test) program ok runs = outcomes_over_caches caches test program runs.0 ok runs.1
 runs_over_caches caches (Of_x86 test) program ok runs =
@@ -96,7 +96,7 @@ runs_over_caches caches (Of_x86 test) program ok runs =
 -- ---- outcomes
 
 -- each source test has an outcome
-pub source_outcome : (s : SourceTest) → IsWellFormedSource s → (o : Final) × SourceOutcome s o
+pub source_outcome : (s : SourceTest) → IsWellFormedSource s → (o : FinalState) × SourceOutcome s o
 source_outcome s ok =
     let some = some_program s ok in
     let o = has_outcome some.0 (is_program s some.0 some.1 ok some.2) in
@@ -104,9 +104,9 @@ source_outcome s ok =
 
 -- each x86 test has an outcome over caches
 pub cached_outcome : CachesAreFlat
-    → (protocol : Protocol) (p : ProgramTest)
+    → (protocol : Protocol) (p : X86Test)
     → IsWellFormedProgram p
-    → (o : Final) × OutcomeOverCaches protocol p o
+    → (o : FinalState) × OutcomeOverCaches protocol p o
 cached_outcome caches protocol p ok = let o = has_outcome p ok in (o.0, (caches protocol p o.0 ok).1 o.1)
 
 -- ---- texts of compiled programs
@@ -117,18 +117,18 @@ HasOneTest = (text : Bytes) (s t : LitmusTest) → HasTest text s → HasTest te
 
 -- The canonical text of a program says that program. It is a premise here too.
 abbrev ReadsBack : Type 0
-ReadsBack = (p : ProgramTest) → IsWellFormedProgram p → IsTextOf (canonical_text p) p
+ReadsBack = (p : X86Test) → IsWellFormedProgram p → IsTextOf (canonical_text p) p
 
 -- the compilation of a source test's text says an x86 test with the same outcomes
 pub compiled_text_read : HasOneTest
     → ReadsBack
     → (text made : Bytes) (source : SourceTest)
     → HasTest text (Of_source source)
-    → Makes IsCompilation text made
-    → (program : ProgramTest)
+    → IsOutputOf IsCompilation text made
+    → (program : X86Test)
     × HasTest made (Of_x86 program)
     × (program.head ≡ record source.head { arch = X86 })
-    × ((o : Final) → OutcomeOf (Of_x86 program) o ↔ OutcomeOf (Of_source source) o)
+    × ((o : FinalState) → OutcomeOf (Of_x86 program) o ↔ OutcomeOf (Of_source source) o)
 compiled_text_read one back text made source has makes =
     let is =
     subst (λ (t : LitmusTest). IsCompilation t made) (one text makes.test (Of_source source) makes.has_test has) makes.is in

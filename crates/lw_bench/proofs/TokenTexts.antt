@@ -3,9 +3,10 @@ use Rattle.lw_bench.proofs.Common.{◌≡◌, ℕ, zero, suc, ◌<◌, ◌==◌,
 use Rattle.lw_bench.proofs.Common.{if◌then◌else◌, Option, Some, None, [], ◌∷◌, ◌++◌, refl, sym, inl, inr}
 use Rattle.lw_bench.proofs.Common.{arith, Bytes, and_parts, false≢true, nat_lt, none-some, same_Some, ◌||◌}
 use Rattle.lw_bench.proofs.Common.{digit_value, is_ascii_digit, list_all, IsAscii, eqb-true, ltb-true}
-use Rattle.lw_bench.proofs.Common.{not-true, nat_tests, TokenList, begins, is_blank, is_name_byte, Comment}
-use Rattle.lw_bench.proofs.Common.{closed, other, begins_mark, none, blank, IsKind, IsSymbol, IsToken, Tokens}
-use Rattle.lw_bench.proofs.Common.{is_pair, is_single, opens_comment, all_pass, is_name_text, name_by_test}
+use Rattle.lw_bench.proofs.Common.{not-true, nat_tests, TokenList, first_byte_is, is_blank, is_name_byte}
+use Rattle.lw_bench.proofs.Common.{Comment, closed, other, begins_mark, none, blank, IsNameOrNumber, IsSymbol}
+use Rattle.lw_bench.proofs.Common.{IsToken, Tokens, is_two_byte_symbol, is_one_byte_symbol, opens_comment}
+use Rattle.lw_bench.proofs.Common.{all_pass, is_name_text, name_by_test}
 
 -- ---- one token
 
@@ -16,13 +17,14 @@ is_kind_text w = is_name_text w
 
 -- whether a text is a name or a digit, and ends where this rest begins
 abbrev is_name_shaped : Bytes → Bytes → Bool
-is_name_shaped t rest = list_all is_name_byte t && (not (begins is_name_byte rest) && is_kind_text t)
+is_name_shaped t rest = list_all is_name_byte t && (not (first_byte_is is_name_byte rest) && is_kind_text t)
 
 -- whether a text is a symbol, and ends where this rest begins
 abbrev is_symbol_text : Bytes → Bytes → Bool
 is_symbol_text [] rest = false
-is_symbol_text (b ∷ []) rest = is_single b && (not (begins (is_pair b) rest) && not (opens_comment (b ∷ rest)))
-is_symbol_text (b ∷ c ∷ []) rest = is_pair b c
+is_symbol_text (b ∷ []) rest =
+    is_one_byte_symbol b && (not (first_byte_is (is_two_byte_symbol b) rest) && not (opens_comment (b ∷ rest)))
+is_symbol_text (b ∷ c ∷ []) rest = is_two_byte_symbol b c
 is_symbol_text (b ∷ c ∷ d ∷ more) rest = false
 
 -- whether a text is a token, and ends where this rest begins
@@ -39,11 +41,11 @@ digit_small : (d : ℕ) → is_ascii_digit d ≡ true → digit_value d < 10
 digit_small d h = grind (arith, nat_tests)
 
 -- what passes `is_kind_text` is a name or a number
-kind_of : (w : Bytes) → is_kind_text w ≡ true → IsKind w
+kind_of : (w : Bytes) → is_kind_text w ≡ true → IsNameOrNumber w
 kind_of [] h = inl (name_by_test [] h)
 kind_of (d ∷ []) h = go (either (is_ascii_digit d) (is_name_text (d ∷ [])) h)
   where
-    go : (is_ascii_digit d ≡ true) ⊎ (is_name_text (d ∷ []) ≡ true) → IsKind (d ∷ [])
+    go : (is_ascii_digit d ≡ true) ⊎ (is_name_text (d ∷ []) ≡ true) → IsNameOrNumber (d ∷ [])
     go (inl digit) =
         let small = digit_small d digit in inr (digit_value d, (omega (arith, small), inl (omega arith, (small, omega arith))))
     go (inr name) = inl (name_by_test (d ∷ []) name)
@@ -53,8 +55,8 @@ kind_of (d ∷ e ∷ w) h = inl (name_by_test (d ∷ e ∷ w) h)
 symbol_of : (t rest : Bytes) → is_symbol_text t rest ≡ true → IsSymbol t rest
 symbol_of [] rest h = absurd (false≢true h)
 symbol_of (b ∷ []) rest h =
-    let parts = and_parts (is_single b) _ h in
-    let alone = and_parts (not (begins (is_pair b) rest)) _ parts.1 in
+    let parts = and_parts (is_one_byte_symbol b) _ h in
+    let alone = and_parts (not (first_byte_is (is_two_byte_symbol b) rest)) _ parts.1 in
     (parts.0, not-true _ alone.0, not-true _ alone.1)
 symbol_of (b ∷ c ∷ []) rest h = h
 symbol_of (b ∷ c ∷ d ∷ more) rest h = absurd (false≢true h)
@@ -66,7 +68,7 @@ token_of t rest h = go (either (is_name_shaped t rest) (is_symbol_text t rest) h
     go : (is_name_shaped t rest ≡ true) ⊎ (is_symbol_text t rest ≡ true) → IsToken t rest
     go (inl word) =
         let parts = and_parts (list_all is_name_byte t) _ word in
-        let ends = and_parts (not (begins is_name_byte rest)) _ parts.1 in
+        let ends = and_parts (not (first_byte_is is_name_byte rest)) _ parts.1 in
         inl (record { all = all_pass is_name_byte t parts.0; longest = not-true _ ends.0; kind = kind_of t ends.1 })
     go (inr symbol) = inr (symbol_of t rest symbol)
 

@@ -7,7 +7,7 @@ use Rattle.lw_base.specs.declared.head.Arch.TheVariants.{Source, X86}
 use Rattle.lw_base.specs.declared.head.Quant.{Quant}
 use Rattle.lw_base.specs.declared.head.Quant.TheVariants.{Exists, NotExists}
 use Rattle.lw_base.specs.declared.operand.Operand.TheVariants.{Number}
-use Rattle.lw_litmus.specs.Tests.{SourceTest, ProgramTest}
+use Rattle.lw_litmus.specs.Tests.{SourceTest, X86Test}
 use Rattle.lw_litmus.specs.declared.instr.Instr.TheVariants as x86
 use Rattle.lw_litmus.specs.declared.stmt.Stmt.TheVariants as source
 
@@ -43,7 +43,7 @@ store_buffering = record {
 }
 
 -- store buffering in x86: `MOV [x],1; MOV EAX,[y]` beside `MOV [y],1; MOV EAX,[x]`
-abbrev pub store_buffering_in_x86 : ProgramTest
+abbrev pub store_buffering_in_x86 : X86Test
 store_buffering_in_x86 = record {
   head = two_threads (codes "SB-x86") X86 Exists both_loads_are_early;
   threads =
@@ -52,7 +52,7 @@ store_buffering_in_x86 = record {
 }
 
 -- x is the message and y the flag: `MOV [x],1; MOV [y],1` beside `MOV EAX,[y]; MOV EBX,[x]`
-abbrev pub message_passing_in_x86 : ProgramTest
+abbrev pub message_passing_in_x86 : X86Test
 message_passing_in_x86 = record {
   head = two_threads (codes "MP-x86") X86 NotExists flag_without_message;
   threads =

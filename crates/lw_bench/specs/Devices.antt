@@ -19,7 +19,7 @@ abbrev pub TakesSome : Option Bytes → Option Bytes → Type 0
 TakesSome before after = IfSome before (λ input. (count : ℕ) × (count ≤ most_read_bytes) × (after ≡ Some (drop count input)))
 
 -- A reader gave `count` bytes more, which stand behind those read before; it gives none only at its end.
-pub record Gets (known left : Option Bytes) (before after : Bytes) (count : ℕ) : Type 0 where
+pub record ReadsMore (known left : Option Bytes) (before after : Bytes) (count : ℕ) : Type 0 where
   pub got : Bytes
   pub as_many : length got ≡ count
   pub added : after ≡ before ++ got
@@ -28,13 +28,13 @@ pub record Gets (known left : Option Bytes) (before after : Bytes) (count : ℕ)
   pub ended : count ≡ 0 → IsAtEnd left
 
 -- Some bytes were taken and lost; with those before they are no more than may be read.
-pub record Loses (known left : Option Bytes) (before : Bytes) : Type 0 where
+pub record LosesInput (known left : Option Bytes) (before : Bytes) : Type 0 where
   pub got : Bytes
   pub limit : length before + length got ≤ most_read_bytes
   pub consumed : Consumes known left got
 
 -- Of the bytes that are to be written the first were written, and `rest` is left.
-pub record Puts (before after : Option Bytes) (bytes rest : Bytes) : Type 0 where
+pub record WritesPrefix (before after : Option Bytes) (bytes rest : Bytes) : Type 0 where
   pub written : Bytes
   pub parts : bytes ≡ written ++ rest
   pub appended : Appends before after written

@@ -2,9 +2,9 @@
 use Rattle.std.specs.Prelude.{◌≡◌, ◌⊎◌, ℕ, Option, Some, None, []}
 use Rattle.lw_base.specs.Types.{Bytes}
 use Rattle.lw_bench.specs.Faults.{fault_text, status}
-use Rattle.lw_bench.specs.Outputs.{Makes}
-use Rattle.lw_bench.specs.Tasks.{IsDone, TellsTask}
-use Rattle.lw_bench.specs.Told.{TellsRun, IsNoDevice}
+use Rattle.lw_bench.specs.Outputs.{IsOutputOf}
+use Rattle.lw_bench.specs.Tasks.{IsTaskOutput, TaskFaultIsTrue}
+use Rattle.lw_bench.specs.FaultTruth.{RunFaultIsTrue, IsNotDeviceFault}
 use Rattle.lw_bench.specs.declared.command.Task.{Task}
 use Rattle.lw_bench.specs.declared.ending.Ending.{Ending}
 use Rattle.lw_bench.specs.declared.ending.Ending.TheVariants.{Answer, Refusal}
@@ -45,6 +45,6 @@ Reports f e = WritesLine (fault_text f) (status f) e ⊎ WritesLine (fault_text 
 
 -- The ending of a task on a text: what the task makes of the test that the text is, with its exit status; or a fault that is true of the text.
 abbrev pub EndsTask : {A : Type 0} → Task → Bytes → Ending A → Type 0
-EndsTask task text (Answer output s) = Makes (λ test made. IsDone task test made s) text output
+EndsTask task text (Answer output s) = IsOutputOf (λ test made. IsTaskOutput task test made s) text output
 EndsTask task text (Refusal line s) =
-    (f : BenchFault) × TellsRun (TellsTask task) text f × IsNoDevice f × WritesLine (fault_text f) (status f) (Refusal line s)
+    (f : BenchFault) × RunFaultIsTrue (TaskFaultIsTrue task) text f × IsNotDeviceFault f × WritesLine (fault_text f) (status f) (Refusal line s)

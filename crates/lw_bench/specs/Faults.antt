@@ -2,7 +2,7 @@
 use Rattle.std.specs.Prelude.{ℕ, ◌++◌, codes}
 use Rattle.std.specs.Fmt.{decimal}
 use Rattle.lw_base.specs.Types.{Bytes}
-use Rattle.lw_base.specs.Faults.{cell_cause_number, cell_cause_name, schedule_cause_number, schedule_cause_name}
+use Rattle.lw_base.specs.Faults.{cell_cause_code, cell_cause_name, schedule_cause_code, schedule_cause_name}
 use Rattle.lw_base.specs.declared.fault.CellCause.{CellCause}
 use Rattle.lw_base.specs.declared.fault.CellCause.TheVariants as cell
 use Rattle.lw_base.specs.declared.fault.CellFault.{CellFault}
@@ -11,13 +11,13 @@ use Rattle.lw_base.specs.declared.fault.ScheduleCause.TheVariants as schedule
 use Rattle.lw_base.specs.declared.fault.ScheduleFault.{ScheduleFault}
 use Rattle.lw_base.specs.declared.stop.End.{End}
 use Rattle.lw_base.specs.declared.stop.End.TheVariants as at
-use Rattle.lw_text.specs.Causes.{text_cause_number, text_cause_name}
+use Rattle.lw_text.specs.Causes.{text_cause_code, text_cause_name}
 use Rattle.lw_text.specs.declared.fault.TextCause.{TextCause}
 use Rattle.lw_text.specs.declared.fault.TextCause.TheVariants as text
 use Rattle.lw_text.specs.declared.fault.TextFault.{TextFault}
-use Rattle.lw_choices.specs.Faults.{list_fault_number, list_fault_name}
-use Rattle.lw_choices.specs.declared.fault.ListFault.{ListFault}
-use Rattle.lw_choices.specs.declared.fault.ListFault.TheVariants as list
+use Rattle.lw_paths.specs.Faults.{list_fault_code, list_fault_name}
+use Rattle.lw_paths.specs.declared.fault.ListFault.{ListFault}
+use Rattle.lw_paths.specs.declared.fault.ListFault.TheVariants as list
 use Rattle.lw_bench.specs.declared.fault.BenchFault.{BenchFault}
 use Rattle.lw_bench.specs.declared.fault.BenchFault.TheVariants.{Text, Cell, Schedule, Limit, Memory, Read, Write}
 
@@ -27,8 +27,8 @@ text_fault f text.Memory = Memory
 text_fault f _ = Text f
 
 -- the fault that is told of a text's fault, by its own cause
-abbrev pub told_text : TextFault → BenchFault
-told_text f = text_fault f f.cause
+abbrev pub text_run_fault : TextFault → BenchFault
+text_run_fault f = text_fault f f.cause
 
 -- the fault that is told of a cell's fault with this cause: `Memory` where memory ran out, else the fault itself
 abbrev pub cell_fault : CellFault → CellCause → BenchFault
@@ -36,8 +36,8 @@ cell_fault f cell.Memory = Memory
 cell_fault f _ = Cell f
 
 -- the fault that is told of a cell's fault, by its own cause
-abbrev pub told_cell : CellFault → BenchFault
-told_cell f = cell_fault f f.cause
+abbrev pub cell_run_fault : CellFault → BenchFault
+cell_run_fault f = cell_fault f f.cause
 
 -- the fault that is told of a schedule's fault with this cause: `Memory` where memory ran out, else the fault itself
 abbrev pub schedule_fault : ScheduleFault → ScheduleCause → BenchFault
@@ -45,14 +45,14 @@ schedule_fault f schedule.Memory = Memory
 schedule_fault f _ = Schedule f
 
 -- the fault that is told of a schedule's fault, by its own cause
-abbrev pub told_schedule : ScheduleFault → BenchFault
-told_schedule f = schedule_fault f f.cause
+abbrev pub schedule_run_fault : ScheduleFault → BenchFault
+schedule_run_fault f = schedule_fault f f.cause
 
 -- the fault that is told where there is no list: memory, or the limit that the test passes
-abbrev pub told_limit : ListFault → BenchFault
-told_limit list.Memory = Memory
-told_limit list.TooManyItems = Limit list.TooManyItems
-told_limit list.TooManyOrders = Limit list.TooManyOrders
+abbrev pub limit_run_fault : ListFault → BenchFault
+limit_run_fault list.Memory = Memory
+limit_run_fault list.TooManyItems = Limit list.TooManyItems
+limit_run_fault list.TooManyOrders = Limit list.TooManyOrders
 
 -- the line of a fault with a place: its kind (text, cell, schedule), its cause's number and name, and the place
 abbrev pub placed_text : Bytes → ℕ → Bytes → ℕ → Bytes
@@ -61,10 +61,10 @@ placed_text kind number name place =
 
 -- the line that tells of a fault, without its end
 abbrev pub fault_text : BenchFault → Bytes
-fault_text (Text f) = placed_text (codes "text") (text_cause_number f.cause) (text_cause_name f.cause) f.at
-fault_text (Cell f) = placed_text (codes "cell") (cell_cause_number f.cause) (cell_cause_name f.cause) f.at
-fault_text (Schedule f) = placed_text (codes "schedule") (schedule_cause_number f.cause) (schedule_cause_name f.cause) f.at
-fault_text (Limit f) = codes "lw: limit " ++ (decimal (list_fault_number f) ++ (codes " " ++ list_fault_name f))
+fault_text (Text f) = placed_text (codes "text") (text_cause_code f.cause) (text_cause_name f.cause) f.at
+fault_text (Cell f) = placed_text (codes "cell") (cell_cause_code f.cause) (cell_cause_name f.cause) f.at
+fault_text (Schedule f) = placed_text (codes "schedule") (schedule_cause_code f.cause) (schedule_cause_name f.cause) f.at
+fault_text (Limit f) = codes "lw: limit " ++ (decimal (list_fault_code f) ++ (codes " " ++ list_fault_name f))
 fault_text Memory = codes "lw: memory"
 fault_text Read = codes "lw: read failed"
 fault_text Write = codes "lw: write failed"
@@ -86,8 +86,8 @@ end_status at.NotFinal = 1
 end_status (at.Stopped stop) = 1
 
 -- the exit status of a run that has nothing to tell but what it wrote
-abbrev pub done_status : ℕ
-done_status = 0
+abbrev pub success_status : ℕ
+success_status = 0
 
 -- what is told of arguments that name no task
 abbrev pub usage_text : Bytes

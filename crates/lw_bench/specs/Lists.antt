@@ -1,23 +1,23 @@
 -- What the report of a test is, and the list of its schedules: of a test of either language.
 use Rattle.std.specs.Prelude.{◌↔◌, All, Contains}
 use Rattle.lw_base.specs.ListedOutcomes.{IsListedOutcome}
-use Rattle.lw_base.specs.Outcomes.{Final}
+use Rattle.lw_base.specs.Outcomes.{FinalState}
 use Rattle.lw_base.specs.Types.{Bytes}
-use Rattle.lw_choices.specs.Counts.{IsWithinLimits}
-use Rattle.lw_listing.specs.Listings.{ListedOutcomes, outcomes_of, IsStrictlySorted}
-use Rattle.lw_litmus.specs.Sources.{source}
-use Rattle.lw_litmus.specs.Programs.{x86}
+use Rattle.lw_paths.specs.Counts.{IsWithinLimits}
+use Rattle.lw_outcome_map.specs.Listings.{OutcomeEntries, outcomes_of, IsStrictlySorted}
+use Rattle.lw_litmus.specs.Sources.{source_language}
+use Rattle.lw_litmus.specs.Programs.{x86_language}
 use Rattle.lw_report.specs.Reports.{IsReport, IsScheduleList}
 use Rattle.lw_report.specs.declared.judgement.Claim.TheVariants.{Exact}
-use Rattle.lw_litmus.specs.Tests.{ProgramTest}
+use Rattle.lw_litmus.specs.Tests.{X86Test}
 use Rattle.lw_bench.specs.LitmusTests.{LitmusTest, Of_source, Of_x86, head_of_test}
-use Rattle.lw_bench.specs.Outcomes.{OutcomeOf, IsRunFor, IsProgramOf, HasOverCaches, LeadsTo}
+use Rattle.lw_bench.specs.Outcomes.{OutcomeOf, IsProgramRunFor, IsProgramOf, HasOverCaches, ProgramReplaysTo}
 use Rattle.lw_bench.specs.TestTexts.{HasTest}
 
 -- Within the limits of lists: no choice of a test's flow paths has more items, and all have no more orders, than a list takes.
-abbrev pub HasList : LitmusTest → Type 0
-HasList (Of_source test) = IsWithinLimits source test.threads
-HasList (Of_x86 test) = IsWithinLimits x86 test.threads
+abbrev pub IsWithinListLimits : LitmusTest → Type 0
+IsWithinListLimits (Of_source test) = IsWithinLimits source_language test.threads
+IsWithinListLimits (Of_x86 test) = IsWithinLimits x86_language test.threads
 
 -- The report of exactly the test's outcomes.
 abbrev pub IsExactReport : LitmusTest → Bytes → Type 0
@@ -25,35 +25,35 @@ IsExactReport test = IsReport (head_of_test test) (OutcomeOf test) Exact
 
 -- The list of a test's states, each with a schedule of the program that leads to the smallest outcome that shows it.
 pub record IsExactScheduleList (test : LitmusTest) (text : Bytes) : Type 0 where
-  pub program : ProgramTest
+  pub program : X86Test
   pub of_test : IsProgramOf test program
-  pub is : IsScheduleList (head_of_test test) (OutcomeOf test) (LeadsTo program) text
+  pub is : IsScheduleList (head_of_test test) (OutcomeOf test) (ProgramReplaysTo program) text
 
 -- The report of exactly the test's outcomes, where it is within the limits of lists.
 pub record IsStatesReport (test : LitmusTest) (text : Bytes) : Type 0 where
-  pub within : HasList test
+  pub within : IsWithinListLimits test
   pub is : IsExactReport test text
 
 -- The entries are the test's list: exactly its outcomes, sorted, without duplicates, with schedules of the program that lead to them.
-pub record IsListOf (test : LitmusTest) (entries : ListedOutcomes) : Type 0 where
-  pub program : ProgramTest
+pub record IsListOf (test : LitmusTest) (entries : OutcomeEntries) : Type 0 where
+  pub program : X86Test
   pub of_test : IsProgramOf test program
   pub sorted : IsStrictlySorted entries
-  pub exactly : (o : Final) → Contains (outcomes_of entries) o ↔ OutcomeOf test o
+  pub exactly : (o : FinalState) → Contains (outcomes_of entries) o ↔ OutcomeOf test o
   pub entries_are : All (IsListedOutcome (head_of_test test)) entries
-  pub lead : All (λ e. LeadsTo program e.1 e.0) entries
+  pub lead : All (λ e. ProgramReplaysTo program e.1 e.0) entries
 
 -- Of every test that the text says, the outcomes are what the program that runs for it reaches on the machine.
 abbrev pub IsReachedOnMachine : Bytes → Type 0
-IsReachedOnMachine text = (test : LitmusTest) → HasTest text test → (program : ProgramTest) × IsProgramOf test program
+IsReachedOnMachine text = (test : LitmusTest) → HasTest text test → (program : X86Test) × IsProgramOf test program
 
 -- Of every test that the text says, the outcomes are what the program that runs for it reaches over caches.
 abbrev pub IsReachedOverCaches : Bytes → Type 0
 IsReachedOverCaches text =
-    (test : LitmusTest) (program : ProgramTest) → HasTest text test → IsRunFor test program → HasOverCaches test program
+    (test : LitmusTest) (program : X86Test) → HasTest text test → IsProgramRunFor test program → HasOverCaches test program
 
 -- The list of a test's states, each with a schedule of the program that leads to the smallest outcome that shows it, where the
 -- test is within the limits of lists.
 pub record IsScheduleReport (test : LitmusTest) (text : Bytes) : Type 0 where
-  pub within : HasList test
+  pub within : IsWithinListLimits test
   pub is : IsExactScheduleList test text

@@ -1,6 +1,6 @@
 -- A test of either language.
 use Rattle.lw_base.specs.Heads.{TestHead}
-use Rattle.lw_litmus.specs.Tests.{SourceTest, ProgramTest}
+use Rattle.lw_litmus.specs.Tests.{SourceTest, X86Test}
 use Rattle.lw_litmus.specs.Views.{source_of, program_of}
 use Rattle.lw_bench.specs.declared.litmus_test.LitmusTest.{LitmusTest as TestInMemory}
 use Rattle.lw_bench.specs.declared.litmus_test.LitmusTest.TheVariants as made
@@ -8,7 +8,7 @@ use Rattle.lw_bench.specs.declared.litmus_test.LitmusTest.TheVariants as made
 -- a source test or an x86 test
 pub data LitmusTest : Type 0 where
   Of_source : SourceTest → LitmusTest
-  Of_x86 : ProgramTest → LitmusTest
+  Of_x86 : X86Test → LitmusTest
 
 abbrev pub litmus_test_of : {A : Type 0} → TestInMemory A → LitmusTest  -- the test that a `LitmusTest` in memory is
 litmus_test_of (made.Source source) = Of_source (source_of source)

@@ -12,7 +12,7 @@ use Rattle.lw_base.specs.declared.stop.End.TheVariants.{Final, NotFinal, Stopped
 use Rattle.lw_base.specs.declared.stop.Replay.{Replay}
 use Rattle.lw_base.specs.Heads.{TestHead}
 use Rattle.lw_base.specs.Registers.{register_name}
-use Rattle.lw_base.specs.Stops.{stop_number, stop_name}
+use Rattle.lw_base.specs.Stops.{stop_code, stop_name}
 use Rattle.lw_memory.specs.declared.system.LineState.{LineState}
 use Rattle.lw_memory.specs.declared.system.LineState.TheVariants.{M, O, E, S, I}
 use Rattle.lw_interleaving.specs.Runs.{State}
@@ -31,12 +31,12 @@ named tell k name = codes " " ++ (name ++ (codes "=" ++ tell k))
 abbrev pub word_at : List ℕ → ℕ → Bytes
 word_at words k = decimal (slice_index words k)
 
--- how a replay ended: `Final`, `NotFinal`, or `Stopped at k by c Name`
+-- how a replay ended: `FinalState`, `NotFinal`, or `Stopped at k by c Name`
 abbrev pub end_text : ℕ → End → Bytes
 end_text done Final = codes "Final"
 end_text done NotFinal = codes "NotFinal"
 end_text done (Stopped stop) =
-    codes "Stopped at " ++ (decimal done ++ (codes " by " ++ (decimal (stop_number stop) ++ (codes " " ++ stop_name stop))))
+    codes "Stopped at " ++ (decimal done ++ (codes " by " ++ (decimal (stop_code stop) ++ (codes " " ++ stop_name stop))))
 
 -- the first lines of a page: the test's name, the events carried out and how the replay ended
 abbrev pub first_lines : TestHead → Replay → Bytes

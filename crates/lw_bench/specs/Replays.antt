@@ -9,12 +9,12 @@ use Rattle.lw_mesi.specs.declared.protocol.Protocol.{Protocol}
 use Rattle.lw_memory.specs.Memory.{Memory}
 use Rattle.lw_mesi.specs.CacheLines.{memory_words_of}
 use Rattle.lw_mesi.specs.Protocols.{caches_by}
-use Rattle.lw_interleaving.specs.Runs.{State, start_of, SourceReplayed}
-use Rattle.lw_litmus.specs.Tests.{SourceTest, ProgramTest}
+use Rattle.lw_interleaving.specs.Runs.{State, initial_state, IsSourceReplay}
+use Rattle.lw_litmus.specs.Tests.{SourceTest, X86Test}
 use Rattle.lw_tso.specs.Machines.{MachineState}
-use Rattle.lw_tso.specs.Runs.{machine_start, MachineReplayed}
+use Rattle.lw_tso.specs.Runs.{initial_machine_state, IsMachineReplay}
 use Rattle.lw_bench.specs.LitmusTests.{LitmusTest, Of_source, Of_x86, head_of_test}
-use Rattle.lw_whole.specs.OverCaches.{caches_at_start}
+use Rattle.lw_tso_caches.specs.OverCaches.{initial_caches}
 use Rattle.lw_bench.specs.Pages.{source_page, machine_page}
 
 -- The page tells of the state that the events lead to from a source test's start, on one memory, or those before the
@@ -22,24 +22,24 @@ use Rattle.lw_bench.specs.Pages.{source_page, machine_page}
 pub record SourcePage (test : SourceTest) (events : List Event) (page : Bytes) (end : End) : Type 0 where
   pub replay : Replay
   pub state : State
-  pub replayed : SourceReplayed test.threads events (start_of test) replay state
+  pub replayed : IsSourceReplay test.threads events (initial_state test) replay state
   pub ended : replay.end ≡ end
   pub told : page ≡ source_page test.head replay state
 
 -- The same of an x86 test, on the machine over a memory that begins as m; `words` tells memory's words, caches left out.
 pub record MachinePage
-    {M : Type 0} (mem : Memory M) (words : M → List ℕ) (test : ProgramTest) (m : M) (events : List Event) (page : Bytes) (end : End) : Type 0 where
+    {M : Type 0} (mem : Memory M) (words : M → List ℕ) (test : X86Test) (m : M) (events : List Event) (page : Bytes) (end : End) : Type 0 where
   pub replay : Replay
   pub state : MachineState M
-  pub replayed : MachineReplayed mem test.threads events (machine_start test m) replay state
+  pub replayed : IsMachineReplay mem test.threads events (initial_machine_state test m) replay state
   pub ended : replay.end ≡ end
   -- the page is this state's text
   pub told :
       page ≡ machine_page test.head replay state.processors (mem.state state.memory) (words state.memory) (mem.content state.memory)
 
 -- The page of an x86 test's replay by these events over caches that keep a protocol, and hold nothing at the start.
-abbrev pub CachesPage : Protocol → ProgramTest → List Event → Bytes → End → Type 0
-CachesPage protocol test = MachinePage (caches_by protocol) memory_words_of test (caches_at_start test)
+abbrev pub CachesPage : Protocol → X86Test → List Event → Bytes → End → Type 0
+CachesPage protocol test = MachinePage (caches_by protocol) memory_words_of test (initial_caches test)
 
 -- The page of the replay of a test by these events, and how it ended: of a source test on one memory, of an x86 test over caches.
 abbrev pub IsPageOf : Protocol → LitmusTest → List Event → Bytes → End → Type 0

@@ -8,7 +8,7 @@ use Rattle.lw_bench.specs.Devices.{TakesInput}
 use Rattle.lw_bench.specs.LitmusTests.{LitmusTest}
 use Rattle.lw_bench.specs.Lists.{IsReachedOnMachine, IsReachedOverCaches}
 use Rattle.lw_bench.specs.Outputs.{Writes}
-use Rattle.lw_bench.specs.Told.{TellsInput, TakesAt}
+use Rattle.lw_bench.specs.FaultTruth.{InputFaultIsTrue, TakesBeforeFault}
 
 -- What can be said of a kind of devices: the bytes that are still to come from a reader or that a writer holds, where they are known;
 -- and whether one has failed.
@@ -30,10 +30,10 @@ pub record IsRun {R W T : Type 0} (readers : Devices R) (writers : Devices W) (I
   pub machine : IfSome (readers.bytes r) IsReachedOnMachine
   pub caches : IfSome (readers.bytes r) IsReachedOverCaches
   -- What a fault tells is so.
-  pub told : IfErr result (TellsInput Tells (readers.bytes r))
+  pub told : IfErr result (InputFaultIsTrue Tells (readers.bytes r))
   -- It takes the whole input, or its first 65,537 bytes; some of these where the reader failed or memory ran out.
   pub taken : OnOk result (TakesInput (readers.bytes r) (readers.bytes s))
-  pub left : IfErr result (λ f. TakesAt f (readers.bytes r) (readers.bytes s))
+  pub left : IfErr result (λ f. TakesBeforeFault f (readers.bytes r) (readers.bytes s))
   -- The devices' faults are told exactly where they failed, and else the writer is left alone.
   pub read : result ≡ Err Read ↔ readers.failed s ≡ true
   pub write : result ≡ Err Write ↔ writers.failed v ≡ true

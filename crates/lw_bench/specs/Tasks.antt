@@ -3,26 +3,26 @@ use Rattle.std.specs.Prelude.{◌≡◌, ℕ}
 use Rattle.lw_base.specs.Types.{Bytes}
 use Rattle.lw_base.specs.declared.stop.End.{End}
 use Rattle.lw_bench.specs.Compilations.{IsCompilation}
-use Rattle.lw_bench.specs.Faults.{done_status, end_status}
+use Rattle.lw_bench.specs.Faults.{success_status, end_status}
 use Rattle.lw_bench.specs.Lists.{IsStatesReport, IsScheduleReport}
 use Rattle.lw_bench.specs.LitmusTests.{LitmusTest}
 use Rattle.lw_bench.specs.Replays.{IsReplayPage}
-use Rattle.lw_bench.specs.Told.{TellsNoList, TellsNothing, TellsReplay}
+use Rattle.lw_bench.specs.FaultTruth.{ListFaultIsTrue, NoFaultIsTrue, ReplayFaultIsTrue}
 use Rattle.lw_bench.specs.declared.command.Task.{Task}
 use Rattle.lw_bench.specs.declared.command.Task.TheVariants.{States, Compile, Schedules, Replay}
 use Rattle.lw_bench.specs.declared.fault.BenchFault.{BenchFault}
 
 -- The task makes these bytes of the test, and ends with this exit status.
-abbrev pub IsDone : Task → LitmusTest → Bytes → ℕ → Type 0
-IsDone States test made status = IsStatesReport test made × (status ≡ done_status)
-IsDone Compile test made status = IsCompilation test made × (status ≡ done_status)
-IsDone Schedules test made status = IsScheduleReport test made × (status ≡ done_status)
-IsDone (Replay schedule protocol) test made status =
+abbrev pub IsTaskOutput : Task → LitmusTest → Bytes → ℕ → Type 0
+IsTaskOutput States test made status = IsStatesReport test made × (status ≡ success_status)
+IsTaskOutput Compile test made status = IsCompilation test made × (status ≡ success_status)
+IsTaskOutput Schedules test made status = IsScheduleReport test made × (status ≡ success_status)
+IsTaskOutput (Replay schedule protocol) test made status =
     (end : End) × IsReplayPage protocol test schedule.now made end × (status ≡ end_status end)
 
 -- what a task tells of a test that it refuses
-abbrev pub TellsTask : Task → LitmusTest → BenchFault → Type 0
-TellsTask States = TellsNoList
-TellsTask Compile = TellsNothing
-TellsTask Schedules = TellsNoList
-TellsTask (Replay schedule protocol) = TellsReplay schedule.now
+abbrev pub TaskFaultIsTrue : Task → LitmusTest → BenchFault → Type 0
+TaskFaultIsTrue States = ListFaultIsTrue
+TaskFaultIsTrue Compile = NoFaultIsTrue
+TaskFaultIsTrue Schedules = ListFaultIsTrue
+TaskFaultIsTrue (Replay schedule protocol) = ReplayFaultIsTrue schedule.now

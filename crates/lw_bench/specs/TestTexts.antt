@@ -6,12 +6,12 @@ use Rattle.lw_x86.specs.Grammar.{HasProgram}
 use Rattle.lw_bench.specs.LitmusTests.{LitmusTest, Of_source, Of_x86}
 
 -- The frame is of the test's language, and its cells say the test.
-abbrev pub FrameSays : TestFrame → LitmusTest → Type 0
-FrameSays frame (Of_source test) = HasSource frame test
-FrameSays frame (Of_x86 test) = HasProgram frame test
+abbrev pub FrameHasTest : TestFrame → LitmusTest → Type 0
+FrameHasTest frame (Of_source test) = HasSource frame test
+FrameHasTest frame (Of_x86 test) = HasProgram frame test
 
 -- The text is a frame, whose cells say the test.
 pub record HasTest (text : Bytes) (test : LitmusTest) : Type 0 where
   pub frame : TestFrame
   pub has_frame : HasFrame text frame
-  pub says : FrameSays frame test
+  pub says : FrameHasTest frame test

@@ -1,6 +1,6 @@
 //! The arguments of a command, and the task that they name.
 ghost use Rattle.std.specs.Prelude.{◌≡◌, [], ◌∷◌, MatchOption, codes, map};
-ghost use Rattle.lw_base.specs.Refusals.{NoSuch};
+ghost use Rattle.lw_base.specs.NoParse.{HoldsOfNothing};
 ghost use Rattle.lw_bench.specs.declared.command.Task.{Task};
 ghost use Rattle.lw_bench.specs.Commands.{IsCommand, IsProtocolOption};
 
@@ -25,23 +25,23 @@ pub enum Task<'a> {
 /// It takes no memory.
 pub fn command_of<'a>(arguments: &[&'a str]) -> Option<Task<'a>>
     ensures { MatchOption result
-        (NoSuch (IsCommand (map (λ w. w.now) arguments.now)))
+        (HoldsOfNothing (IsCommand (map (λ w. w.now) arguments.now)))
         (IsCommand (map (λ w. w.now) arguments.now)) }
 {
     let [command, others @ ..] = arguments else {
         return None;
     };
     match *command {
-        "states" => alone(others, Task::States),
-        "compile" => alone(others, Task::Compile),
-        "schedules" => alone(others, Task::Schedules),
+        "states" => without_arguments(others, Task::States),
+        "compile" => without_arguments(others, Task::Compile),
+        "schedules" => without_arguments(others, Task::Schedules),
         "replay" => replay_command(others),
         _ => None,
     }
 }
 
 /// This task, where no arguments stand behind its name; else `None`: for the tasks that take none.
-fn alone<'a>(others: &[&'a str], task: Task<'a>) -> Option<Task<'a>>
+fn without_arguments<'a>(others: &[&'a str], task: Task<'a>) -> Option<Task<'a>>
     ensures { MatchOption result (others.now ≡ [] → ⊥) (λ given. (others.now ≡ []) × (given ≡ task.entry)) }
 {
     if !others.is_empty() {
@@ -53,7 +53,7 @@ fn alone<'a>(others: &[&'a str], task: Task<'a>) -> Option<Task<'a>>
 /// The task that the arguments behind `replay` give.
 fn replay_command<'a>(others: &[&'a str]) -> Option<Task<'a>>
     ensures { MatchOption result
-        (NoSuch (IsCommand (codes "replay" ∷ map (λ w. w.now) others.now)))
+        (HoldsOfNothing (IsCommand (codes "replay" ∷ map (λ w. w.now) others.now)))
         (IsCommand (codes "replay" ∷ map (λ w. w.now) others.now)) }
 {
     let [schedule, option @ ..] = others else {
@@ -66,7 +66,7 @@ fn replay_command<'a>(others: &[&'a str]) -> Option<Task<'a>>
 /// The protocol that the arguments behind the schedule give: MESI where there are none.
 fn protocol_of(option: &[&str]) -> Option<Protocol>
     ensures { MatchOption result
-        (NoSuch (IsProtocolOption (map (λ w. w.now) option.now)))
+        (HoldsOfNothing (IsProtocolOption (map (λ w. w.now) option.now)))
         (IsProtocolOption (map (λ w. w.now) option.now)) }
 {
     if option.is_empty() {
@@ -78,5 +78,5 @@ fn protocol_of(option: &[&str]) -> Option<Protocol>
     if *name != "--protocol" {
         return None;
     }
-    Protocol::named(word)
+    Protocol::from_name(word)
 }

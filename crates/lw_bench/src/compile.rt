@@ -8,7 +8,7 @@ use crate::litmus_test::LitmusTest;
 use lw_base::Text;
 use lw_fence::compile;
 use lw_litmus::Source;
-use lw_whole::outcomes_over_caches_are_flat;
+use lw_tso_caches::outcomes_over_caches_are_flat;
 use lw_x86::write_program;
 use std::alloc::{AllocError, Allocator};
 

@@ -3,10 +3,10 @@ ghost use Rattle.std.specs.Prelude.{◌≡◌, ◌⊎◌, IfOk};
 ghost use Rattle.std.specs.String.{string_bytes};
 ghost use Rattle.lw_bench.specs.declared.fault.BenchFault.TheVariants as bench;
 ghost use Rattle.lw_bench.specs.Faults as faults;
-ghost use Rattle.lw_bench.specs.Faults.{told_text, told_cell, told_schedule, told_limit, placed_text, fault_text, usage_text};
+ghost use Rattle.lw_bench.specs.Faults.{text_run_fault, cell_run_fault, schedule_run_fault, limit_run_fault, placed_text, fault_text, usage_text};
 
 use lw_base::{CellCause, CellFault, End, ScheduleCause, ScheduleFault};
-use lw_choices::ListFault;
+use lw_paths::ListFault;
 use lw_text::{TextCause, TextFault};
 use std::alloc::{AllocError, AllocFailed, Allocator};
 use std::io;
@@ -49,7 +49,7 @@ impl<T: Drop> From<AllocFailed<T>> for BenchFault {
 }
 
 impl From<TextFault> for BenchFault {
-    ghost from_gives = { λ e f. f ≡ told_text e };
+    ghost from_gives = { λ e f. f ≡ text_run_fault e };
 
     /// A text's fault as one of the run, or memory that ran out.
     fn from(fault: TextFault) -> BenchFault {
@@ -61,7 +61,7 @@ impl From<TextFault> for BenchFault {
 }
 
 impl From<CellFault> for BenchFault {
-    ghost from_gives = { λ e f. f ≡ told_cell e };
+    ghost from_gives = { λ e f. f ≡ cell_run_fault e };
 
     /// A cell's fault as one of the run, or memory that ran out.
     fn from(fault: CellFault) -> BenchFault {
@@ -73,7 +73,7 @@ impl From<CellFault> for BenchFault {
 }
 
 impl From<ScheduleFault> for BenchFault {
-    ghost from_gives = { λ e f. f ≡ told_schedule e };
+    ghost from_gives = { λ e f. f ≡ schedule_run_fault e };
 
     /// A schedule's fault as one of the run, or memory that ran out.
     fn from(fault: ScheduleFault) -> BenchFault {
@@ -85,7 +85,7 @@ impl From<ScheduleFault> for BenchFault {
 }
 
 impl From<ListFault> for BenchFault {
-    ghost from_gives = { λ e f. f ≡ told_limit e };
+    ghost from_gives = { λ e f. f ≡ limit_run_fault e };
 
     /// A limit that a test passes as a fault of the run, or memory that ran out.
     fn from(fault: ListFault) -> BenchFault {
@@ -163,8 +163,8 @@ pub fn status_of(fault: &BenchFault) -> u8
 }
 
 /// The exit status of a run that wrote what it was to write.
-pub fn done_status() -> u8
-    ensures { result ≡ faults.done_status }
+pub fn success_status() -> u8
+    ensures { result ≡ faults.success_status }
 {
     0
 }

@@ -2,28 +2,28 @@
 //! A law is a function without a result, whose contract is the law.
 ghost use Rattle.std.specs.Prelude.{◌≡◌, ◌↔◌, ℕ, Bool, false, List};
 ghost use Rattle.lw_base.specs.Names.{IsTestName};
-ghost use Rattle.lw_base.specs.Outcomes.{Final};
+ghost use Rattle.lw_base.specs.Outcomes.{FinalState};
 ghost use Rattle.lw_bench.specs.Classics.{store_buffering_in_x86};
 ghost use Rattle.lw_fence.specs.Compiling.{IsCompiled};
-ghost use Rattle.lw_fence.specs.Unfenced.{AreAmong, IsCompiledWith, IsCompiledWithoutFences, NeedsNoFence};
+ghost use Rattle.lw_fence.specs.Unfenced.{AreSubset, IsCompiledWith, IsCompiledWithoutFences, NeedsNoFence};
 ghost use Rattle.lw_interleaving.specs.Runs.{SourceOutcome};
-ghost use Rattle.lw_litmus.specs.Tests.{SourceTest, ProgramTest};
+ghost use Rattle.lw_litmus.specs.Tests.{SourceTest, X86Test};
 ghost use Rattle.lw_litmus.specs.WellFormedTests.{IsWellFormedSource, IsWellFormedProgram};
-ghost use Rattle.lw_memory.specs.Flat.{flat};
+ghost use Rattle.lw_memory.specs.Flat.{flat_memory};
 ghost use Rattle.lw_mesi.specs.declared.protocol.Protocol.{Protocol};
 ghost use Rattle.lw_report.specs.Truth.{is_true};
 ghost use Rattle.lw_tso.specs.Fencing.{IsFencedTest};
-ghost use Rattle.lw_tso.specs.Runs.{MachineOutcome};
-ghost use Rattle.lw_whole.specs.OverCaches.{OutcomeOverCaches};
+ghost use Rattle.lw_tso.specs.Runs.{IsMachineOutcome};
+ghost use Rattle.lw_tso_caches.specs.OverCaches.{OutcomeOverCaches};
 
 use crate::laws::compiled_programs_have_their_sources_outcomes;
 use lw_tso::{fences_only_take_outcomes_away, tests_without_fences_are_well_formed};
-use lw_whole::outcomes_over_caches_are_flat;
+use lw_tso_caches::outcomes_over_caches_are_flat;
 
 /// Fences only take outcomes away over caches too, by each protocol: of a test with MFENCEs inserted, at any places, every outcome is
 /// one of the test.
 pub fn fences_only_take_outcomes_away_over_caches()
-    ensures { (protocol : Protocol) (test fenced : ProgramTest) (o : Final) → IsTestName test.head.name → IsWellFormedProgram fenced
+    ensures { (protocol : Protocol) (test fenced : X86Test) (o : FinalState) → IsTestName test.head.name → IsWellFormedProgram fenced
         → IsFencedTest test fenced → OutcomeOverCaches protocol fenced o → OutcomeOverCaches protocol test o }
 {
     outcomes_over_caches_are_flat();
@@ -33,26 +33,26 @@ pub fn fences_only_take_outcomes_away_over_caches()
 
 /// Fences do take outcomes away: with an MFENCE inserted in each thread of store buffering no outcome is left that has both loads 0.
 pub fn store_buffering_is_forbidden_with_fences()
-    ensures { (fenced : ProgramTest) × IsFencedTest store_buffering_in_x86 fenced
-        × ((o : Final) → MachineOutcome flat fenced fenced.head.init_words o → is_true fenced.head.condition o ≡ false) }
+    ensures { (fenced : X86Test) × IsFencedTest store_buffering_in_x86 fenced
+        × ((o : FinalState) → IsMachineOutcome flat_memory fenced fenced.head.init_words o → is_true fenced.head.condition o ≡ false) }
 {}
 
 /// A source with more fences is the one with fewer, with MFENCEs inserted, and has no outcome that it lacks with fewer. So whatever
 /// fences it has, it has no outcome that it lacks without any.
 pub fn more_fences_have_no_more_outcomes()
-    ensures are_inserted { (fences others : List (List Bool)) (source : SourceTest) (program other : ProgramTest)
-        (starts begins : List (List ℕ)) → AreAmong fences others → IsCompiledWith fences source program starts
+    ensures are_inserted { (fences others : List (List Bool)) (source : SourceTest) (program other : X86Test)
+        (starts begins : List (List ℕ)) → AreSubset fences others → IsCompiledWith fences source program starts
         → IsCompiledWith others source other begins → IsFencedTest program other }
-    ensures flat_memory { (fences others : List (List Bool)) (source : SourceTest) (program other : ProgramTest)
-        (starts begins : List (List ℕ)) (o : Final) → AreAmong fences others → IsCompiledWith fences source program starts
+    ensures flat_memory { (fences others : List (List Bool)) (source : SourceTest) (program other : X86Test)
+        (starts begins : List (List ℕ)) (o : FinalState) → AreSubset fences others → IsCompiledWith fences source program starts
         → IsCompiledWith others source other begins
-        → MachineOutcome flat other other.head.init_words o → MachineOutcome flat program program.head.init_words o }
-    ensures caches { (fences others : List (List Bool)) (source : SourceTest) (program other : ProgramTest)
-        (starts begins : List (List ℕ)) (protocol : Protocol) (o : Final) → IsWellFormedSource source → AreAmong fences others
+        → IsMachineOutcome flat_memory other other.head.init_words o → IsMachineOutcome flat_memory program program.head.init_words o }
+    ensures caches { (fences others : List (List Bool)) (source : SourceTest) (program other : X86Test)
+        (starts begins : List (List ℕ)) (protocol : Protocol) (o : FinalState) → IsWellFormedSource source → AreSubset fences others
         → IsCompiledWith fences source program starts → IsCompiledWith others source other begins
         → OutcomeOverCaches protocol other o → OutcomeOverCaches protocol program o }
-    ensures without { (fences : List (List Bool)) (source : SourceTest) (program other : ProgramTest)
-        (starts begins : List (List ℕ)) (protocol : Protocol) (o : Final) → IsWellFormedSource source
+    ensures without { (fences : List (List Bool)) (source : SourceTest) (program other : X86Test)
+        (starts begins : List (List ℕ)) (protocol : Protocol) (o : FinalState) → IsWellFormedSource source
         → IsCompiledWithoutFences source program starts → IsCompiledWith fences source other begins
         → OutcomeOverCaches protocol other o → OutcomeOverCaches protocol program o }
 {
@@ -63,12 +63,12 @@ pub fn more_fences_have_no_more_outcomes()
 /// Where no statement of a source needs a fence by the compiler's rule, since no load comes behind a store with nothing between that
 /// waits for an empty store buffer, the compiled program is the one without fences, and that has exactly the source's outcomes.
 pub fn no_fence_is_needed_where_no_store_waits()
-    ensures same_program { (source : SourceTest) (program : ProgramTest) (starts : List (List ℕ)) → NeedsNoFence source
+    ensures same_program { (source : SourceTest) (program : X86Test) (starts : List (List ℕ)) → NeedsNoFence source
         → IsCompiled source program starts ↔ IsCompiledWithoutFences source program starts }
-    ensures flat_memory { (source : SourceTest) (program : ProgramTest) (starts : List (List ℕ)) (o : Final)
+    ensures flat_memory { (source : SourceTest) (program : X86Test) (starts : List (List ℕ)) (o : FinalState)
         → IsWellFormedSource source → NeedsNoFence source → IsCompiledWithoutFences source program starts
-        → MachineOutcome flat program program.head.init_words o ↔ SourceOutcome source o }
-    ensures caches { (source : SourceTest) (program : ProgramTest) (starts : List (List ℕ)) (protocol : Protocol) (o : Final)
+        → IsMachineOutcome flat_memory program program.head.init_words o ↔ SourceOutcome source o }
+    ensures caches { (source : SourceTest) (program : X86Test) (starts : List (List ℕ)) (protocol : Protocol) (o : FinalState)
         → IsWellFormedSource source → NeedsNoFence source → IsCompiledWithoutFences source program starts
         → OutcomeOverCaches protocol program o ↔ SourceOutcome source o }
 {

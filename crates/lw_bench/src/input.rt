@@ -1,7 +1,7 @@
 //! Reads all that comes, up to one byte more than a text may have.
 ghost use Rattle.std.specs.Prelude.{◌≡◌, ◌<◌, false, if◌then◌else◌, length, IfOk, IfErr, OnOk, OnErr};
 ghost use Rattle.lw_bench.specs.Limits.{most_read_bytes};
-ghost use Rattle.lw_bench.specs.Devices.{IsInput, TakesInput, TakesSome, Gets, Loses};
+ghost use Rattle.lw_bench.specs.Devices.{IsInput, TakesInput, TakesSome, ReadsMore, LosesInput};
 
 use crate::device::ByteReader;
 use crate::fault::BenchFault;
@@ -45,8 +45,8 @@ fn pull_chunk<R: ByteReader, A: Allocator>(
     requires working { R.failed reader.old ≡ false }
     requires room { length bytes.old.items < most_read_bytes }
     ensures bytes { IfOk result
-        (Gets (R.remaining reader.old) (R.remaining reader.new) bytes.old.items bytes.new.items) }
-    ensures lost { OnErr result (Loses (R.remaining reader.old) (R.remaining reader.new) bytes.old.items) }
+        (ReadsMore (R.remaining reader.old) (R.remaining reader.new) bytes.old.items bytes.new.items) }
+    ensures lost { OnErr result (LosesInput (R.remaining reader.old) (R.remaining reader.new) bytes.old.items) }
     ensures failed { OnOk result (R.failed reader.new ≡ false) }
     ensures err { IfErr result (λ f. f ≡ (if R.failed reader.new then BenchFault.Read else BenchFault.Memory)) }
 {

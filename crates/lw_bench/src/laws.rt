@@ -2,7 +2,7 @@
 //! A law is a function without a result, whose contract is the law; of the workbench's calls `answer` and the runs cite one.
 ghost use Rattle.std.specs.Prelude.{◌≡◌, ◌↔◌, ℕ, List, Bool, true, false, Option};
 ghost use Rattle.std.specs.Option.{IfSome};
-ghost use Rattle.lw_base.specs.Outcomes.{Final};
+ghost use Rattle.lw_base.specs.Outcomes.{FinalState};
 ghost use Rattle.lw_base.specs.Types.{Bytes};
 ghost use Rattle.lw_bench.specs.Classics.{store_buffering, store_buffering_in_x86, message_passing_in_x86};
 ghost use Rattle.lw_base.specs.declared.head.Arch.TheVariants.{X86};
@@ -10,38 +10,38 @@ ghost use Rattle.lw_bench.specs.Compilations.{IsCompilation};
 ghost use Rattle.lw_bench.specs.Examples.{store_buffering_text, store_buffering_report};
 ghost use Rattle.lw_bench.specs.LitmusTests.{LitmusTest, Of_source, Of_x86};
 ghost use Rattle.lw_bench.specs.Lists.{IsStatesReport, IsReachedOnMachine, IsReachedOverCaches};
-ghost use Rattle.lw_bench.specs.Outcomes.{OutcomeOf, IsRunFor, IsProgramOf};
-ghost use Rattle.lw_bench.specs.Outputs.{Makes};
+ghost use Rattle.lw_bench.specs.Outcomes.{OutcomeOf, IsProgramRunFor, IsProgramOf};
+ghost use Rattle.lw_bench.specs.Outputs.{IsOutputOf};
 ghost use Rattle.lw_bench.specs.TestTexts.{HasTest};
 ghost use Rattle.lw_bench.specs.WellFormedTests.{IsWellFormedTest};
 ghost use Rattle.lw_fence.specs.Compiling.{IsCompiled};
 ghost use Rattle.lw_fence.specs.Unfenced.{IsCompiledWith, IsCompiledWithoutFences};
-ghost use Rattle.lw_whole.specs.OverCaches.{OutcomeOverCaches};
+ghost use Rattle.lw_tso_caches.specs.OverCaches.{OutcomeOverCaches};
 ghost use Rattle.lw_interleaving.specs.Runs.{SourceOutcome};
-ghost use Rattle.lw_litmus.specs.Tests.{SourceTest, ProgramTest};
+ghost use Rattle.lw_litmus.specs.Tests.{SourceTest, X86Test};
 ghost use Rattle.lw_litmus.specs.WellFormedTests.{IsWellFormedSource, IsWellFormedProgram};
-ghost use Rattle.lw_memory.specs.Flat.{flat};
+ghost use Rattle.lw_memory.specs.Flat.{flat_memory};
 ghost use Rattle.lw_memory.specs.Memory.{memory_of};
-ghost use Rattle.lw_memory.specs.MemoryLaws.{invariant_of};
+ghost use Rattle.lw_memory.specs.SystemLaws.{invariant_of};
 ghost use Rattle.lw_mesi.specs.declared.protocol.Protocol.{Protocol};
 ghost use Rattle.lw_report.specs.Truth.{is_true};
-ghost use Rattle.lw_tso.specs.Runs.{MachineOutcome};
-ghost use Rattle.lw_tso.specs.Starts.{CanStart};
+ghost use Rattle.lw_tso.specs.Runs.{IsMachineOutcome};
+ghost use Rattle.lw_tso.specs.Starts.{IsInitialMemory};
 
 use crate::litmus_test::a_text_has_one_test;
 use lw_memory::MemorySystem;
 use lw_tso::outcomes_are_flat;
-use lw_whole::outcomes_over_caches_are_flat;
+use lw_tso_caches::outcomes_over_caches_are_flat;
 use lw_x86::a_canonical_text_reads_back;
 
 /// Store buffering: by interleaving no outcome has both loads 0.
 pub fn store_buffering_is_forbidden_by_interleaving()
-    ensures { (o : Final) → SourceOutcome store_buffering o → is_true store_buffering.head.condition o ≡ false }
+    ensures { (o : FinalState) → SourceOutcome store_buffering o → is_true store_buffering.head.condition o ≡ false }
 {}
 
 /// Store buffering: on x86, over caches of either protocol, some outcome has both loads 0.
 pub fn store_buffering_is_allowed_on_x86()
-    ensures { (protocol : Protocol) → (o : Final) × OutcomeOverCaches protocol store_buffering_in_x86 o
+    ensures { (protocol : Protocol) → (o : FinalState) × OutcomeOverCaches protocol store_buffering_in_x86 o
         × (is_true store_buffering_in_x86.head.condition o ≡ true) }
 {
     outcomes_over_caches_are_flat();
@@ -49,7 +49,7 @@ pub fn store_buffering_is_allowed_on_x86()
 
 /// Message passing: on x86, over caches of either protocol, no outcome has the flag and lacks the message.
 pub fn message_passing_is_forbidden_on_x86()
-    ensures { (protocol : Protocol) (o : Final) → OutcomeOverCaches protocol message_passing_in_x86 o
+    ensures { (protocol : Protocol) (o : FinalState) → OutcomeOverCaches protocol message_passing_in_x86 o
         → is_true message_passing_in_x86.head.condition o ≡ false }
 {
     outcomes_over_caches_are_flat();
@@ -63,17 +63,17 @@ pub fn what_a_text_says_is_well_formed()
 /// Every well-formed test has an outcome: a source test by interleaving on one memory; an x86 test over flat memory, and over
 /// caches of either protocol. For jumps lead forward, and what waits for an empty store buffer goes on once that is drained.
 pub fn every_test_has_an_outcome()
-    ensures source { (test : SourceTest) → IsWellFormedSource test → (o : Final) × SourceOutcome test o }
-    ensures flat_memory { (test : ProgramTest) → IsWellFormedProgram test → (o : Final) × MachineOutcome flat test test.head.init_words o }
-    ensures caches { (protocol : Protocol) (test : ProgramTest) → IsWellFormedProgram test
-        → (o : Final) × OutcomeOverCaches protocol test o }
+    ensures source { (test : SourceTest) → IsWellFormedSource test → (o : FinalState) × SourceOutcome test o }
+    ensures flat_memory { (test : X86Test) → IsWellFormedProgram test → (o : FinalState) × IsMachineOutcome flat_memory test test.head.init_words o }
+    ensures caches { (protocol : Protocol) (test : X86Test) → IsWellFormedProgram test
+        → (o : FinalState) × OutcomeOverCaches protocol test o }
 {
     outcomes_over_caches_are_flat();
 }
 
 /// A text has at most one report: whatever writes a report of what the text says writes these bytes.
 pub fn a_text_has_one_report()
-    ensures { (text a b : Bytes) → Makes IsStatesReport text a → Makes IsStatesReport text b → a ≡ b }
+    ensures { (text a b : Bytes) → IsOutputOf IsStatesReport text a → IsOutputOf IsStatesReport text b → a ≡ b }
 {
     a_text_has_one_test();
 }
@@ -81,18 +81,18 @@ pub fn a_text_has_one_report()
 /// A well-formed source test has exactly one compiled program, with the numbers at which its statements start.
 pub fn a_source_has_one_compiled_program()
     ensures some { (source : SourceTest) → IsWellFormedSource source
-        → (program : ProgramTest) × (starts : List (List ℕ)) × IsCompiled source program starts }
-    ensures one { (source : SourceTest) (program other : ProgramTest) (starts begins : List (List ℕ))
+        → (program : X86Test) × (starts : List (List ℕ)) × IsCompiled source program starts }
+    ensures one { (source : SourceTest) (program other : X86Test) (starts begins : List (List ℕ))
         → IsCompiled source program starts → IsCompiled source other begins → (program ≡ other) × (starts ≡ begins) }
 {}
 
 /// The compiled program has exactly its source's outcomes, over every memory that keeps the laws of memories, from any of its
 /// states with the source's initial words.
 pub fn compiled_programs_have_their_sources_outcomes_over_every_memory<M: MemorySystem>()
-    ensures { (source : SourceTest) (program : ProgramTest) (starts : List (List ℕ)) (m : M) (o : Final)
+    ensures { (source : SourceTest) (program : X86Test) (starts : List (List ℕ)) (m : M) (o : FinalState)
         → IsWellFormedSource source → IsCompiled source program starts
-        → CanStart (memory_of M.content M.state M.serves) (invariant_of M.cpus M.sound) program m
-        → MachineOutcome (memory_of M.content M.state M.serves) program m o ↔ SourceOutcome source o }
+        → IsInitialMemory (memory_of M.content M.state M.serves) (invariant_of M.cpus M.sound) program m
+        → IsMachineOutcome (memory_of M.content M.state M.serves) program m o ↔ SourceOutcome source o }
 {
     outcomes_are_flat::<M>();
 }
@@ -100,10 +100,10 @@ pub fn compiled_programs_have_their_sources_outcomes_over_every_memory<M: Memory
 /// The compiled program of a well-formed source test has exactly its source's outcomes over flat memory, and over caches of
 /// either protocol that hold nothing at the start, evictions at any time.
 pub fn compiled_programs_have_their_sources_outcomes()
-    ensures flat_memory { (source : SourceTest) (program : ProgramTest) (starts : List (List ℕ)) (o : Final)
+    ensures flat_memory { (source : SourceTest) (program : X86Test) (starts : List (List ℕ)) (o : FinalState)
         → IsWellFormedSource source → IsCompiled source program starts
-        → MachineOutcome flat program program.head.init_words o ↔ SourceOutcome source o }
-    ensures caches { (source : SourceTest) (program : ProgramTest) (starts : List (List ℕ)) (protocol : Protocol) (o : Final)
+        → IsMachineOutcome flat_memory program program.head.init_words o ↔ SourceOutcome source o }
+    ensures caches { (source : SourceTest) (program : X86Test) (starts : List (List ℕ)) (protocol : Protocol) (o : FinalState)
         → IsWellFormedSource source → IsCompiled source program starts
         → OutcomeOverCaches protocol program o ↔ SourceOutcome source o }
 {
@@ -113,11 +113,11 @@ pub fn compiled_programs_have_their_sources_outcomes()
 /// Every interleaving outcome is one of the compiled program without its fences, and of that with fences before any other of its
 /// loads: whatever outcomes fences take away, interleaving has none of them.
 pub fn interleaving_outcomes_need_no_fences()
-    ensures without { (source : SourceTest) (program : ProgramTest) (starts : List (List ℕ)) (protocol : Protocol) (o : Final)
+    ensures without { (source : SourceTest) (program : X86Test) (starts : List (List ℕ)) (protocol : Protocol) (o : FinalState)
         → IsWellFormedSource source → IsCompiledWithoutFences source program starts
         → SourceOutcome source o → OutcomeOverCaches protocol program o }
-    ensures anywhere { (fences : List (List Bool)) (source : SourceTest) (program : ProgramTest) (starts : List (List ℕ))
-        (protocol : Protocol) (o : Final) → IsWellFormedSource source → IsCompiledWith fences source program starts
+    ensures anywhere { (fences : List (List Bool)) (source : SourceTest) (program : X86Test) (starts : List (List ℕ))
+        (protocol : Protocol) (o : FinalState) → IsWellFormedSource source → IsCompiledWith fences source program starts
         → SourceOutcome source o → OutcomeOverCaches protocol program o }
 {
     outcomes_over_caches_are_flat();
@@ -128,7 +128,7 @@ pub fn interleaving_outcomes_need_no_fences()
 pub fn every_test_has_its_program()
     ensures there { (text : Bytes) → IsReachedOnMachine text }
     ensures caches { (text : Bytes) → IsReachedOverCaches text }
-    ensures each { (text : Bytes) (test : LitmusTest) (program : ProgramTest) → HasTest text test → IsRunFor test program
+    ensures each { (text : Bytes) (test : LitmusTest) (program : X86Test) → HasTest text test → IsProgramRunFor test program
         → IsProgramOf test program }
 {
     outcomes_over_caches_are_flat();
@@ -145,8 +145,8 @@ pub(crate) fn what_is_known_is_reached_on_the_machine()
 /// Outcomes over one protocol are those over any other, for whatever `states` takes: for every text that is a test, of the program
 /// that runs for it.
 pub fn protocols_cannot_be_told_apart()
-    ensures { (protocol other : Protocol) (text : Bytes) (test : LitmusTest) (program : ProgramTest) (o : Final)
-        → HasTest text test → IsRunFor test program
+    ensures { (protocol other : Protocol) (text : Bytes) (test : LitmusTest) (program : X86Test) (o : FinalState)
+        → HasTest text test → IsProgramRunFor test program
         → OutcomeOverCaches protocol program o ↔ OutcomeOverCaches other program o }
 {
     outcomes_over_caches_are_flat();
@@ -155,16 +155,16 @@ pub fn protocols_cannot_be_told_apart()
 /// The report of an example, byte by byte: the text of examples/SB-x86.litmus is a test, and what `lw states` prints of it is the
 /// report of exactly its outcomes. Nothing but the definitions says so: no reader, no list and no printer is called.
 pub fn the_text_of_store_buffering_has_this_report()
-    ensures { Makes IsStatesReport store_buffering_text store_buffering_report }
+    ensures { IsOutputOf IsStatesReport store_buffering_text store_buffering_report }
 {}
 
 /// The canonical text of a compiled program, which `lw compile` writes, is a test itself, and has as that the outcomes of its source,
 /// under the source's head in x86: the states are the source's but for the names of registers.
 pub fn compiled_texts_have_their_sources_outcomes()
-    ensures { (text made : Bytes) (source : SourceTest) → HasTest text (Of_source source) → Makes IsCompilation text made
-        → (program : ProgramTest) × HasTest made (Of_x86 program)
+    ensures { (text made : Bytes) (source : SourceTest) → HasTest text (Of_source source) → IsOutputOf IsCompilation text made
+        → (program : X86Test) × HasTest made (Of_x86 program)
         × (program.head ≡ record source.head { arch = X86 })
-        × ((o : Final) → OutcomeOf (Of_x86 program) o ↔ OutcomeOf (Of_source source) o) }
+        × ((o : FinalState) → OutcomeOf (Of_x86 program) o ↔ OutcomeOf (Of_source source) o) }
 {
     a_text_has_one_test();
     a_canonical_text_reads_back();

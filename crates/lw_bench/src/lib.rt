@@ -1,16 +1,15 @@
 //! The workbench: from the bytes of a test to the bytes of what is told of it. `answer` does that in memory; the runs do it
 //! between devices.
 //!
-//! It stands on both wings. Of the crates that read it names lw_text for frames and their faults, lw_cells for what the fault of
+//! It stands on both wings. Of the crates that read it names lw_text for frames and their faults, lw_statements for what the fault of
 //! a cell tells, lw_source and lw_x86 for the reading of tests and for the canonical text. Of those that say what is meant it
 //! names lw_base; lw_litmus for the tests, lw_interleaving for the runs of source tests, lw_fence for the compiler, and lw_tso for
-//! the machine, over the caches of lw_mesi, which are a memory system of lw_memory; lw_whole for that an x86 test has over caches
-//! the outcomes that it has over flat memory; lw_finals for the complete lists of tests, lw_listing for a list and lw_choices for
+//! the machine, over the caches of lw_mesi, which are a memory system of lw_memory; lw_tso_caches for that an x86 test has over caches
+//! the outcomes that it has over flat memory; lw_finals for the complete lists of tests, lw_outcome_map for a list and lw_paths for
 //! why there is none; and lw_report for the states of a list, its report and its schedules. Its tests, as all of the
 //! workbench's, stand in lw_run_tests.
 #![tactic(auto)]
 
-mod answers;
 mod cache_laws;
 mod command;
 mod compile;
@@ -24,11 +23,11 @@ mod lists;
 mod litmus_test;
 mod output;
 mod page;
+mod render;
 mod replay;
 mod run;
 mod whole_command;
 
-pub use answers::answer;
 pub use cache_laws::{
     caches_are_coherent_in_every_run, every_run_over_caches_ends, protocols_have_the_same_outcomes,
 };
@@ -36,7 +35,7 @@ pub use command::{Task, command_of};
 pub use device::{ByteReader, ByteWriter, Failed, FromRead, ToWrite};
 pub use ending::{Ending, Line, refusal_of};
 pub use fault::{
-    BenchFault, done_status, end_status, fault_line, memory_line, status_of, usage_line,
+    BenchFault, end_status, fault_line, memory_line, status_of, success_status, usage_line,
     usage_status,
 };
 pub use fence_laws::{
@@ -59,5 +58,6 @@ pub use litmus_test::{LitmusTest, a_text_has_one_test, read_test};
 pub use lw_base::End;
 pub use lw_mesi::Protocol;
 pub use output::write_output;
+pub use render::answer;
 pub use run::{carry_out, compile_text, replay_text, schedules_text, states};
 pub use whole_command::{read_for, run_command, texts_of};

@@ -1,17 +1,17 @@
 //! The report of a test's states, and the list of their schedules.
 ghost use Rattle.std.specs.Prelude.{◌≡◌, ◌⊎◌, IfOk, IfErr, OnOk};
 ghost use Rattle.lw_bench.specs.LitmusTests.{litmus_test_of};
-ghost use Rattle.lw_bench.specs.Lists.{HasList, IsListOf, IsExactReport, IsExactScheduleList, IsStatesReport, IsScheduleReport};
-ghost use Rattle.lw_bench.specs.Told.{TellsLimitOf, TellsNoList, IsNoDevice};
+ghost use Rattle.lw_bench.specs.Lists.{IsWithinListLimits, IsListOf, IsExactReport, IsExactScheduleList, IsStatesReport, IsScheduleReport};
+ghost use Rattle.lw_bench.specs.FaultTruth.{TestLimitFaultIsTrue, ListFaultIsTrue, IsNotDeviceFault};
 
 use crate::fault::BenchFault;
 use crate::litmus_test::LitmusTest;
 use lw_base::Text;
-use lw_choices::ListFault;
 use lw_finals::{list_raw, list_source};
-use lw_listing::Listing;
+use lw_outcome_map::Listing;
+use lw_paths::ListFault;
 use lw_report::{Claim, states_of, write_report, write_schedules};
-use lw_whole::outcomes_over_caches_are_flat;
+use lw_tso_caches::outcomes_over_caches_are_flat;
 use std::alloc::{AllocError, Allocator};
 
 /// The complete list of a test: its outcomes, each with a schedule of the program that runs for it.
@@ -20,8 +20,8 @@ pub fn list_test<A: Allocator + Copy>(
     test: &LitmusTest<A>,
 ) -> Result<Listing<A>, ListFault>
     ensures listed { IfOk result (IsListOf (litmus_test_of test.now)) }
-    ensures within { OnOk result (HasList (litmus_test_of test.now)) }
-    ensures limit { IfErr result (TellsLimitOf (litmus_test_of test.now)) }
+    ensures within { OnOk result (IsWithinListLimits (litmus_test_of test.now)) }
+    ensures limit { IfErr result (TestLimitFaultIsTrue (litmus_test_of test.now)) }
 {
     outcomes_over_caches_are_flat();
     match test {
@@ -36,8 +36,8 @@ pub(crate) fn report_of<A: Allocator + Copy>(
     test: &LitmusTest<A>,
 ) -> Result<Text<A>, BenchFault>
     ensures found { IfOk result (IsStatesReport (litmus_test_of test.now)) }
-    ensures told { IfErr result (λ f. (f ≡ BenchFault.Memory) ⊎ TellsNoList (litmus_test_of test.now) f) }
-    ensures device { IfErr result IsNoDevice }
+    ensures told { IfErr result (λ f. (f ≡ BenchFault.Memory) ⊎ ListFaultIsTrue (litmus_test_of test.now) f) }
+    ensures device { IfErr result IsNotDeviceFault }
 {
     let listing = list_test(alloc, test)?;
     Ok(report_of_listing(alloc, test, listing)?)
@@ -67,8 +67,8 @@ pub(crate) fn schedules_of<A: Allocator + Copy>(
     test: &LitmusTest<A>,
 ) -> Result<Text<A>, BenchFault>
     ensures found { IfOk result (IsScheduleReport (litmus_test_of test.now)) }
-    ensures told { IfErr result (λ f. (f ≡ BenchFault.Memory) ⊎ TellsNoList (litmus_test_of test.now) f) }
-    ensures device { IfErr result IsNoDevice }
+    ensures told { IfErr result (λ f. (f ≡ BenchFault.Memory) ⊎ ListFaultIsTrue (litmus_test_of test.now) f) }
+    ensures device { IfErr result IsNotDeviceFault }
 {
     let listing = list_test(alloc, test)?;
     let list = schedules_of_listing(alloc, test, &listing);

@@ -3,14 +3,14 @@ ghost use Rattle.std.specs.Prelude.{◌≡◌, ◌≤◌, IfOk, IfErr};
 ghost use Rattle.lw_base.specs.Types.{Bytes};
 ghost use Rattle.lw_base.specs.Heads.{head_of};
 ghost use Rattle.lw_base.specs.WellFormed.{IsWellFormedHead};
-ghost use Rattle.lw_base.specs.Refusals.{NotFound};
+ghost use Rattle.lw_base.specs.NoParse.{HoldsOfNothingOrOutOfMemory};
 ghost use Rattle.lw_base.specs.declared.fault.CellCause.TheVariants.{Memory};
 ghost use Rattle.lw_text.specs.Places.{placed_cells};
 ghost use Rattle.lw_text.specs.Views.{frame_of};
 ghost use Rattle.lw_bench.specs.LitmusTests as specs;
-ghost use Rattle.lw_bench.specs.TestTexts.{FrameSays, HasTest};
+ghost use Rattle.lw_bench.specs.TestTexts.{FrameHasTest, HasTest};
 ghost use Rattle.lw_bench.specs.LitmusTests.{litmus_test_of, head_of_test};
-ghost use Rattle.lw_bench.specs.Told.{TellsTest, TellsIn, IsNoDevice};
+ghost use Rattle.lw_bench.specs.FaultTruth.{ReadFaultIsTrue, CellFaultIsTrueIn, IsNotDeviceFault};
 
 use crate::fault::BenchFault;
 use lw_base::{Arch, CellFault, Head};
@@ -52,8 +52,8 @@ pub fn a_text_has_one_test()
 /// The test that the bytes are.
 pub fn read_test<A: Allocator + Copy>(alloc: A, text: &[u8]) -> Result<LitmusTest<A>, BenchFault>
     ensures found { IfOk result (λ test. HasTest text.now (litmus_test_of test)) }
-    ensures told { IfErr result (TellsTest text.now) }
-    ensures device { IfErr result IsNoDevice }
+    ensures told { IfErr result (ReadFaultIsTrue text.now) }
+    ensures device { IfErr result IsNotDeviceFault }
 {
     let frame = read_frame(alloc, text)?;
     Ok(read_cells(alloc, frame)?)
@@ -64,10 +64,10 @@ fn read_cells<A: Allocator + Copy>(
     alloc: A,
     frame: Frame<'_, A>,
 ) -> Result<LitmusTest<A>, CellFault>
-    ensures found { IfOk result (λ test. FrameSays (frame_of frame.entry) (litmus_test_of test)) }
-    ensures fault { IfErr result (λ f. NotFound Memory f.cause (FrameSays (frame_of frame.entry))) }
+    ensures found { IfOk result (λ test. FrameHasTest (frame_of frame.entry) (litmus_test_of test)) }
+    ensures fault { IfErr result (λ f. HoldsOfNothingOrOutOfMemory Memory f.cause (FrameHasTest (frame_of frame.entry))) }
     ensures place { IfErr result (λ f. f.at ≤ frame.entry.len) }
-    ensures cause { IfErr result (TellsIn frame.entry.head.arch frame.entry.head.locs (placed_cells frame.entry.cells)) }
+    ensures cause { IfErr result (CellFaultIsTrueIn frame.entry.head.arch frame.entry.head.locs (placed_cells frame.entry.cells)) }
 {
     match frame.head().arch {
         Arch::Source => {

@@ -7,7 +7,7 @@ ghost use Rattle.lw_base.specs.declared.limits.TheConstants.{REGISTERS};
 ghost use Rattle.lw_base.specs.declared.stop.End.TheVariants as ends;
 ghost use Rattle.lw_bench.specs.Pages as pages;
 ghost use Rattle.lw_bench.specs.Pages.{numbered, named, first_lines, end_text, word_line, buffer_line, cache_line, location_line, processor_lines};
-ghost use Rattle.lw_interleaving.specs.Runs.{outcome_of};
+ghost use Rattle.lw_interleaving.specs.Runs.{source_outcome};
 ghost use Rattle.lw_interleaving.specs.declared.thread.Thread.{Thread};
 ghost use Rattle.lw_memory.specs.Memory.{memory_of};
 ghost use Rattle.lw_tso.specs.Machines.{buffer_of};
@@ -55,7 +55,7 @@ fn write_source_page<A: Allocator>(
     requires few { head.now.threads ≤ MAX_THREADS }
     requires threads { length run.now.state.threads ≡ head.now.threads }
     requires words { length run.now.state.words ≡ length head.now.locs }
-    requires outcome { state.now ≡ outcome_of run.now.state }
+    requires outcome { state.now ≡ source_outcome run.now.state }
     ensures { OnOk result (string_bytes out.new
         ≡ string_bytes out.old ++ pages.source_page (head_of head.now) replay run.now.state) }
 {
@@ -170,13 +170,17 @@ fn write_thread<A: Allocator>(
 {
     write!(out, "P{} at {}", cpu.index(), position)?;
     for reg in Reg::all() {
-        write_named(out, reg_name(arch, reg), regs[reg.index()])?;
+        write_assignment(out, reg_name(arch, reg), regs[reg.index()])?;
     }
     out.push_str("\n")
 }
 
 /// A name with its word, behind a space.
-fn write_named<A: Allocator>(out: &mut String<A>, name: &str, word: Word) -> Result<(), AllocError>
+fn write_assignment<A: Allocator>(
+    out: &mut String<A>,
+    name: &str,
+    word: Word,
+) -> Result<(), AllocError>
     ensures { OnOk result (string_bytes out.new ≡ string_bytes out.old ++ named (λ _. decimal word) 0 name.now) }
 {
     write!(out, " {}={}", name, word)
@@ -194,7 +198,7 @@ fn write_words<A: Allocator>(
 {
     out.push_str(title)?;
     for loc in &Loc::all()[..locs.len()] {
-        write_named(out, locs.name(*loc), words[loc.index()])?;
+        write_assignment(out, locs.name(*loc), words[loc.index()])?;
     }
     out.push_str("\n")
 }
@@ -211,7 +215,7 @@ fn write_memory<M: MemorySystem, A: Allocator>(
 {
     out.push_str("Memory")?;
     for loc in &Loc::all()[..locs.len()] {
-        write_named(out, locs.name(*loc), memory.word_in_memory(*loc))?;
+        write_assignment(out, locs.name(*loc), memory.word_in_memory(*loc))?;
     }
     out.push_str("\n")
 }
@@ -270,7 +274,7 @@ fn write_buffer<M: MemorySystem, A: Allocator>(
     write!(out, "P{} buffer", cpu.index())?;
     for index in 0..machine.buffered(cpu) {
         let (loc, word) = machine.entry(cpu, index);
-        write_named(out, locs.name(loc), word)?;
+        write_assignment(out, locs.name(loc), word)?;
     }
     out.push_str("\n")
 }
@@ -289,13 +293,13 @@ fn write_cache_line<M: MemorySystem, A: Allocator>(
 {
     write!(out, "P{} lines", cpu.index())?;
     for loc in &Loc::all()[..locs.len()] {
-        write_held(out, locs.name(*loc), memory.state_of(cpu, *loc))?;
+        write_line_state(out, locs.name(*loc), memory.state_of(cpu, *loc))?;
     }
     out.push_str("\n")
 }
 
 /// A name with the letter of a cache line's state, behind a space.
-fn write_held<A: Allocator>(
+fn write_line_state<A: Allocator>(
     out: &mut String<A>,
     name: &str,
     state: LineState,

@@ -6,7 +6,7 @@ ghost use Rattle.lw_memory.specs.Memory.{memory_of};
 ghost use Rattle.lw_litmus.specs.Views.{source_of, program_of};
 ghost use Rattle.lw_bench.specs.LitmusTests.{litmus_test_of};
 ghost use Rattle.lw_bench.specs.Replays.{SourcePage, MachinePage, CachesPage, IsPageOf, IsReplayPage};
-ghost use Rattle.lw_bench.specs.Told.{TellsReplay, IsNoDevice};
+ghost use Rattle.lw_bench.specs.FaultTruth.{ReplayFaultIsTrue, IsNotDeviceFault};
 
 use crate::fault::BenchFault;
 use crate::litmus_test::LitmusTest;
@@ -15,7 +15,9 @@ use lw_base::{End, Event, Text, read_schedule};
 use lw_interleaving::SourceRun;
 use lw_litmus::{Program, Source};
 use lw_memory::MemorySystem;
-use lw_mesi::{ByMesi, ByMoesi, KeptProtocol, Protocol, SnoopingCaches, empty_caches_are_kept};
+use lw_mesi::{
+    MesiProtocol, MoesiProtocol, Protocol, ProtocolType, SnoopingCaches, empty_caches_are_kept,
+};
 use lw_tso::Machine;
 use std::alloc::Allocator;
 
@@ -59,7 +61,7 @@ fn page_over_memory<M: MemorySystem + Drop, A: Allocator + Copy>(
 
 /// The page that tells of the replay of an x86 test by these events, over caches that keep a protocol, and how the
 /// replay ended.
-fn page_over_caches<P: KeptProtocol + Drop, A: Allocator + Copy>(
+fn page_over_caches<P: ProtocolType + Drop, A: Allocator + Copy>(
     alloc: A,
     program: &Program<A>,
     events: &[Event],
@@ -86,10 +88,10 @@ fn page_of_events<A: Allocator + Copy>(
     match (test, protocol) {
         (LitmusTest::Source(source), _) => page_of_source(alloc, source, events),
         (LitmusTest::X86(program), Protocol::Mesi) => {
-            page_over_caches::<ByMesi, A>(alloc, program, events)
+            page_over_caches::<MesiProtocol, A>(alloc, program, events)
         }
         (LitmusTest::X86(program), Protocol::Moesi) => {
-            page_over_caches::<ByMoesi, A>(alloc, program, events)
+            page_over_caches::<MoesiProtocol, A>(alloc, program, events)
         }
     }
 }
@@ -102,8 +104,8 @@ pub(crate) fn page_of<A: Allocator + Copy>(
     protocol: Protocol,
 ) -> Result<(Text<A>, End), BenchFault>
     ensures found { IfOk result (λ x. IsReplayPage protocol (litmus_test_of test.now) schedule.now x.0 x.1) }
-    ensures told { IfErr result (λ f. (f ≡ BenchFault.Memory) ⊎ TellsReplay schedule.now (litmus_test_of test.now) f) }
-    ensures device { IfErr result IsNoDevice }
+    ensures told { IfErr result (λ f. (f ≡ BenchFault.Memory) ⊎ ReplayFaultIsTrue schedule.now (litmus_test_of test.now) f) }
+    ensures device { IfErr result IsNotDeviceFault }
 {
     let events = read_schedule(alloc, schedule, &test.head().locs)?;
     let page = page_of_events(alloc, test, events.as_slice(), protocol);

@@ -4,22 +4,22 @@ ghost use Rattle.lw_bench.specs.Compilations.{IsCompilation};
 ghost use Rattle.lw_bench.specs.Lists.{IsStatesReport, IsScheduleReport};
 ghost use Rattle.lw_bench.specs.Replays.{IsReplayPage};
 ghost use Rattle.lw_bench.specs.Runs.{devices, IsRun};
-ghost use Rattle.lw_bench.specs.Tasks.{IsDone, TellsTask};
-ghost use Rattle.lw_bench.specs.Told.{TellsNoList, TellsNothing, TellsReplay};
+ghost use Rattle.lw_bench.specs.Tasks.{IsTaskOutput, TaskFaultIsTrue};
+ghost use Rattle.lw_bench.specs.FaultTruth.{ListFaultIsTrue, NoFaultIsTrue, ReplayFaultIsTrue};
 
-use crate::answers::{Output, Replaying, make_of_text};
 use crate::command::Task;
 use crate::device::{ByteReader, ByteWriter};
 use crate::fault::BenchFault;
 use crate::input::read_input;
 use crate::laws::what_is_known_is_reached_on_the_machine;
 use crate::output::write_output;
+use crate::render::{Renderer, ReplayRenderer, render_text};
 use lw_base::End;
 use lw_mesi::Protocol;
 use std::alloc::Allocator;
 
 /// Reads a test, and writes what is made of it.
-fn run_text<O: Output<A>, R: ByteReader, W: ByteWriter, A: Allocator + Copy>(
+fn run_text<O: Renderer<A>, R: ByteReader, W: ByteWriter, A: Allocator + Copy>(
     alloc: A,
     output: &O,
     reader: &mut R,
@@ -32,7 +32,7 @@ fn run_text<O: Output<A>, R: ByteReader, W: ByteWriter, A: Allocator + Copy>(
 {
     what_is_known_is_reached_on_the_machine();
     let text = read_input(alloc, reader)?;
-    let (made, answer) = make_of_text(alloc, output, text.as_slice())?;
+    let (made, answer) = render_text(alloc, output, text.as_slice())?;
     write_output(writer, made.as_str().as_bytes())?;
     Ok(answer)
 }
@@ -53,7 +53,7 @@ pub fn carry_out<R: ByteReader, W: ByteWriter, A: Allocator + Copy>(
     requires reader { R.failed reader.old ≡ false }
     requires writer { W.failed writer.old ≡ false }
     ensures { IsRun (devices R.remaining R.failed) (devices W.contents W.failed)
-        (λ status test made. IsDone task.entry test made status) (TellsTask task.entry)
+        (λ status test made. IsTaskOutput task.entry test made status) (TaskFaultIsTrue task.entry)
         reader.old reader.new writer.old writer.new result }
 {
     run_text(alloc, &task, reader, writer)
@@ -69,7 +69,7 @@ pub fn states<R: ByteReader, W: ByteWriter, A: Allocator + Copy>(
 ) -> Result<(), BenchFault>
     requires reader { R.failed reader.old ≡ false }
     requires writer { W.failed writer.old ≡ false }
-    ensures { IsRun (devices R.remaining R.failed) (devices W.contents W.failed) (λ _. IsStatesReport) TellsNoList
+    ensures { IsRun (devices R.remaining R.failed) (devices W.contents W.failed) (λ _. IsStatesReport) ListFaultIsTrue
         reader.old reader.new writer.old writer.new result }
 {
     carry_out(alloc, Task::States, reader, writer)?;
@@ -87,7 +87,7 @@ pub fn schedules_text<R: ByteReader, W: ByteWriter, A: Allocator + Copy>(
 ) -> Result<(), BenchFault>
     requires reader { R.failed reader.old ≡ false }
     requires writer { W.failed writer.old ≡ false }
-    ensures { IsRun (devices R.remaining R.failed) (devices W.contents W.failed) (λ _. IsScheduleReport) TellsNoList
+    ensures { IsRun (devices R.remaining R.failed) (devices W.contents W.failed) (λ _. IsScheduleReport) ListFaultIsTrue
         reader.old reader.new writer.old writer.new result }
 {
     carry_out(alloc, Task::Schedules, reader, writer)?;
@@ -106,7 +106,7 @@ pub fn compile_text<R: ByteReader, W: ByteWriter, A: Allocator + Copy>(
 ) -> Result<(), BenchFault>
     requires reader { R.failed reader.old ≡ false }
     requires writer { W.failed writer.old ≡ false }
-    ensures { IsRun (devices R.remaining R.failed) (devices W.contents W.failed) (λ _. IsCompilation) TellsNothing
+    ensures { IsRun (devices R.remaining R.failed) (devices W.contents W.failed) (λ _. IsCompilation) NoFaultIsTrue
         reader.old reader.new writer.old writer.new result }
 {
     carry_out(alloc, Task::Compile, reader, writer)?;
@@ -127,8 +127,13 @@ pub fn replay_text<R: ByteReader, W: ByteWriter, A: Allocator + Copy>(
     requires reader { R.failed reader.old ≡ false }
     requires writer { W.failed writer.old ≡ false }
     ensures { IsRun (devices R.remaining R.failed) (devices W.contents W.failed)
-        (λ end test page. IsReplayPage protocol test schedule.now page end) (TellsReplay schedule.now)
+        (λ end test page. IsReplayPage protocol test schedule.now page end) (ReplayFaultIsTrue schedule.now)
         reader.old reader.new writer.old writer.new result }
 {
-    run_text(alloc, &Replaying { schedule, protocol }, reader, writer)
+    run_text(
+        alloc,
+        &ReplayRenderer { schedule, protocol },
+        reader,
+        writer,
+    )
 }

@@ -1,19 +1,19 @@
 //! The whole command: from the words of a command line, and what reading standard input gave, to how the run ends.
 ghost use Rattle.std.specs.Prelude.{◌≡◌, ◌⊎◌, false, map, if◌then◌else◌, IfOk, IfErr};
 ghost use Rattle.std.specs.String.{string_bytes};
-ghost use Rattle.lw_base.specs.Refusals.{NoSuch};
+ghost use Rattle.lw_base.specs.NoParse.{HoldsOfNothing};
 ghost use Rattle.lw_bench.specs.Commands.{IsCommand};
 ghost use Rattle.lw_bench.specs.Endings.{EndsTask, Reports, WritesLine};
 ghost use Rattle.lw_bench.specs.Devices.{IsInput};
 ghost use Rattle.lw_bench.specs.Faults as faults;
 ghost use Rattle.lw_bench.specs.declared.command.Task.{Task};
 
-use crate::answers::answer;
 use crate::command::{Task, command_of};
 use crate::device::ByteReader;
 use crate::ending::{Ending, Line, refusal_of};
 use crate::fault::{BenchFault, usage_line, usage_status};
 use crate::input::read_input;
+use crate::render::answer;
 use std::alloc::{AllocError, Allocator};
 
 /// Returns the texts of words.
@@ -35,7 +35,7 @@ pub fn read_for<R: ByteReader, A: Allocator>(
     reader: &mut R,
 ) -> Result<Vec<u8, A>, BenchFault>
     requires { R.failed reader.old ≡ false }
-    ensures unread { NoSuch (IsCommand (map (λ w. w.now) words.now)) → reader.new ≡ reader.old }
+    ensures unread { HoldsOfNothing (IsCommand (map (λ w. w.now) words.now)) → reader.new ≡ reader.old }
     ensures bytes { (task : Task) → IsCommand (map (λ w. w.now) words.now) task → IfOk result (λ bytes. IsInput (R.remaining reader.old) bytes.items) }
     ensures err { IfErr result (λ f. f ≡ (if R.failed reader.new then BenchFault.Read else BenchFault.Memory)) }
 {
@@ -62,10 +62,10 @@ pub fn run_command<A: Allocator + Copy>(
     input: &Result<Vec<u8, A>, BenchFault>,
 ) -> Ending<A>
     // If the words name no task, it ends with the usage, whatever the input is.
-    ensures usage { NoSuch (IsCommand (map (λ w. w.now) words.now)) → WritesLine faults.usage_text faults.usage_status result }
+    ensures usage { HoldsOfNothing (IsCommand (map (λ w. w.now) words.now)) → WritesLine faults.usage_text faults.usage_status result }
     // Otherwise it ends as the task that they name: if reading failed, it reports that, and if not, it ends with what the task makes of the
     // bytes, or with a fault that is true of them.
-    ensures ended { NoSuch (IsCommand (map (λ w. w.now) words.now)) ⊎ ((task : Task) × IsCommand (map (λ w. w.now) words.now) task
+    ensures ended { HoldsOfNothing (IsCommand (map (λ w. w.now) words.now)) ⊎ ((task : Task) × IsCommand (map (λ w. w.now) words.now) task
         × IfErr input.now (λ f. Reports f result) × IfOk input.now (λ text. EndsTask task text.items result)) }
 {
     let Some(task) = command_of(words) else {

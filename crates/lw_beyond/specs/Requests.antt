@@ -1,16 +1,16 @@
 -- What a request makes of a test, how its list is made, and when it is refused.
 use Rattle.std.specs.Prelude.{◌≡◌, ◌≢◌, ◌⊎◌, ◌≤◌, ℕ, true, false}
 use Rattle.lw_base.specs.Types.{Bytes}
-use Rattle.lw_choices.specs.declared.fault.ListFault.{ListFault}
-use Rattle.lw_choices.specs.declared.fault.ListFault.TheVariants as list
-use Rattle.lw_litmus.specs.Tests.{ProgramTest}
+use Rattle.lw_paths.specs.declared.fault.ListFault.{ListFault}
+use Rattle.lw_paths.specs.declared.fault.ListFault.TheVariants as list
+use Rattle.lw_litmus.specs.Tests.{X86Test}
 use Rattle.lw_search.specs.Reachability.{Visits, ExceedsBudget}
 use Rattle.lw_bench.specs.LitmusTests.{LitmusTest}
-use Rattle.lw_bench.specs.Lists.{HasList, IsExactReport, IsExactScheduleList}
-use Rattle.lw_bench.specs.Outcomes.{IsRunFor}
+use Rattle.lw_bench.specs.Lists.{IsWithinListLimits, IsExactReport, IsExactScheduleList}
+use Rattle.lw_bench.specs.Outcomes.{IsProgramRunFor}
 use Rattle.lw_bench.specs.TestTexts.{HasTest}
-use Rattle.lw_bench.specs.Told.{TellsTest, TellsLimitOf}
-use Rattle.lw_bench.specs.Told as lw
+use Rattle.lw_bench.specs.FaultTruth.{ReadFaultIsTrue, TestLimitFaultIsTrue}
+use Rattle.lw_bench.specs.FaultTruth as lw
 use Rattle.lw_bench.specs.declared.fault.BenchFault.TheVariants.{Memory}
 use Rattle.lw_beyond.specs.declared.fault.BeyondFault.{BeyondFault}
 use Rattle.lw_beyond.specs.declared.fault.BeyondFault.TheVariants.{Bench, Budget}
@@ -27,15 +27,15 @@ IsMadeFor Schedules = IsExactScheduleList
 
 -- A test passes a limit of lists.
 abbrev pub PassesLimit : LitmusTest → Type 0
-PassesLimit test = (limit : ListFault) × (limit ≢ list.Memory) × TellsLimitOf test limit
+PassesLimit test = (limit : ListFault) × (limit ≢ list.Memory) × TestLimitFaultIsTrue test limit
 
 -- A search visits `count` different reachable states of the program that runs for a test, all final ones among them.
 abbrev pub VisitsStatesOf : LitmusTest → ℕ → Type 0
-VisitsStatesOf test count = (program : ProgramTest) × IsRunFor test program × Visits program count
+VisitsStatesOf test count = (program : X86Test) × IsProgramRunFor test program × Visits program count
 
 -- The program that runs for a test has more than `budget` different reachable states.
 abbrev pub ExceedsBudgetOf : LitmusTest → ℕ → Type 0
-ExceedsBudgetOf test budget = (program : ProgramTest) × IsRunFor test program × ExceedsBudget program budget
+ExceedsBudgetOf test budget = (program : X86Test) × IsProgramRunFor test program × ExceedsBudget program budget
 
 -- The list is to be made by a search: the request asks for one, or the test passes a limit of lists.
 abbrev pub NeedsSearch : LitmusTest → Request → Type 0
@@ -44,7 +44,7 @@ NeedsSearch test request = (request.search ≡ true) ⊎ PassesLimit test
 -- The list of a test is made for a request by this method: by orders if the test is within the limits of lists and no search is asked
 -- for; otherwise by a search within the budget.
 abbrev pub IsListedBy : LitmusTest → Request → Method → Type 0
-IsListedBy test request Orders = (request.search ≡ false) × HasList test
+IsListedBy test request Orders = (request.search ≡ false) × IsWithinListLimits test
 IsListedBy test request (Search count) = NeedsSearch test request × VisitsStatesOf test count × (count ≤ request.budget)
 
 -- A request has no list of a test: memory ran out, or a search is needed and exceeds the budget.
@@ -55,10 +55,10 @@ RefusesList test request (Budget n) = NeedsSearch test request × (n ≡ request
 -- A request is refused on a text: for a fault of the text or of a cell, which is true of it, because memory ran out, or because a search
 -- of the test is needed and exceeds the budget.
 abbrev pub RefusesText : Request → Bytes → BeyondFault → Type 0
-RefusesText request text (Bench f) = TellsTest text f
+RefusesText request text (Bench f) = ReadFaultIsTrue text f
 RefusesText request text (Budget n) = (test : LitmusTest) × HasTest text test × RefusesList test request (Budget n)
 
 -- The fault is no failure of a device.
 abbrev pub IsNoDevice : BeyondFault → Type 0
-IsNoDevice (Bench f) = lw.IsNoDevice f
+IsNoDevice (Bench f) = lw.IsNotDeviceFault f
 IsNoDevice (Budget n) = Unit {0}

@@ -2,7 +2,7 @@
 ghost use Rattle.std.specs.Prelude.{IfOk, IfErr};
 ghost use Rattle.lw_bench.specs.LitmusTests.{litmus_test_of};
 ghost use Rattle.lw_bench.specs.Lists.{IsReachedOnMachine, IsReachedOverCaches};
-ghost use Rattle.lw_bench.specs.Outputs.{Makes};
+ghost use Rattle.lw_bench.specs.Outputs.{IsOutputOf};
 ghost use Rattle.lw_beyond.specs.Requests.{IsListedBy, IsMadeFor, RefusesText, IsNoDevice};
 
 use crate::fault::BeyondFault;
@@ -26,7 +26,7 @@ fn answer_text<A: Allocator + Copy>(
     request: &Request,
     text: &[u8],
 ) -> Result<Answer<A>, BeyondFault>
-    ensures made { IfOk result (λ a. Makes
+    ensures made { IfOk result (λ a. IsOutputOf
         (λ test made. IsMadeFor request.now.output test made × IsListedBy test request.now a.method) text.now a.text) }
     ensures refused { IfErr result (RefusesText request.now text.now) }
     ensures device { IfErr result IsNoDevice }
@@ -45,7 +45,7 @@ pub fn answer_request<A: Allocator + Copy>(
     text: &[u8],
 ) -> Result<Answer<A>, BeyondFault>
     // The bytes are a test, and the output is that of exactly its outcomes; the list was made as it says.
-    ensures made { IfOk result (λ a. Makes
+    ensures made { IfOk result (λ a. IsOutputOf
         (λ test made. IsMadeFor request.now.output test made × IsListedBy test request.now a.method) text.now a.text) }
     // A fault is true of the text, of a cell, or of the states of the program that runs for the test.
     ensures refused { IfErr result (RefusesText request.now text.now) }

@@ -1,17 +1,17 @@
 //! The complete list of a test, by orders or by a search.
 ghost use Rattle.std.specs.Prelude.{◌≡◌, ◌≤◌, IfOk, IfErr, MatchOption};
 ghost use Rattle.lw_bench.specs.LitmusTests.{litmus_test_of};
-ghost use Rattle.lw_bench.specs.Lists.{HasList, IsListOf};
+ghost use Rattle.lw_bench.specs.Lists.{IsWithinListLimits, IsListOf};
 ghost use Rattle.lw_beyond.specs.Requests.{PassesLimit, VisitsStatesOf, ExceedsBudgetOf, IsListedBy, IsMadeFor, NeedsSearch, RefusesList};
 ghost use Rattle.lw_search.specs.declared.fault.SearchFault.TheVariants as search;
 
 use crate::fault::BeyondFault;
 use lw_base::Text;
 use lw_bench::{LitmusTest, list_test, report_of_listing, schedules_of_listing};
-use lw_choices::ListFault;
-use lw_listing::Listing;
+use lw_outcome_map::Listing;
+use lw_paths::ListFault;
 use lw_search::{SearchFault, Searched, reach_program, reach_source};
-use lw_whole::outcomes_over_caches_are_flat;
+use lw_tso_caches::outcomes_over_caches_are_flat;
 use std::alloc::{AllocError, Allocator};
 
 /// What is made of a list.
@@ -67,7 +67,7 @@ fn list_by_orders<A: Allocator + Copy>(
     test: &LitmusTest<A>,
 ) -> Result<Option<Listing<A>>, AllocError>
     ensures { IfOk result (λ found. MatchOption found (PassesLimit (litmus_test_of test.now))
-        (λ l. IsListOf (litmus_test_of test.now) l × HasList (litmus_test_of test.now))) }
+        (λ l. IsListOf (litmus_test_of test.now) l × IsWithinListLimits (litmus_test_of test.now))) }
 {
     match list_test(alloc, test) {
         Ok(listing) => Ok(Some(listing)),

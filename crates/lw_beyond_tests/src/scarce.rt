@@ -1,5 +1,5 @@
 //! Searches where memory is refused, each growth in turn.
-use lw_listing::Listing;
+use lw_outcome_map::Listing;
 use lw_search::{SearchFault, Searched, reach_program, reach_source};
 use lw_test_reader::{Made, MadeByAllocator, Refusing, program_of, refusals, source_of};
 use std::alloc::Allocator;

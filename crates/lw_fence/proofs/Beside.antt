@@ -1,21 +1,22 @@
 -- A state of the source and one of the machine, thread by thread with its processor.
 use Rattle.lw_fence.proofs.Common.{◌≡◌, ℕ, ◌<◌, List, length, map, Some, refl, sym, ap, ap₂, ◌∙◌, subst₂}
 use Rattle.lw_fence.proofs.Common.{arith, length-set, slice_get, slice_set, length-map, All-from_recursion}
-use Rattle.lw_fence.proofs.Common.{same_Some, slice_get_within, get_or_from_slice_get, TestHead, Final, X86}
-use Rattle.lw_fence.proofs.Common.{fellows_after, get_some, got_map, same_maps, flat, IsWellFormedSource}
-use Rattle.lw_fence.proofs.Common.{SourceTest, ProgramTest, Thread, State, start_of, outcome_of, state_of}
-use Rattle.lw_fence.proofs.Common.{MachineState, Processor, starting, machine_start, machine_outcome, state}
-use Rattle.lw_interleaving.specs.Runs.{starting_thread as thread_starting}
+use Rattle.lw_fence.proofs.Common.{same_Some, slice_get_within, get_or_from_slice_get, TestHead, FinalState}
+use Rattle.lw_fence.proofs.Common.{X86, fellows_after, get_some, get-map, same_maps, flat_memory}
+use Rattle.lw_fence.proofs.Common.{IsWellFormedSource, SourceTest, X86Test, Thread, State, initial_state}
+use Rattle.lw_fence.proofs.Common.{source_outcome, state_of, MachineState, Processor, initial_processor}
+use Rattle.lw_fence.proofs.Common.{initial_machine_state, machine_outcome, state}
+use Rattle.lw_interleaving.specs.Runs.{initial_thread as thread_starting}
 
 -- the state in which the machine starts a compiled source: its registers and words, empty buffers
 abbrev pub compiled_start : SourceTest → MachineState (List ℕ)
-compiled_start s = state (map starting s.head.init_regs) s.head.init_words
+compiled_start s = state (map initial_processor s.head.init_regs) s.head.init_words
 
 -- the machine begins with the source's registers and words, as a program compiled from it has the source's head
-pub start_is : (s : SourceTest) (p : ProgramTest)
+pub start_is : (s : SourceTest) (p : X86Test)
     → p.head ≡ record s.head { arch = X86 }
-    → machine_start p p.head.init_words ≡ compiled_start s
-start_is s p same = ap (λ (h : TestHead). state (map starting h.init_regs) h.init_words) same
+    → initial_machine_state p p.head.init_words ≡ compiled_start s
+start_is s p same = ap (λ (h : TestHead). state (map initial_processor h.init_regs) h.init_words) same
 
 module _ (s : SourceTest) (At : ℕ → Thread → Processor → Type 0) where
   -- A state of the source and one of the machine over one memory, each thread as `At` says beside its processor.
@@ -54,20 +55,20 @@ module _ (s : SourceTest) (At : ℕ → Thread → Processor → Type 0) where
         → slice_get ss.threads t ≡ Some th
         → slice_get ms.processors t ≡ Some c
         → th.regs ≡ c.regs)
-        → outcome_of ss ≡ machine_outcome flat ms
+        → source_outcome ss ≡ machine_outcome flat_memory ms
     same_outcome same =
-        ap₂ (λ (r : List (List ℕ)) (w : List ℕ). let o : Final = record { regs = r; words = w } in o)
+        ap₂ (λ (r : List (List ℕ)) (w : List ℕ). let o : FinalState = record { regs = r; words = w } in o)
         (same_maps _ _ ss.threads ms.processors (b.as_many ∙ sym b.as_many_processors) same) (sym b.words)
 
   -- the starts of the source and of the machine are `Beside`, if `At` holds of each thread at its start, with six registers
   pub first : IsWellFormedSource s
-      → ((t : ℕ) (regs : List ℕ) → t < length s.threads → length regs ≡ 6 → At t (thread_starting regs) (starting regs))
-      → Beside (start_of s) (compiled_start s)
+      → ((t : ℕ) (regs : List ℕ) → t < length s.threads → length regs ≡ 6 → At t (thread_starting regs) (initial_processor regs))
+      → Beside (initial_state s) (compiled_start s)
   first ok each = record {
     words = refl;
     as_many = length-map s.head.init_regs _ ∙ many;
     as_many_processors = length-map s.head.init_regs _ ∙ many;
-    at = λ t th c e f. go t th c (got_map thread_starting _ t th e) (got_map starting s.head.init_regs t c f);
+    at = λ t th c e f. go t th c (get-map thread_starting _ t th e) (get-map initial_processor s.head.init_regs t c f);
   }
     where
       many : length s.head.init_regs ≡ length s.threads
@@ -75,12 +76,12 @@ module _ (s : SourceTest) (At : ℕ → Thread → Processor → Type 0) where
 
       go : (t : ℕ) (th : Thread) (c : Processor)
           → (r : List ℕ) × (slice_get s.head.init_regs t ≡ Some r) × (th ≡ thread_starting r)
-          → (r : List ℕ) × (slice_get s.head.init_regs t ≡ Some r) × (c ≡ starting r)
+          → (r : List ℕ) × (slice_get s.head.init_regs t ≡ Some r) × (c ≡ initial_processor r)
           → At t th c
       go t th c a b =
           let within = slice_get_within s.head.init_regs t a.0 a.1 in
           let six = All-from_recursion _ s.head.init_regs ok.head.six t a.0 within in
-          let same = ap starting (same_Some a.0 b.0 (sym a.1 ∙ b.1)) ∙ sym b.2 in
+          let same = ap initial_processor (same_Some a.0 b.0 (sym a.1 ∙ b.1)) ∙ sym b.2 in
           subst₂ (λ x d. At t x d) (sym a.2) same
           (each t a.0 (omega (arith, within, many))
           (ap length (sym (get_or_from_slice_get s.head.init_regs t a.0 a.0 a.1)) ∙ six))

@@ -4,14 +4,16 @@ use Rattle.lw_fence.proofs.Common.{◌≡◌, ℕ, ◌+◌, ◌<◌, ◌==◌, �
 use Rattle.lw_fence.proofs.Common.{true≢false, None, Some, List, [], ◌∷◌, ◌++◌, length, if◌then◌else◌, refl}
 use Rattle.lw_fence.proofs.Common.{sym, ap, ap₂, ◌∙◌, subst, subst₂, arith, slice_set, slice_index, eqb-true}
 use Rattle.lw_fence.proofs.Common.{All, set-set, get_or-set_same, get_or-set_other, eqb-false, set-get_or}
-use Rattle.lw_fence.proofs.Common.{sum_of, value_of, IsRegisterIndex, Operand, Register, Number, SwapWaits}
-use Rattle.lw_fence.proofs.Common.{FenceWaits, Operation, Stmt, Store, Load, Swap, FetchAdd, Set, Sum, IfEq}
-use Rattle.lw_fence.proofs.Common.{IfNe, Goto, Instr, location_of, is_store, is_load, registers_of}
+use Rattle.lw_fence.proofs.Common.{wrapping_sum, operand_value, IsRegisterIndex, Operand, Register, Number}
+use Rattle.lw_fence.proofs.Common.{SwapWaits, FenceWaits, Operation, Stmt, Store, Load, Swap, FetchAdd, Set}
+use Rattle.lw_fence.proofs.Common.{Sum, IfEq, IfNe, Goto, Instr, location_of, is_store, is_load, registers_of}
 use Rattle.lw_fence.proofs.Common.{source_operation, Thread, thread_after, words_after, thread_alone}
-use Rattle.lw_fence.proofs.Common.{Processor, newest, going_on, getting, jumping, Goes, load_act, step_act}
-use Rattle.lw_fence.proofs.Common.{Does, Lowered, One, Two, moved, compared, lowered, instrs_of, once_done}
-use Rattle.lw_fence.proofs.Owes.{IsLocal}
-use Rattle.lw_fence.proofs.Placed.{chosen}
+use Rattle.lw_fence.proofs.Common.{Processor, newest_buffered, advance_processor, set_register}
+use Rattle.lw_fence.proofs.Common.{jump_or_advance_processor, LocalStep, load_effect, step_effect}
+use Rattle.lw_fence.proofs.Common.{EffectLeadsTo, Lowered, One, Two, with_move_if, lower_compare, lowered}
+use Rattle.lw_fence.proofs.Common.{instrs_of, once_done}
+use Rattle.lw_fence.proofs.PendingStores.{IsLocal}
+use Rattle.lw_fence.proofs.CodeLayout.{chosen}
 use Rattle.lw_litmus.specs.declared.operation.Operation.TheVariants as operation
 use Rattle.lw_litmus.specs.declared.instr.Instr.TheVariants as x86
 
@@ -24,7 +26,7 @@ pub data Stored (s : Stmt) (v : Thread) (b : Buffer) (m : List ℕ) (c : Buffer)
   -- not at all: it has no location
   apart : IsLocal s → c ≡ b → n ≡ m → Stored s v b m c n
   -- a store is now the newest entry
-  buffered : (x : ℕ) (w : Operand) → s ≡ Store x w → c ≡ b ++ (x, value_of w v.regs) ∷ [] → n ≡ m → Stored s v b m c n
+  buffered : (x : ℕ) (w : Operand) → s ≡ Store x w → c ≡ b ++ (x, operand_value w v.regs) ∷ [] → n ≡ m → Stored s v b m c n
   -- any other is done at once, where the buffer is empty
   at_once : is_store (source_operation s) ≡ false
       → b ≡ []
@@ -44,7 +46,7 @@ pub record Ends (starts : List ℕ) (v : Thread) (s : Stmt) (p : Processor) (i :
   pub carries : (b : Buffer) (m : List ℕ)
       → (is_load (source_operation s) ≡ true → b ≡ [])
       → (q : Processor) (n : List ℕ)
-      → Does m (step_act (Some i) (record p { buffer = b })) q n
+      → EffectLeadsTo m (step_effect (Some i) (record p { buffer = b })) q n
       → Carried starts s v b m q n
 
 -- The instruction before i leads the processor p to q, and there i carries out the statement s of the thread v.
@@ -57,7 +59,7 @@ pub record Led (starts : List ℕ) (v : Thread) (s : Stmt) (p : Processor) (i : 
 abbrev pub Serves : List ℕ → Thread → Stmt → Processor → Lowered → Type 0
 Serves starts v s p (One i) = Ends starts v s p i
 Serves starts v s p (Two i j) =
-    (m : List ℕ) (q : Processor) (n : List ℕ) → Does m (step_act (Some i) p) q n → Led starts v s p j q × (n ≡ m)
+    (m : List ℕ) (q : Processor) (n : List ℕ) → EffectLeadsTo m (step_effect (Some i) p) q n → Led starts v s p j q × (n ≡ m)
 
 -- an operation without a location is no store and no load
 pub quiet : (o : Operation) → location_of o ≡ None → (is_store o ≡ false) × (is_load o ≡ false)
@@ -81,7 +83,8 @@ module _ (starts : List ℕ) (v : Thread) where
   local_ends : {s : Stmt} {p : Processor} {i : Instr} {k : ℕ} {regs : List ℕ} {flag : Bool}
       → IsLocal s
       → ((b : Buffer)
-      → step_act (Some i) (record p { buffer = b }) ≡ Goes (record { position = k; regs = regs; zero_flag = flag; buffer = b }))
+      → step_effect (Some i) (record p { buffer = b })
+      ≡ LocalStep (record { position = k; regs = regs; zero_flag = flag; buffer = b }))
       → k ≡ slice_index starts (thread_after (source_operation s) v []).position
       → regs ≡ (thread_after (source_operation s) v []).regs
       → Ends starts v s p i
@@ -90,16 +93,16 @@ module _ (starts : List ℕ) (v : Thread) where
     carries = λ b m load q n done.
         let next = thread_alone (source_operation s) v [] m l in
         carried s b m m n _ q (position ∙ ap (λ (t : Thread). slice_index starts t.position) next) (same ∙ ap (λ t. t.regs) next)
-        (apart l refl refl) (subst (λ act. Does m act q n) (goes b) done);
+        (apart l refl refl) (subst (λ act. EffectLeadsTo m act q n) (goes b) done);
   }
 
   -- the terms of a sum in the other sequence
   swapped : (d a b : ℕ)
       → (d == b) ≡ true
-      → sum_of (slice_index v.regs d) (slice_index v.regs a) ≡ sum_of (slice_index v.regs a) (slice_index v.regs b)
+      → wrapping_sum (slice_index v.regs d) (slice_index v.regs a) ≡ wrapping_sum (slice_index v.regs a) (slice_index v.regs b)
   swapped d a b is =
       ap (λ k. k % 2 ^ 32) (add_comm (slice_index v.regs d) (slice_index v.regs a))
-      ∙ ap (λ k. sum_of (slice_index v.regs a) (slice_index v.regs k)) (eqb-true d b is)
+      ∙ ap (λ k. wrapping_sum (slice_index v.regs a) (slice_index v.regs k)) (eqb-true d b is)
 
   -- The last instruction of a lowering.
   module _ (p : Processor) (next : slice_index starts (v.position + 1) ≡ p.position + 1) where
@@ -107,8 +110,8 @@ module _ (starts : List ℕ) (v : Thread) where
     store_ends x w regs = record {
       empty = λ load. absurd cc;
       carries = λ b m load q n done.
-          carried (Store x w) b m m n _ q (sym next) regs (buffered x w refl (ap (λ r. b ++ (x, value_of w r) ∷ []) regs) refl)
-          done;
+          carried (Store x w) b m m n _ q (sym next) regs
+          (buffered x w refl (ap (λ r. b ++ (x, operand_value w r) ∷ []) regs) refl) done;
     }
 
     load_ends : (d x : ℕ) → p.regs ≡ v.regs → p.buffer ≡ [] → Ends starts v (Load d x) p (x86.Load d x)
@@ -117,8 +120,10 @@ module _ (starts : List ℕ) (v : Thread) where
       carries = λ b m load q n done.
           carried (Load d x) b m m n _ q (sym next) (ap (λ r. slice_set r d (slice_index m x)) regs)
           (at_once refl (load refl) (load refl) refl)
-          (subst (λ c. Does m (load_act (newest c x) x (λ w. going_on (getting (record p { buffer = b }) d w))) q n) (load refl)
-          done);
+          (subst (λ c.
+          EffectLeadsTo m
+          (load_effect (newest_buffered c x) x (λ w. advance_processor (set_register (record p { buffer = b }) d w))) q n)
+          (load refl) done);
     }
 
     -- where the word of a was moved to d
@@ -144,11 +149,11 @@ module _ (starts : List ℕ) (v : Thread) where
         carries = λ b m load q n done.
             let once = once_done b SwapWaits _ m n q done in
             carried (FetchAdd d x a) b m _ n _ q (sym next) (set (slice_index m x))
-            (at_once refl once.0 once.0 (ap (λ w. slice_set m x (sum_of (slice_index m x) w)) word)) once.1;
+            (at_once refl once.0 once.0 (ap (λ w. slice_set m x (wrapping_sum (slice_index m x) w)) word)) once.1;
       }
 
-      add_ends : (w : Operand) → value_of w p.regs ≡ value_of w v.regs → Ends starts v (Sum d a w) p (x86.Add d w)
-      add_ends w right = local_ends refl (λ b. refl) (sym next) (ap (slice_set p.regs d) (ap₂ sum_of word right) ∙ set _)
+      add_ends : (w : Operand) → operand_value w p.regs ≡ operand_value w v.regs → Ends starts v (Sum d a w) p (x86.Add d w)
+      add_ends w right = local_ends refl (λ b. refl) (sym next) (ap (slice_set p.regs d) (ap₂ wrapping_sum word right) ∙ set _)
 
   -- The lowerings of a statement, at the first instruction of which the processor p is.
   module _ (p : Processor) (regs : p.regs ≡ v.regs) where
@@ -176,12 +181,12 @@ module _ (starts : List ℕ) (v : Thread) where
         → slice_index starts (v.position + 1) ≡ q.position + 1
         → q.regs ≡ slice_set v.regs d (slice_index v.regs a)
         → Ends starts v s q last)
-        → From s (moved d a last)
+        → From s (with_move_if d a last)
     moved_serves s d a last ends =
         chosen (From s) (d == a) (One last) (Two (x86.Set d (Register a)) last) (λ is next.
         ends p next (regs ∙ sym (set-get_or v.regs d 0) ∙ ap (λ k. slice_set v.regs d (slice_index v.regs k)) (eqb-true d a is)))
         (λ is next m q n done.
-        let r = going_on (getting p d (slice_index p.regs a)) in
+        let r = advance_processor (set_register p d (slice_index p.regs a)) in
         leads s r q last m n refl refl (ends r (omega arith) (ap (λ l. slice_set l d (slice_index l a)) regs)) done)
 
     jumps : (holds : Bool) (to : ℕ) {k : ℕ}
@@ -193,10 +198,11 @@ module _ (starts : List ℕ) (v : Thread) where
     -- a jump behind a comparison, of which the flag tells
     jump_serves : {s : Stmt} (a k to : ℕ) {i : Instr} (told : Bool → Bool)
         → IsLocal s
-        → ((q : Processor) → step_act (Some i) q ≡ Goes (jumping q (told q.zero_flag) (slice_index starts to)))
+        → ((q : Processor)
+        → step_effect (Some i) q ≡ LocalStep (jump_or_advance_processor q (told q.zero_flag) (slice_index starts to)))
         → thread_after (source_operation s) v []
         ≡ record { position = if told (slice_index v.regs a == k) then to else (v.position + 1); regs = v.regs }
-        → From s (Two (compared a k) i)
+        → From s (Two (lower_compare a k) i)
     jump_serves {s = s} a k to {i = i} told l goes after next m q n done =
         let behind = p.position + 1 + 1 in
         let r : Processor =
@@ -225,7 +231,7 @@ module _ (starts : List ℕ) (v : Thread) where
         moved_serves (FetchAdd d x a) d a (x86.Xadd x d)
         (λ q next moved. fetch_add_ends q next d a (omega (arith, registers 0 0 (omega arith))) moved x)
     lowered_serves (Set d w) six registers empty =
-        λ next. local_ends refl (λ b. refl) (sym next) (ap (λ r. slice_set r d (value_of w r)) regs)
+        λ next. local_ends refl (λ b. refl) (sym next) (ap (λ r. slice_set r d (operand_value w r)) regs)
     lowered_serves (Sum d a (Number k)) six registers empty =
         moved_serves (Sum d a (Number k)) d a (x86.Add d (Number k))
         (λ q next moved. add_ends q next d a (omega (arith, registers 0 0 (omega arith))) moved (Number k) refl)
@@ -233,7 +239,8 @@ module _ (starts : List ℕ) (v : Thread) where
         let there : d < length v.regs = omega (arith, registers 0 0 (omega arith)) in
         chosen (From (Sum d a (Register b))) (d == b) (One (x86.Add d (Register a))) _ (λ is next.
         local_ends refl (λ c. refl) (sym next)
-        (ap (λ r. slice_set r d (sum_of (slice_index r d) (slice_index r a))) regs ∙ ap (slice_set v.regs d) (swapped d a b is)))
+        (ap (λ r. slice_set r d (wrapping_sum (slice_index r d) (slice_index r a))) regs
+        ∙ ap (slice_set v.regs d) (swapped d a b is)))
         (λ is.
         moved_serves (Sum d a (Register b)) d a _
         (λ q next moved.

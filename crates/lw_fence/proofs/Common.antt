@@ -19,12 +19,12 @@ pub use Rattle.std.proofs.lemmas.Option.{get_or_from_slice_get, none-some, same_
 pub use Rattle.std.proofs.lemmas.Option.{slice_get_past, slice_get_read, slice_get_within}
 pub use Rattle.std.specs.List.{AllByRecursion}
 pub use Rattle.std.specs.Option.{ForSome, option_map_or}
-pub use Rattle.lw_base.proofs.Common.{Final, IsRegisterIndex, IsWellFormedHead, IsWordNumber, TestHead}
-pub use Rattle.lw_base.proofs.Common.{code_of, most_threads, sum_of, value_of}
-pub use Rattle.lw_base.proofs.api.Lists.{at_index, fellows_after, get_append, get_some, got_set_same}
-pub use Rattle.lw_base.proofs.api.Lists.{length-with_word, set_own}
-pub use Rattle.lw_base.proofs.api.Replays.{Ran-append}
-pub use Rattle.lw_base.proofs.api.SideBySide.{got_map, same_maps, zip_pass, zip_passes}
+pub use Rattle.lw_base.proofs.Common.{FinalState, IsRegisterIndex, IsWellFormedHead, IsWordNumber, TestHead}
+pub use Rattle.lw_base.proofs.Common.{most_threads, operand_value, thread_code, wrapping_sum}
+pub use Rattle.lw_base.proofs.api.Lists.{at_index, fellows_after, get-set_same, get_append, get_some}
+pub use Rattle.lw_base.proofs.api.Lists.{length-set_word_if_some, set-get_same}
+pub use Rattle.lw_base.proofs.api.Replays.{RunsTo-append}
+pub use Rattle.lw_base.proofs.api.Zips.{get-map, same_maps, zip_pass, zip_passes}
 pub use Rattle.lw_base.specs.declared.event.Event.{Event}
 pub use Rattle.lw_base.specs.declared.event.Event.TheVariants.{Drain, Evict, Step}
 pub use Rattle.lw_base.specs.declared.head.Arch.TheVariants.{X86}
@@ -32,40 +32,45 @@ pub use Rattle.lw_base.specs.declared.operand.Operand.{Operand}
 pub use Rattle.lw_base.specs.declared.operand.Operand.TheVariants.{Number, Register}
 pub use Rattle.lw_base.specs.declared.stop.Stop.{Stop}
 pub use Rattle.lw_base.specs.declared.stop.Stop.TheVariants.{FenceWaits, SwapWaits}
-pub use Rattle.lw_litmus.proofs.Common.{Follows, IsStatement, IsThread, IsWellFormedProgram}
-pub use Rattle.lw_litmus.proofs.Common.{IsWellFormedSource, Leads, ProgramTest, SourceTest, goes_on, is_load}
-pub use Rattle.lw_litmus.proofs.Common.{is_store, location_of, operand_numbers, operand_registers, program_of}
-pub use Rattle.lw_litmus.proofs.Common.{registers_of, source, source_of, source_operation, target_of, x86}
+pub use Rattle.lw_litmus.proofs.Common.{IsFlowSuccessor, IsSuccessor, IsWellFormedProgram, IsWellFormedSource}
+pub use Rattle.lw_litmus.proofs.Common.{IsWellFormedStatement, IsWellFormedThread, SourceTest, X86Test}
+pub use Rattle.lw_litmus.proofs.Common.{branch_target, falls_through, is_load, is_store, location_of}
+pub use Rattle.lw_litmus.proofs.Common.{operand_numbers, operand_registers, program_of, registers_of}
+pub use Rattle.lw_litmus.proofs.Common.{source_language, source_of, source_operation, x86_language}
 pub use Rattle.lw_litmus.specs.declared.instr.Instr.{Instr}
 pub use Rattle.lw_litmus.specs.declared.operation.Operation.{Operation}
 pub use Rattle.lw_litmus.specs.declared.operation.Operation.TheVariants.{Branch, Compare, Fence}
 pub use Rattle.lw_litmus.specs.declared.stmt.Stmt.{Stmt}
 pub use Rattle.lw_litmus.specs.declared.stmt.Stmt.TheVariants.{FetchAdd, Goto, IfEq, IfNe, Load, Set, Store}
 pub use Rattle.lw_litmus.specs.declared.stmt.Stmt.TheVariants.{Sum, Swap}
-pub use Rattle.lw_interleaving.proofs.Common.{Answers, RunsTo, SourceOutcome, SourceRan, SourceRunState}
-pub use Rattle.lw_interleaving.proofs.Common.{State, at_next, carried_out, outcome_of, source_step, start_of}
-pub use Rattle.lw_interleaving.proofs.Common.{step_of, thread_after, words_after}
-pub use Rattle.lw_interleaving.proofs.api.Exchange.{Stepped, leads, state_after, state_of, stepped}
-pub use Rattle.lw_interleaving.proofs.api.Exchange.{thread_alone, words_alone}
+pub use Rattle.lw_interleaving.proofs.Common.{InterleavesTo, IsStepResult, SourceOutcome, SourceRunState}
+pub use Rattle.lw_interleaving.proofs.Common.{SourceRunsTo, State, advance, initial_state, source_outcome}
+pub use Rattle.lw_interleaving.proofs.Common.{source_step, state_after_step, thread_after, thread_step}
+pub use Rattle.lw_interleaving.proofs.Common.{words_after}
+pub use Rattle.lw_interleaving.proofs.api.Commutation.{Stepped, leads, state_after, state_of, step-decompose}
+pub use Rattle.lw_interleaving.proofs.api.Commutation.{thread_alone, words_alone}
 pub use Rattle.lw_interleaving.proofs.api.Runs.{possible}
 pub use Rattle.lw_interleaving.specs.declared.thread.Thread.{Thread}
-pub use Rattle.lw_memory.proofs.Common.{Memory, flat, words_invariant, words_lawful}
-pub use Rattle.lw_tso.proofs.Common.{Act, AreFences, CanEnd, EventDone, Goes, IsFencedCode, IsFencedTest}
-pub use Rattle.lw_tso.proofs.Common.{MachineOutcome, MachineRan, MachineState, Processor, Replays, cpu_of}
-pub use Rattle.lw_tso.proofs.Common.{drain_act, event_act, getting, going_on, in_blocks, is_done, is_final}
-pub use Rattle.lw_tso.proofs.Common.{jumping, kept, kept_before, load_act, machine_outcome, machine_start}
-pub use Rattle.lw_tso.proofs.Common.{newest, starting, step_act}
-pub use Rattle.lw_tso.proofs.api.Effects.{Did, Does, leads_from, leads_to, no_eviction, state}
+pub use Rattle.lw_memory.proofs.Common.{Memory, flat_memory, words_invariant, words_lawful}
+pub use Rattle.lw_tso.proofs.Common.{CanTerminate, EventEffect, IsFencedCode, IsFencedTest, IsMachineOutcome}
+pub use Rattle.lw_tso.proofs.Common.{LocalStep, MachineRunsTo, MachineState, MachineTransition}
+pub use Rattle.lw_tso.proofs.Common.{MarksAreFences, Processor, ReplaysTo, advance_processor, cpu_of}
+pub use Rattle.lw_tso.proofs.Common.{drain_effect, event_effect, has_terminated, initial_machine_state}
+pub use Rattle.lw_tso.proofs.Common.{initial_processor, is_final, jump_or_advance_processor, kept}
+pub use Rattle.lw_tso.proofs.Common.{load_effect, machine_outcome, newest_buffered, retarget_to_blocks}
+pub use Rattle.lw_tso.proofs.Common.{set_register, step_effect, unmarked_count_before}
+pub use Rattle.lw_tso.proofs.api.Effects.{EffectLeadsTo, EventOccurrence, effect_of_event, event_of_effect}
+pub use Rattle.lw_tso.proofs.api.Effects.{no_eviction, state}
 pub use Rattle.lw_tso.proofs.api.Endings.{can_end}
-pub use Rattle.lw_tso.proofs.api.LeavingOut.{fences_append, kept_append, kept_first, kept_on, left_out}
+pub use Rattle.lw_tso.proofs.api.FenceRemoval.{fences_append, kept_append, kept_first, kept_on, left_out}
 pub use Rattle.lw_tso.proofs.api.Operations.{can_step, once_done}
-pub use Rattle.lw_fence.specs.Compiling.{IsCompiled, IsCompiledThread, compared, instrs_of, lowered}
-pub use Rattle.lw_fence.specs.Compiling.{lowered_code, moved, starts_from}
-pub use Rattle.lw_fence.specs.Fences.{HasOperation, Is, IsBehindStore, IsFlowPath, NeedsFence}
-pub use Rattle.lw_fence.specs.Fences.{lets_stores_wait}
-pub use Rattle.lw_fence.specs.Schedules.{after_step, schedule, statement_events, thread_events}
-pub use Rattle.lw_fence.specs.Unfenced.{AreAmong, IsCompiledWith, IsCompiledWithoutFences, IsThreadWith}
+pub use Rattle.lw_fence.specs.Compiling.{IsCompiled, IsCompiledThread, instrs_of, lower_compare, lowered}
+pub use Rattle.lw_fence.specs.Compiling.{lowered_code, starts_from, with_move_if}
+pub use Rattle.lw_fence.specs.Fences.{HasKind, HasOperation, IsFlowPath, IsReachableFromStore, NeedsFence}
+pub use Rattle.lw_fence.specs.Fences.{preserves_pending_stores}
+pub use Rattle.lw_fence.specs.Schedules.{after_step, compiled_schedule, statement_events, thread_events}
+pub use Rattle.lw_fence.specs.Unfenced.{AreSubset, IsCompiledWith, IsCompiledWithoutFences, IsThreadWith}
 pub use Rattle.lw_fence.specs.Unfenced.{NeedsNoFence}
 pub use Rattle.lw_fence.specs.declared.lowered.Lowered.{Lowered}
 pub use Rattle.lw_fence.specs.declared.lowered.Lowered.TheVariants.{One, Two}
-pub use Rattle.lw_fence.specs.inner.Marks.{marked_behind, may_wait, with_mark}
+pub use Rattle.lw_fence.specs.inner.Marks.{mark_successors, may_wait, with_mark}

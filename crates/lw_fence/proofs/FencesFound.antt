@@ -3,8 +3,8 @@ use Rattle.lw_fence.proofs.Common.{◌≡◌, ◌↔◌, ℕ, ◌+◌, ◌<◌, 
 use Rattle.lw_fence.proofs.Common.{Bool, true, false, ◌&&◌, sym, ap, ◌∙◌, subst, ⊎_elim, arith, slice_get}
 use Rattle.lw_fence.proofs.Common.{length-append, slice_index_or, option_map_or, slice_get_past}
 use Rattle.lw_fence.proofs.Common.{slice_get_within, cases_lt, false≢true, and_parts, and_from, get_append}
-use Rattle.lw_fence.proofs.Common.{get_some, Stmt, is_load, source_operation, HasOperation, IsBehindStore}
-use Rattle.lw_fence.proofs.Common.{NeedsFence}
+use Rattle.lw_fence.proofs.Common.{get_some, Stmt, is_load, source_operation, HasOperation}
+use Rattle.lw_fence.proofs.Common.{IsReachableFromStore, NeedsFence}
 
 -- whether a load is there
 abbrev loads : Option Stmt → Bool
@@ -51,7 +51,7 @@ module _ (code : List Stmt) (marks : List Bool) where
           sym last.1 ∙ subst (λ (k : ℕ). b ≡ is_needed k) (sym (last.0 ∙ found.as_many)) here
 
   -- where the marks are those behind stores, the fences that are found are exactly the needed ones
-  pub needed : ((j : ℕ) → j ≤ length code → (slice_index_or marks j false ≡ true) ↔ IsBehindStore code j)
+  pub needed : ((j : ℕ) → j ≤ length code → (slice_index_or marks j false ≡ true) ↔ IsReachableFromStore code j)
       → (fences : List Bool)
       → Found (length code) fences
       → (j : ℕ)

@@ -2,16 +2,16 @@ pub mod Common
 pub mod api
 mod Marks
 mod FencesFound
-mod Placed
+mod CodeLayout
 mod Moves
 mod Beside
 mod Steps
 mod Statements
 mod SourceToMachine
-mod Owes
+mod PendingStores
 mod Carried
-mod Lag
-mod Behind
+mod ThreadSimulation
+mod Simulation
 mod MachineToSource
 mod Programs
 mod CompiledThreads

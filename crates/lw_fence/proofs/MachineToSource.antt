@@ -3,18 +3,19 @@
 use Rattle.lw_fence.proofs.Common.{◌≡◌, ℕ, zero, suc, ◌<◌, ◌≤◌, ◌==◌, nat_le, List, [], length, Some, true}
 use Rattle.lw_fence.proofs.Common.{refl, sym, ap, ◌∙◌, subst, ⊎_elim, arith, slice_get, slice_set}
 use Rattle.lw_fence.proofs.Common.{slice_index, eqb-true, IsTrue, leb-true, le-leb, cases_lt, and_parts}
-use Rattle.lw_fence.proofs.Common.{nil_from_length, slice_get_within, get_or_from_slice_get, code_of}
-use Rattle.lw_fence.proofs.Common.{fellows_after, get_some, at_index, set_own, Stmt, Thread, SourceTest}
-use Rattle.lw_fence.proofs.Common.{ProgramTest, State, RunsTo, SourceOutcome, start_of, state_of, Instr}
-use Rattle.lw_fence.proofs.Common.{Processor, MachineState, is_done, is_final, MachineRan, MachineOutcome}
-use Rattle.lw_fence.proofs.Common.{Lowered, One, Two, lowered, instrs_of, IsCompiled, zip_passes, zip_pass}
-use Rattle.lw_fence.proofs.Common.{state, Final, flat, IsWellFormedSource}
-use Rattle.lw_interleaving.specs.Runs.{starting_thread as thread_starting, is_source_final as is_over}
-use Rattle.lw_fence.proofs.Behind.{LagAt, Behind, Caught, caught, caught_on, not_moved, all_caught}
+use Rattle.lw_fence.proofs.Common.{nil_from_length, slice_get_within, get_or_from_slice_get, thread_code}
+use Rattle.lw_fence.proofs.Common.{fellows_after, get_some, at_index, set-get_same, Stmt, Thread, SourceTest}
+use Rattle.lw_fence.proofs.Common.{X86Test, State, InterleavesTo, SourceOutcome, initial_state, state_of}
+use Rattle.lw_fence.proofs.Common.{Instr, Processor, MachineState, has_terminated, is_final, MachineRunsTo}
+use Rattle.lw_fence.proofs.Common.{IsMachineOutcome, Lowered, One, Two, lowered, instrs_of, IsCompiled}
+use Rattle.lw_fence.proofs.Common.{zip_passes, zip_pass, state, FinalState, flat_memory, IsWellFormedSource}
+use Rattle.lw_interleaving.specs.Runs.{initial_thread as thread_starting, is_source_final as is_over}
+use Rattle.lw_fence.proofs.Simulation.{LagAt, SimulationRelation, SimulatedToEnd, caught, caught_on}
+use Rattle.lw_fence.proofs.Simulation.{not_moved, all_caught}
 use Rattle.lw_fence.proofs.Beside.{thread_at, processor_at, same_outcome, first, compiled_start, start_is}
-use Rattle.lw_fence.proofs.Lag.{Stage, whole, midway}
-use Rattle.lw_fence.proofs.Owes.{Owes, nothing, catch_up}
-use Rattle.lw_fence.proofs.Placed.{Placed, StandsAt, placed_at}
+use Rattle.lw_fence.proofs.ThreadSimulation.{Stage, whole, midway}
+use Rattle.lw_fence.proofs.PendingStores.{HasPendingStores, nothing, catch_up}
+use Rattle.lw_fence.proofs.CodeLayout.{Placed, StandsAt, placed_at}
 
 -- A lowering has an instruction, so where it stands the code goes on.
 lowered_within : (instrs : List Instr) (k : ℕ) (r : Lowered) → StandsAt instrs k (instrs_of r) → k < length instrs
@@ -48,13 +49,13 @@ stage_ended instrs starts v c placed (midway s i at stands ends) past =
     absurd (omega (arith, slice_get_within instrs c.position i stands, past))
 
 -- a processor that is done stands at its end, with an empty store buffer
-done_parts : (code : List Instr) (c : Processor) → is_done code c ≡ true → (length code ≤ c.position) × (c.buffer ≡ [])
+done_parts : (code : List Instr) (c : Processor) → has_terminated code c ≡ true → (length code ≤ c.position) × (c.buffer ≡ [])
 done_parts code c done =
     let both = and_parts (nat_le (length code) c.position) (length c.buffer == 0) done in
     (leb-true (length code) c.position both.0, nil_from_length c.buffer (eqb-true (length c.buffer) 0 both.1))
 
-module _ (s : SourceTest) (p : ProgramTest) (starts : List (List ℕ)) (compiled : IsCompiled s p starts)
-    (ms : MachineState (List ℕ)) (final : IsTrue (is_final p.threads ms)) where
+module _ (s : SourceTest) (p : X86Test) (starts : List (List ℕ)) (compiled : IsCompiled s p starts) (ms : MachineState (List ℕ))
+    (final : IsTrue (is_final p.threads ms)) where
   -- The first n threads are at their ends, with their processors' registers.
   abbrev pub Over : State → ℕ → Type 0
   Over ss n =
@@ -62,17 +63,17 @@ module _ (s : SourceTest) (p : ProgramTest) (starts : List (List ℕ)) (compiled
       → slice_get ss.threads t ≡ Some th
       → slice_get ms.processors t ≡ Some c
       → t < n
-      → HasEnded (code_of s.threads t) th c
+      → HasEnded (thread_code s.threads t) th c
 
   -- The source has gone on to a state whose first n threads are at their ends, with their processors' registers.
   pub record CaughtUp (ss : State) (n : ℕ) : Type 0 where
     pub end : State
-    pub caught : Caught s p starts ss end ms
+    pub caught : SimulatedToEnd s p starts ss end ms
     pub over : Over end n
 
   -- Thread n catches up.
   one_more : (n : ℕ) (ss : State) (th : Thread) (c : Processor)
-      → Behind s p starts ss ms
+      → SimulationRelation s p starts ss ms
       → Over ss n
       → n < length s.threads
       → slice_get ss.threads n ≡ Some th
@@ -85,37 +86,38 @@ module _ (s : SourceTest) (p : ProgramTest) (starts : List (List ℕ)) (compiled
         (record { now = lag.ahead; turns = catch_up s.threads n th lag.ahead c.buffer ms.memory lag.owes done.1; lag = now })
         (ap (λ l. state l ms.memory) (sym same));
     over = λ t x d e f.
-        fellows_after (λ u y z. u < suc n → HasEnded (code_of s.threads u) y z) ss.threads ms.processors n lag.ahead c
+        fellows_after (λ u y z. u < suc n → HasEnded (thread_code s.threads u) y z) ss.threads ms.processors n lag.ahead c
         (record { left = was; right = got }) (λ u y z g h ne below. over u y z g h (omega (arith, below, ne))) (λ below. ended) t
         x d e (ap (λ l. slice_get l t) same ∙ f);
   }
     where
       same : slice_set ms.processors n c ≡ ms.processors
-      same = set_own ms.processors n c got
+      same = set-get_same ms.processors n c got
 
       lag : LagAt s p starts n th c
       lag = b.at n th c was got
 
-      done : (length (code_of p.threads n) ≤ c.position) × (c.buffer ≡ [])
+      done : (length (thread_code p.threads n) ≤ c.position) × (c.buffer ≡ [])
       done =
-          done_parts (code_of p.threads n) c
-          (zip_passes (λ x. is_done x.0 x.1) p.threads ms.processors n (code_of p.threads n) c final
+          done_parts (thread_code p.threads n) c
+          (zip_passes (λ x. has_terminated x.0 x.1) p.threads ms.processors n (thread_code p.threads n) c final
           (at_index p.threads n [] (omega (arith, lt, compiled.as_many))) got)
 
       now : LagAt s p starts n lag.ahead c
       now = record {
         ahead = lag.ahead;
-        owes = subst (λ l. Owes (code_of s.threads n) lag.ahead l lag.ahead) (sym done.1) nothing;
+        owes = subst (λ l. HasPendingStores (thread_code s.threads n) lag.ahead l lag.ahead) (sym done.1) nothing;
         stage = lag.stage;
         sane = lag.sane;
       }
 
-      ended : HasEnded (code_of s.threads n) lag.ahead c
+      ended : HasEnded (thread_code s.threads n) lag.ahead c
       ended =
-          stage_ended (code_of p.threads n) (code_of starts n) lag.ahead c (placed_at s p starts compiled n lt) lag.stage done.0
+          stage_ended (thread_code p.threads n) (thread_code starts n) lag.ahead c (placed_at s p starts compiled n lt) lag.stage
+          done.0
 
   -- The first n threads catch up, one after another.
-  pub first_caught_up : (n : ℕ) (ss : State) → n ≤ length s.threads → Behind s p starts ss ms → CaughtUp ss n
+  pub first_caught_up : (n : ℕ) (ss : State) → n ≤ length s.threads → SimulationRelation s p starts ss ms → CaughtUp ss n
   first_caught_up zero ss le b =
       record { end = ss; caught = not_moved s p starts b; over = λ t th c e f lt. absurd (omega arith) }
   first_caught_up (suc n) ss le b = more (first_caught_up n ss (omega arith) b)
@@ -127,9 +129,9 @@ module _ (s : SourceTest) (p : ProgramTest) (starts : List (List ℕ)) (compiled
           let a = one_more n d.end th.0 c.0 d.caught.behind d.over le th.1 c.1 in
           record { end = a.end; caught = caught_on s p starts d.end a.end d.caught a.caught; over = a.over }
 
-module _ (s : SourceTest) (p : ProgramTest) (starts : List (List ℕ)) (ok : IsWellFormedSource s)
+module _ (s : SourceTest) (p : X86Test) (starts : List (List ℕ)) (ok : IsWellFormedSource s)
     (compiled : IsCompiled s p starts) where
-  behind_first : Behind s p starts (start_of s) (compiled_start s)
+  behind_first : SimulationRelation s p starts (initial_state s) (compiled_start s)
   behind_first = first s (LagAt s p starts) ok (λ t regs lt six. record {
     ahead = thread_starting regs;
     owes = nothing;
@@ -139,7 +141,7 @@ module _ (s : SourceTest) (p : ProgramTest) (starts : List (List ℕ)) (ok : IsW
 
   -- Where all threads are at their ends, the source has ended.
   all_over : (ss : State) (ms : MachineState (List ℕ)) (final : IsTrue (is_final p.threads ms))
-      → Behind s p starts ss ms
+      → SimulationRelation s p starts ss ms
       → Over s p starts compiled ms final ss (length s.threads)
       → IsTrue (is_over s.threads ss)
   all_over ss ms final behind over = zip_pass _ s.threads ss.threads each
@@ -151,22 +153,22 @@ module _ (s : SourceTest) (p : ProgramTest) (starts : List (List ℕ)) (ok : IsW
       each t code th e f =
           let within = slice_get_within s.threads t code e in
           let c = processor_at s (LagAt s p starts) ss ms behind t within in
-          let own : code_of s.threads t ≡ code = get_or_from_slice_get s.threads t code [] e in
+          let own : thread_code s.threads t ≡ code = get_or_from_slice_get s.threads t code [] e in
           le-leb (length code) th.position (omega (arith, (over t th c.0 f c.1 within).0, ap length own))
 
 -- An outcome of the compiled program is one of the source.
-pub machine_to_source : (s : SourceTest) (p : ProgramTest) (starts : List (List ℕ)) (o : Final)
+pub machine_to_source : (s : SourceTest) (p : X86Test) (starts : List (List ℕ)) (o : FinalState)
     → IsWellFormedSource s
     → IsCompiled s p starts
-    → MachineOutcome flat p p.head.init_words o
+    → IsMachineOutcome flat_memory p p.head.init_words o
     → SourceOutcome s o
 machine_to_source s p starts o ok compiled (events, r) =
-    let ran = subst (λ b. MachineRan flat p.threads events b r.end) (start_is s p compiled.head) r.ran in
-    let a = all_caught s p starts ok compiled events (start_of s) r.end (behind_first s p starts ok compiled) ran in
+    let ran = subst (λ b. MachineRunsTo flat_memory p.threads events b r.end) (start_is s p compiled.head) r.ran in
+    let a = all_caught s p starts ok compiled events (initial_state s) r.end (behind_first s p starts ok compiled) ran in
     let d = first_caught_up s p starts compiled r.end r.final (length s.threads) a.0 (omega arith) a.1.behind in
     let c = caught_on s p starts a.0 d.end a.1 d.caught in
     let within = λ (t : ℕ) (th : Thread) (e : slice_get d.end.threads t ≡ Some th). slice_get_within d.end.threads t th e in
-    let run : RunsTo s c.order o = record {
+    let run : InterleavesTo s c.order o = record {
       end = d.end;
       ran = c.ran;
       final = all_over s p starts ok compiled d.end r.end r.final c.behind d.over;

@@ -5,36 +5,37 @@ use Rattle.lw_fence.proofs.Common.{length, take, replicate, get_or, set, Option,
 use Rattle.lw_fence.proofs.Common.{false, if◌then◌else◌, ◌||◌, ◌&&◌, refl, sym, ap, ap₂, ◌∙◌, subst, ⊎_elim}
 use Rattle.lw_fence.proofs.Common.{arith, slice_get, length-set, get_or-set_same, get_or-set_other}
 use Rattle.lw_fence.proofs.Common.{AllByRecursion, ForSome, same_Some, slice_get_within, cases_eq, false≢true}
-use Rattle.lw_fence.proofs.Common.{length-replicate, take-append_seam, Operation, Stmt, Follows, is_store}
-use Rattle.lw_fence.proofs.Common.{target_of, goes_on, Leads, source, source_operation, may_wait, with_mark}
-use Rattle.lw_fence.proofs.Common.{marked_behind, lets_stores_wait, Is, HasOperation, IsFlowPath}
-use Rattle.lw_fence.proofs.Common.{IsBehindStore}
+use Rattle.lw_fence.proofs.Common.{length-replicate, take-append_seam, Operation, Stmt, IsFlowSuccessor}
+use Rattle.lw_fence.proofs.Common.{is_store, branch_target, falls_through, IsSuccessor, source_language}
+use Rattle.lw_fence.proofs.Common.{source_operation, may_wait, with_mark, mark_successors}
+use Rattle.lw_fence.proofs.Common.{preserves_pending_stores, HasKind, HasOperation, IsFlowPath}
+use Rattle.lw_fence.proofs.Common.{IsReachableFromStore}
 
 -- behind the statement at i a store may wait in the store buffer
 abbrev pub MayWait : List Stmt → Option Stmt → ℕ → Type 0
-MayWait code o i = Is is_store o ⊎ (Is lets_stores_wait o × IsBehindStore code i)
+MayWait code o i = HasKind is_store o ⊎ (HasKind preserves_pending_stores o × IsReachableFromStore code i)
 
 -- a flow path goes on by one step more
 longer_path : (code : List Stmt) (s : ℕ) (between : List ℕ) (i j : ℕ)
     → IsFlowPath code (s ∷ (between ++ i ∷ []))
-    → Follows source (slice_get code i) i j
+    → IsFlowSuccessor source_language (slice_get code i) i j
     → IsFlowPath code (s ∷ ((between ++ i ∷ []) ++ j ∷ []))
 longer_path code s [] i j path f = (path.0, (f, tt))
 longer_path code s (k ∷ between) i j path f = (path.0, longer_path code k between i j path.1 f)
 
 -- if stores may wait past the statements at the positions `between`, and past that at i, then past all of these
 more_passed : (code : List Stmt) (between : List ℕ) (i : ℕ)
-    → AllByRecursion (HasOperation lets_stores_wait code) between
-    → Is lets_stores_wait (slice_get code i)
-    → AllByRecursion (HasOperation lets_stores_wait code) (between ++ i ∷ [])
+    → AllByRecursion (HasOperation preserves_pending_stores code) between
+    → HasKind preserves_pending_stores (slice_get code i)
+    → AllByRecursion (HasOperation preserves_pending_stores code) (between ++ i ∷ [])
 more_passed code [] i a p = (p, tt)
 more_passed code (k ∷ between) i a p = (a.0, more_passed code between i a.1 p)
 
 -- a step from a position where a store may wait leads to one that is behind a store
 by_step : (code : List Stmt) (i j : ℕ)
-    → Follows source (slice_get code i) i j
+    → IsFlowSuccessor source_language (slice_get code i) i j
     → MayWait code (slice_get code i) i
-    → IsBehindStore code j
+    → IsReachableFromStore code j
 by_step code i j f (inl s) = record { store = i; between = []; stores = s; path = (f, tt); waits = tt }
 by_step code i j f (inr p) =
     let b = p.1 in
@@ -49,17 +50,18 @@ by_step code i j f (inr p) =
 -- if a store may wait behind the statement x at i, each position to which x leads is behind a store
 pub step_from : (code : List Stmt) {i : ℕ} (j : ℕ) {x : Stmt}
     → slice_get code i ≡ Some x
-    → Leads (source_operation x) i j
+    → IsSuccessor (source_operation x) i j
     → MayWait code (Some x) i
-    → IsBehindStore code j
-step_from code {i = i} j e = subst (λ o. Follows source o i j → MayWait code o i → IsBehindStore code j) e (by_step code i j)
+    → IsReachableFromStore code j
+step_from code {i = i} j e =
+    subst (λ o. IsFlowSuccessor source_language o i j → MayWait code o i → IsReachableFromStore code j) e (by_step code i j)
 
 -- a position behind a store is led to by a step from one where a store may wait: the path's last step
 last_step : (code : List Stmt) (j i : ℕ) (between : List ℕ)
     → MayWait code (slice_get code i) i
     → IsFlowPath code (i ∷ (between ++ j ∷ []))
-    → AllByRecursion (HasOperation lets_stores_wait code) between
-    → (k : ℕ) × Follows source (slice_get code k) k j × MayWait code (slice_get code k) k
+    → AllByRecursion (HasOperation preserves_pending_stores code) between
+    → (k : ℕ) × IsFlowSuccessor source_language (slice_get code k) k j × MayWait code (slice_get code k) k
 last_step code j i [] w path passed = (i, path.0, w)
 last_step code j i (k ∷ between) w path passed =
     last_step code j k between (inr (passed.0, by_step code i k path.0 w)) path.1 passed.1
@@ -99,7 +101,7 @@ mark_length (Some a) marks = length-set marks a true
 
 -- the next position, where the operation goes on
 abbrev next_of : Operation → ℕ → Option ℕ
-next_of o i = if goes_on o then Some (i + 1) else None
+next_of o i = if falls_through o then Some (i + 1) else None
 
 -- the next position is given only where the operation goes on
 next_sound : (b : Bool) (i j : ℕ) → (if b then Some (i + 1) else None) ≡ Some j → (b ≡ true) × (j ≡ i + 1)
@@ -108,42 +110,42 @@ next_sound false i j e = absurd cc
 
 -- what is marked behind an operation was marked before, or is a position to which the operation leads
 spread_sound : (o : Operation) (i : ℕ) (marks : List Bool) (j : ℕ)
-    → at (marked_behind o i marks) j ≡ true
-    → (at marks j ≡ true) ⊎ Leads o i j
+    → at (mark_successors o i marks) j ≡ true
+    → (at marks j ≡ true) ⊎ IsSuccessor o i j
 spread_sound o i marks j h =
-    ⊎_elim (λ led. ⊎_elim (λ old. inl old) (λ e. inr (inr e)) (mark_sound (target_of o) marks j led))
-    (λ e. inr (inl (next_sound (goes_on o) i j e))) (mark_sound (next_of o i) _ j h)
+    ⊎_elim (λ led. ⊎_elim (λ old. inl old) (λ e. inr (inr e)) (mark_sound (branch_target o) marks j led))
+    (λ e. inr (inl (next_sound (falls_through o) i j e))) (mark_sound (next_of o i) _ j h)
 
 -- the marks behind an operation include those before it
-spread_keeps : (o : Operation) (i : ℕ) (marks : List Bool) (j : ℕ) → at marks j ≡ true → at (marked_behind o i marks) j ≡ true
-spread_keeps o i marks j h = mark_keeps (next_of o i) _ j (mark_keeps (target_of o) marks j h)
+spread_keeps : (o : Operation) (i : ℕ) (marks : List Bool) (j : ℕ) → at marks j ≡ true → at (mark_successors o i marks) j ≡ true
+spread_keeps o i marks j h = mark_keeps (next_of o i) _ j (mark_keeps (branch_target o) marks j h)
 
 -- each position to which an operation leads is marked behind it
 spread_there : (o : Operation) (i : ℕ) (marks : List Bool) (j : ℕ)
-    → Leads o i j
+    → IsSuccessor o i j
     → j < length marks
-    → at (marked_behind o i marks) j ≡ true
+    → at (mark_successors o i marks) j ≡ true
 spread_there o i marks j (inl next) lt =
-    mark_there (next_of o i) (with_mark (target_of o) marks) j
+    mark_there (next_of o i) (with_mark (branch_target o) marks) j
     (ap (λ b. if b then Some (i + 1) else None) next.0 ∙ ap Some (sym next.1))
-    (omega (arith, lt, mark_length (target_of o) marks))
-spread_there o i marks j (inr target) lt = mark_keeps _ _ j (mark_there (target_of o) marks j target lt)
+    (omega (arith, lt, mark_length (branch_target o) marks))
+spread_there o i marks j (inr target) lt = mark_keeps _ _ j (mark_there (branch_target o) marks j target lt)
 
 -- the list of marks is as long behind an operation as before it
-spread_length : (o : Operation) (i : ℕ) (marks : List Bool) → length (marked_behind o i marks) ≡ length marks
-spread_length o i marks = mark_length (next_of o i) _ ∙ mark_length (target_of o) marks
+spread_length : (o : Operation) (i : ℕ) (marks : List Bool) → length (mark_successors o i marks) ≡ length marks
+spread_length o i marks = mark_length (next_of o i) _ ∙ mark_length (branch_target o) marks
 
 -- if the test by a mark says that a store may wait at a statement, then one may
 wait_sound : (code : List Stmt) (i : ℕ) (x : Stmt) (b : Bool)
     → may_wait (source_operation x) b ≡ true
-    → (b ≡ true → IsBehindStore code i)
+    → (b ≡ true → IsReachableFromStore code i)
     → MayWait code (Some x) i
-wait_sound code i x b h d = go (is_store (source_operation x)) (lets_stores_wait (source_operation x)) b h d
+wait_sound code i x b h d = go (is_store (source_operation x)) (preserves_pending_stores (source_operation x)) b h d
   where
     go : (s w b : Bool)
         → (s || (w && b)) ≡ true
-        → (b ≡ true → IsBehindStore code i)
-        → (s ≡ true) ⊎ ((w ≡ true) × IsBehindStore code i)
+        → (b ≡ true → IsReachableFromStore code i)
+        → (s ≡ true) ⊎ ((w ≡ true) × IsReachableFromStore code i)
     go true w b h d = inl refl
     go false true b h d = inr (refl, d h)
     go false false b h d = absurd (false≢true h)
@@ -151,9 +153,9 @@ wait_sound code i x b h d = go (is_store (source_operation x)) (lets_stores_wait
 -- if a store may wait at a statement, then the test by its mark says so
 wait_there : {code : List Stmt} {i : ℕ} (x : Stmt) (b : Bool)
     → MayWait code (Some x) i
-    → (IsBehindStore code i → b ≡ true)
+    → (IsReachableFromStore code i → b ≡ true)
     → may_wait (source_operation x) b ≡ true
-wait_there x b (inl store) d = ap (λ s. s || (lets_stores_wait (source_operation x) && b)) store
+wait_there x b (inl store) d = ap (λ s. s || (preserves_pending_stores (source_operation x) && b)) store
 wait_there x b (inr waits) d = go (is_store (source_operation x)) _ b waits.0 (d waits.1)
   where
     go : (s w b : Bool) → w ≡ true → b ≡ true → (s || (w && b)) ≡ true
@@ -162,9 +164,9 @@ wait_there x b (inr waits) d = go (is_store (source_operation x)) _ b waits.0 (d
 
 -- a position to which the operation at i leads is behind i, and at most the end n
 pub forward : (n i j : ℕ) (o : Operation)
-    → ForSome (target_of o) (λ to. (i < to) × (to ≤ n))
+    → ForSome (branch_target o) (λ to. (i < to) × (to ≤ n))
     → i < n
-    → Leads o i j
+    → IsSuccessor o i j
     → (i < j) × (j ≤ n)
 forward n i j o ok lt (inl next) = (omega (arith, next.1), omega (arith, next.1))
 forward n i j o ok lt (inr target) = ok j target
@@ -172,15 +174,20 @@ forward n i j o ok lt (inr target) = ok j target
 -- The marks when i statements have been passed: sound, and there for all that these lead to.
 pub record Marked (code : List Stmt) (i : ℕ) (marks : List Bool) : Type 0 where
   pub as_many : length marks ≡ suc (length code)
-  pub sound : (j : ℕ) → at marks j ≡ true → IsBehindStore code j
-  pub there : (k j : ℕ) → k < i → Follows source (slice_get code k) k j → MayWait code (slice_get code k) k → at marks j ≡ true
+  pub sound : (j : ℕ) → at marks j ≡ true → IsReachableFromStore code j
+  pub there : (k j : ℕ)
+      → k < i
+      → IsFlowSuccessor source_language (slice_get code k) k j
+      → MayWait code (slice_get code k) k
+      → at marks j ≡ true
 
-module _ (code : List Stmt) (ok : (j : ℕ) (x : Stmt)
+module _ (code : List Stmt)
+    (ok : (j : ℕ) (x : Stmt)
     → slice_get code j ≡ Some x
-    → ForSome (target_of (source_operation x)) (λ to. (j < to) × (to ≤ length code))) where
+    → ForSome (branch_target (source_operation x)) (λ to. (j < to) × (to ≤ length code))) where
   some_forward : (i j : ℕ) (o : Option Stmt)
       → slice_get code i ≡ o
-      → Follows source o i j
+      → IsFlowSuccessor source_language o i j
       → (i < length code) × (i < j) × (j ≤ length code)
   some_forward i j None e f = absurd f
   some_forward i j (Some x) e f =
@@ -188,7 +195,12 @@ module _ (code : List Stmt) (ok : (j : ℕ) (x : Stmt)
       let g = forward (length code) i j (source_operation x) (ok i x e) lt f in
       (lt, g.0, g.1)
 
-  behind_marked : {i : ℕ} {marks : List Bool} → Marked code i marks → (j : ℕ) → j ≤ i → IsBehindStore code j → at marks j ≡ true
+  behind_marked : {i : ℕ} {marks : List Bool}
+      → Marked code i marks
+      → (j : ℕ)
+      → j ≤ i
+      → IsReachableFromStore code j
+      → at marks j ≡ true
   behind_marked m j le b =
       let l = last_step code j b.store b.between (inl b.stores) b.path b.waits in
       m.there l.0 j (omega (arith, le, some_forward l.0 j (slice_get code l.0) refl l.1)) l.1 l.2
@@ -206,7 +218,7 @@ module _ (code : List Stmt) (ok : (j : ℕ) (x : Stmt)
       → slice_get code i ≡ Some x
       → may_wait (source_operation x) (at marks i) ≡ b
       → Marked code i marks
-      → Marked code (i + 1) (if b then marked_behind (source_operation x) i marks else marks)
+      → Marked code (i + 1) (if b then mark_successors (source_operation x) i marks else marks)
   mark_step i x marks true e c m = record {
     as_many = spread_length (source_operation x) i marks ∙ m.as_many;
     sound = λ j h.
@@ -214,7 +226,7 @@ module _ (code : List Stmt) (ok : (j : ℕ) (x : Stmt)
         (spread_sound (source_operation x) i marks j h);
     there = λ k j lt f g.
         ⊎_elim (λ same.
-        spread_there _ i marks j (here (λ o n. Follows source o n j) k i x e same f)
+        spread_there _ i marks j (here (λ o n. IsFlowSuccessor source_language o n j) k i x e same f)
         (omega (arith, m.as_many, some_forward k j (slice_get code k) refl f)))
         (λ ne. spread_keeps (source_operation x) i marks j (m.there k j (omega arith) f g)) (cases_eq k i);
   }
@@ -246,7 +258,7 @@ module _ (code : List Stmt) (ok : (j : ℕ) (x : Stmt)
       → Marked code (length code) marks
       → (j : ℕ)
       → j ≤ length code
-      → (at marks j ≡ true) ↔ IsBehindStore code j
+      → (at marks j ≡ true) ↔ IsReachableFromStore code j
   marked_behind_stores marks right j le = ((λ h. right.sound j h), (λ b. behind_marked right j le b))
 
 -- A list's first n items were borrowed and are `new` now, as many: then these are the first n of the whole list.

@@ -3,14 +3,16 @@ use Rattle.lw_fence.proofs.Common.{◌≡◌, ℕ, zero, suc, ◌+◌, ◌<◌, 
 use Rattle.lw_fence.proofs.Common.{drop, get_or, replicate, Some, Bool, true, false, not, subst₂, TestHead}
 use Rattle.lw_fence.proofs.Common.{⊎_elim, sym, refl, ap, ap₂, ◌∙◌, subst, arith, slice_get, slice_index}
 use Rattle.lw_fence.proofs.Common.{length-append, append_assoc, length-replicate, map-append, cases_lt}
-use Rattle.lw_fence.proofs.Common.{get_or_past, false≢true, slice_get-get_or, get_or_from_slice_get, code_of}
-use Rattle.lw_fence.proofs.Common.{at_index, Register, Number, Stmt, Store, Load, Swap, FetchAdd, Set, Sum}
-use Rattle.lw_fence.proofs.Common.{IfEq, IfNe, Goto, SourceTest, ProgramTest, Instr, One, Two, lowered, moved}
-use Rattle.lw_fence.proofs.Common.{instrs_of, lowered_code, starts_from, IsThreadWith, IsCompiledWith}
-use Rattle.lw_fence.proofs.Common.{AreAmong, kept_first, kept_on, kept_append, fences_append, left_out}
-use Rattle.lw_fence.proofs.Common.{in_blocks, IsFencedCode, IsFencedTest, kept_before, kept, AreFences, cond}
-use Rattle.lw_fence.proofs.Common.{sum_by-append, sum_by-cons, count_by}
-use Rattle.lw_fence.proofs.Placed.{chosen, behind_first, lowered_code_cons, starts_cons, next_fence, begins}
+use Rattle.lw_fence.proofs.Common.{get_or_past, false≢true, slice_get-get_or, get_or_from_slice_get}
+use Rattle.lw_fence.proofs.Common.{thread_code, at_index, Register, Number, Stmt, Store, Load, Swap, FetchAdd}
+use Rattle.lw_fence.proofs.Common.{Set, Sum, IfEq, IfNe, Goto, SourceTest, X86Test, Instr, One, Two, lowered}
+use Rattle.lw_fence.proofs.Common.{with_move_if, instrs_of, lowered_code, starts_from, IsThreadWith}
+use Rattle.lw_fence.proofs.Common.{IsCompiledWith, AreSubset, kept_first, kept_on, kept_append, fences_append}
+use Rattle.lw_fence.proofs.Common.{left_out, retarget_to_blocks, IsFencedCode, IsFencedTest}
+use Rattle.lw_fence.proofs.Common.{unmarked_count_before, kept, MarksAreFences, cond, sum_by-append}
+use Rattle.lw_fence.proofs.Common.{sum_by-cons, count_by}
+use Rattle.lw_fence.proofs.CodeLayout.{chosen, behind_first, lowered_code_cons, starts_cons, next_fence}
+use Rattle.lw_fence.proofs.CodeLayout.{begins}
 use Rattle.lw_litmus.specs.declared.instr.Instr.TheVariants as instr
 
 -- the marks of a lowering's instructions: of the fence that is there by the second flag, and not by the first
@@ -34,7 +36,7 @@ among_rest fs gs among j set = next_fence gs j ∙ among (suc j) (sym (next_fenc
 -- ---- a lowering
 
 -- where no instruction is marked, the marks are on fences alone
-unmarked : (is : List Instr) → AreFences (replicate (length is) false) is
+unmarked : (is : List Instr) → MarksAreFences (replicate (length is) false) is
 unmarked [] = tt
 unmarked (i ∷ is) = unmarked is
 
@@ -63,15 +65,15 @@ marks_long x f g among = length-replicate (length (instrs_of (lowered [] f x))) 
 
 module _ (starts begins : List ℕ) (block : ℕ → ℕ) (leads : (to : ℕ) → block (slice_index begins to) ≡ slice_index starts to) where
   abbrev led : List Instr → List Instr
-  led is = map (in_blocks block) is
+  led is = map (retarget_to_blocks block) is
 
   -- of a lowering with no jump nothing is left out, and nothing changes
   all_led : (is : List Instr) → led is ≡ is → led (kept (replicate (length is) false) is) ≡ is
   all_led is same = ap led (all_kept is) ∙ same
 
   moved_led : (d a : ℕ) (last : Instr)
-      → in_blocks block last ≡ last
-      → led (instrs_of (moved d a last)) ≡ instrs_of (moved d a last)
+      → retarget_to_blocks block last ≡ last
+      → led (instrs_of (with_move_if d a last)) ≡ instrs_of (with_move_if d a last)
   moved_led d a last same =
       chosen (λ r. led (instrs_of r) ≡ instrs_of r) (d == a) (One last) (Two (instr.Set d (Register a)) last)
       (λ is. ap (λ (i : Instr). i ∷ []) same) (λ is. ap (λ (i : Instr). instr.Set d (Register a) ∷ i ∷ []) same)
@@ -85,15 +87,17 @@ module _ (starts begins : List ℕ) (block : ℕ → ℕ) (leads : (to : ℕ) �
   lowered_led (Load d x) false false among = refl
   lowered_led (Load d x) true true among = refl
   lowered_led (Load d x) true false among = absurd (false≢true (among refl))
-  lowered_led (Swap d x a) f g among = all_led (instrs_of (moved d a (instr.Xchg x d))) (moved_led d a (instr.Xchg x d) refl)
-  lowered_led (FetchAdd d x a) f g among = all_led (instrs_of (moved d a (instr.Xadd x d))) (moved_led d a (instr.Xadd x d) refl)
+  lowered_led (Swap d x a) f g among =
+      all_led (instrs_of (with_move_if d a (instr.Xchg x d))) (moved_led d a (instr.Xchg x d) refl)
+  lowered_led (FetchAdd d x a) f g among =
+      all_led (instrs_of (with_move_if d a (instr.Xadd x d))) (moved_led d a (instr.Xadd x d) refl)
   lowered_led (Set d v) f g among = refl
   lowered_led (Sum d a (Number n)) f g among =
-      all_led (instrs_of (moved d a (instr.Add d (Number n)))) (moved_led d a (instr.Add d (Number n)) refl)
+      all_led (instrs_of (with_move_if d a (instr.Add d (Number n)))) (moved_led d a (instr.Add d (Number n)) refl)
   lowered_led (Sum d a (Register b)) f g among =
       all_led _
       (chosen (λ r. led (instrs_of r) ≡ instrs_of r) (d == b) (One (instr.Add d (Register a)))
-      (moved d a (instr.Add d (Register b))) (λ is. refl) (λ is. moved_led d a (instr.Add d (Register b)) refl))
+      (with_move_if d a (instr.Add d (Register b))) (λ is. refl) (λ is. moved_led d a (instr.Add d (Register b)) refl))
   lowered_led (IfEq a n to) f g among = ap (λ (index : ℕ). instr.Cmp a (Number n) ∷ instr.Je index ∷ []) (leads to)
   lowered_led (IfNe a n to) f g among = ap (λ (index : ℕ). instr.Cmp a (Number n) ∷ instr.Jne index ∷ []) (leads to)
   lowered_led (Goto to) f g among = ap (λ (index : ℕ). instr.Jmp index ∷ []) (leads to)
@@ -101,7 +105,7 @@ module _ (starts begins : List ℕ) (block : ℕ → ℕ) (leads : (to : ℕ) �
 -- what is marked in a lowering is a fence
 lowered_fences : (begins : List ℕ) (x : Stmt) (f g : Bool)
     → (f ≡ true → g ≡ true)
-    → AreFences (lowered_marks x f g) (instrs_of (lowered begins g x))
+    → MarksAreFences (lowered_marks x f g) (instrs_of (lowered begins g x))
 lowered_fences begins (Load d x) false true among = (refl, tt)
 lowered_fences begins (Load d x) false false among = tt
 lowered_fences begins (Load d x) true true among = tt
@@ -118,7 +122,7 @@ lowered_fences begins x f g among = unmarked (instrs_of (lowered [] f x))
 -- what is marked in a thread is a fence
 fences_marked : (fs gs : List Bool) (code : List Stmt) (begins : List ℕ)
     → Among fs gs
-    → AreFences (marks fs gs code) (lowered_code begins gs code)
+    → MarksAreFences (marks fs gs code) (lowered_code begins gs code)
 fences_marked fs gs [] begins among = tt
 fences_marked fs gs (x ∷ code) begins among =
     let f = get_or fs 0 false in
@@ -129,13 +133,13 @@ fences_marked fs gs (x ∷ code) begins among =
     let both =
     fences_append own others (instrs_of (lowered begins g x)) (lowered_code begins (drop 1 gs) code)
     (lowered_fences begins x f g (among 0)) rest in
-    subst (λ (is : List Instr). AreFences (own ++ others) is) (sym (lowered_code_cons begins gs x code)) both
+    subst (λ (is : List Instr). MarksAreFences (own ++ others) is) (sym (lowered_code_cons begins gs x code)) both
 
 -- the instructions with more fences, the marked ones left out and jumps led on by `block`, are those with fewer
 lowered_code_led : (fs gs : List Bool) (code : List Stmt) (starts begins : List ℕ) (block : ℕ → ℕ)
     → ((to : ℕ) → block (slice_index begins to) ≡ slice_index starts to)
     → Among fs gs
-    → map (in_blocks block) (kept (marks fs gs code) (lowered_code begins gs code)) ≡ lowered_code starts fs code
+    → map (retarget_to_blocks block) (kept (marks fs gs code) (lowered_code begins gs code)) ≡ lowered_code starts fs code
 lowered_code_led fs gs [] starts begins block leads among = refl
 lowered_code_led fs gs (x ∷ code) starts begins block leads among =
     let f = get_or fs 0 false in
@@ -143,15 +147,17 @@ lowered_code_led fs gs (x ∷ code) starts begins block leads among =
     let others = marks (drop 1 fs) (drop 1 gs) code in
     let own = instrs_of (lowered begins g x) in
     let more = lowered_code begins (drop 1 gs) code in
-    ap (λ (is : List Instr). map (in_blocks block) (kept (lowered_marks x f g ++ others) is)) (lowered_code_cons begins gs x code)
-    ∙ ap (map (in_blocks block)) (kept_append (lowered_marks x f g) others own more (lowered_fences begins x f g (among 0)))
-    ∙ map-append (in_blocks block) (kept (lowered_marks x f g) own) (kept others more)
+    ap (λ (is : List Instr). map (retarget_to_blocks block) (kept (lowered_marks x f g ++ others) is))
+    (lowered_code_cons begins gs x code)
+    ∙ ap (map (retarget_to_blocks block))
+    (kept_append (lowered_marks x f g) others own more (lowered_fences begins x f g (among 0)))
+    ∙ map-append (retarget_to_blocks block) (kept (lowered_marks x f g) own) (kept others more)
     ∙ ap₂ (λ (is js : List Instr). is ++ js) (lowered_led starts begins block leads x f g (among 0))
     (lowered_code_led (drop 1 fs) (drop 1 gs) code starts begins block leads (among_rest fs gs among))
     ∙ sym (lowered_code_cons starts fs x code)
 
 -- before the first instruction behind the marks `pre`, as many instructions are kept as `pre` has unset marks
-before_all : (pre rest : List Bool) → kept_before (pre ++ rest) (length pre) ≡ count_by not pre
+before_all : (pre rest : List Bool) → unmarked_count_before (pre ++ rest) (length pre) ≡ count_by not pre
 before_all [] rest = kept_first rest
 before_all (mark ∷ pre) rest =
     kept_on mark (pre ++ rest) (length pre)
@@ -162,12 +168,12 @@ before_all (mark ∷ pre) rest =
 starts_kept : (fs gs : List Bool) (code : List Stmt) (pre : List Bool)
     → Among fs gs
     → (to : ℕ)
-    → kept_before (pre ++ marks fs gs code) (slice_index (starts_from (length pre) gs code) to)
+    → unmarked_count_before (pre ++ marks fs gs code) (slice_index (starts_from (length pre) gs code) to)
     ≡ slice_index (starts_from (count_by not pre) fs code) to
 starts_kept fs gs [] pre among zero = before_all pre []
 starts_kept fs gs [] pre among (suc to) = kept_first (pre ++ [])
 starts_kept fs gs (x ∷ code) pre among zero =
-    ap (kept_before (pre ++ marks fs gs (x ∷ code))) (begins (length pre) gs (x ∷ code))
+    ap (unmarked_count_before (pre ++ marks fs gs (x ∷ code))) (begins (length pre) gs (x ∷ code))
     ∙ before_all pre (marks fs gs (x ∷ code))
     ∙ sym (begins (count_by not pre) fs (x ∷ code))
 starts_kept fs gs (x ∷ code) pre among (suc to) =
@@ -181,9 +187,9 @@ starts_kept fs gs (x ∷ code) pre among (suc to) =
     sum_by-append (λ (m : Bool). cond (not m) 1 0) pre own ∙ ap (λ (n : ℕ). count_by not pre + n) (marks_out x f g) in
     let assoc = sym (append_assoc pre own others) in
     let rest = starts_kept (drop 1 fs) (drop 1 gs) code (pre ++ own) (among_rest fs gs among) to in
-    ap₂ (λ (ms : List Bool) (starts : List ℕ). kept_before ms (slice_index starts (suc to))) assoc
+    ap₂ (λ (ms : List Bool) (starts : List ℕ). unmarked_count_before ms (slice_index starts (suc to))) assoc
     (starts_cons (length pre) gs x code)
-    ∙ ap (λ (n : ℕ). kept_before ((pre ++ own) ++ others) (slice_index (starts_from n (drop 1 gs) code) to)) (sym long)
+    ∙ ap (λ (n : ℕ). unmarked_count_before ((pre ++ own) ++ others) (slice_index (starts_from n (drop 1 gs) code) to)) (sym long)
     ∙ rest
     ∙ ap (λ (n : ℕ). slice_index (starts_from n (drop 1 fs) code) to) out
     ∙ ap (λ (starts : List ℕ). slice_index starts (suc to)) (sym (starts_cons (count_by not pre) fs x code))
@@ -199,7 +205,7 @@ thread_fenced fs gs {code = code} {instrs = instrs} {others = others} among one 
     let first = starts_from 0 fs code in
     let second = starts_from 0 gs code in
     let fences = fences_marked fs gs code second among in
-    let same = lowered_code_led fs gs code first second (kept_before (marks fs gs code)) leads among in
+    let same = lowered_code_led fs gs code first second (unmarked_count_before (marks fs gs code)) leads among in
     let here : instrs ≡ lowered_code first fs code =
     one.instrs_are ∙ ap (λ (s : List ℕ). lowered_code s fs code) one.starts_are in
     let there : others ≡ lowered_code second gs code =
@@ -218,9 +224,9 @@ among_of fs gs each j set = ⊎_elim within past (cases_lt j (length fs))
     past : length fs ≤ j → get_or gs j false ≡ true
     past beyond = absurd (false≢true (sym (get_or_past fs j false beyond) ∙ set))
 
-module _ (fences others : List (List Bool)) (s : SourceTest) (p q : ProgramTest) (starts begins : List (List ℕ)) where
+module _ (fences others : List (List Bool)) (s : SourceTest) (p q : X86Test) (starts begins : List (List ℕ)) where
   -- a test with more fences is that with fewer, with MFENCEs inserted
-  pub more_fences : AreAmong fences others
+  pub more_fences : AreSubset fences others
       → IsCompiledWith fences s p starts
       → IsCompiledWith others s q begins
       → IsFencedTest p q
@@ -234,9 +240,9 @@ module _ (fences others : List (List Bool)) (s : SourceTest) (p q : ProgramTest)
         let d_code = at_index q.threads t [] (omega (arith, within, c.as_many, d.as_many)) in
         let one = c.threads t _ _ _ code (at_index p.threads t [] within) c_starts in
         let other = d.threads t _ _ _ code d_code d_starts in
-        thread_fenced (code_of fences t) (code_of others t) (among_of _ _ (among t)) one other;
+        thread_fenced (thread_code fences t) (thread_code others t) (among_of _ _ (among t)) one other;
   }
 
 -- no fence at all is among any others
-pub none_among : (fences : List (List Bool)) → AreAmong [] fences
+pub none_among : (fences : List (List Bool)) → AreSubset [] fences
 none_among fences t j set = absurd cc

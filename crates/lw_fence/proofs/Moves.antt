@@ -1,41 +1,42 @@
 -- What one processor's events do over the flat memory, and one source thread's steps, within any whole state.
 use Rattle.lw_fence.proofs.Common.{◌≡◌, ℕ, List, [], ◌∷◌, ◌++◌, map, Some, refl, sym, ap, ◌∙◌, subst}
-use Rattle.lw_fence.proofs.Common.{slice_get, slice_set, set-set, map-append, Ran-append, code_of, Event}
-use Rattle.lw_fence.proofs.Common.{Step, Drain, flat, Memory, got_set_same, set_own, Stmt, source_operation}
-use Rattle.lw_fence.proofs.Common.{Thread, thread_after, words_after, State, SourceRan, carried_out, step_of}
-use Rattle.lw_fence.proofs.Common.{state_of, state_after, Instr, Processor, step_act, drain_act, MachineState}
-use Rattle.lw_fence.proofs.Common.{EventDone, MachineRan, Does, state, leads_from}
-use Rattle.lw_interleaving.specs.Runs.{SourceEventDone as SourceDone}
+use Rattle.lw_fence.proofs.Common.{slice_get, slice_set, set-set, map-append, RunsTo-append, thread_code}
+use Rattle.lw_fence.proofs.Common.{Event, Step, Drain, flat_memory, Memory, get-set_same, set-get_same, Stmt}
+use Rattle.lw_fence.proofs.Common.{source_operation, Thread, thread_after, words_after, State, SourceRunsTo}
+use Rattle.lw_fence.proofs.Common.{state_after_step, thread_step, state_of, state_after, Instr, Processor}
+use Rattle.lw_fence.proofs.Common.{step_effect, drain_effect, MachineState, MachineTransition, MachineRunsTo}
+use Rattle.lw_fence.proofs.Common.{EffectLeadsTo, state, event_of_effect}
+use Rattle.lw_interleaving.specs.Runs.{SourceTransition as SourceDone}
 
 -- a run of the machine, and a further one, are a run of both lists of events
 pub run_append : {M : Type 0} (mem : Memory M) (program : List (List Instr)) (es fs : List Event) (s mid end : MachineState M)
-    → MachineRan mem program es s mid
-    → MachineRan mem program fs mid end
-    → MachineRan mem program (es ++ fs) s end
-run_append mem program es fs s mid end r q = Ran-append (EventDone mem program) es fs s mid end r q
+    → MachineRunsTo mem program es s mid
+    → MachineRunsTo mem program fs mid end
+    → MachineRunsTo mem program (es ++ fs) s end
+run_append mem program es fs s mid end r q = RunsTo-append (MachineTransition mem program) es fs s mid end r q
 
 -- a run of the source by some steps, and a further one, are a run by both lists of steps
 pub source_append : (program : List (List Stmt)) (ts us : List ℕ) (s mid end : State)
-    → SourceRan program (map Step ts) s mid
-    → SourceRan program (map Step us) mid end
-    → SourceRan program (map Step (ts ++ us)) s end
+    → SourceRunsTo program (map Step ts) s mid
+    → SourceRunsTo program (map Step us) mid end
+    → SourceRunsTo program (map Step (ts ++ us)) s end
 source_append program ts us s mid end r q =
-    subst (λ (es : List Event). SourceRan program es s end) (sym (map-append Step ts us))
-    (Ran-append (SourceDone program) (map Step ts) (map Step us) s mid end r q)
+    subst (λ (es : List Event). SourceRunsTo program es s end) (sym (map-append Step ts us))
+    (RunsTo-append (SourceDone program) (map Step ts) (map Step us) s mid end r q)
 
 -- These events lead processor t from p to q, and the memory from m to n, whatever the other processors are.
 pub record Moves (program : List (List Instr)) (t : ℕ) (p : Processor) (m : List ℕ) (es : List Event) (q : Processor)
     (n : List ℕ) : Type 0 where
   pub on : (processors : List Processor)
       → slice_get processors t ≡ Some p
-      → MachineRan flat program es (state processors m) (state (slice_set processors t q) n)
+      → MachineRunsTo flat_memory program es (state processors m) (state (slice_set processors t q) n)
 
 -- Some steps of thread t lead it from th to `end`, and the memory from m to n, whatever the other threads are.
 pub record Turns (program : List (List Stmt)) (t : ℕ) (th : Thread) (m : List ℕ) (end : Thread) (n : List ℕ) : Type 0 where
   pub order : List ℕ
   pub on : (threads : List Thread)
       → slice_get threads t ≡ Some th
-      → SourceRan program (map Step order) (state_of threads m) (state_of (slice_set threads t end) n)
+      → SourceRunsTo program (map Step order) (state_of threads m) (state_of (slice_set threads t end) n)
 
 module _ (program : List (List Instr)) (t : ℕ) where
   -- what a processor moves by some events, and then by further ones, it moves by both lists of events
@@ -45,35 +46,35 @@ module _ (program : List (List Instr)) (t : ℕ) where
       → Moves program t p m (es ++ fs) r k
   moves_on p {q = q} r es {fs = fs} a b = record {
     on = λ processors was.
-        let second = b.on (slice_set processors t q) (got_set_same processors t q p was) in
-        run_append flat program es fs _ _ _ (a.on processors was) (rw (set-set processors t q r) at second);
+        let second = b.on (slice_set processors t q) (get-set_same processors t q p was) in
+        run_append flat_memory program es fs _ _ _ (a.on processors was) (rw (set-set processors t q r) at second);
   }
 
   -- what a processor's next instruction does is its step in the whole machine
   pub step_moves : (p q : Processor) (m n : List ℕ) {i : Instr}
-      → slice_get (code_of program t) p.position ≡ Some i
-      → Does m (step_act (Some i) p) q n
+      → slice_get (thread_code program t) p.position ≡ Some i
+      → EffectLeadsTo m (step_effect (Some i) p) q n
       → Moves program t p m (Step t ∷ []) q n
   step_moves p q m n next d = record {
     on = λ processors was. (
       state (slice_set processors t q) n,
-      leads_from program (Step t) _ p q m n was (subst (λ o. Does m (step_act o p) q n) (sym next) d),
+      event_of_effect program (Step t) _ p q m n was (subst (λ o. EffectLeadsTo m (step_effect o p) q n) (sym next) d),
       refl,
     );
   }
 
   -- what the drain of a processor's oldest entry does is its drain in the whole machine
   pub drain_moves : {p : Processor} (q : Processor) (m n : List ℕ)
-      → Does m (drain_act p.buffer p) q n
+      → EffectLeadsTo m (drain_effect p.buffer p) q n
       → Moves program t p m (Drain t ∷ []) q n
   drain_moves {p = p} q m n d = record {
-    on = λ processors was. (state (slice_set processors t q) n, leads_from program (Drain t) processors p q m n was d, refl);
+    on = λ processors was. (state (slice_set processors t q) n, event_of_effect program (Drain t) processors p q m n was d, refl);
   }
 
 module _ (program : List (List Stmt)) (t : ℕ) where
   -- a thread stays as it is by no steps
   pub turns_none : (th : Thread) (m : List ℕ) → Turns program t th m th m
-  turns_none th m = record { order = []; on = λ threads was. ap (λ l. state_of l m) (set_own _ t th was) }
+  turns_none th m = record { order = []; on = λ threads was. ap (λ l. state_of l m) (set-get_same _ t th was) }
 
   -- where a thread gets by some steps, and then by further ones, it gets by both lists of steps
   pub turns_on : (th : Thread) {mid : Thread} (end : Thread) (m n : List ℕ) {k : List ℕ}
@@ -84,18 +85,19 @@ module _ (program : List (List Stmt)) (t : ℕ) where
     order = a.order ++ b.order;
     on = λ threads was.
         let after = slice_set threads t mid in
-        let second = b.on after (got_set_same threads t mid th was) in
+        let second = b.on after (get-set_same threads t mid th was) in
         source_append program a.order b.order (state_of threads m) (state_of after n) _ (a.on threads was)
-        (subst (λ c. SourceRan program (map Step b.order) (state_of after n) (state_of c k)) (set-set threads t mid end) second);
+        (subst (λ c. SourceRunsTo program (map Step b.order) (state_of after n) (state_of c k)) (set-set threads t mid end)
+        second);
   }
 
   -- one step of a thread, by its next statement
   pub turn : (th : Thread) (m : List ℕ) (x : Stmt)
-      → slice_get (code_of program t) th.position ≡ Some x
+      → slice_get (thread_code program t) th.position ≡ Some x
       → Turns program t th m (thread_after (source_operation x) th m) (words_after (source_operation x) th m)
   turn th m x next = record {
     order = t ∷ [];
     on = λ threads was.
         let s = state_of threads m in
-        (state_after t th (source_operation x) s, ap (step_of program t s) was ∙ ap (carried_out t th s) next, refl);
+        (state_after t th (source_operation x) s, ap (thread_step program t s) was ∙ ap (state_after_step t th s) next, refl);
   }

@@ -1,7 +1,7 @@
 -- Where no statement needs a fence, the compiled program is the one without fences.
 use Rattle.lw_fence.proofs.Common.{◌≡◌, ◌↔◌, ℕ, zero, suc, ◌+◌, List, [], ◌∷◌, ◌++◌, length, replicate, Some}
 use Rattle.lw_fence.proofs.Common.{Bool, true, false, sym, refl, ap, ◌∙◌, subst, length-replicate, slice_get}
-use Rattle.lw_fence.proofs.Common.{get_or_from_slice_get, Stmt, Instr, SourceTest, ProgramTest, lowered}
+use Rattle.lw_fence.proofs.Common.{get_or_from_slice_get, Stmt, Instr, SourceTest, X86Test, lowered}
 use Rattle.lw_fence.proofs.Common.{instrs_of, lowered_code, starts_from, IsCompiledThread, IsCompiled}
 use Rattle.lw_fence.proofs.Common.{IsThreadWith, NeedsFence, IsCompiledWithoutFences, NeedsNoFence}
 
@@ -56,7 +56,7 @@ module _ (code : List Stmt) (needless : (j : ℕ) → NeedsFence code j → ⊥)
         instrs_are = c.instrs_are ∙ lowered_code_none starts c.fences code none;
       }
 
-module _ (s : SourceTest) (p : ProgramTest) (starts : List (List ℕ)) (needless : NeedsNoFence s) where
+module _ (s : SourceTest) (p : X86Test) (starts : List (List ℕ)) (needless : NeedsNoFence s) where
   needless_at : (t : ℕ) (code : List Stmt) → slice_get s.threads t ≡ Some code → (j : ℕ) → NeedsFence code j → ⊥
   needless_at t code at =
       subst (λ (c : List Stmt). (j : ℕ) → NeedsFence c j → ⊥) (get_or_from_slice_get s.threads t code [] at) (needless t)

@@ -1,7 +1,7 @@
 -- A source has at most one compiled program.
 use Rattle.lw_fence.proofs.Common.{◌≡◌, ℕ, suc, List, [], ◌∷◌, length, Some, Bool, true, false, refl, sym, ap}
 use Rattle.lw_fence.proofs.Common.{ap₂, ◌∙◌, arith, slice_get, slice_get_within, get_some, Instr, Stmt}
-use Rattle.lw_fence.proofs.Common.{SourceTest, ProgramTest, lowered_code, starts_from, IsCompiledThread}
+use Rattle.lw_fence.proofs.Common.{SourceTest, X86Test, lowered_code, starts_from, IsCompiledThread}
 use Rattle.lw_fence.proofs.Common.{IsCompiled}
 
 -- two lists of as many items, the same at each index, are one
@@ -43,7 +43,7 @@ module _ (code : List Stmt) (instrs others : List Instr) (starts begins : List �
   one_code : instrs ≡ others
   one_code = c.instrs_are ∙ ap₂ (λ s fs. lowered_code s fs code) one_start fences ∙ sym d.instrs_are
 
-module _ (s : SourceTest) (p q : ProgramTest) (starts begins : List (List ℕ)) (c : IsCompiled s p starts)
+module _ (s : SourceTest) (p q : X86Test) (starts begins : List (List ℕ)) (c : IsCompiled s p starts)
     (d : IsCompiled s q begins) where
   threads : p.threads ≡ q.threads
   threads = same_lists p.threads q.threads (c.as_many ∙ sym d.as_many) same
@@ -75,4 +75,4 @@ module _ (s : SourceTest) (p q : ProgramTest) (starts begins : List (List ℕ)) 
       heads = c.head ∙ sym d.head
 
       same_test : p ≡ q
-      same_test = ap₂ (λ h ts. let t : ProgramTest = record { head = h; threads = ts } in t) heads threads
+      same_test = ap₂ (λ h ts. let t : X86Test = record { head = h; threads = ts } in t) heads threads

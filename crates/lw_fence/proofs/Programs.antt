@@ -3,13 +3,14 @@ use Rattle.lw_fence.proofs.Common.{◌≡◌, ℕ, zero, suc, ◌+◌, ◌-◌, 
 use Rattle.lw_fence.proofs.Common.{None, Bool, refl, sym, ap, ◌∙◌, subst, subst₂, ⊎_elim, arith, slice_get}
 use Rattle.lw_fence.proofs.Common.{slice_index, All, slice_index_or, ForSome, cases_eq, cases_lt, All-nil}
 use Rattle.lw_fence.proofs.Common.{All-cons, same_Some, none-some, slice_get_within, get_or_from_slice_get}
-use Rattle.lw_fence.proofs.Common.{TestHead, code_of, IsWordNumber, IsRegisterIndex, IsWellFormedHead, X86}
-use Rattle.lw_fence.proofs.Common.{Operand, Register, Number, IsStatement, IsThread, get_some, at_index, Stmt}
-use Rattle.lw_fence.proofs.Common.{Store, Load, Swap, FetchAdd, Set, Sum, IfEq, IfNe, Goto, operand_registers}
-use Rattle.lw_fence.proofs.Common.{operand_numbers, target_of, source, source_operation, IsWellFormedSource}
-use Rattle.lw_fence.proofs.Common.{IsWellFormedProgram, SourceTest, ProgramTest, Instr, x86, One, Two, moved}
-use Rattle.lw_fence.proofs.Common.{compared, lowered, instrs_of, IsCompiledThread, IsCompiled}
-use Rattle.lw_fence.proofs.Placed.{chosen, StandsAt, Laid, LaidOut, laid_out}
+use Rattle.lw_fence.proofs.Common.{TestHead, thread_code, IsWordNumber, IsRegisterIndex, IsWellFormedHead}
+use Rattle.lw_fence.proofs.Common.{X86, Operand, Register, Number, IsWellFormedStatement, IsWellFormedThread}
+use Rattle.lw_fence.proofs.Common.{get_some, at_index, Stmt, Store, Load, Swap, FetchAdd, Set, Sum, IfEq}
+use Rattle.lw_fence.proofs.Common.{IfNe, Goto, operand_registers, operand_numbers, branch_target}
+use Rattle.lw_fence.proofs.Common.{source_language, source_operation, IsWellFormedSource, IsWellFormedProgram}
+use Rattle.lw_fence.proofs.Common.{SourceTest, X86Test, Instr, x86_language, One, Two, with_move_if}
+use Rattle.lw_fence.proofs.Common.{lower_compare, lowered, instrs_of, IsCompiledThread, IsCompiled}
+use Rattle.lw_fence.proofs.CodeLayout.{chosen, StandsAt, Laid, LaidOut, laid_out}
 use Rattle.lw_litmus.specs.declared.instr.Instr.TheVariants as instr
 use Rattle.lw_litmus.specs.Programs as programs
 
@@ -43,10 +44,15 @@ in_lowered P instrs k (y ∷ is) j i all at =
 module _ (locs l n : ℕ) (starts : List ℕ) where
   -- what the instruction of this number has to be
   abbrev Fits : ℕ → Instr → Type 0
-  Fits k i = IsStatement x86 locs i × ForSome (target_of (programs.x86_operation i)) (λ to. (k < to) × (to ≤ l))
+  Fits k i =
+      IsWellFormedStatement x86_language locs i × ForSome (branch_target (programs.x86_operation i)) (λ to. (k < to) × (to ≤ l))
 
   -- it leads nowhere but to the next
-  goes_on : (i : Instr) → target_of (programs.x86_operation i) ≡ None → IsStatement x86 locs i → (k : ℕ) → Fits k i
+  goes_on : (i : Instr)
+      → branch_target (programs.x86_operation i) ≡ None
+      → IsWellFormedStatement x86_language locs i
+      → (k : ℕ)
+      → Fits k i
   goes_on i none ok k = (ok, λ to e. absurd (none-some to (sym none ∙ e)))
 
   no_location : ForSome None (λ x. x < locs)
@@ -71,7 +77,7 @@ module _ (locs l n : ℕ) (starts : List ℕ) where
       → IsRegisterIndex d
       → IsRegisterIndex a
       → ((m : ℕ) → Fits m last)
-      → AllAt Fits k (instrs_of (moved d a last))
+      → AllAt Fits k (instrs_of (with_move_if d a last))
   moved_fits d a k last d_there a_there fits =
       let moves = goes_on (instr.Set d (Register a)) refl (no_location, two d a d_there a_there, All-nil _) in
       chosen (λ r. AllAt Fits k (instrs_of r)) (d == a) (One last) (Two (instr.Set d (Register a)) last) (λ is. (fits k, tt))
@@ -92,8 +98,8 @@ module _ (locs l n : ℕ) (starts : List ℕ) where
 
   -- a jump to where the target of the statement of number j starts
   jump_fits : (i : Instr) (j k end to : ℕ)
-      → IsStatement x86 locs i
-      → target_of (programs.x86_operation i) ≡ Some (slice_index starts to)
+      → IsWellFormedStatement x86_language locs i
+      → branch_target (programs.x86_operation i) ≡ Some (slice_index starts to)
       → ForSome (Some to) (λ to. (j < to) × (to ≤ n))
       → Reaches j end
       → k < end
@@ -104,8 +110,8 @@ module _ (locs l n : ℕ) (starts : List ℕ) where
 
   -- the lowering of the statement of number j, which starts at k
   lowered_fits : (f : Bool) (x : Stmt) (j k : ℕ)
-      → IsStatement source locs x
-      → ForSome (target_of (source_operation x)) (λ to. (j < to) × (to ≤ n))
+      → IsWellFormedStatement source_language locs x
+      → ForSome (branch_target (source_operation x)) (λ to. (j < to) × (to ≤ n))
       → Reaches j (k + length (instrs_of (lowered starts f x)))
       → AllAt Fits k (instrs_of (lowered starts f x))
   lowered_fits f (Store x v) j k ok forward reaches = (goes_on (instr.Store x v) refl ok k, tt)
@@ -128,16 +134,16 @@ module _ (locs l n : ℕ) (starts : List ℕ) where
   lowered_fits f (Sum d a (Register b)) j k ok forward reaches =
       let d_there : IsRegisterIndex d = ok.1 0 0 (omega arith) in
       let a_there : IsRegisterIndex a = ok.1 1 0 (omega arith) in
-      chosen (λ r. AllAt Fits k (instrs_of r)) (d == b) (One (instr.Add d (Register a))) (moved d a (instr.Add d (Register b)))
-      (λ is. (added_fits d (Register a) d_there (one a a_there) ok.2 k, tt)) (λ is.
+      chosen (λ r. AllAt Fits k (instrs_of r)) (d == b) (One (instr.Add d (Register a)))
+      (with_move_if d a (instr.Add d (Register b))) (λ is. (added_fits d (Register a) d_there (one a a_there) ok.2 k, tt)) (λ is.
       moved_fits d a k (instr.Add d (Register b)) d_there a_there
       (added_fits d (Register b) d_there (one b (ok.1 2 0 (omega arith))) ok.2))
   lowered_fits f (IfEq r m to) j k ok forward reaches = (
-    goes_on (compared r m) refl ok k,
+    goes_on (lower_compare r m) refl ok k,
     (jump_fits (instr.Je (slice_index starts to)) j (k + 1) (k + 2) to bare refl forward reaches (omega arith), tt),
   )
   lowered_fits f (IfNe r m to) j k ok forward reaches = (
-    goes_on (compared r m) refl ok k,
+    goes_on (lower_compare r m) refl ok k,
     (jump_fits (instr.Jne (slice_index starts to)) j (k + 1) (k + 2) to bare refl forward reaches (omega arith), tt),
   )
   lowered_fits f (Goto to) j k ok forward reaches =
@@ -148,7 +154,7 @@ all_at : {X : Type 0} (P : X → Type 0) (xs : List X) (k : ℕ) (x : X) → All
 all_at P xs k x all e = subst P (get_or_from_slice_get xs k x x e) (all k x (slice_get_within xs k x e))
 
 -- A compiled thread.
-module _ (locs : ℕ) (code : List Stmt) (instrs : List Instr) (starts : List ℕ) (ok : IsThread source locs code)
+module _ (locs : ℕ) (code : List Stmt) (instrs : List Instr) (starts : List ℕ) (ok : IsWellFormedThread source_language locs code)
     (stands : Laid code instrs starts) where
   abbrev start : ℕ → ℕ
   start k = slice_index starts k
@@ -184,14 +190,14 @@ module _ (locs : ℕ) (code : List Stmt) (instrs : List Instr) (starts : List �
           let r = subst (λ b. Reaches locs (length instrs) (length code) starts k b) s.next (reaches k) in
           let each =
           lowered_fits locs (length instrs) (length code) starts s.fence x.0 k (start k)
-          (all_at (IsStatement source locs) code k x.0 ok.there x.1) (ok.forward k x.0 x.1) r in
+          (all_at (IsWellFormedStatement source_language locs) code k x.0 ok.there x.1) (ok.forward k x.0 x.1) r in
           in_lowered FitsHere instrs (start k) (instrs_of (lowered starts s.fence x.0)) j i each
           (record { lowering = s.has; from = late; before = omega (arith, s.next, ap start next); here = e })
 
   fits : (j : ℕ) (i : Instr) → slice_get instrs j ≡ Some i → FitsHere j i
   fits j i e = below (length code) (omega arith) j i (subst (λ n. j < n) (sym stands.last) (slice_get_within instrs j i e)) e
 
-  is_thread : IsThread x86 locs instrs
+  is_thread : IsWellFormedThread x86_language locs instrs
   is_thread = record {
     short = omega (arith, stands.short, ok.short);
     there = λ j d lt. (fits j _ (at_index instrs j d lt)).0;
@@ -217,7 +223,7 @@ in_x86 ok = record {
 }
 
 -- what is laid out of a well-formed source, whatever its fences, is a well-formed program
-pub laid_program : (s : SourceTest) (p : ProgramTest) (starts : List (List ℕ))
+pub laid_program : (s : SourceTest) (p : X86Test) (starts : List (List ℕ))
     → IsWellFormedSource s
     → LaidOut s p starts
     → IsWellFormedProgram p
@@ -226,20 +232,22 @@ laid_program s p starts ok laid = record {
   arch = ap (λ (h : TestHead). h.arch) laid.head;
   as_many = laid.as_many ∙ ok.as_many ∙ sym (ap (λ (h : TestHead). h.threads) laid.head);
   code = λ t d lt.
-      subst (λ (h : TestHead). IsThread x86 (length h.locs) (slice_index_or p.threads t d)) (sym laid.head)
+      subst (λ (h : TestHead). IsWellFormedThread x86_language (length h.locs) (slice_index_or p.threads t d)) (sym laid.head)
       (at t _ (at_index p.threads t d lt));
 }
   where
-    at : (t : ℕ) (instrs : List Instr) → slice_get p.threads t ≡ Some instrs → IsThread x86 (length s.head.locs) instrs
+    at : (t : ℕ) (instrs : List Instr)
+        → slice_get p.threads t ≡ Some instrs
+        → IsWellFormedThread x86_language (length s.head.locs) instrs
     at t instrs e =
         let within : t < length s.threads = omega (arith, slice_get_within p.threads t instrs e, laid.as_many) in
         let thread =
-        is_thread (length s.head.locs) (code_of s.threads t) (code_of p.threads t) (code_of starts t) (ok.code t [] within)
-        (laid.at t within) in
-        subst (IsThread x86 (length s.head.locs)) (get_or_from_slice_get p.threads t instrs [] e) thread
+        is_thread (length s.head.locs) (thread_code s.threads t) (thread_code p.threads t) (thread_code starts t)
+        (ok.code t [] within) (laid.at t within) in
+        subst (IsWellFormedThread x86_language (length s.head.locs)) (get_or_from_slice_get p.threads t instrs [] e) thread
 
 -- what a well-formed source is compiled to is a well-formed program
-pub is_program : (s : SourceTest) (p : ProgramTest) (starts : List (List ℕ))
+pub is_program : (s : SourceTest) (p : X86Test) (starts : List (List ℕ))
     → IsWellFormedSource s
     → IsCompiled s p starts
     → IsWellFormedProgram p

@@ -3,12 +3,12 @@ use Rattle.lw_fence.proofs.Common.{◌≡◌, ℕ, ◌+◌, ◌-◌, ◌<◌, �
 use Rattle.lw_fence.proofs.Common.{take, take-append_seam, OnErr, replicate, Some, Ok, Err, is_ok, sym, ap}
 use Rattle.lw_fence.proofs.Common.{ap₂, ◌∙◌, subst, ◌⊎◌, inl, inr, arith, append_assoc, if◌then◌else◌}
 use Rattle.lw_fence.proofs.Common.{slice_get, slice_index, slice_index_or, IsOk, cases_lt, drop_more}
-use Rattle.lw_fence.proofs.Common.{get_or_read, get_or_past, slice_get_within, same_Some, code_of, Event}
-use Rattle.lw_fence.proofs.Common.{Step, Drain, Stop, get_some, at_index, Stmt, Thread, SourceTest}
-use Rattle.lw_fence.proofs.Common.{ProgramTest, State, SourceRan, SourceRunState, Answers, source_step}
-use Rattle.lw_fence.proofs.Common.{stepped, is_store, source_operation, IsCompiled, statement_events}
-use Rattle.lw_fence.proofs.Common.{thread_events, after_step, schedule, got_map}
-use Rattle.lw_fence.proofs.Placed.{placed_at, starts_many}
+use Rattle.lw_fence.proofs.Common.{get_or_read, get_or_past, slice_get_within, same_Some, thread_code, Event}
+use Rattle.lw_fence.proofs.Common.{Step, Drain, Stop, get_some, at_index, Stmt, Thread, SourceTest, X86Test}
+use Rattle.lw_fence.proofs.Common.{State, SourceRunsTo, SourceRunState, IsStepResult, source_step}
+use Rattle.lw_fence.proofs.Common.{step-decompose, is_store, source_operation, IsCompiled, statement_events}
+use Rattle.lw_fence.proofs.Common.{thread_events, after_step, compiled_schedule, get-map}
+use Rattle.lw_fence.proofs.CodeLayout.{placed_at, starts_many}
 
 -- If a call is refused that has pushed `more` behind the old events, the old ones are still the first.
 pub kept : {T E : Type 0} (r : Result T E) (old more : List Event) {new : List Event}
@@ -24,14 +24,14 @@ pub code_read : {X : Type 0} (program : List (List X)) {lists : List (List X)} (
     → t < length program
     → list ≡ slice_index_or lists i list
     → code ≡ list
-    → code ≡ code_of program t
+    → code ≡ thread_code program t
 code_read {X} program t list same index within is read =
     let at = is ∙ ap₂ (λ (l : List (List X)) (k : ℕ). slice_index_or l k list) same index in
     read ∙ get_or_read program t list within at []
 
 -- a thread that has a statement at this index is one of the program
 pub thread_of_index : {X : Type 0} (program : List (List X)) (t index : ℕ)
-    → index < length (code_of program t)
+    → index < length (thread_code program t)
     → t < length program
 thread_of_index program t index there = elim (cases_lt t (length program)) [
   | inl lt ↦ lt
@@ -41,14 +41,14 @@ thread_of_index program t index there = elim (cases_lt t (length program)) [
 -- The starts that were read, `begins`, are those of thread t, and have the start of its statement at `index`, and the next one.
 pub record HasStart (program : List (List Stmt)) (starts : List (List ℕ)) (t index : ℕ) (begins : List ℕ) : Type 0 where
   pub within : t < length program
-  pub same : begins ≡ code_of starts t
+  pub same : begins ≡ thread_code starts t
   pub next : index + 1 < length begins
   pub grows : slice_index begins index ≤ slice_index begins (index + 1)
 
 -- the starts that are read for a statement of a compiled source are its thread's
-pub has_start : {s : SourceTest} {p : ProgramTest} {starts lists : List (List ℕ)} {t i index : ℕ} {begins list : List ℕ}
+pub has_start : {s : SourceTest} {p : X86Test} {starts lists : List (List ℕ)} {t i index : ℕ} {begins list : List ℕ}
     → IsCompiled s p starts
-    → index < length (code_of s.threads t)
+    → index < length (thread_code s.threads t)
     → lists ≡ starts
     → i ≡ t
     → list ≡ slice_index_or lists i list
@@ -60,14 +60,14 @@ has_start {s = s} {p = p} {starts = starts} {t = t} {index = index} {begins = be
     go : (t < length s.threads) ⊎ (length s.threads ≤ t) → HasStart s.threads starts t index begins
     go (inr past) = absurd (omega (arith, there, ap length (get_or_past s.threads t [] past)))
     go (inl within) =
-        let stmt = get_some (code_of s.threads t) index there in
+        let stmt = get_some (thread_code s.threads t) index there in
         let stands = (placed_at s p starts compiled t within).laid.at index stmt.0 stmt.1 in
         let own = at_index starts t [] (omega (arith, compiled.as_many_starts)) in
         let thread =
-        compiled.threads t (code_of s.threads t) _ _ (at_index s.threads t [] within)
+        compiled.threads t (thread_code s.threads t) _ _ (at_index s.threads t [] within)
         (at_index p.threads t [] (omega (arith, compiled.as_many))) own in
         let here = code_read starts t list same at (omega (arith, within, compiled.as_many_starts)) is read in
-        let many = starts_many 0 thread.fences (code_of s.threads t) in
+        let many = starts_many 0 thread.fences (thread_code s.threads t) in
         record {
           within = within;
           same = here;
@@ -78,11 +78,11 @@ has_start {s = s} {p = p} {starts = starts} {t = t} {index = index} {begins = be
 -- the events that are pushed for a statement are those by which it is carried out
 pub events_of_statement : (t index : ℕ) (program : List (List Stmt)) (starts : List (List ℕ)) {code : List Stmt} {begins : List ℕ}
     {stmt : Stmt}
-    → code ≡ code_of program t
-    → begins ≡ code_of starts t
+    → code ≡ thread_code program t
+    → begins ≡ thread_code starts t
     → index < length code
     → stmt ≡ slice_index_or code index stmt
-    → statement_events t (code_of starts t) index (slice_get (code_of program t) index)
+    → statement_events t (thread_code starts t) index (slice_get (thread_code program t) index)
     ≡ replicate (slice_index begins (index + 1) - slice_index begins index) (Step t)
     ++ (if is_store (source_operation stmt) then Drain t ∷ [] else [])
 events_of_statement t index program starts {code = code} {stmt = stmt} same begin there is =
@@ -91,7 +91,7 @@ events_of_statement t index program starts {code = code} {stmt = stmt} same begi
 
 -- a step that is possible is answered by no stop
 pub answered_ok : (step : Result State Stop) (answer : Result (Unit {0}) Stop) (before after : SourceRunState) (mid : State)
-    → Answers step answer before after
+    → IsStepResult step answer before after
     → step ≡ Ok mid
     → IsOk answer
 answered_ok (Ok s) answer before after mid done e = ap is_ok done.0
@@ -101,10 +101,10 @@ answered_ok (Err stop) answer before after mid done e = absurd (let bad : Err st
 pub record Turn (program : List (List Stmt)) (order : List ℕ) (i t : ℕ) (s : State) : Type 0 where
   pub mid : State
   pub step : source_step program t s ≡ Ok mid
-  pub more : (end : State) × SourceRan program (map Step (drop (i + 1) order)) mid end
+  pub more : (end : State) × SourceRunsTo program (map Step (drop (i + 1) order)) mid end
   pub thread : Thread
   pub was : slice_get s.threads t ≡ Some thread
-  pub there : thread.position < length (code_of program t)
+  pub there : thread.position < length (thread_code program t)
 
 module _ (program : List (List Stmt)) (order : List ℕ) (i t : ℕ) (within : i < length order)
     (is : t ≡ slice_index_or order i t) where
@@ -112,17 +112,17 @@ module _ (program : List (List Stmt)) (order : List ℕ) (i t : ℕ) (within : i
   next_is = drop_more order i t within ∙ ap (λ (u : ℕ). u ∷ drop (i + 1) order) (sym is)
 
   -- the next step of a run is its thread's turn: of the rest of the order, its first step and those behind it
-  pub next_turn : (s : State) → (end : State) × SourceRan program (map Step (drop i order)) s end → Turn program order i t s
+  pub next_turn : (s : State) → (end : State) × SourceRunsTo program (map Step (drop i order)) s end → Turn program order i t s
   next_turn s possible =
-      let ran = subst (λ (ts : List ℕ). SourceRan program (map Step ts) s possible.0) next_is possible.1 in
-      let d = stepped program t s ran.0 ran.1 in
+      let ran = subst (λ (ts : List ℕ). SourceRunsTo program (map Step ts) s possible.0) next_is possible.1 in
+      let d = step-decompose program t s ran.0 ran.1 in
       record {
         mid = ran.0;
         step = ran.1;
         more = (possible.0, ran.2);
         thread = d.thread;
         was = d.was;
-        there = slice_get_within (code_of program t) d.thread.position d.stmt d.at;
+        there = slice_get_within (thread_code program t) d.thread.position d.stmt d.at;
       }
 
   -- the position that is read for a thread is where it stands
@@ -130,23 +130,25 @@ module _ (program : List (List Stmt)) (order : List ℕ) (i t : ℕ) (within : i
       → slice_get (map (λ (th : Thread). th.position) s.threads) t ≡ Some index
       → index ≡ turn.thread.position
   placed_in s turn index at =
-      let a = got_map (λ (th : Thread). th.position) s.threads t index at in
+      let a = get-map (λ (th : Thread). th.position) s.threads t index at in
       a.2 ∙ ap (λ (th : Thread). th.position) (same_Some a.0 turn.thread (sym a.1 ∙ turn.was))
 
   -- the events of thread t for the statement of this number
   abbrev Events : List (List ℕ) → ℕ → List Event
-  Events starts index = statement_events t (code_of starts t) index (slice_get (code_of program t) index)
+  Events starts index = statement_events t (thread_code starts t) index (slice_get (thread_code program t) index)
 
   -- the schedule from here, by this step's events
   schedule_next : (starts : List (List ℕ)) (s : State) {mid : State} (index : ℕ)
       → slice_get (map (λ (th : Thread). th.position) s.threads) t ≡ Some index
       → source_step program t s ≡ Ok mid
-      → schedule program starts (drop i order) s ≡ Events starts index ++ schedule program starts (drop (i + 1) order) mid
+      → compiled_schedule program starts (drop i order) s
+      ≡ Events starts index ++ compiled_schedule program starts (drop (i + 1) order) mid
   schedule_next starts s index at step =
-      let a = got_map (λ (th : Thread). th.position) s.threads t index at in
+      let a = get-map (λ (th : Thread). th.position) s.threads t index at in
       let events = ap (thread_events program starts t) a.1 ∙ ap (Events starts) (sym a.2) in
-      ap (λ (ts : List ℕ). schedule program starts ts s) next_is
-      ∙ ap₂ (λ (es : List Event) (o : Result State Stop). es ++ after_step o (schedule program starts (drop (i + 1) order)))
+      ap (λ (ts : List ℕ). compiled_schedule program starts ts s) next_is
+      ∙ ap₂
+      (λ (es : List Event) (o : Result State Stop). es ++ after_step o (compiled_schedule program starts (drop (i + 1) order)))
       events step
 
   -- if the events pushed so far and those to come are the whole, so they are when those of the order's next thread are pushed
@@ -154,10 +156,10 @@ module _ (program : List (List Stmt)) (order : List ℕ) (i t : ℕ) (within : i
       → slice_get (map (λ (th : Thread). th.position) s.threads) t ≡ Some index
       → source_step program t s ≡ Ok mid
       → more ≡ events ++ Events starts index
-      → events ++ schedule program starts (drop i order) s ≡ whole
-      → more ++ schedule program starts (drop (i + 1) order) mid ≡ whole
+      → events ++ compiled_schedule program starts (drop i order) s ≡ whole
+      → more ++ compiled_schedule program starts (drop (i + 1) order) mid ≡ whole
   one_further starts s mid index events at step pushed so_far =
-      let rest = schedule program starts (drop (i + 1) order) mid in
+      let rest = compiled_schedule program starts (drop (i + 1) order) mid in
       ap (λ (es : List Event). es ++ rest) pushed
       ∙ append_assoc events (Events starts index) rest
       ∙ ap (λ (es : List Event). events ++ es) (sym (schedule_next starts s index at step))

@@ -1,18 +1,19 @@
 -- A well-formed source has a compiled program.
 use Rattle.lw_fence.proofs.Common.{◌≡◌, ℕ, zero, suc, ◌<◌, ◌≤◌, List, [], ◌∷◌, ◌++◌, length, replicate, Some}
 use Rattle.lw_fence.proofs.Common.{Bool, false, ◌&&◌, if◌then◌else◌, refl, subst, arith, slice_get}
-use Rattle.lw_fence.proofs.Common.{slice_index_or, ForSome, code_of, get_some, at_index, Instr, Stmt}
-use Rattle.lw_fence.proofs.Common.{target_of, is_load, source_operation, SourceTest, ProgramTest}
+use Rattle.lw_fence.proofs.Common.{slice_index_or, ForSome, thread_code, get_some, at_index, Instr, Stmt}
+use Rattle.lw_fence.proofs.Common.{branch_target, is_load, source_operation, SourceTest, X86Test}
 use Rattle.lw_fence.proofs.Common.{IsWellFormedSource, lowered_code, starts_from, IsCompiledThread}
-use Rattle.lw_fence.proofs.Common.{IsCompiled, may_wait, marked_behind}
+use Rattle.lw_fence.proofs.Common.{IsCompiled, may_wait, mark_successors}
 use Rattle.lw_fence.proofs.CompiledThreads.{AreCompiled, none_compiled, one_compiled}
 use Rattle.lw_fence.proofs.FencesFound.{Found, found_none, found_more, needed}
 use Rattle.lw_fence.proofs.Marks.{Marked, at, mark_step, marked_behind_stores, first_marks}
 use Rattle.lw_fence.proofs.Programs.{compiled_of}
 
-module _ (code : List Stmt) (ok : (j : ℕ) (x : Stmt)
+module _ (code : List Stmt)
+    (ok : (j : ℕ) (x : Stmt)
     → slice_get code j ≡ Some x
-    → ForSome (target_of (source_operation x)) (λ to. (j < to) × (to ≤ length code))) where
+    → ForSome (branch_target (source_operation x)) (λ to. (j < to) × (to ≤ length code))) where
   -- the marks behind the first statements
   marks_behind : (i : ℕ) → i ≤ length code → (marks : List Bool) × Marked code i marks
   marks_behind zero le = (replicate (suc (length code)) false, first_marks code ok)
@@ -21,7 +22,7 @@ module _ (code : List Stmt) (ok : (j : ℕ) (x : Stmt)
       let x = get_some code i (omega arith) in
       let b : Bool = may_wait (source_operation x.0) (at m.0 i) in (
         _,
-        subst (λ k. Marked code k (if b then marked_behind (source_operation x.0) i m.0 else m.0)) (omega arith)
+        subst (λ k. Marked code k (if b then mark_successors (source_operation x.0) i m.0 else m.0)) (omega arith)
             (mark_step code ok i x.0 m.0 b x.1 refl m.1),
       )
 
@@ -55,8 +56,8 @@ module _ (code : List Stmt) (ok : (j : ℕ) (x : Stmt)
 module _ (s : SourceTest) (ok : IsWellFormedSource s) where
   thread_of : (t : ℕ)
       → t < length s.threads
-      → (instrs : List Instr) × (starts : List ℕ) × IsCompiledThread (code_of s.threads t) instrs starts
-  thread_of t lt = some_thread (code_of s.threads t) (ok.code t [] lt).forward
+      → (instrs : List Instr) × (starts : List ℕ) × IsCompiledThread (thread_code s.threads t) instrs starts
+  thread_of t lt = some_thread (thread_code s.threads t) (ok.code t [] lt).forward
 
   threads_before : (n : ℕ)
       → n ≤ length s.threads
@@ -71,7 +72,7 @@ module _ (s : SourceTest) (ok : IsWellFormedSource s) where
       (threads, starts, subst (λ k. AreCompiled s.threads k threads starts) (omega arith) all)
 
   -- there are a program and its starts to which the source is compiled
-  pub some_program : (p : ProgramTest) × (starts : List (List ℕ)) × IsCompiled s p starts
+  pub some_program : (p : X86Test) × (starts : List (List ℕ)) × IsCompiled s p starts
   some_program =
       let all = threads_before (length s.threads) (omega arith) in
       (_, all.1, compiled_of refl all.2.as_many all.2.as_many_starts all.2.each)

@@ -1,12 +1,12 @@
 -- A processor with an empty buffer carries out a statement by its lowering, and then a drain where it is a store.
 use Rattle.lw_fence.proofs.Common.{◌≡◌, ℕ, List, [], ◌∷◌, ◌++◌, length, replicate, Some, Bool, false, refl}
 use Rattle.lw_fence.proofs.Common.{sym, ap, ◌∙◌, subst, subst₂, if◌then◌else◌, slice_get, slice_set}
-use Rattle.lw_fence.proofs.Common.{slice_index, append-nil, code_of, value_of, Event, Step, Drain, Instr}
-use Rattle.lw_fence.proofs.Common.{Stmt, is_store, source_operation, Thread, thread_after, words_after}
+use Rattle.lw_fence.proofs.Common.{slice_index, append-nil, thread_code, operand_value, Event, Step, Drain}
+use Rattle.lw_fence.proofs.Common.{Instr, Stmt, is_store, source_operation, Thread, thread_after, words_after}
 use Rattle.lw_fence.proofs.Common.{words_alone, Processor, Lowered, One, Two, lowered, instrs_of, can_step}
 use Rattle.lw_fence.proofs.Carried.{Stored, apart, buffered, at_once, Carried, Serves, quiet, lowered_serves}
 use Rattle.lw_fence.proofs.Moves.{Moves, moves_on, step_moves, drain_moves}
-use Rattle.lw_fence.proofs.Placed.{StandsAt, Stands}
+use Rattle.lw_fence.proofs.CodeLayout.{StandsAt, Stands}
 use Rattle.lw_fence.proofs.Steps.{Allowed}
 use Rattle.lw_litmus.specs.Programs as programs
 
@@ -76,11 +76,11 @@ module _ (program : List (List Instr)) (t : ℕ) (starts : List ℕ) (th : Threa
       go (buffered y w is more same) =
           subst₂ (λ l k. Moves program t begin m l (left []) k)
           (sym (ap (λ s. es ++ drains t (is_store (source_operation s))) is))
-          (ap (λ k. slice_set k y (value_of w th.regs)) same ∙ sym (ap (λ s. words_after (source_operation s) th m) is))
+          (ap (λ k. slice_set k y (operand_value w th.regs)) same ∙ sym (ap (λ s. words_after (source_operation s) th m) is))
           (moves_on _ t _ (left []) es (there _ more) (drain_moves _ t (left []) n _ (refl, refl)))
 
   lowered_turned : (r : Lowered)
-      → StandsAt (code_of program t) (slice_index starts th.position) (instrs_of r)
+      → StandsAt (thread_code program t) (slice_index starts th.position) (instrs_of r)
       → Serves starts th x begin r
       → Turned program t starts th z m x (events_for t (length (instrs_of r)) x)
   lowered_turned (One i) has ends =
@@ -91,7 +91,7 @@ module _ (program : List (List Instr)) (t : ℕ) (starts : List ℕ) (th : Threa
       let l = leads m a.0 a.1 a.2 in
       let b = can_step (programs.x86_operation j) a.0 m (λ waits. l.0.buffer) in
       let first = subst (λ k. Moves program t begin m (Step t ∷ []) a.0 k) l.1 (step_moves program t begin a.0 m a.1 has.0 a.2) in
-      let at = subst (λ k. slice_get (code_of program t) k ≡ Some j) (sym l.0.position) has.1.0 in
+      let at = subst (λ k. slice_get (thread_code program t) k ≡ Some j) (sym l.0.position) has.1.0 in
       arrived b.0 b.1 (moves_on program t begin b.0 (Step t ∷ []) first (step_moves program t a.0 b.0 m b.1 at b.2))
       (rw l.0.buffer at (l.0.ends.carries a.0.buffer m (λ e. l.0.buffer) b.0 b.1 b.2))
 
@@ -99,7 +99,7 @@ module _ (program : List (List Instr)) (t : ℕ) (starts : List ℕ) (th : Threa
   pub statement_turned : {code : List Stmt}
       → Allowed code th.position x
       → length th.regs ≡ 6
-      → (s : Stands (code_of program t) starts th.position x)
+      → (s : Stands (thread_code program t) starts th.position x)
       → Turned program t starts th z m x (events_for t (length (instrs_of (lowered starts s.fence x))) x)
   statement_turned ok six s =
       lowered_turned (lowered starts s.fence x) s.has

@@ -1,37 +1,39 @@
 -- What the threads of a well-formed source keep, step by step.
 use Rattle.lw_fence.proofs.Common.{◌≡◌, ℕ, ◌<◌, ◌≤◌, List, [], length, Some, refl, ap, ◌∙◌, subst, ⊎_elim}
 use Rattle.lw_fence.proofs.Common.{arith, length-set, All, slice_get, slice_index_or, ForSome, cases_lt}
-use Rattle.lw_fence.proofs.Common.{get_or_past, slice_get_within, get_or_from_slice_get, code_of}
-use Rattle.lw_fence.proofs.Common.{IsRegisterIndex, IsThread, IsStatement, registers_of, Stmt, Operation}
-use Rattle.lw_fence.proofs.Common.{Thread, target_of, source, source_operation, IsWellFormedSource}
-use Rattle.lw_fence.proofs.Common.{SourceTest, thread_after, leads, length-with_word, Compare, Fence, Branch}
+use Rattle.lw_fence.proofs.Common.{get_or_past, slice_get_within, get_or_from_slice_get, thread_code}
+use Rattle.lw_fence.proofs.Common.{IsRegisterIndex, IsWellFormedThread, IsWellFormedStatement, registers_of}
+use Rattle.lw_fence.proofs.Common.{Stmt, Operation, Thread, branch_target, source_language, source_operation}
+use Rattle.lw_fence.proofs.Common.{IsWellFormedSource, SourceTest, thread_after, leads}
+use Rattle.lw_fence.proofs.Common.{length-set_word_if_some, Compare, Fence, Branch}
 use Rattle.lw_litmus.specs.declared.operation.Operation.TheVariants.{Store, FetchAdd}
 use Rattle.lw_fence.proofs.Marks.{forward}
 
 -- What a statement of a well-formed thread has: its registers are there, and a jump leads forward, at most to the end.
 pub record Allowed (code : List Stmt) (j : ℕ) (x : Stmt) : Type 0 where
   pub registers : All IsRegisterIndex (registers_of (source_operation x))
-  pub target : ForSome (target_of (source_operation x)) (λ to. (j < to) × (to ≤ length code))
+  pub target : ForSome (branch_target (source_operation x)) (λ to. (j < to) × (to ≤ length code))
 
 -- each statement of a well-formed thread has registers that are there, and jumps forward alone
 allowed : (locs : ℕ) (code : List Stmt) (j : ℕ) (x : Stmt)
-    → IsThread source locs code
+    → IsWellFormedThread source_language locs code
     → slice_get code j ≡ Some x
     → Allowed code j x
 allowed locs code j x thread at =
     let same : slice_index_or code j x ≡ x = get_or_from_slice_get code j x x at in
-    let statement = subst (IsStatement source locs) same (thread.there j x (slice_get_within code j x at)) in
+    let statement = subst (IsWellFormedStatement source_language locs) same (thread.there j x (slice_get_within code j x at)) in
     record { registers = statement.1; target = thread.forward j x at }
 
 -- each statement of a well-formed source has registers that are there, and jumps forward alone
 pub allowed_at : (s : SourceTest)
     → IsWellFormedSource s
     → (t j : ℕ) (x : Stmt)
-    → slice_get (code_of s.threads t) j ≡ Some x
-    → Allowed (code_of s.threads t) j x
+    → slice_get (thread_code s.threads t) j ≡ Some x
+    → Allowed (thread_code s.threads t) j x
 allowed_at s ok t j x at =
-    ⊎_elim (λ within. allowed (length s.head.locs) (code_of s.threads t) j x (ok.code t [] within) at)
-    (λ past. absurd (omega (arith, slice_get_within (code_of s.threads t) j x at, ap length (get_or_past s.threads t [] past))))
+    ⊎_elim (λ within. allowed (length s.head.locs) (thread_code s.threads t) j x (ok.code t [] within) at)
+    (λ past.
+    absurd (omega (arith, slice_get_within (thread_code s.threads t) j x at, ap length (get_or_past s.threads t [] past))))
     (cases_lt t (length s.threads))
 
 -- What always holds of a thread of a source: six registers, and at most at its end.
@@ -43,7 +45,7 @@ pub record Sane (code : List Stmt) (th : Thread) : Type 0 where
 registers_kept : (o : Operation) (th : Thread) (m : List ℕ) → length (thread_after o th m).regs ≡ length th.regs
 registers_kept (Compare a v) th m = refl
 registers_kept (Store x v) th m = refl
-registers_kept (FetchAdd d x v) th m = length-with_word th.regs d _
+registers_kept (FetchAdd d x v) th m = length-set_word_if_some th.regs d _
 registers_kept Fence th m = refl
 registers_kept (Branch c to) th m = refl
 registers_kept _ th m = length-set th.regs _ _

@@ -7,36 +7,36 @@ use Rattle.lw_base.specs.declared.operand.Operand.{Operand}
 use Rattle.lw_base.specs.declared.operand.Operand.TheVariants.{Register, Number}
 use Rattle.lw_litmus.specs.declared.stmt.Stmt.{Stmt}
 use Rattle.lw_litmus.specs.declared.stmt.Stmt.TheVariants.{Store, Load, Swap, FetchAdd, Set, Sum, IfEq, IfNe, Goto}
-use Rattle.lw_litmus.specs.Tests.{SourceTest, ProgramTest}
+use Rattle.lw_litmus.specs.Tests.{SourceTest, X86Test}
 use Rattle.lw_litmus.specs.declared.instr.Instr.{Instr}
 use Rattle.lw_litmus.specs.declared.instr.Instr.TheVariants as x86
 use Rattle.lw_fence.specs.declared.lowered.Lowered.{Lowered}
 use Rattle.lw_fence.specs.declared.lowered.Lowered.TheVariants.{One, Two}
 use Rattle.lw_fence.specs.Fences.{NeedsFence}
 
-abbrev pub fenced : Bool → Instr → Lowered  -- an instruction, behind a fence or without one
-fenced fence last = if fence then Two x86.Mfence last else One last
+abbrev pub with_fence_if : Bool → Instr → Lowered  -- an instruction, behind a fence or without one
+with_fence_if fence last = if fence then Two x86.Mfence last else One last
 
-abbrev pub moved : ℕ → ℕ → Instr → Lowered  -- an instruction, behind one that gives the word of register a to register d, if that is another
-moved d a last = if d == a then One last else Two (x86.Set d (Register a)) last
+abbrev pub with_move_if : ℕ → ℕ → Instr → Lowered  -- an instruction, behind one that gives the word of register a to register d, if that is another
+with_move_if d a last = if d == a then One last else Two (x86.Set d (Register a)) last
 
-abbrev pub summed : ℕ → ℕ → Operand → Lowered  -- `d := a + v`; where v is d itself, a is added to it
-summed d a (Number n) = moved d a (x86.Add d (Number n))
-summed d a (Register b) = if d == b then One (x86.Add d (Register a)) else moved d a (x86.Add d (Register b))
+abbrev pub lower_sum : ℕ → ℕ → Operand → Lowered  -- `d := a + v`; where v is d itself, a is added to it
+lower_sum d a (Number n) = with_move_if d a (x86.Add d (Number n))
+lower_sum d a (Register b) = if d == b then One (x86.Add d (Register a)) else with_move_if d a (x86.Add d (Register b))
 
-abbrev pub compared : ℕ → ℕ → Instr  -- the flag tells whether the register has the word
-compared a n = x86.Cmp a (Number n)
+abbrev pub lower_compare : ℕ → ℕ → Instr  -- the flag tells whether the register has the word
+lower_compare a n = x86.Cmp a (Number n)
 
 -- the lowering of a statement: with a fence or without, where `starts` has the first instruction of each statement
 abbrev pub lowered : List ℕ → Bool → Stmt → Lowered
 lowered starts fence (Store x v) = One (x86.Store x v)
-lowered starts fence (Load d x) = fenced fence (x86.Load d x)
-lowered starts fence (Swap d x a) = moved d a (x86.Xchg x d)
-lowered starts fence (FetchAdd d x a) = moved d a (x86.Xadd x d)
+lowered starts fence (Load d x) = with_fence_if fence (x86.Load d x)
+lowered starts fence (Swap d x a) = with_move_if d a (x86.Xchg x d)
+lowered starts fence (FetchAdd d x a) = with_move_if d a (x86.Xadd x d)
 lowered starts fence (Set d v) = One (x86.Set d v)
-lowered starts fence (Sum d a v) = summed d a v
-lowered starts fence (IfEq a n to) = Two (compared a n) (x86.Je (slice_index starts to))
-lowered starts fence (IfNe a n to) = Two (compared a n) (x86.Jne (slice_index starts to))
+lowered starts fence (Sum d a v) = lower_sum d a v
+lowered starts fence (IfEq a n to) = Two (lower_compare a n) (x86.Je (slice_index starts to))
+lowered starts fence (IfNe a n to) = Two (lower_compare a n) (x86.Jne (slice_index starts to))
 lowered starts fence (Goto to) = One (x86.Jmp (slice_index starts to))
 
 abbrev pub instrs_of : Lowered → List Instr  -- its instructions, one or two
@@ -64,7 +64,7 @@ pub record IsCompiledThread (code : List Stmt) (instrs : List Instr) (starts : L
   pub instrs_are : instrs ≡ lowered_code starts fences code
 
 -- The program has the source's head, in x86, and for each of its threads the instructions, with these starts.
-pub record IsCompiled (source : SourceTest) (program : ProgramTest) (starts : List (List ℕ)) : Type 0 where
+pub record IsCompiled (source : SourceTest) (program : X86Test) (starts : List (List ℕ)) : Type 0 where
   pub head : program.head ≡ record source.head { arch = X86 }  -- the source's head, but for the language
   pub as_many : length program.threads ≡ length source.threads
   pub as_many_starts : length starts ≡ length source.threads

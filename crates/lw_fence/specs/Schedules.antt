@@ -1,7 +1,7 @@
 -- The schedule of a source run on the compiled program: a step for each instruction of each statement, and after a store
 -- a drain, so that a store is in memory before the next statement of any thread.
 use Rattle.std.specs.Prelude.{ℕ, ◌+◌, ◌-◌, if◌then◌else◌, Option, Some, None, Result, Ok, Err, List, [], ◌∷◌, ◌++◌, replicate, slice_get, slice_index}
-use Rattle.lw_base.specs.Threads.{code_of}
+use Rattle.lw_base.specs.Threads.{thread_code}
 use Rattle.lw_base.specs.declared.event.Event.{Event}
 use Rattle.lw_base.specs.declared.event.Event.TheVariants.{Step, Drain}
 use Rattle.lw_base.specs.declared.stop.Stop.{Stop}
@@ -21,7 +21,7 @@ statement_events t starts j (Some s) =
 abbrev pub thread_events : List (List Stmt) → List (List ℕ) → ℕ → Option Thread → List Event
 thread_events program starts t None = []
 thread_events program starts t (Some th) =
-    statement_events t (code_of starts t) th.position (slice_get (code_of program t) th.position)
+    statement_events t (thread_code starts t) th.position (slice_get (thread_code program t) th.position)
 
 -- what follows a step, if it was possible
 abbrev pub after_step : Result State Stop → (State → List Event) → List Event
@@ -29,7 +29,7 @@ after_step (Ok next) rest = rest next
 after_step (Err stop) rest = []
 
 -- the events for these threads' steps, one after another, from a state
-abbrev pub schedule : List (List Stmt) → List (List ℕ) → List ℕ → State → List Event
-schedule program starts [] s = []
-schedule program starts (t ∷ order) s =
-    thread_events program starts t (slice_get s.threads t) ++ after_step (source_step program t s) (schedule program starts order)
+abbrev pub compiled_schedule : List (List Stmt) → List (List ℕ) → List ℕ → State → List Event
+compiled_schedule program starts [] s = []
+compiled_schedule program starts (t ∷ order) s =
+    thread_events program starts t (slice_get s.threads t) ++ after_step (source_step program t s) (compiled_schedule program starts order)

@@ -1,18 +1,18 @@
 //! Compiles a source test to x86.
 ghost use Rattle.std.specs.Prelude.{◌≡◌, ◌↔◌, ℕ, ◌<◌, ◌≤◌, List, length, Some, slice_get, IfOk};
 ghost use Rattle.std.specs.Option.{ForSome};
-ghost use Rattle.lw_base.specs.Outcomes.{Final};
+ghost use Rattle.lw_base.specs.Outcomes.{FinalState};
 ghost use Rattle.lw_base.specs.declared.event.Event.{Event};
-ghost use Rattle.lw_memory.specs.Flat.{flat};
+ghost use Rattle.lw_memory.specs.Flat.{flat_memory};
 ghost use Rattle.lw_litmus.specs.Limits.{most_statements};
 ghost use Rattle.lw_litmus.specs.declared.stmt.Stmt.{Stmt as Statement};
 ghost use Rattle.lw_interleaving.specs.Runs.{SourceOutcome};
-ghost use Rattle.lw_litmus.specs.Operations.{target_of};
+ghost use Rattle.lw_litmus.specs.Operations.{branch_target};
 ghost use Rattle.lw_litmus.specs.Sources.{source_operation};
 ghost use Rattle.lw_litmus.specs.Views.{source_of, program_of};
-ghost use Rattle.lw_tso.specs.Endings.{CanEnd};
+ghost use Rattle.lw_tso.specs.Endings.{CanTerminate};
 ghost use Rattle.lw_tso.specs.Machines.{MachineState};
-ghost use Rattle.lw_tso.specs.Runs.{MachineOutcome, MachineRan, machine_start};
+ghost use Rattle.lw_tso.specs.Runs.{IsMachineOutcome, MachineRunsTo, initial_machine_state};
 ghost use Rattle.lw_litmus.specs.declared.instr.Instr.{Instr as Instruction};
 ghost use Rattle.lw_fence.specs.Compiling.{IsCompiledThread, IsCompiled};
 
@@ -30,12 +30,12 @@ pub fn compile<A: Allocator + Copy>(alloc: A, source: &Source<A>) -> Result<Comp
     ensures compiled { IfOk result
         (λ c. IsCompiled (source_of source.now) (program_of c.program) c.starts) }
     // It means what the source means: over flat memory it has the source's outcomes, both ways.
-    ensures outcomes { IfOk result (λ c. (o : Final)
-        → MachineOutcome flat (program_of c.program) c.program.head.init_words o ↔ SourceOutcome (source_of source.now) o) }
+    ensures outcomes { IfOk result (λ c. (o : FinalState)
+        → IsMachineOutcome flat_memory (program_of c.program) c.program.head.init_words o ↔ SourceOutcome (source_of source.now) o) }
     // Each of its runs can be brought to a final state.
     ensures ends { IfOk result (λ c. (events : List Event) (s : MachineState (List ℕ))
-        → MachineRan flat c.program.threads events (machine_start (program_of c.program) c.program.head.init_words) s
-        → CanEnd flat c.program.threads s) }
+        → MachineRunsTo flat_memory c.program.threads events (initial_machine_state (program_of c.program) c.program.head.init_words) s
+        → CanTerminate flat_memory c.program.threads s) }
 {
     let mut head = source.head.copy()?;
     head.arch = Arch::X86;
@@ -92,7 +92,7 @@ fn compile_thread<A: Allocator + Copy>(
 ) -> Result<ThreadCode<A>, AllocError>
     requires short { length stmts.now ≤ most_statements }
     requires forward { (j : ℕ) (s : Statement) → slice_get stmts.now j ≡ Some s
-        → ForSome (target_of (source_operation s)) (λ to. (j < to) × (to ≤ length stmts.now)) }
+        → ForSome (branch_target (source_operation s)) (λ to. (j < to) × (to ≤ length stmts.now)) }
     ensures { IfOk result (λ code. IsCompiledThread stmts.now code.instrs code.starts) }
 {
     let fences = fences_of(alloc, stmts)?;

@@ -3,10 +3,10 @@ ghost use Rattle.std.specs.Prelude.{◌≡◌, ◌<◌, ◌≤◌, ◌+◌, ◌�
 ghost use Rattle.std.specs.Option.{ForSome};
 ghost use Rattle.lw_litmus.specs.Limits.{most_statements};
 ghost use Rattle.lw_litmus.specs.declared.stmt.Stmt.{Stmt as SourceStatement};
-ghost use Rattle.lw_litmus.specs.Operations.{is_load, target_of};
+ghost use Rattle.lw_litmus.specs.Operations.{is_load, branch_target};
 ghost use Rattle.lw_litmus.specs.Sources.{source_operation};
-ghost use Rattle.lw_fence.specs.Fences.{IsBehindStore, NeedsFence};
-ghost use Rattle.lw_fence.specs.inner.Marks.{may_wait, marked_behind};
+ghost use Rattle.lw_fence.specs.Fences.{IsReachableFromStore, NeedsFence};
+ghost use Rattle.lw_fence.specs.inner.Marks.{may_wait, mark_successors};
 
 use lw_litmus::{Operation, Statement as _, Stmt};
 use std::alloc::{AllocError, Allocator};
@@ -16,14 +16,14 @@ use std::alloc::{AllocError, Allocator};
 fn marks_of<A: Allocator>(alloc: A, code: &[Stmt]) -> Result<Vec<bool, A>, AllocError>
     requires short { length code.now ≤ most_statements }
     requires forward { (j : ℕ) (s : SourceStatement) → slice_get code.now j ≡ Some s
-        → ForSome (target_of (source_operation s)) (λ to. (j < to) × (to ≤ length code.now)) }
+        → ForSome (branch_target (source_operation s)) (λ to. (j < to) × (to ≤ length code.now)) }
     ensures as_many { IfOk result (λ v. length v.items ≡ length code.now + 1) }
     ensures behind { IfOk result (λ v. (j : ℕ) → j ≤ length code.now
-        → (slice_index_or v.items j false ≡ true) ↔ IsBehindStore code.now j) }
+        → (slice_index_or v.items j false ≡ true) ↔ IsReachableFromStore code.now j) }
 {
     let mut marks = vec![in alloc; false; code.len() + 1]?;
     for index in 0..code.len() {
-        pass_operation(&mut marks, code[index].operation(), index);
+        propagate_marks(&mut marks, code[index].operation(), index);
     }
     Ok(marks)
 }
@@ -37,11 +37,11 @@ fn stores_wait_past(operation: Operation, before: bool) -> bool
 }
 
 /// Marks the successors of an operation, if a store may wait behind it.
-fn pass_operation(marks: &mut [bool], operation: Operation, index: usize)
+fn propagate_marks(marks: &mut [bool], operation: Operation, index: usize)
     requires next { index + 1 < length marks.old }
-    requires target { ForSome (target_of operation) (λ to. to < length marks.old) }
+    requires target { ForSome (branch_target operation) (λ to. to < length marks.old) }
     ensures { marks.new ≡ (if may_wait operation (slice_index_or marks.old index false)
-        then marked_behind operation index marks.old else marks.old) }
+        then mark_successors operation index marks.old else marks.old) }
 {
     if !stores_wait_past(operation, marks[index]) {
         return;
@@ -49,7 +49,7 @@ fn pass_operation(marks: &mut [bool], operation: Operation, index: usize)
     if let Some(to) = operation.target() {
         marks[to] = true;
     }
-    if operation.goes_on() {
+    if operation.falls_through() {
         marks[index + 1] = true;
     }
 }
@@ -61,7 +61,7 @@ pub(crate) fn fences_of<A: Allocator + Copy>(
 ) -> Result<Vec<bool, A>, AllocError>
     requires short { length code.now ≤ most_statements }
     requires forward { (j : ℕ) (s : SourceStatement) → slice_get code.now j ≡ Some s
-        → ForSome (target_of (source_operation s)) (λ to. (j < to) × (to ≤ length code.now)) }
+        → ForSome (branch_target (source_operation s)) (λ to. (j < to) × (to ≤ length code.now)) }
     ensures as_many { IfOk result (λ v. length v.items ≡ length code.now) }
     ensures needed { IfOk result (λ v. (j : ℕ) → (slice_get v.items j ≡ Some true) ↔ NeedsFence code.now j) }
 {
@@ -69,13 +69,13 @@ pub(crate) fn fences_of<A: Allocator + Copy>(
     let mut fences = Vec::new(alloc);
     for index in 0..code.len() {
         let operation = code[index].operation();
-        fences.push(is_load_behind(operation, marks[index]))?;
+        fences.push(needs_fence(operation, marks[index]))?;
     }
     Ok(fences)
 }
 
 /// Whether the operation is a load at a marked position.
-fn is_load_behind(operation: Operation, mark: bool) -> bool
+fn needs_fence(operation: Operation, mark: bool) -> bool
     ensures { result ≡ (is_load operation && mark) }
 {
     matches!(operation, Operation::Load { .. }) && mark

@@ -47,7 +47,7 @@ impl Lowered {
 
     /// An instruction behind a fence, or without one.
     fn fenced(fence: bool, last: Instr) -> Lowered
-        ensures { result ≡ table.fenced fence last }
+        ensures { result ≡ table.with_fence_if fence last }
     {
         if fence {
             Lowered::Two(Instr::Mfence, last)
@@ -58,7 +58,7 @@ impl Lowered {
 
     /// An instruction behind one that takes a register's word to another, if it is another.
     fn moved(dst: Reg, src: Reg, last: Instr) -> Lowered
-        ensures { result ≡ table.moved dst src last }
+        ensures { result ≡ table.with_move_if dst src last }
     {
         if dst == src {
             return Lowered::One(last);
@@ -72,7 +72,7 @@ impl Lowered {
 
     /// The lowering of a sum. Where the register that gets it is the right one, the left one is added to it.
     fn summed(dst: Reg, left: Reg, right: Operand) -> Lowered
-        ensures { result ≡ table.summed dst left right }
+        ensures { result ≡ table.lower_sum dst left right }
     {
         if right == Operand::Register(dst) {
             let val = Operand::Register(left);
@@ -118,7 +118,7 @@ impl Lowered {
 
 /// The instruction that sets the zero flag where a register has a word.
 fn compared(reg: Reg, num: Word) -> Instr
-    ensures { result ≡ table.compared reg num }
+    ensures { result ≡ table.lower_compare reg num }
 {
     Instr::Cmp {
         reg,

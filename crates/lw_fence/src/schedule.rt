@@ -1,18 +1,18 @@
 //! The schedule of a compiled program that a source run stands for.
 ghost use Rattle.std.specs.Prelude.{◌≡◌, ℕ, List, ◌<◌, ◌++◌, ◌∷◌, [], if◌then◌else◌, length, map, replicate, take, slice_get, IfOk, OnErr};
-ghost use Rattle.lw_base.specs.Outcomes.{Final};
-ghost use Rattle.lw_base.specs.Threads.{code_of};
+ghost use Rattle.lw_base.specs.Outcomes.{FinalState};
+ghost use Rattle.lw_base.specs.Threads.{thread_code};
 ghost use Rattle.lw_base.specs.declared.event.Event.TheVariants.{Step, Drain};
-ghost use Rattle.lw_memory.specs.Flat.{flat};
-ghost use Rattle.lw_interleaving.specs.Runs.{State, SourceRan, RunsTo, start_of};
+ghost use Rattle.lw_memory.specs.Flat.{flat_memory};
+ghost use Rattle.lw_interleaving.specs.Runs.{State, SourceRunsTo, InterleavesTo, initial_state};
 ghost use Rattle.lw_litmus.specs.Views.{source_of, program_of};
-ghost use Rattle.lw_tso.specs.Runs.{Replays};
+ghost use Rattle.lw_tso.specs.Runs.{ReplaysTo};
 ghost use Rattle.lw_litmus.specs.Operations.{is_store};
 ghost use Rattle.lw_litmus.specs.Sources.{source_operation};
-ghost use Rattle.lw_litmus.specs.Tests.{SourceTest, ProgramTest};
+ghost use Rattle.lw_litmus.specs.Tests.{SourceTest, X86Test};
 ghost use Rattle.lw_litmus.specs.WellFormedTests.{IsWellFormedSource};
 ghost use Rattle.lw_fence.specs.Compiling.{IsCompiled};
-ghost use Rattle.lw_fence.specs.Schedules.{statement_events, schedule};
+ghost use Rattle.lw_fence.specs.Schedules.{statement_events, compiled_schedule};
 
 use crate::compiled::Compiled;
 use lw_base::{Cpu, Event};
@@ -51,9 +51,9 @@ pub fn push_next<A: Allocator>(
     index: usize,
 ) -> Result<(), AllocError>
     requires compiled { IsCompiled (source_of source.now) (program_of compiled.now.program) compiled.now.starts }
-    requires there { index < length (code_of source.now.threads cpu) }
+    requires there { index < length (thread_code source.now.threads cpu) }
     ensures ok { IfOk result (λ _. events.new.items ≡ events.old.items
-        ++ statement_events cpu (code_of compiled.now.starts cpu) index (slice_get (code_of source.now.threads cpu) index)) }
+        ++ statement_events cpu (thread_code compiled.now.starts cpu) index (slice_get (thread_code source.now.threads cpu) index)) }
     ensures err { OnErr result (events.new.items ≡ events.old.items) }
 {
     let code = &source.threads.as_slice()[cpu.index()];
@@ -79,11 +79,11 @@ pub fn schedule_of<A: Allocator + Copy>(
     order: &[Cpu],
 ) -> Result<Vec<Event, A>, AllocError>
     requires compiled { IsCompiled (source_of source.now) (program_of compiled.now.program) compiled.now.starts }
-    requires possible { (end : State) × SourceRan source.now.threads (map Step order.now) (start_of (source_of source.now)) end }
+    requires possible { (end : State) × SourceRunsTo source.now.threads (map Step order.now) (initial_state (source_of source.now)) end }
     ensures schedule { IfOk result (λ v. v.items
-        ≡ schedule source.now.threads compiled.now.starts order.now (start_of (source_of source.now))) }
-    ensures replays { IfOk result (λ v. (o : Final) → RunsTo (source_of source.now) order.now o
-        → Replays flat (program_of compiled.now.program) compiled.now.program.head.init_words v.items o) }
+        ≡ compiled_schedule source.now.threads compiled.now.starts order.now (initial_state (source_of source.now))) }
+    ensures replays { IfOk result (λ v. (o : FinalState) → InterleavesTo (source_of source.now) order.now o
+        → ReplaysTo flat_memory (program_of compiled.now.program) compiled.now.program.head.init_words v.items o) }
 {
     let mut run = SourceRun::new(alloc, source)?;
     let mut events = Vec::new(alloc);
@@ -97,7 +97,7 @@ pub fn schedule_of<A: Allocator + Copy>(
 
 /// The schedule that a run of a source test stands for replays over flat memory, in the compiled program, to the run's outcome.
 pub fn schedules_replay()
-    ensures { (s : SourceTest) (p : ProgramTest) (starts : List (List ℕ)) (order : List ℕ) (o : Final)
-        → IsWellFormedSource s → IsCompiled s p starts → RunsTo s order o
-        → Replays flat p p.head.init_words (schedule s.threads starts order (start_of s)) o }
+    ensures { (s : SourceTest) (p : X86Test) (starts : List (List ℕ)) (order : List ℕ) (o : FinalState)
+        → IsWellFormedSource s → IsCompiled s p starts → InterleavesTo s order o
+        → ReplaysTo flat_memory p p.head.init_words (compiled_schedule s.threads starts order (initial_state s)) o }
 {}

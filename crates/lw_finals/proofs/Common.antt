@@ -20,76 +20,90 @@ pub use Rattle.std.proofs.lemmas.Result.{IfErr-weaker, IfOk-from_err, IfOk-weake
 pub use Rattle.std.proofs.lemmas.Result.{on_ok_weaker}
 pub use Rattle.std.specs.List.{AllByRecursion}
 pub use Rattle.std.specs.Option.{option_map_or}
-pub use Rattle.lw_base.proofs.Common.{Final, IsEvent, IsListedOutcome, IsOutcomeOf, Ran, TestHead, code_of}
-pub use Rattle.lw_base.proofs.api.Lists.{at_index, get_some, got_set_other, got_set_same}
-pub use Rattle.lw_base.proofs.api.Replays.{Ran-append}
-pub use Rattle.lw_base.proofs.api.SideBySide.{got_map, zip_passes}
+pub use Rattle.lw_base.proofs.Common.{FinalState, HasOutcomeShape, IsEvent, IsListedOutcome, RunsTo, TestHead}
+pub use Rattle.lw_base.proofs.Common.{thread_code}
+pub use Rattle.lw_base.proofs.api.Lists.{at_index, get-set_other, get-set_same, get_some}
+pub use Rattle.lw_base.proofs.api.Replays.{RunsTo-append}
+pub use Rattle.lw_base.proofs.api.Zips.{get-map, zip_passes}
 pub use Rattle.lw_base.specs.declared.event.Event.{Event}
 pub use Rattle.lw_base.specs.declared.event.Event.TheVariants.{Drain, Evict, Step}
 pub use Rattle.lw_base.specs.declared.stop.Stop.{Stop}
-pub use Rattle.lw_litmus.proofs.Common.{Follows, IsPathFrom, IsThread, IsWellFormed, IsWellFormedProgram}
-pub use Rattle.lw_litmus.proofs.Common.{IsWellFormedSource, Language, Leads, ProgramTest, SourceTest, Test}
-pub use Rattle.lw_litmus.proofs.Common.{is_one, is_store, location_of, program_of, source, source_of, waits}
-pub use Rattle.lw_litmus.proofs.Common.{writes, x86, x86_operation}
+pub use Rattle.lw_litmus.proofs.Common.{IsFlowPathFrom, IsFlowSuccessor, IsSuccessor, IsWellFormed}
+pub use Rattle.lw_litmus.proofs.Common.{IsWellFormedProgram, IsWellFormedSource, IsWellFormedThread, Language}
+pub use Rattle.lw_litmus.proofs.Common.{SourceTest, Test, X86Test, is_same_location, is_store, location_of}
+pub use Rattle.lw_litmus.proofs.Common.{needs_empty_buffer, program_of, source_language, source_of, writes}
+pub use Rattle.lw_litmus.proofs.Common.{x86_language, x86_operation}
 pub use Rattle.lw_litmus.specs.declared.instr.Instr.{Instr}
 pub use Rattle.lw_litmus.specs.declared.operation.Operation.{Operation}
 pub use Rattle.lw_litmus.specs.declared.operation.Operation.TheVariants.{Load, Store}
 pub use Rattle.lw_litmus.specs.declared.stmt.Stmt.{Stmt}
-pub use Rattle.lw_interleaving.proofs.Common.{FollowsFlow, RunsTo, SourceOutcome, SourceRan, State}
-pub use Rattle.lw_interleaving.proofs.Common.{is_source_final, next_of, outcome_of, source_step, start_of}
-pub use Rattle.lw_interleaving.proofs.Common.{starting_thread}
-pub use Rattle.lw_interleaving.proofs.api.Exchange.{exchange, moved, next_is, others_placed, stepped}
+pub use Rattle.lw_interleaving.proofs.Common.{FollowsFlow, InterleavesTo, SourceOutcome, SourceRunsTo, State}
+pub use Rattle.lw_interleaving.proofs.Common.{initial_state, initial_thread, is_source_final, next_statement}
+pub use Rattle.lw_interleaving.proofs.Common.{source_outcome, source_step, thread_position}
+pub use Rattle.lw_interleaving.proofs.api.Commutation.{exchange, moved, next_is, others_placed}
+pub use Rattle.lw_interleaving.proofs.api.Commutation.{step-decompose}
 pub use Rattle.lw_interleaving.specs.declared.thread.Thread.{Thread}
-pub use Rattle.lw_memory.proofs.Common.{Invariant, Memory, flat}
-pub use Rattle.lw_mesi.proofs.Common.{caches_by, caches_invariant, content_of, unheld_cache_line}
+pub use Rattle.lw_memory.proofs.Common.{Invariant, Memory, flat_memory}
+pub use Rattle.lw_mesi.proofs.Common.{caches_by, caches_invariant, coherent_word, unheld_cache_line}
 pub use Rattle.lw_mesi.specs.declared.protocol.Protocol.{Protocol}
 pub use Rattle.lw_mesi.specs.declared.protocol.Protocol.TheVariants.{Mesi}
-pub use Rattle.lw_tso.proofs.Common.{Act, Answer, AreIndependent, ArePassing, CanStart, DoNotConflict, DoneAt}
-pub use Rattle.lw_tso.proofs.Common.{EventDone, Initial, MachineOutcome, MachineRan, MachineState, MayPass}
-pub use Rattle.lw_tso.proofs.Common.{MayPassOldest, Processor, Replays, StandsAt, cpu_of, drain_act}
-pub use Rattle.lw_tso.proofs.Common.{event_act, flatten, is_final, machine_start, operation_act, position_of}
-pub use Rattle.lw_tso.proofs.Common.{starting, step_act, without_evictions}
-pub use Rattle.lw_tso.proofs.api.Effects.{Did, Does, event_once, leads_to, no_eviction, state}
+pub use Rattle.lw_tso.proofs.Common.{AreDrainAndPassing, AreIndependent, CommutesWithDrain, DoNotConflict}
+pub use Rattle.lw_tso.proofs.Common.{EventEffect, EventResult, InitialWords, IsAtPosition, IsInitialMemory}
+pub use Rattle.lw_tso.proofs.Common.{IsMachineOutcome, MachineRunsTo, MachineState, MachineTransition}
+pub use Rattle.lw_tso.proofs.Common.{MayPassOldest, Processor, ReplaysTo, TransitionAt, cpu_of, drain_effect}
+pub use Rattle.lw_tso.proofs.Common.{event_effect, initial_machine_state, initial_processor, is_final}
+pub use Rattle.lw_tso.proofs.Common.{operation_effect, over_flat_memory, position_of, step_effect}
+pub use Rattle.lw_tso.proofs.Common.{without_evictions}
+pub use Rattle.lw_tso.proofs.api.Effects.{EffectLeadsTo, EventOccurrence, MachineTransition-deterministic}
+pub use Rattle.lw_tso.proofs.api.Effects.{effect_of_event, no_eviction, state}
 pub use Rattle.lw_tso.proofs.api.Neighbours.{exchanged, position_at}
-pub use Rattle.lw_tso.proofs.api.Operations.{Buffers, Went, operation_accessed, operation_does}
-pub use Rattle.lw_fence.proofs.Common.{IsCompiled, after_step, schedule, statement_events, thread_events}
-pub use Rattle.lw_orders.proofs.Common.{Alike, Before, Constraints, Exchanged, IsLinearExtension, IsOrder}
-pub use Rattle.lw_orders.proofs.Common.{IsTied, Keeps, Once, Progress, index_in, indices, is_decided}
-pub use Rattle.lw_orders.proofs.Common.{most_items, orders}
+pub use Rattle.lw_tso.proofs.api.Operations.{Buffers, OperationTransition, operation_accessed, operation_does}
+pub use Rattle.lw_fence.proofs.Common.{IsCompiled, after_step, compiled_schedule, statement_events}
+pub use Rattle.lw_fence.proofs.Common.{thread_events}
+pub use Rattle.lw_orders.proofs.Common.{AreDependent, AreDistinct, AreTraceEquivalent, Before, Constraints}
+pub use Rattle.lw_orders.proofs.Common.{IsAdjacentSwap, IsLinearExtension, IsOrder, Progress, Respects}
+pub use Rattle.lw_orders.proofs.Common.{index_in, indices, is_ordered, most_items, orders}
 pub use Rattle.lw_orders.proofs.api.Indices.{All-stands, index_in-other, index_in-same, order_from}
 pub use Rattle.lw_orders.proofs.api.Indices.{order_split, same_index}
-pub use Rattle.lw_orders.proofs.api.Kept.{alike_orders_are_joined, kept_along}
-pub use Rattle.lw_listing.proofs.api.Listings.{stays_listed}
-pub use Rattle.lw_listing.specs.Listings.{ListedOutcomes, outcomes_of}
-pub use Rattle.lw_choices.proofs.Common.{HasTooManyItems, IsChoice, IsForward, IsWithinLimits, TellsOfChoice}
-pub use Rattle.lw_choices.proofs.Common.{Visited, choice_of, conflict_by, constraints_of, drains, item_at}
-pub use Rattle.lw_choices.proofs.Common.{items_at_choice, items_conflict, items_of, location_by, reduced_of}
-pub use Rattle.lw_choices.proofs.Common.{statement_of, statement_waits, writes_by}
-pub use Rattle.lw_choices.proofs.api.Counting.{GivesReasons, VisitorView, given_refused, limit_told}
-pub use Rattle.lw_choices.proofs.api.Counting.{visit_refused}
-pub use Rattle.lw_choices.proofs.api.Enumerated.{choices_are_all}
-pub use Rattle.lw_choices.proofs.api.FixedOrder.{AreOrdered, keeps_all, kept}
-pub use Rattle.lw_choices.proofs.api.FixedPairs.{conflict_there, conflicts_up}
-pub use Rattle.lw_choices.proofs.api.Led.{follows_within}
-pub use Rattle.lw_choices.proofs.api.Members.{Contains-cons, Contains-here, Contains-there, from_map, none_in}
-pub use Rattle.lw_choices.proofs.api.Members.{of_one}
-pub use Rattle.lw_choices.proofs.api.Mutual.{conflict_mutual}
-pub use Rattle.lw_choices.proofs.api.Numbering.{GoesUp, Has, In, IsReal, IsStoring, Pairwise, as_many, beside}
-pub use Rattle.lw_choices.proofs.api.Numbering.{goes_up_in, item, item_there, number_less, path_up, real}
-pub use Rattle.lw_choices.proofs.api.Numbering.{same_number, slot, slot_goes_up, slot_less, store_slot}
-pub use Rattle.lw_choices.proofs.api.Pairs.{indices_up}
-pub use Rattle.lw_choices.proofs.api.Reduced.{same_orders}
-pub use Rattle.lw_choices.proofs.api.ReducedPairs.{reduced_well_formed}
-pub use Rattle.lw_choices.proofs.api.Visitable.{forward_of, visitable}
-pub use Rattle.lw_choices.specs.declared.item.Item.{Item}
-pub use Rattle.lw_whole.proofs.api.CompleteLists.{no_evictions, of_source, on_machine}
-pub use Rattle.lw_whole.specs.CompleteLists.{IsComplete}
-pub use Rattle.lw_whole.specs.OverCaches.{ReplaysOverCaches}
-pub use Rattle.lw_finals.specs.OrderRuns.{ChoiceOutcome, ItemsRan, OrderRan, System}
-pub use Rattle.lw_finals.specs.SourceRuns.{StaysAndEnds, system_of}
-pub use Rattle.lw_finals.specs.X86Runs.{CarriedOut, LeadsFlat, event_by, event_of, events_of}
-pub use Rattle.lw_finals.specs.declared.gather.Gatherer.{Gatherer}
-pub use Rattle.lw_finals.specs.inner.Gathered.{EndsOfChoice, EndsOfOne, EndsOfProgram, Gathers, Running}
+pub use Rattle.lw_orders.proofs.api.SwapInvariance.{alike_orders_are_joined, kept_along}
+pub use Rattle.lw_outcome_map.proofs.api.Listings.{stays_listed}
+pub use Rattle.lw_outcome_map.specs.Listings.{OutcomeEntries, outcomes_of}
+pub use Rattle.lw_paths.proofs.Common.{HasTooManyItems, IsPathAssignment, IsWithinLimits, JumpsForward}
+pub use Rattle.lw_paths.proofs.Common.{LimitFaultOfChoice, VisitsAll, choice_of, conflict_by, constraints_of}
+pub use Rattle.lw_paths.proofs.Common.{drained_location, item_at, items_at_choice, items_conflict, items_of}
+pub use Rattle.lw_paths.proofs.Common.{location_by, statement_needs_empty_buffer, statement_of}
+pub use Rattle.lw_paths.proofs.Common.{transitive_reduction, writes_by}
+pub use Rattle.lw_paths.proofs.api.Counting.{GivesReasons, VisitorView, given_refused, limit_told}
+pub use Rattle.lw_paths.proofs.api.Counting.{visit_refused}
+pub use Rattle.lw_paths.proofs.api.Enumerated.{choices_are_all}
+pub use Rattle.lw_paths.proofs.api.FixedOrder.{AreOrdered, keeps_all, kept}
+pub use Rattle.lw_paths.proofs.api.FixedPairs.{conflict_there, conflicts_up}
+pub use Rattle.lw_paths.proofs.api.Members.{Contains-cons, Contains-head, Contains-tail, from_map}
+pub use Rattle.lw_paths.proofs.api.Members.{not-Contains-nil, of_one}
+pub use Rattle.lw_paths.proofs.api.Mutual.{conflict_mutual}
+pub use Rattle.lw_paths.proofs.api.Numbering.{HasItem, IsAscendingFrom, IsAscendingFrom-lower_bound}
+pub use Rattle.lw_paths.proofs.api.Numbering.{IsItemOnPath, IsItemOnPath-of_member, IsMember, IsStoring}
+pub use Rattle.lw_paths.proofs.api.Numbering.{Pairwise, as_many, beside, item, item_there, number_less}
+pub use Rattle.lw_paths.proofs.api.Numbering.{path_up, same_number, slot_goes_up, slot_less, store_slot}
+pub use Rattle.lw_paths.proofs.api.Numbering.{thread_rank}
+pub use Rattle.lw_paths.proofs.api.PairRanges.{indices_up}
+pub use Rattle.lw_paths.proofs.api.Reduced.{same_orders}
+pub use Rattle.lw_paths.proofs.api.ReducedPairs.{reduced_well_formed}
+pub use Rattle.lw_paths.proofs.api.Successors.{follows_within}
+pub use Rattle.lw_paths.proofs.api.Visitable.{forward_of, visitable}
+pub use Rattle.lw_paths.specs.declared.item.Item.{Item}
+pub use Rattle.lw_tso_caches.proofs.api.CompleteLists.{no_evictions, of_source, on_machine}
+pub use Rattle.lw_tso_caches.specs.CompleteLists.{IsComplete}
+pub use Rattle.lw_tso_caches.specs.OverCaches.{ReplaysToOverCaches}
+pub use Rattle.lw_finals.specs.OrderRuns.{FollowsPathsToEnd, IsChoiceOutcome, ItemTransitionSystem}
+pub use Rattle.lw_finals.specs.OrderRuns.{ItemsRunTo, OrderRunsTo}
+pub use Rattle.lw_finals.specs.SourceRuns.{IsSourceChoiceOutcome, SourceFollowsPathsToEnd}
+pub use Rattle.lw_finals.specs.SourceRuns.{SourceItemTransition, source_item_system}
+pub use Rattle.lw_finals.specs.X86Runs.{IsX86ChoiceOutcome, ReplaysFlatTo, X86FollowsPathsToEnd}
+pub use Rattle.lw_finals.specs.X86Runs.{X86ItemTransition, event_by, event_of, events_of, x86_item_system}
+pub use Rattle.lw_finals.specs.declared.collect.Gatherer.{Gatherer}
+pub use Rattle.lw_finals.specs.inner.Collected.{CollectsOutcomes, OutcomesOfChoice, OutcomesOfOne}
+pub use Rattle.lw_finals.specs.inner.Collected.{OutcomesOfProgram, RunnerState}
 pub use Rattle.lw_finals.specs.inner.Listed.{AreComplete, AreFlat}
-pub use Rattle.lw_finals.specs.inner.SourceRunners.{CompiledSource, IsThere, events_at, item_events}
+pub use Rattle.lw_finals.specs.inner.SourceRunners.{CompiledSource, HasStatementAt, events_at, item_events}
 pub use Rattle.lw_finals.specs.inner.SourceRunners.{threads_of}

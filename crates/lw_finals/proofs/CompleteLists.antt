@@ -1,18 +1,18 @@
 -- What is gathered from all choices of a test is its complete list, in either language.
 use Rattle.lw_finals.proofs.Common.{◌≡◌, ℕ, inl, inr, List, [], ◌∷◌, length, Result, Ok, Err, refl, sym, ap}
 use Rattle.lw_finals.proofs.Common.{subst, IfOk, OnOk, All, Contains, ◌↔◌, cases_lt, All-nil, All-contains}
-use Rattle.lw_finals.proofs.Common.{All-weaker, Contains-append_right, Final, flat, Protocol, Mesi, Instr}
-use Rattle.lw_finals.proofs.Common.{without_evictions, MachineState, MachineRan, MachineOutcome}
-use Rattle.lw_finals.proofs.Common.{machine_start, Did, leads_to, no_eviction, Event, Step, Drain, Evict}
-use Rattle.lw_finals.proofs.Common.{Language, Test, ProgramTest, IsThread, IsWellFormed, Constraints}
-use Rattle.lw_finals.proofs.Common.{IsLinearExtension, most_items, orders, IsForward, IsChoice}
-use Rattle.lw_finals.proofs.Common.{HasTooManyItems, IsWithinLimits, items_at_choice, items_of, reduced_of}
-use Rattle.lw_finals.proofs.Common.{Item, choices_are_all, reduced_well_formed, same_orders, Contains-here}
-use Rattle.lw_finals.proofs.Common.{from_map, ListedOutcomes, outcomes_of, ReplaysOverCaches, System}
-use Rattle.lw_finals.proofs.Common.{LeadsFlat, Gathers, EndsOfProgram, AreComplete, AreFlat, IsComplete}
-use Rattle.lw_finals.proofs.Common.{no_evictions}
-use Rattle.lw_finals.specs.OrderRuns.{StaysAndEnds}
-use Rattle.lw_finals.proofs.Alike.{OrdersEndAlike}
+use Rattle.lw_finals.proofs.Common.{All-weaker, Contains-append_right, FinalState, flat_memory, Protocol}
+use Rattle.lw_finals.proofs.Common.{Mesi, Instr, without_evictions, MachineState, MachineRunsTo}
+use Rattle.lw_finals.proofs.Common.{IsMachineOutcome, initial_machine_state, EventOccurrence, effect_of_event}
+use Rattle.lw_finals.proofs.Common.{no_eviction, Event, Step, Drain, Evict, Language, Test, X86Test}
+use Rattle.lw_finals.proofs.Common.{IsWellFormedThread, IsWellFormed, Constraints, IsLinearExtension}
+use Rattle.lw_finals.proofs.Common.{most_items, orders, JumpsForward, IsPathAssignment, HasTooManyItems}
+use Rattle.lw_finals.proofs.Common.{IsWithinLimits, items_at_choice, items_of, transitive_reduction, Item}
+use Rattle.lw_finals.proofs.Common.{choices_are_all, reduced_well_formed, same_orders, Contains-head}
+use Rattle.lw_finals.proofs.Common.{from_map, OutcomeEntries, outcomes_of, ReplaysToOverCaches}
+use Rattle.lw_finals.proofs.Common.{ItemTransitionSystem, ReplaysFlatTo, CollectsOutcomes, OutcomesOfProgram}
+use Rattle.lw_finals.proofs.Common.{AreComplete, AreFlat, IsComplete, no_evictions, FollowsPathsToEnd}
+use Rattle.lw_finals.proofs.SourceTraceEquivalence.{OrdersEndAlike}
 use Rattle.lw_finals.proofs.Ordered.{OfChoice}
 use Rattle.lw_orders.specs.Order as orders
 
@@ -25,67 +25,72 @@ known_too : {T E : Type 0} (r : Result T E) (P R : T → Type 0) (Q : Type 0)
 known_too (Ok x) P R Q f p q = f x p q
 known_too (Err e) P R Q f p q = tt
 
-module _ {S : Type 0} (language : Language S) (test : Test S) {State : Type 0} (system : System State) where
+module _ {S : Type 0} (language : Language S) (test : Test S) {State : Type 0} (system : ItemTransitionSystem State) where
   abbrev choice_items : List (List ℕ) → List Item
   choice_items paths = items_of language test.threads paths
 
   -- a choice's items with their reduced pairs, which the orders are made with
   abbrev pub reduced_constraints : List (List ℕ) → Constraints
-  reduced_constraints paths = reduced_of language test.threads (choice_items paths)
+  reduced_constraints paths = transitive_reduction language test.threads (choice_items paths)
 
   -- of each choice of the test, alike orders of its items end alike
   abbrev pub AreAlike : Type 0
-  AreAlike = (paths : List (List ℕ)) → IsChoice language test.threads paths → OrdersEndAlike language test.threads paths system
+  AreAlike =
+      (paths : List (List ℕ)) → IsPathAssignment language test.threads paths → OrdersEndAlike language test.threads paths system
 
   module _ (is : IsWellFormed language test) (alike : AreAlike) (complete : AreComplete)
       (few : HasTooManyItems language test.threads → ⊥) where
-    formed : (paths : List (List ℕ)) → IsChoice language test.threads paths → orders.IsWellFormed (reduced_constraints paths)
+    formed : (paths : List (List ℕ))
+        → IsPathAssignment language test.threads paths
+        → orders.IsWellFormed (reduced_constraints paths)
     formed paths choice = elim (cases_lt most_items (items_at_choice language test.threads paths)) [
       | inl many ↦ absurd (few (paths, choice, many))
       | inr within ↦ reduced_well_formed language test.threads (choice_items paths) within
     ]
 
     -- what an order of a choice ends with, one ends with that is given
-    given_end : (o : Final)
+    given_end : (o : FinalState)
         → OfChoice language test.threads system o
-        → EndsOfProgram language (StaysAndEnds system) test.threads o
+        → OutcomesOfProgram language (FollowsPathsToEnd system) test.threads o
     given_end o (paths, choice, c) =
         let t : Constraints = reduced_constraints paths in
         let same = same_orders language test.threads paths in
         let given = complete.exactly_one t (formed paths choice) c.order ((same c.order).1 c.keeps) in
         let there : Contains (orders t) given.one =
         subst (λ (xs : List (List ℕ)). Contains xs given.one) (sym given.split)
-        (Contains-append_right given.before _ given.one (Contains-here given.one given.one given.behind refl)) in
+        (Contains-append_right given.before _ given.one (Contains-head given.one given.one given.behind refl)) in
         let keeps = (same given.one).0 (All-contains (IsLinearExtension t) _ _ (complete.each t (formed paths choice)) there) in
-        let forward : All (IsForward language) test.threads =
-        All-weaker (IsThread language (length test.head.locs)) (IsForward language) (λ code t. t.forward) test.threads
-        is.code in (
+        let forward : All (JumpsForward language) test.threads =
+        All-weaker (IsWellFormedThread language (length test.head.locs)) (JumpsForward language) (λ code t. t.forward)
+        test.threads is.code in (
           paths,
           (choices_are_all language test.threads paths forward).1 choice,
           (given.one, there, alike paths choice c.order given.one o c.keeps keeps given.has c.run),
         )
 
-    module _ (Has : Final → Type 0) (choices : (o : Final) → Has o ↔ OfChoice language test.threads system o)
-        (program : ProgramTest) (same : (o : Final) → MachineOutcome flat program program.head.init_words o ↔ Has o)
-        (flat_too : AreFlat program) (entries : ListedOutcomes)
-        (gathers : Gathers (EndsOfProgram language (StaysAndEnds system) test.threads) (LeadsFlat program) [] entries) where
+    module _ (Has : FinalState → Type 0) (choices : (o : FinalState) → Has o ↔ OfChoice language test.threads system o)
+        (program : X86Test) (same : (o : FinalState) → IsMachineOutcome flat_memory program program.head.init_words o ↔ Has o)
+        (flat_too : AreFlat program) (entries : OutcomeEntries)
+        (gathers : CollectsOutcomes (OutcomesOfProgram language (FollowsPathsToEnd system) test.threads) (ReplaysFlatTo program)
+        [] entries) where
       -- each schedule leads to its outcome
-      lead : All (λ e. LeadsFlat program e.1 e.0) entries
-      lead = gathers.lead (All-nil (λ e. LeadsFlat program e.1 e.0))
+      lead : All (λ e. ReplaysFlatTo program e.1 e.0) entries
+      lead = gathers.lead (All-nil (λ e. ReplaysFlatTo program e.1 e.0))
 
-      exactly : (o : Final) → Contains (outcomes_of entries) o ↔ Has o
+      exactly : (o : FinalState) → Contains (outcomes_of entries) o ↔ Has o
       exactly o = (
         λ c.
             (let e = from_map _ entries o c in
-            subst Has e.2 ((same e.0.0).0 (e.0.1, (All-contains (λ e. LeadsFlat program e.1 e.0) entries e.0 lead e.1)))),
+            subst Has e.2 ((same e.0.0).0 (e.0.1, (All-contains (λ e. ReplaysFlatTo program e.1 e.0) entries e.0 lead e.1)))),
         λ has. gathers.covered o (given_end o ((choices o).0 has)),
       )
 
-      replays : (protocol : Protocol) → All (λ e. ReplaysOverCaches protocol program e.1 e.0) entries
+      replays : (protocol : Protocol) → All (λ e. ReplaysToOverCaches protocol program e.1 e.0) entries
       replays protocol =
-          All-weaker (λ e. LeadsFlat program e.1 e.0) (λ e. ReplaysOverCaches protocol program e.1 e.0) (λ e h.
+          All-weaker (λ e. ReplaysFlatTo program e.1 e.0) (λ e. ReplaysToOverCaches protocol program e.1 e.0) (λ e h.
           (flat_too.replays protocol e.1 e.0
-          (no_evictions program.threads e.1 (machine_start program program.head.init_words) h.end h.ran)).1 h) entries lead
+          (no_evictions program.threads e.1 (initial_machine_state program program.head.init_words) h.end h.ran)).1 h) entries
+          lead
 
       complete_list : IsComplete Has program entries
       complete_list = record {
@@ -99,22 +104,24 @@ module _ {S : Type 0} (language : Language S) (test : Test S) {State : Type 0} (
       }
 
   -- Why a test's list is complete: its outcomes are those of the choices of paths, and those of this program on the flat machine.
-  pub record CanBeListed (Has : Final → Type 0) (program : ProgramTest) : Type 0 where
+  pub record CanBeListed (Has : FinalState → Type 0) (program : X86Test) : Type 0 where
     pub is : IsWellFormed language test
     pub alike : AreAlike
     pub complete : AreComplete
-    pub choices : (o : Final) → Has o ↔ OfChoice language test.threads system o
-    pub same : (o : Final) → MachineOutcome flat program program.head.init_words o ↔ Has o
+    pub choices : (o : FinalState) → Has o ↔ OfChoice language test.threads system o
+    pub same : (o : FinalState) → IsMachineOutcome flat_memory program program.head.init_words o ↔ Has o
     pub flat_too : AreFlat program
 
   -- where a test has a list, it is a complete list of its outcomes
-  pub listed : (Has : Final → Type 0) (program : ProgramTest)
+  pub listed : (Has : FinalState → Type 0) (program : X86Test)
       → CanBeListed Has program
-      → {E : Type 0} (result : Result ListedOutcomes E)
-      → IfOk result (λ l. Gathers (EndsOfProgram language (StaysAndEnds system) test.threads) (LeadsFlat program) [] l)
+      → {E : Type 0} (result : Result OutcomeEntries E)
+      → IfOk result
+      (λ l. CollectsOutcomes (OutcomesOfProgram language (FollowsPathsToEnd system) test.threads) (ReplaysFlatTo program) [] l)
       → OnOk result (IsWithinLimits language test.threads)
       → IfOk result (IsComplete Has program)
   listed Has program can result =
-      known_too result (λ l. Gathers (EndsOfProgram language (StaysAndEnds system) test.threads) (LeadsFlat program) [] l)
+      known_too result
+      (λ l. CollectsOutcomes (OutcomesOfProgram language (FollowsPathsToEnd system) test.threads) (ReplaysFlatTo program) [] l)
       (IsComplete Has program) (IsWithinLimits language test.threads) (λ l gathers within.
       complete_list can.is can.alike can.complete within.0 Has can.choices program can.same can.flat_too l gathers)

@@ -1,8 +1,8 @@
 pub mod Common
 pub mod api
-pub mod Taken
+pub mod PathOfRun
 pub mod Ordered
-pub mod Alike
+pub mod SourceTraceEquivalence
 pub mod SourceOutcomes
 pub mod Gathering
 pub mod CompleteLists
@@ -10,7 +10,7 @@ pub mod SourceList
 pub mod OrderSteps
 pub mod SourceRunners
 pub mod X86Swap
-pub mod X86Alike
+pub mod X86TraceEquivalence
 pub mod X86Outcomes
 pub mod X86List
 pub mod X86Runners

@@ -1,8 +1,8 @@
 -- A run of an order of items, one item further.
 use Rattle.lw_finals.proofs.Common.{◌≡◌, ℕ, suc, ◌+◌, ◌<◌, ◌≤◌, List, ◌∷◌, length, drop, Some, refl, sym, ap}
 use Rattle.lw_finals.proofs.Common.{◌∙◌, subst, arith, get_or, drop-cons, IsTrue, drop_all, slice_get-get_or}
-use Rattle.lw_finals.proofs.Common.{get_or_from_slice_get, Final, Item, item_at, System, OrderRan}
-use Rattle.lw_finals.specs.OrderRuns.{StaysAndEnds}
+use Rattle.lw_finals.proofs.Common.{get_or_from_slice_get, FinalState, Item, item_at, ItemTransitionSystem}
+use Rattle.lw_finals.proofs.Common.{OrderRunsTo, FollowsPathsToEnd}
 
 -- the item that is read at an index is the item of that number
 read_item : (items : List Item) (n : ℕ) (x : Item) → n < length items → x ≡ get_or items n x → item_at items n ≡ x
@@ -17,9 +17,9 @@ pub record IsNext (items : List Item) (order : List ℕ) (k : ℕ) (x : Item) : 
   pub there : index < length items
   pub is_item : x ≡ get_or items index x
 
-module _ {State : Type 0} (system : System State) (items : List Item) where
+module _ {State : Type 0} (system : ItemTransitionSystem State) (items : List Item) where
   abbrev Ran : List ℕ → State → State → Type 0
-  Ran = OrderRan system items
+  Ran = OrderRunsTo system items
 
   -- The first k items of an order have led to a state, as they do in every run of it.
   pub record RanFirst (order : List ℕ) (k : ℕ) (now : State) : Type 0 where
@@ -85,8 +85,8 @@ module _ {State : Type 0} (system : System State) (items : List Item) where
   pub ends_alone : {order : List ℕ} {k : ℕ} {now : State}
       → length order ≤ k
       → RanFirst order k now
-      → (o : Final)
-      → StaysAndEnds system items order o
+      → (o : FinalState)
+      → FollowsPathsToEnd system items order o
       → (o ≡ system.outcome_of now) × IsTrue (system.is_final now)
   ends_alone {order} {k} {now} past r o run =
       let end : run.end ≡ now = ran_out order k now past r run.end run.ran in
@@ -97,5 +97,5 @@ module _ {State : Type 0} (system : System State) (items : List Item) where
       → length order ≤ k
       → RanFirst order k now
       → IsTrue (system.is_final now)
-      → StaysAndEnds system items order (system.outcome_of now)
+      → FollowsPathsToEnd system items order (system.outcome_of now)
   ends_so {order} {k} {now} past r final = record { end = now; ran = ran_whole order k now past r; final = final; is = refl }

@@ -4,17 +4,19 @@ use Rattle.lw_finals.proofs.Common.{◌≡◌, ℕ, zero, suc, ◌+◌, ◌<◌,
 use Rattle.lw_finals.proofs.Common.{Some, Bool, true, false, Result, refl, sym, ap, ◌∙◌, subst, arith}
 use Rattle.lw_finals.proofs.Common.{slice_get, All, Contains, IsTrue, cases_eq, cases_lt, cases_order}
 use Rattle.lw_finals.proofs.Common.{cases_Bool, none-some, All-nil, All-cons, All-head, All-tail, All-weaker}
-use Rattle.lw_finals.proofs.Common.{Final, Ran, code_of, Event, Stop, index_in, Before, Once, Keeps, indices}
-use Rattle.lw_finals.proofs.Common.{index_in-same, index_in-other, same_index, All-stands, order_from}
-use Rattle.lw_finals.proofs.Common.{IsPathFrom, Language, IsForward, IsChoice, Item, item_at, items_of}
-use Rattle.lw_finals.proofs.Common.{constraints_of, AreOrdered, keeps_all, none_in, Contains-cons, from_map}
-use Rattle.lw_finals.proofs.Common.{In, Pairwise, Has, item, item_there, IsReal, as_many, real, slot_goes_up}
-use Rattle.lw_finals.proofs.Common.{same_number, System, ItemsRan, ChoiceOutcome}
-use Rattle.lw_finals.proofs.Taken.{IsRight, IsAhead, Completed, Runs, completed}
+use Rattle.lw_finals.proofs.Common.{FinalState, RunsTo, thread_code, Event, Stop, index_in, Before}
+use Rattle.lw_finals.proofs.Common.{AreDistinct, Respects, indices, index_in-same, index_in-other, same_index}
+use Rattle.lw_finals.proofs.Common.{All-stands, order_from, IsFlowPathFrom, Language, JumpsForward}
+use Rattle.lw_finals.proofs.Common.{IsPathAssignment, Item, item_at, items_of, constraints_of, AreOrdered}
+use Rattle.lw_finals.proofs.Common.{keeps_all, not-Contains-nil, Contains-cons, from_map, IsMember, Pairwise}
+use Rattle.lw_finals.proofs.Common.{HasItem, item, item_there, IsItemOnPath, as_many, IsItemOnPath-of_member}
+use Rattle.lw_finals.proofs.Common.{slot_goes_up, same_number, ItemTransitionSystem, ItemsRunTo}
+use Rattle.lw_finals.proofs.Common.{IsChoiceOutcome}
+use Rattle.lw_finals.proofs.PathOfRun.{IsRight, IsAhead, Completed, Runs, completed}
 
 -- an item of a list is found at an index below the list's length
 found_there : (xs : List ℕ) (i : ℕ) → Contains xs i → index_in xs i < length xs
-found_there [] i c = absurd (none_in i c)
+found_there [] i c = absurd (not-Contains-nil i c)
 found_there (x ∷ xs) i c = elim (cases_eq x i) [
   | inl e ↦ omega (arith, index_in-same x xs i e)
   | inr ne ↦ elim (Contains-cons x i xs c) [
@@ -24,7 +26,7 @@ found_there (x ∷ xs) i c = elim (cases_eq x i) [
 ]
 
 -- what a list that is made of a function has at an index is what the function gives
-code_listed : (P : ℕ → List ℕ) (k n t : ℕ) → t < n → code_of (map P (indices k n)) t ≡ P (k + t)
+code_listed : (P : ℕ → List ℕ) (k n t : ℕ) → t < n → thread_code (map P (indices k n)) t ≡ P (k + t)
 code_listed P k zero t l = absurd (omega arith)
 code_listed P k (suc n) zero l = let e : k ≡ k + 0 = omega arith in ap P e
 code_listed P k (suc n) (suc t) l =
@@ -32,18 +34,18 @@ code_listed P k (suc n) (suc t) l =
 
 module _ {S : Type 0} (language : Language S) where
   choice_listed : (program : List (List S)) (P : ℕ → List ℕ) (k : ℕ)
-      → ((t : ℕ) → t < length program → IsPathFrom language (code_of program t) 0 (P (k + t)))
-      → IsChoice language program (map P (indices k (length program)))
+      → ((t : ℕ) → t < length program → IsFlowPathFrom language (thread_code program t) 0 (P (k + t)))
+      → IsPathAssignment language program (map P (indices k (length program)))
   choice_listed [] P k each = tt
   choice_listed (code ∷ program) P k each =
       let first : k + 0 ≡ k = omega arith in (
-        subst (λ (n : ℕ). IsPathFrom language code 0 (P n)) first (each 0 (omega arith)),
+        subst (λ (n : ℕ). IsFlowPathFrom language code 0 (P n)) first (each 0 (omega arith)),
         choice_listed program P (suc k) (λ t l.
             (let next : k + suc t ≡ suc k + t = omega arith in
-            subst (λ n. IsPathFrom language (code_of program t) 0 (P n)) next (each (suc t) (omega arith)))),
+            subst (λ n. IsFlowPathFrom language (thread_code program t) 0 (P n)) next (each (suc t) (omega arith)))),
       )
 
-  code_within : (program : List (List S)) (t j : ℕ) (i : S) → slice_get (code_of program t) j ≡ Some i → t < length program
+  code_within : (program : List (List S)) (t j : ℕ) (i : S) → slice_get (thread_code program t) j ≡ Some i → t < length program
   code_within [] t j i e = absurd (none-some i e)
   code_within (code ∷ program) zero j i e = omega arith
   code_within (code ∷ program) (suc t) j i e = omega (arith, code_within program t j i e)
@@ -58,11 +60,11 @@ module _ {S : Type 0} (language : Language S) (program : List (List S)) (items :
     pub same : map it order ≡ done
     pub below : All (λ i. i < length items) order
 
-  named : (done : List Item) → All (Has items) done → Named done
+  named : (done : List Item) → All (HasItem items) done → Named done
   named [] h = record { order = []; same = refl; below = All-nil (λ i. i < length items) }
   named (a ∷ done) h =
-      let r : Named done = named done (All-tail (Has items) a done h) in
-      let n : Has items a = All-head (Has items) a done h in
+      let r : Named done = named done (All-tail (HasItem items) a done h) in
+      let n : HasItem items a = All-head (HasItem items) a done h in
       record {
         order = n.0 ∷ r.order;
         same = ap (λ xs. it n.0 ∷ xs) r.same ∙ ap (λ x. x ∷ done) n.2;
@@ -77,7 +79,7 @@ module _ {S : Type 0} (language : Language S) (program : List (List S)) (items :
   ]
 
   -- none stands twice
-  once : (xs : List ℕ) → Pairwise (IsRight language program) (map it xs) → Once xs
+  once : (xs : List ℕ) → Pairwise (IsRight language program) (map it xs) → AreDistinct xs
   once [] h = tt
   once (x ∷ xs) h = (
     elim (cases_lt (index_in xs x) (length xs)) [
@@ -106,13 +108,13 @@ module _ {S : Type 0} (language : Language S) (program : List (List S)) (items :
   ]
 
 -- an outcome of some choice of a program's paths
-abbrev pub OfChoice : {S State : Type 0} → Language S → List (List S) → System State → Final → Type 0
+abbrev pub OfChoice : {S State : Type 0} → Language S → List (List S) → ItemTransitionSystem State → FinalState → Type 0
 OfChoice language program system o =
-    (paths : List (List ℕ)) × IsChoice language program paths × ChoiceOutcome system language program paths o
+    (paths : List (List ℕ)) × IsPathAssignment language program paths × IsChoiceOutcome system language program paths o
 
-module _ {S : Type 0} (language : Language S) (program : List (List S)) {State : Type 0} (system : System State)
+module _ {S : Type 0} (language : Language S) (program : List (List S)) {State : Type 0} (system : ItemTransitionSystem State)
     (position_of : State → ℕ → Option ℕ) where
-  module _ (forward : (t : ℕ) → IsForward language (code_of program t)) (end : State)
+  module _ (forward : (t : ℕ) → JumpsForward language (thread_code program t)) (end : State)
       (starts : (t : ℕ) → t < length program → position_of system.start t ≡ Some 0)
       (c : Completed language program system position_of (λ t. []) system.start end) where
     abbrev paths : List (List ℕ)
@@ -124,27 +126,27 @@ module _ {S : Type 0} (language : Language S) (program : List (List S)) {State :
     abbrev at : ℕ → Item
     at i = item_at its i
 
-    path_is : (t : ℕ) → t < length program → code_of paths t ≡ c.paths t
+    path_is : (t : ℕ) → t < length program → thread_code paths t ≡ c.paths t
     path_is t l = let e : 0 + t ≡ t = omega arith in code_listed c.paths 0 (length program) t l ∙ ap c.paths e
 
-    choice : IsChoice language program paths
+    choice : IsPathAssignment language program paths
     choice = choice_listed language program c.paths 0 (λ t l.
         let e : t ≡ 0 + t = omega arith in
-        subst (λ (n : ℕ). IsPathFrom language (code_of program t) 0 (c.paths n)) e (c.flows t 0 (starts t l)))
+        subst (λ (n : ℕ). IsFlowPathFrom language (thread_code program t) 0 (c.paths n)) e (c.flows t 0 (starts t l)))
 
     -- each item that was done is one of the paths
-    has_number : (a : Item) → IsAhead language program c.paths (λ t. []) a → Has its a
+    has_number : (a : Item) → IsAhead language program c.paths (λ t. []) a → HasItem its a
     has_number a h =
         let l = code_within language program a.thread a.position h.statement h.at in
-        let on : In a.position (c.paths a.thread) = elim h.on [ inl g ↦ g | inr (d, g) ↦ absurd g ] in
+        let on : IsMember a.position (c.paths a.thread) = elim h.on [ inl g ↦ g | inr (d, g) ↦ absurd g ] in
         item_there language program paths a.thread a.position h.statement a.is_drain (as_many language program paths choice) l
-        (subst (In a.position) (sym (path_is a.thread l)) on) h.at h.store
+        (subst (IsMember a.position) (sym (path_is a.thread l)) on) h.at h.store
 
     -- and each of the paths was done
     is_done : (i : ℕ) → i < length its → Contains c.done (at i)
     is_done i l =
-        let r : IsReal language program paths (at i) = real language program paths i l in
-        let on = subst (In (at i).position) (path_is (at i).thread r.within) r.on in
+        let r : IsItemOnPath language program paths (at i) = IsItemOnPath-of_member language program paths i l in
+        let on = subst (IsMember (at i).position) (path_is (at i).thread r.within) r.on in
         let is : (b : Bool)
         → (at i).is_drain ≡ b
         → Contains c.done (item (at i).thread (at i).position b)
@@ -157,7 +159,7 @@ module _ {S : Type 0} (language : Language S) (program : List (List S)) {State :
         ]
 
     names : Named language program its c.done
-    names = named language program its c.done (All-weaker _ (Has its) has_number c.done c.ahead)
+    names = named language program its c.done (All-weaker _ (HasItem its) has_number c.done c.ahead)
 
     right : Pairwise (IsRight language program) (map at names.order)
     right = subst (Pairwise (IsRight language program)) (sym names.same) c.right
@@ -172,7 +174,7 @@ module _ {S : Type 0} (language : Language S) (program : List (List S)) {State :
         (ap (λ (x : Item). x.position) m.2) (ap (λ (x : Item). x.is_drain) m.2) in
         subst (λ k. index_in names.order k < length names.order) same found
 
-    keeps : Keeps (constraints_of language program its).fixed names.order
+    keeps : Respects (constraints_of language program its).fixed names.order
     keeps = keeps_all language program its names.order in_order
       where
         in_order : (i j : ℕ)
@@ -190,7 +192,7 @@ module _ {S : Type 0} (language : Language S) (program : List (List S)) {State :
         ]
 
     -- the order that the run takes
-    of_choice : (o : Final) → IsTrue (system.is_final end) → o ≡ system.outcome_of end → OfChoice language program system o
+    of_choice : (o : FinalState) → IsTrue (system.is_final end) → o ≡ system.outcome_of end → OfChoice language program system o
     of_choice o final is = (
       paths,
       choice,
@@ -199,7 +201,7 @@ module _ {S : Type 0} (language : Language S) (program : List (List S)) {State :
         keeps = (order_from (length its) names.order names.below (once language program its names.order right) stands, keeps);
         run = record {
           end = end;
-          ran = subst (λ (xs : List Item). ItemsRan system xs system.start end) (sym names.same) c.ran;
+          ran = subst (λ (xs : List Item). ItemsRunTo system xs system.start end) (sym names.same) c.ran;
           final = final;
           is = is;
         };
@@ -209,9 +211,9 @@ module _ {S : Type 0} (language : Language S) (program : List (List S)) {State :
   -- What a run ends with is an outcome of a choice of paths.
   pub run_of_choice : (Done : Event → State → Result (Unit {0}) Stop → State → Type 0) (Sound : (ℕ → List ℕ) → State → Type 0)
       → Runs language program system position_of Done Sound
-      → ((t : ℕ) → IsForward language (code_of program t))
-      → (es : List Event) (end : State) (o : Final)
-      → Ran Done es system.start end
+      → ((t : ℕ) → JumpsForward language (thread_code program t))
+      → (es : List Event) (end : State) (o : FinalState)
+      → RunsTo Done es system.start end
       → IsTrue (system.is_final end)
       → o ≡ system.outcome_of end
       → OfChoice language program system o

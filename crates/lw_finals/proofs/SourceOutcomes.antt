@@ -3,20 +3,20 @@
 use Rattle.lw_finals.proofs.Common.{◌≡◌, ℕ, ◌≤◌, ◌==◌, Bool, true, false, if◌then◌else◌, List, [], ◌∷◌, map}
 use Rattle.lw_finals.proofs.Common.{length, Option, Some, None, Result, Ok, refl, sym, subst, inl, inr}
 use Rattle.lw_finals.proofs.Common.{slice_get, arith, ◌≢◌, ◌<◌, ap₂, ◌∙◌, ◌↔◌, IsTrue, true≢false, leb-true}
-use Rattle.lw_finals.proofs.Common.{get_or_past, cases_lt, cases_order, false_from_ne_true, Final, code_of}
-use Rattle.lw_finals.proofs.Common.{Event, Step, Stop, at_index, got_map, zip_passes, Stmt, Follows, source}
-use Rattle.lw_finals.proofs.Common.{IsWellFormedSource, SourceTest, Thread, State, source_step, SourceRan}
-use Rattle.lw_finals.proofs.Common.{RunsTo, is_source_final, start_of, starting_thread, SourceOutcome}
-use Rattle.lw_finals.proofs.Common.{FollowsFlow, next_of, moved, others_placed, exchange, next_is, IsChoice}
-use Rattle.lw_finals.proofs.Common.{Item, items_of, item_at, statement_of, conflict_by, items_conflict, In}
-use Rattle.lw_finals.proofs.Common.{item, IsReal, real, forward_of, OrderRan, system_of, StaysAndEnds}
-use Rattle.lw_finals.proofs.Common.{threads_of, none-some}
-use Rattle.lw_interleaving.specs.Steps.{position_of}
-use Rattle.lw_finals.specs.SourceRuns.{ChoiceOutcome, CarriedOut}
+use Rattle.lw_finals.proofs.Common.{get_or_past, cases_lt, cases_order, false_from_ne_true, FinalState}
+use Rattle.lw_finals.proofs.Common.{thread_code, Event, Step, Stop, at_index, get-map, zip_passes, Stmt}
+use Rattle.lw_finals.proofs.Common.{IsFlowSuccessor, source_language, IsWellFormedSource, SourceTest, Thread}
+use Rattle.lw_finals.proofs.Common.{State, source_step, SourceRunsTo, InterleavesTo, is_source_final}
+use Rattle.lw_finals.proofs.Common.{initial_state, initial_thread, SourceOutcome, FollowsFlow, next_statement}
+use Rattle.lw_finals.proofs.Common.{moved, others_placed, exchange, next_is, IsPathAssignment, Item, items_of}
+use Rattle.lw_finals.proofs.Common.{item_at, statement_of, conflict_by, items_conflict, IsMember, item}
+use Rattle.lw_finals.proofs.Common.{IsItemOnPath, IsItemOnPath-of_member, forward_of, OrderRunsTo}
+use Rattle.lw_finals.proofs.Common.{source_item_system, SourceFollowsPathsToEnd, threads_of, none-some}
+use Rattle.lw_finals.proofs.Common.{thread_position, IsSourceChoiceOutcome, SourceItemTransition}
 use Rattle.lw_finals.proofs.Ordered.{run_of_choice}
-use Rattle.lw_finals.proofs.Taken.{One, Runs, starts, at_start}
-use Rattle.lw_finals.proofs.api.Waiting.{Climbs, own_waits, stored, waits_after}
-use Rattle.lw_finals.proofs.Alike.{Neighbours, OrdersEndAlike, orders_end_alike}
+use Rattle.lw_finals.proofs.PathOfRun.{One, Runs, starts, at_start}
+use Rattle.lw_finals.proofs.api.Waiting.{IsAscendingBetween, own_waits, entry_location, waits_after}
+use Rattle.lw_finals.proofs.SourceTraceEquivalence.{Neighbours, OrdersEndAlike, orders_end_alike}
 use Rattle.lw_base.specs.Replays as replays
 use Rattle.lw_litmus.specs.Conflicts as conflicts
 
@@ -25,18 +25,22 @@ use Rattle.lw_litmus.specs.Conflicts as conflicts
 -- Two items of two threads, whose statements do not conflict.
 record OfTwoThreads (program : List (List Stmt)) (a b : Item) : Type 0 where
   unlike : a.thread ≢ b.thread
-  free : conflicts.do_conflict source (statement_of source program a) (statement_of source program b) ≡ false
+  free : conflicts.operations_conflict source_language (statement_of source_language program a)
+      (statement_of source_language program b)
+      ≡ false
 
 -- two items by `OfTwoThreads`, carried out one behind the other, can be so the other way round, to the same state after both
 swapped : (program : List (List Stmt)) (a b : Item) (s mid end : State)
     → OfTwoThreads program a b
-    → CarriedOut program a s mid
-    → CarriedOut program b mid end
-    → (other : State) × CarriedOut program b s other × CarriedOut program a other end
+    → SourceItemTransition program a s mid
+    → SourceItemTransition program b mid end
+    → (other : State) × SourceItemTransition program b s other × SourceItemTransition program a other end
 swapped program a b s mid end two (at_a, step_a) (at_b, step_b) =
     let was_b = sym (others_placed program a.thread b.thread s mid two.unlike step_a) ∙ at_b in
-    let apart : conflicts.do_conflict source (next_of program s a.thread) (next_of program s b.thread) ≡ false =
-    ap₂ (conflicts.do_conflict source) (next_is program s _ _ at_a) (next_is program s _ _ was_b) ∙ two.free in
+    let apart : conflicts.operations_conflict source_language (next_statement program s a.thread)
+    (next_statement program s b.thread)
+    ≡ false =
+    ap₂ (conflicts.operations_conflict source_language) (next_is program s _ _ at_a) (next_is program s _ _ was_b) ∙ two.free in
     let o : (o : State) × (source_step program b.thread s ≡ Ok o) × (source_step program a.thread o ≡ Ok end) =
     exchange program a.thread b.thread s two.unlike apart mid end step_a step_b in
     (o.0, (was_b, o.1), (others_placed program b.thread a.thread s o.0 (λ e. two.unlike (sym e)) o.1 ∙ at_a, o.2))
@@ -45,36 +49,36 @@ swapped program a b s mid end two (at_a, step_a) (at_b, step_b) =
 conflict_is : (b c : Bool) (o p : Option Stmt)
     → b ≡ false
     → c ≡ false
-    → conflicts.do_conflict source o p ≡ conflict_by source b c o p
-conflict_is b c o p e f = plain o p ∙ sym (ap₂ (λ (d f : Bool). conflict_by source d f o p) e f)
+    → conflicts.operations_conflict source_language o p ≡ conflict_by source_language b c o p
+conflict_is b c o p e f = plain o p ∙ sym (ap₂ (λ (d f : Bool). conflict_by source_language d f o p) e f)
   where
-    plain : (o p : Option Stmt) → conflicts.do_conflict source o p ≡ conflict_by source false false o p
+    plain : (o p : Option Stmt) → conflicts.operations_conflict source_language o p ≡ conflict_by source_language false false o p
     plain None p = refl
     plain (Some a) None = refl
     plain (Some a) (Some b) = refl
 
 module _ (program : List (List Stmt)) (paths : List (List ℕ)) where
   abbrev at : ℕ → Item
-  at i = item_at (items_of source program paths) i
+  at i = item_at (items_of source_language program paths) i
 
   -- no item is a drain
-  not_drain : (i : ℕ) → i < length (items_of source program paths) → (at i).is_drain ≡ false
+  not_drain : (i : ℕ) → i < length (items_of source_language program paths) → (at i).is_drain ≡ false
   not_drain i l =
-      let r : IsReal source program paths (at i) = real source program paths i l in
+      let r : IsItemOnPath source_language program paths (at i) = IsItemOnPath-of_member source_language program paths i l in
       false_from_ne_true (at i).is_drain (λ d. none-some (r.store d).0 (r.store d).1)
 
   exchanged : (order : List ℕ) (k x y : ℕ)
-      → Neighbours source program paths order k x y
+      → Neighbours source_language program paths order k x y
       → (s mid end : State)
-      → CarriedOut program (at x) s mid
-      → CarriedOut program (at y) mid end
-      → (other : State) × CarriedOut program (at y) s other × CarriedOut program (at x) other end
+      → SourceItemTransition program (at x) s mid
+      → SourceItemTransition program (at y) mid end
+      → (other : State) × SourceItemTransition program (at y) s other × SourceItemTransition program (at x) other end
   exchanged order k x y n s mid end = swapped program (at x) (at y) s mid end (record {
     unlike = threads;
     free =
-        conflict_is (at x).is_drain (at y).is_drain (statement_of source program (at x)) (statement_of source program (at y))
-        x_step y_step
-        ∙ false_from_ne_true (items_conflict source program (at x) (at y)) n.apart;
+        conflict_is (at x).is_drain (at y).is_drain (statement_of source_language program (at x))
+        (statement_of source_language program (at y)) x_step y_step
+        ∙ false_from_ne_true (items_conflict source_language program (at x) (at y)) n.apart;
   })
     where
       x_step : (at x).is_drain ≡ false
@@ -91,23 +95,25 @@ module _ (program : List (List Stmt)) (paths : List (List ℕ)) where
       ]
 
 -- alike orders of a source test end alike
-pub alike_orders_end_alike : (s : SourceTest) (paths : List (List ℕ)) → OrdersEndAlike source s.threads paths (system_of s)
-alike_orders_end_alike s paths = orders_end_alike source s.threads paths (system_of s) (λ order k z. Unit {0}) (record {
-  first = λ order. tt;
-  next = λ order keeps k i l there z mid holds out. tt;
-  exchange = λ order keeps k x y n z mid end holds. exchanged s.threads paths order k x y n z mid end;
-})
+pub alike_orders_end_alike : (s : SourceTest) (paths : List (List ℕ))
+    → OrdersEndAlike source_language s.threads paths (source_item_system s)
+alike_orders_end_alike s paths =
+    orders_end_alike source_language s.threads paths (source_item_system s) (λ order k z. Unit {0}) (record {
+      first = λ order. tt;
+      next = λ order keeps k i l there z mid holds out. tt;
+      exchange = λ order keeps k x y n z mid end holds. exchanged s.threads paths order k x y n z mid end;
+    })
 
 -- ---- outcomes
 
 -- at the end each thread of a source test is past its code
 ended : (program : List (List Stmt)) (s : State) (t p : ℕ)
     → IsTrue (is_source_final program s)
-    → position_of s t ≡ Some p
-    → length (code_of program t) ≤ p
+    → thread_position s t ≡ Some p
+    → length (thread_code program t) ≤ p
 ended program s t p final e = elim (cases_lt t (length program)) [
   | inl l ↦
-      (let th = got_map (λ (x : Thread). x.position) s.threads t p e in
+      (let th = get-map (λ (x : Thread). x.position) s.threads t p e in
       let past = leb-true _ _ (zip_passes _ program _ t _ th.0 final (at_index program t [] l) th.1) in
       omega (arith, past, th.2))
   | inr past ↦ subst (λ code. length code ≤ p) (sym (get_or_past program t [] past)) (omega arith)
@@ -124,10 +130,10 @@ module _ (test : SourceTest) where
   none_waits : (W : ℕ → List ℕ) (s : State) (t j : ℕ)
       → NoneWaits W s
       → (u : ℕ)
-      → waits_after source program (item t j false) W u ≡ []
-  none_waits W s t j none u = go (t == u) (slice_get (code_of program t) j)
+      → waits_after source_language program (item t j false) W u ≡ []
+  none_waits W s t j none u = go (t == u) (slice_get (thread_code program t) j)
     where
-      go : (b : Bool) (o : Option Stmt) → (if b then own_waits false (stored source o) j (W u) else W u) ≡ []
+      go : (b : Bool) (o : Option Stmt) → (if b then own_waits false (entry_location source_language o) j (W u) else W u) ≡ []
       go false o = none u
       go true None = none u
       go true (Some i) = none u
@@ -136,8 +142,8 @@ module _ (test : SourceTest) where
   stepped : (t : ℕ) (W : ℕ → List ℕ) (s mid : State)
       → NoneWaits W s
       → source_step program t s ≡ Ok mid
-      → One source program (system_of test) position_of NoneWaits W s mid
-  stepped t W s mid none step = go (slice_get (code_of program t) m.from) refl m.follows
+      → One source_language program (source_item_system test) thread_position NoneWaits W s mid
+  stepped t W s mid none step = go (slice_get (thread_code program t) m.from) refl m.follows
     where
       m : FollowsFlow program t s mid
       m = moved program t s mid step
@@ -146,9 +152,9 @@ module _ (test : SourceTest) where
       never e = absurd (true≢false (sym e))
 
       go : (o : Option Stmt)
-          → slice_get (code_of program t) m.from ≡ o
-          → Follows source o m.from m.to
-          → One source program (system_of test) position_of NoneWaits W s mid
+          → slice_get (thread_code program t) m.from ≡ o
+          → IsFlowSuccessor source_language o m.from m.to
+          → One source_language program (source_item_system test) thread_position NoneWaits W s mid
       go None at f = absurd f
       go (Some i) at f = record {
         moves = record {
@@ -161,9 +167,9 @@ module _ (test : SourceTest) where
           was = m.was;
           now = m.now;
           others = λ u ne. others_placed program t u s mid ne step;
-          climbs = subst (λ (ws : List ℕ). Climbs 0 ws m.from) (sym (none t)) (omega arith);
+          climbs = subst (λ (ws : List ℕ). IsAscendingBetween 0 ws m.from) (sym (none t)) (omega arith);
           follows = λ e. (refl, f);
-          waited = λ e w k h. subst (In k) (none t) h;
+          waited = λ e w k h. subst (IsMember k) (none t) h;
           stays = λ e. never e;
           oldest = λ e. never e;
           store = λ e. never e;
@@ -176,44 +182,47 @@ module _ (test : SourceTest) where
   Steps e s answer mid = (t : ℕ) × (source_step program t s ≡ Ok mid)
 
   steps_alone : (order : List ℕ) (s end : State)
-      → SourceRan program (map Step order) s end
-      → replays.Ran Steps (map Step order) s end
+      → SourceRunsTo program (map Step order) s end
+      → replays.RunsTo Steps (map Step order) s end
   steps_alone [] s end ran = ran
   steps_alone (t ∷ order) s end (mid, step, ran) = (mid, (t, step), steps_alone order mid end ran)
 
-  runs : IsWellFormedSource test → Runs source program (system_of test) position_of Steps NoneWaits
+  runs : IsWellFormedSource test → Runs source_language program (source_item_system test) thread_position Steps NoneWaits
   runs is = record {
     first = λ u. refl;
     starts = λ t l.
-        starts starting_thread (λ (x : Thread). x.position) (λ x. refl) test.head.init_regs t
+        starts initial_thread (λ (x : Thread). x.position) (λ x. refl) test.head.init_regs t
         (omega (arith, l, is.head.regs, is.as_many));
-    at_start = at_start starting_thread (λ (x : Thread). x.position) (λ x. refl) test.head.init_regs;
+    at_start = at_start initial_thread (λ (x : Thread). x.position) (λ x. refl) test.head.init_regs;
     one = λ e W s mid none done. stepped done.0 W s mid none done.1;
-    ended = λ W s none final t p e. (ended program s t p final e, λ j h. subst (In j) (none t) h);
+    ended = λ W s none final t p e. (ended program s t p final e, λ j h. subst (IsMember j) (none t) h);
   }
 
 -- the steps of an order that stays on its paths are possible, one after another
 scheduled : (s : SourceTest) (items : List Item) (order : List ℕ) (z end : State)
-    → OrderRan (system_of s) items order z end
-    → SourceRan s.threads (map Step (threads_of items order)) z end
+    → OrderRunsTo (source_item_system s) items order z end
+    → SourceRunsTo s.threads (map Step (threads_of items order)) z end
 scheduled s items [] z end ran = ran
 scheduled s items (i ∷ order) z end (next, (at, step), ran) = (next, step, scheduled s _ order next end ran)
 
 -- an order of any items that stays on its paths runs to its outcome
-pub order_runs_to : (s : SourceTest) (items : List Item) (order : List ℕ) (o : Final)
-    → StaysAndEnds s items order o
-    → RunsTo s (threads_of items order) o
+pub order_runs_to : (s : SourceTest) (items : List Item) (order : List ℕ) (o : FinalState)
+    → SourceFollowsPathsToEnd s items order o
+    → InterleavesTo s (threads_of items order) o
 order_runs_to s items order o r =
-    record { end = r.end; ran = scheduled s items order (start_of s) r.end r.ran; final = r.final; is = r.is }
+    record { end = r.end; ran = scheduled s items order (initial_state s) r.end r.ran; final = r.final; is = r.is }
 
 -- The outcomes of a well-formed test are those of its choices of paths.
-pub outcomes_are_those_of_choices : (s : SourceTest) (o : Final)
+pub outcomes_are_those_of_choices : (s : SourceTest) (o : FinalState)
     → IsWellFormedSource s
-    → SourceOutcome s o ↔ ((paths : List (List ℕ)) × IsChoice source s.threads paths × ChoiceOutcome s paths o)
+    → SourceOutcome s o
+    ↔ ((paths : List (List ℕ)) × IsPathAssignment source_language s.threads paths × IsSourceChoiceOutcome s paths o)
 outcomes_are_those_of_choices s o is = (
   λ (order, u).
-      run_of_choice _ s.threads (system_of s) position_of (Steps s) _ (runs s is) (forward_of source s is) (map Step order) u.end
-      o (steps_alone s order (start_of s) u.end u.ran) u.final u.is,
-  λ (paths, choice, c).
-      (threads_of (items_of source s.threads paths) c.order, order_runs_to s (items_of source s.threads paths) c.order o c.run),
+      run_of_choice _ s.threads (source_item_system s) thread_position (Steps s) _ (runs s is) (forward_of source_language s is)
+      (map Step order) u.end o (steps_alone s order (initial_state s) u.end u.ran) u.final u.is,
+  λ (paths, choice, c). (
+    threads_of (items_of source_language s.threads paths) c.order,
+    order_runs_to s (items_of source_language s.threads paths) c.order o c.run,
+  ),
 )

@@ -1,58 +1,62 @@
 -- The schedules that orders of a source test's items stand for: they lead to the orders' outcomes.
 use Rattle.lw_finals.proofs.Common.{◌≡◌, ◌<◌, length, ℕ, subst, List, [], ◌∷◌, ◌++◌, refl, sym, ap, ap₂, ◌∙◌}
-use Rattle.lw_finals.proofs.Common.{All, slice_get, All-nil, All-cons, slice_get_within, same_Some, got_map}
-use Rattle.lw_finals.proofs.Common.{stepped, Final, code_of, Event, Stmt, Thread, State, RunsTo, start_of}
-use Rattle.lw_finals.proofs.Common.{flat, Replays, SourceTest, statement_events, thread_events, after_step}
-use Rattle.lw_finals.proofs.Common.{schedule, Item, item_at, OrderRan, system_of, StaysAndEnds, LeadsFlat}
-use Rattle.lw_finals.proofs.Common.{CompiledSource, IsThere, events_at, item_events, threads_of}
-use Rattle.lw_finals.specs.SourceRuns.{CarriedOut}
+use Rattle.lw_finals.proofs.Common.{All, slice_get, All-nil, All-cons, slice_get_within, same_Some, get-map}
+use Rattle.lw_finals.proofs.Common.{step-decompose, FinalState, thread_code, Event, Stmt, Thread, State}
+use Rattle.lw_finals.proofs.Common.{InterleavesTo, initial_state, flat_memory, ReplaysTo, SourceTest}
+use Rattle.lw_finals.proofs.Common.{statement_events, thread_events, after_step, compiled_schedule, Item}
+use Rattle.lw_finals.proofs.Common.{item_at, OrderRunsTo, source_item_system, SourceFollowsPathsToEnd}
+use Rattle.lw_finals.proofs.Common.{ReplaysFlatTo, CompiledSource, HasStatementAt, events_at, item_events}
+use Rattle.lw_finals.proofs.Common.{threads_of, SourceItemTransition}
 use Rattle.lw_finals.proofs.SourceOutcomes.{order_runs_to}
 
 -- an item that is carried out is a statement of its thread
-there : (program : List (List Stmt)) (item : Item) (s next : State) → CarriedOut program item s next → IsThere program item
+there : (program : List (List Stmt)) (item : Item) (s next : State)
+    → SourceItemTransition program item s next
+    → HasStatementAt program item
 there program item s next (at, step) =
-    let a = got_map (λ (th : Thread). th.position) s.threads item.thread item.position at in
-    let d = stepped program item.thread s next step in
+    let a = get-map (λ (th : Thread). th.position) s.threads item.thread item.position at in
+    let d = step-decompose program item.thread s next step in
     let same : a.0 ≡ d.thread = same_Some a.0 d.thread (sym a.1 ∙ d.was) in
     let index_in : item.position ≡ d.thread.position = a.2 ∙ ap (λ (th : Thread). th.position) same in
-    subst (λ (k : ℕ). k < length (code_of program item.thread)) (sym index_in) (slice_get_within _ _ d.stmt d.at)
+    subst (λ (k : ℕ). k < length (thread_code program item.thread)) (sym index_in) (slice_get_within _ _ d.stmt d.at)
 
 -- each item of an order that is carried out is a statement of its thread
 pub all_there : (test : SourceTest) (items : List Item) (order : List ℕ) (s end : State)
-    → OrderRan (system_of test) items order s end
-    → All (λ i. IsThere test.threads (item_at items i)) order
-all_there test items [] s end ran = All-nil (λ i. IsThere test.threads (item_at items i))
+    → OrderRunsTo (source_item_system test) items order s end
+    → All (λ i. HasStatementAt test.threads (item_at items i)) order
+all_there test items [] s end ran = All-nil (λ i. HasStatementAt test.threads (item_at items i))
 all_there test items (i ∷ order) s end (next, carried, ran) =
-    All-cons (λ j. IsThere test.threads (item_at items j)) i order (there test.threads (item_at items i) s next carried)
+    All-cons (λ j. HasStatementAt test.threads (item_at items j)) i order (there test.threads (item_at items i) s next carried)
     (all_there test items order next end ran)
 
 -- the schedule of an order's threads has the events of its items
 of_items : (test : SourceTest) (starts : List (List ℕ)) (items : List Item) (order : List ℕ) (s end : State)
-    → OrderRan (system_of test) items order s end
-    → schedule test.threads starts (threads_of items order) s ≡ item_events test.threads starts items order
+    → OrderRunsTo (source_item_system test) items order s end
+    → compiled_schedule test.threads starts (threads_of items order) s ≡ item_events test.threads starts items order
 of_items test starts items [] s end ran = refl
 of_items test starts items (i ∷ order) s end (next, (at, step), ran) =
     let item : Item = item_at items i in
-    let a = got_map (λ (th : Thread). th.position) s.threads item.thread item.position at in
+    let a = get-map (λ (th : Thread). th.position) s.threads item.thread item.position at in
     let here : thread_events test.threads starts item.thread (slice_get s.threads item.thread)
     ≡ events_at test.threads starts item =
     ap (thread_events test.threads starts item.thread) a.1
-    ∙ ap (λ (j : ℕ). statement_events item.thread (code_of starts item.thread) j (slice_get (code_of test.threads item.thread) j))
+    ∙ ap (λ (j : ℕ).
+    statement_events item.thread (thread_code starts item.thread) j (slice_get (thread_code test.threads item.thread) j))
     (sym a.2) in
     ap₂ (λ (es fs : List Event). es ++ fs) here
-    (ap (λ o. after_step o (schedule test.threads starts (threads_of items order))) step
+    (ap (λ o. after_step o (compiled_schedule test.threads starts (threads_of items order))) step
     ∙ of_items test starts items order next end ran)
 
 -- The events of an order's items lead to its outcome.
-pub leads : (t : CompiledSource) (items : List Item) (order : List ℕ) (events : List Event) (o : Final)
-    → StaysAndEnds t.source items order o
+pub leads : (t : CompiledSource) (items : List Item) (order : List ℕ) (events : List Event) (o : FinalState)
+    → SourceFollowsPathsToEnd t.source items order o
     → events ≡ item_events t.source.threads t.starts items order
-    → ((p : Final)
-    → RunsTo t.source (threads_of items order) p
-    → Replays flat t.program t.program.head.init_words
-    (schedule t.source.threads t.starts (threads_of items order) (start_of t.source)) p)
-    → LeadsFlat t.program events o
+    → ((p : FinalState)
+    → InterleavesTo t.source (threads_of items order) p
+    → ReplaysTo flat_memory t.program t.program.head.init_words
+    (compiled_schedule t.source.threads t.starts (threads_of items order) (initial_state t.source)) p)
+    → ReplaysFlatTo t.program events o
 leads t items order events o stays is replays =
-    subst (λ (es : List Event). Replays flat t.program t.program.head.init_words es o)
-    (of_items t.source t.starts items order (start_of t.source) stays.end stays.ran ∙ sym is)
+    subst (λ (es : List Event). ReplaysTo flat_memory t.program t.program.head.init_words es o)
+    (of_items t.source t.starts items order (initial_state t.source) stays.end stays.ran ∙ sym is)
     (replays o (order_runs_to t.source items order o stays))

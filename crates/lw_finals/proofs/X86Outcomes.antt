@@ -2,34 +2,38 @@
 use Rattle.lw_finals.proofs.Common.{◌≡◌, ℕ, ◌≤◌, ◌==◌, List, [], ◌∷◌, length, Option, Some, None, Bool, true}
 use Rattle.lw_finals.proofs.Common.{false, Ok, refl, sym, ap, ◌∙◌, subst, arith, slice_get, length-set, ◌↔◌}
 use Rattle.lw_finals.proofs.Common.{IsTrue, nat_le, option_map, true≢false, leb-true, eqb-true, and_parts}
-use Rattle.lw_finals.proofs.Common.{length-map, nil_from_length, slice_get-map, slice_get_within, Final}
-use Rattle.lw_finals.proofs.Common.{code_of, Event, Step, Drain, Evict, got_set_same, got_set_other, at_index}
-use Rattle.lw_finals.proofs.Common.{got_map, zip_passes, flat, Instr, Leads, x86_operation, x86}
-use Rattle.lw_finals.proofs.Common.{IsWellFormedProgram, ProgramTest, step_act, MachineState, position_of}
-use Rattle.lw_finals.proofs.Common.{EventDone, Processor, starting, is_final, MachineRan, Replays}
-use Rattle.lw_finals.proofs.Common.{MachineOutcome, machine_start, Does, Did, leads_to, no_eviction, Went}
-use Rattle.lw_finals.proofs.Common.{IsForward, IsChoice, Item, items_of, In, IsStoring, item, forward_of}
-use Rattle.lw_finals.proofs.Common.{OrderRan, events_of, CarriedOut, position_at}
-use Rattle.lw_finals.proofs.api.Waiting.{DrainsOldest, stored}
-use Rattle.lw_finals.specs.X86Runs.{system_of, StaysAndEnds, ChoiceOutcome}
+use Rattle.lw_finals.proofs.Common.{length-map, nil_from_length, slice_get-map, slice_get_within, FinalState}
+use Rattle.lw_finals.proofs.Common.{thread_code, Event, Step, Drain, Evict, get-set_same, get-set_other}
+use Rattle.lw_finals.proofs.Common.{at_index, get-map, zip_passes, flat_memory, Instr, IsSuccessor}
+use Rattle.lw_finals.proofs.Common.{x86_operation, x86_language, IsWellFormedProgram, X86Test, step_effect}
+use Rattle.lw_finals.proofs.Common.{MachineState, position_of, MachineTransition, Processor}
+use Rattle.lw_finals.proofs.Common.{initial_processor, is_final, MachineRunsTo, ReplaysTo, IsMachineOutcome}
+use Rattle.lw_finals.proofs.Common.{initial_machine_state, EffectLeadsTo, EventOccurrence, effect_of_event}
+use Rattle.lw_finals.proofs.Common.{no_eviction, OperationTransition, JumpsForward, IsPathAssignment, Item}
+use Rattle.lw_finals.proofs.Common.{items_of, IsMember, IsStoring, item, forward_of, OrderRunsTo, events_of}
+use Rattle.lw_finals.proofs.Common.{X86ItemTransition, position_at, x86_item_system, X86FollowsPathsToEnd}
+use Rattle.lw_finals.proofs.Common.{IsX86ChoiceOutcome}
+use Rattle.lw_finals.proofs.api.Waiting.{DrainsOldest, entry_location}
 use Rattle.lw_finals.proofs.Ordered.{run_of_choice}
-use Rattle.lw_finals.proofs.Taken.{One, Runs, starts, at_start}
-use Rattle.lw_finals.proofs.api.X86Waiting.{Carried, carried, went, DrainShape, drain_shape, Waits, no_waits}
-use Rattle.lw_finals.proofs.api.X86Waiting.{Holds, AllHold, all_hold, hold_first}
+use Rattle.lw_finals.proofs.PathOfRun.{One, Runs, starts, at_start}
+use Rattle.lw_finals.proofs.api.X86Waiting.{ItemStep, carried, went, DrainShape, drain_shape, BufferHolds}
+use Rattle.lw_finals.proofs.api.X86Waiting.{no_waits, Holds, AllHold, all_hold, hold_first}
 
 -- if the buffer has an oldest entry, some store waits, and the one that has waited longest made that entry
 oldest : (code : List Instr) (ws : List ℕ) (e : ℕ × ℕ) (newer : List (ℕ × ℕ))
-    → Waits code ws (e ∷ newer)
-    → (j : ℕ) × (rest : List ℕ) × (ws ≡ j ∷ rest) × (stored x86 (slice_get code j) ≡ Some e.0)
+    → BufferHolds code ws (e ∷ newer)
+    → (j : ℕ) × (rest : List ℕ) × (ws ≡ j ∷ rest) × (entry_location x86_language (slice_get code j) ≡ Some e.0)
 oldest code [] e newer h = absurd h
 oldest code (j ∷ rest) e newer h = (j, rest, refl, h.0)
 
 -- where an entry for a location is made, an instruction stands that stores
-storing : (o : Option Instr) (x : ℕ) → stored x86 o ≡ Some x → (i : Instr) × (o ≡ Some i) × IsStoring x86 i
+storing : (o : Option Instr) (x : ℕ)
+    → entry_location x86_language o ≡ Some x
+    → (i : Instr) × (o ≡ Some i) × IsStoring x86_language i
 storing None x e = absurd (let bad : None ≡ Some x = e in cc)
 storing (Some i) x e = (i, refl, (x, e))
 
-module _ (test : ProgramTest) where
+module _ (test : X86Test) where
   abbrev program : List (List Instr)
   program = test.threads
 
@@ -40,18 +44,20 @@ module _ (test : ProgramTest) where
       → IsTrue (is_final program s)
       → (t p : ℕ)
       → position_of s t ≡ Some p
-      → (length (code_of program t) ≤ p) × ((j : ℕ) → In j (W t) → ⊥)
+      → (length (thread_code program t) ≤ p) × ((j : ℕ) → IsMember j (W t) → ⊥)
   ended W s hold many final t p e =
-      let q = got_map (λ (x : Processor). x.position) s.processors t p e in
+      let q = get-map (λ (x : Processor). x.position) s.processors t p e in
       let l = slice_get_within s.processors t q.0 q.1 in
       let done = zip_passes _ program _ t _ q.0 final (at_index program t [] (omega (arith, l, many))) q.1 in
-      let both = and_parts (nat_le (length (code_of program t)) q.0.position) (length q.0.buffer == 0) done in
+      let both = and_parts (nat_le (length (thread_code program t)) q.0.position) (length q.0.buffer == 0) done in
       let empty = nil_from_length q.0.buffer (eqb-true (length q.0.buffer) 0 both.1) in (
-        omega (arith, leb-true (length (code_of program t)) q.0.position both.0, q.2),
-        no_waits _ (W t) (subst (Waits (code_of program t) (W t)) empty (hold t q.0 q.1).waits),
+        omega (arith, leb-true (length (thread_code program t)) q.0.position both.0, q.2),
+        no_waits _ (W t) (subst (BufferHolds (thread_code program t) (W t)) empty (hold t q.0 q.1).waits),
       )
 
-  instr_there : (o : Option Instr) (p q : Processor) (m n : List ℕ) → Does m (step_act o p) q n → (i : Instr) × (o ≡ Some i)
+  instr_there : (o : Option Instr) (p q : Processor) (m n : List ℕ)
+      → EffectLeadsTo m (step_effect o p) q n
+      → (i : Instr) × (o ≡ Some i)
   instr_there None p q m n d = absurd d
   instr_there (Some i) p q m n d = (i, refl)
 
@@ -60,16 +66,16 @@ module _ (test : ProgramTest) where
     hold : AllHold program W s
     many : length s.processors ≡ length program
 
-  module _ (forward : (t : ℕ) → IsForward x86 (code_of program t)) where
+  module _ (forward : (t : ℕ) → JumpsForward x86_language (thread_code program t)) where
     abbrev Carries : (ℕ → List ℕ) → MachineState (List ℕ) → MachineState (List ℕ) → Type 0
-    Carries = One x86 program (system_of flat test test.head.init_words) position_of IsSound
+    Carries = One x86_language program (x86_item_system flat_memory test test.head.init_words) position_of IsSound
 
     carries : (t j : ℕ) (b : Bool) (i : Instr) (W : ℕ → List ℕ) (s mid : MachineState (List ℕ))
         → IsSound W s
-        → slice_get (code_of program t) j ≡ Some i
-        → CarriedOut flat program (item t j b) s mid
+        → slice_get (thread_code program t) j ≡ Some i
+        → X86ItemTransition flat_memory program (item t j b) s mid
         → DrainsOldest b j (W t)
-        → (b ≡ true → IsStoring x86 i)
+        → (b ≡ true → IsStoring x86_language i)
         → Carries W s mid
     carries t j b i W s mid sound at out head store = record {
       moves = record {
@@ -82,16 +88,18 @@ module _ (test : ProgramTest) where
         was = position_at s t c.was;
         now =
             position_at mid t
-            (ap (λ (z : MachineState (List ℕ)). slice_get z.processors t) c.is ∙ got_set_same s.processors t c.new c.old c.was);
+            (ap (λ (z : MachineState (List ℕ)). slice_get z.processors t) c.is ∙ get-set_same s.processors t c.new c.old c.was);
         others = λ u ne.
             slice_get-map (λ (x : Processor). x.position) mid.processors u
             ∙ (ap (option_map (λ (x : Processor). x.position))
-            (ap (λ (z : MachineState (List ℕ)). slice_get z.processors u) c.is ∙ got_set_other s.processors t u c.new ne)
+            (ap (λ (z : MachineState (List ℕ)). slice_get z.processors u) c.is ∙ get-set_other s.processors t u c.new ne)
             ∙ sym (slice_get-map (λ (x : Processor). x.position) s.processors u));
         climbs = held.climbs;
-        follows = λ f. (c.stands f, subst (λ (k : ℕ). Leads (x86_operation i) k c.new.position) (c.stands f) (step b f c).leads);
+        follows =
+            λ f. (c.stands f, subst (λ (k : ℕ). IsSuccessor (x86_operation i) k c.new.position) (c.stands f) (step b f c).leads);
         waited = λ f w.
-            no_waits (code_of program t) (W t) (subst (Waits (code_of program t) (W t)) ((step b f c).waited w) held.waits);
+            no_waits (thread_code program t) (W t)
+            (subst (BufferHolds (thread_code program t) (W t)) ((step b f c).waited w) held.waits);
         stays = λ f. ap (λ (x : Processor). x.position) (drain b f c).is;
         oldest = head;
         store = store;
@@ -102,84 +110,90 @@ module _ (test : ProgramTest) where
       };
     }
       where
-        c : Carried program t j b s mid
+        c : ItemStep program t j b s mid
         c = carried program t j b s mid out
 
-        held : Holds (code_of program t) (W t) c.old
+        held : Holds (thread_code program t) (W t) c.old
         held = sound.hold t c.old c.was
 
-        step : (d : Bool) → d ≡ false → (c : Carried program t j d s mid) → Went (x86_operation i) c.old c.new
+        step : (d : Bool) → d ≡ false → (c : ItemStep program t j d s mid) → OperationTransition (x86_operation i) c.old c.new
         step true f c = absurd (true≢false f)
         step false f c = went program t j i s mid c at
 
-        drain : (d : Bool) → d ≡ true → (c : Carried program t j d s mid) → DrainShape c.old c.new
+        drain : (d : Bool) → d ≡ true → (c : ItemStep program t j d s mid) → DrainShape c.old c.new
         drain true f c = drain_shape c.old c.new s.memory c.words c.does
         drain false f c = absurd (true≢false (sym f))
 
     -- an event is an item that is carried out
     one : (e : Event) (W : ℕ → List ℕ) (s mid : MachineState (List ℕ))
         → IsSound W s
-        → EventDone flat program e s (Ok tt) mid
+        → MachineTransition flat_memory program e s (Ok tt) mid
         → Carries W s mid
     one (Step t) W s mid sound done =
-        let d : Did program (Step t) s mid = leads_to program (Step t) s mid done in
+        let d : EventOccurrence program (Step t) s mid = effect_of_event program (Step t) s mid done in
         let i = instr_there _ d.from d.to s.memory d.words d.does in
         carries t d.from.position false i.0 W s mid sound i.1 (record { stands = position_at s t d.was; done = done })
         (λ f. absurd (true≢false (sym f))) (λ f. absurd (true≢false (sym f)))
     one (Drain t) W s mid sound done =
-        let d : Did program (Drain t) s mid = leads_to program (Drain t) s mid done in
+        let d : EventOccurrence program (Drain t) s mid = effect_of_event program (Drain t) s mid done in
         let shape : DrainShape d.from d.to = drain_shape d.from d.to s.memory d.words d.does in
         let o =
-        oldest (code_of program t) (W t) shape.entry shape.newer
-        (subst (Waits (code_of program t) (W t)) shape.full (sound.hold t d.from d.was).waits) in
-        let i = storing (slice_get (code_of program t) o.0) shape.entry.0 o.3 in
+        oldest (thread_code program t) (W t) shape.entry shape.newer
+        (subst (BufferHolds (thread_code program t) (W t)) shape.full (sound.hold t d.from d.was).waits) in
+        let i = storing (slice_get (thread_code program t) o.0) shape.entry.0 o.3 in
         carries t o.0 true i.0 W s mid sound i.1 (record { stands = tt; done = done }) (λ f. (o.1, o.2)) (λ f. i.2)
     one (Evict t x) W s mid sound done =
-        let d : Did program (Evict t x) s mid = leads_to program (Evict t x) s mid done in
+        let d : EventOccurrence program (Evict t x) s mid = effect_of_event program (Evict t x) s mid done in
         absurd (no_eviction program (length s.memory) t x d.from d.to s.memory d.words d.does)
 
     runs : IsWellFormedProgram test
-        → Runs x86 program (system_of flat test test.head.init_words) position_of (EventDone flat program) IsSound
+        → Runs x86_language program (x86_item_system flat_memory test test.head.init_words) position_of
+        (MachineTransition flat_memory program) IsSound
     runs ok = record {
       first = record {
         hold = hold_first test test.head.init_words;
-        many = length-map test.head.init_regs starting ∙ (ok.head.regs ∙ sym ok.as_many);
+        many = length-map test.head.init_regs initial_processor ∙ (ok.head.regs ∙ sym ok.as_many);
       };
       starts = λ t l.
-          starts starting (λ (x : Processor). x.position) (λ x. refl) test.head.init_regs t
+          starts initial_processor (λ (x : Processor). x.position) (λ x. refl) test.head.init_regs t
           (omega (arith, l, ok.head.regs, ok.as_many));
-      at_start = at_start starting (λ (x : Processor). x.position) (λ x. refl) test.head.init_regs;
+      at_start = at_start initial_processor (λ (x : Processor). x.position) (λ x. refl) test.head.init_regs;
       one = one;
       ended = λ W s sound final. ended W s sound.hold sound.many final;
     }
 
 -- the events of an order that stays on its paths are possible, one after another
-scheduled : (test : ProgramTest) (items : List Item) (order : List ℕ) (s end : MachineState (List ℕ))
-    → OrderRan (system_of flat test test.head.init_words) items order s end
-    → MachineRan flat test.threads (events_of items order) s end
+scheduled : (test : X86Test) (items : List Item) (order : List ℕ) (s end : MachineState (List ℕ))
+    → OrderRunsTo (x86_item_system flat_memory test test.head.init_words) items order s end
+    → MachineRunsTo flat_memory test.threads (events_of items order) s end
 scheduled test items [] s end ran = ran
 scheduled test _ (i ∷ order) s end (next, out, ran) = (next, out.done, scheduled test _ order next end ran)
 
 -- an order of any items that stays on its paths replays to its outcome
-pub order_replays : (test : ProgramTest) (items : List Item) (order : List ℕ) (o : Final)
-    → StaysAndEnds flat test test.head.init_words items order o
-    → Replays flat test test.head.init_words (events_of items order) o
+pub order_replays : (test : X86Test) (items : List Item) (order : List ℕ) (o : FinalState)
+    → X86FollowsPathsToEnd flat_memory test test.head.init_words items order o
+    → ReplaysTo flat_memory test test.head.init_words (events_of items order) o
 order_replays test items order o r = record {
   end = r.end;
-  ran = scheduled test items order (machine_start test test.head.init_words) r.end r.ran;
+  ran = scheduled test items order (initial_machine_state test test.head.init_words) r.end r.ran;
   final = r.final;
   is = r.is;
 }
 
 -- The outcomes of a well-formed test are those of its choices of paths.
-pub x86_outcomes : (test : ProgramTest) (o : Final)
+pub x86_outcomes : (test : X86Test) (o : FinalState)
     → IsWellFormedProgram test
-    → MachineOutcome flat test test.head.init_words o
-    ↔ ((paths : List (List ℕ)) × IsChoice x86 test.threads paths × ChoiceOutcome flat test test.head.init_words paths o)
+    → IsMachineOutcome flat_memory test test.head.init_words o
+    ↔ ((paths : List (List ℕ))
+    × IsPathAssignment x86_language test.threads paths
+    × IsX86ChoiceOutcome flat_memory test test.head.init_words paths o)
 x86_outcomes test o ok = (
   λ (events, r).
-      run_of_choice x86 test.threads (system_of flat test test.head.init_words) position_of (EventDone flat test.threads)
-      (IsSound test) (runs test (forward_of x86 test ok) ok) (forward_of x86 test ok) events r.end o r.ran r.final r.is,
-  λ (paths, choice, c).
-      (events_of (items_of x86 test.threads paths) c.order, order_replays test (items_of x86 test.threads paths) c.order o c.run),
+      run_of_choice x86_language test.threads (x86_item_system flat_memory test test.head.init_words) position_of
+      (MachineTransition flat_memory test.threads) (IsSound test) (runs test (forward_of x86_language test ok) ok)
+      (forward_of x86_language test ok) events r.end o r.ran r.final r.is,
+  λ (paths, choice, c). (
+    events_of (items_of x86_language test.threads paths) c.order,
+    order_replays test (items_of x86_language test.threads paths) c.order o c.run,
+  ),
 )

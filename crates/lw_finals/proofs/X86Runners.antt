@@ -1,11 +1,12 @@
 -- Runs of the orders of an x86 test's items over any memory, seen over the flat one; and their events, which lead where they do.
 use Rattle.lw_finals.proofs.Common.{◌≡◌, ℕ, ◌+◌, ◌≤◌, Bool, true, false, List, [], ◌∷◌, ◌++◌, length, Some}
 use Rattle.lw_finals.proofs.Common.{◌↔◌, ◌==◌, Ok, Err, refl, sym, ap, ◌∙◌, subst, IsTrue, eqb-true, eq-eqb}
-use Rattle.lw_finals.proofs.Common.{Ran-append, same_Some, Final, Event, Stop, flat, Invariant, Memory}
-use Rattle.lw_finals.proofs.Common.{without_evictions, StandsAt, MachineState, position_of, Answer, EventDone}
-use Rattle.lw_finals.proofs.Common.{flatten, MachineRan, machine_start, CanStart, event_once, Instr}
-use Rattle.lw_finals.proofs.Common.{ProgramTest, Item, event_by, event_of, CarriedOut}
-use Rattle.lw_finals.specs.X86Runs.{system_of, StaysAndEnds}
+use Rattle.lw_finals.proofs.Common.{RunsTo-append, same_Some, FinalState, Event, Stop, flat_memory, Invariant}
+use Rattle.lw_finals.proofs.Common.{Memory, without_evictions, IsAtPosition, MachineState, position_of}
+use Rattle.lw_finals.proofs.Common.{EventResult, MachineTransition, over_flat_memory, MachineRunsTo}
+use Rattle.lw_finals.proofs.Common.{initial_machine_state, IsInitialMemory, MachineTransition-deterministic}
+use Rattle.lw_finals.proofs.Common.{Instr, X86Test, Item, event_by, event_of, X86ItemTransition}
+use Rattle.lw_finals.proofs.Common.{x86_item_system, X86FollowsPathsToEnd}
 use Rattle.lw_finals.proofs.OrderSteps.{RanFirst, IsNext, ran_off, ran_on}
 
 -- the thread of an item that is a step, at position p, stands at the item exactly where p is the item's position
@@ -13,9 +14,9 @@ pub item_stands : {M : Type 0} (a : Item) (s : MachineState M) (p q : ℕ)
     → a.is_drain ≡ false
     → q ≡ a.position
     → position_of s a.thread ≡ Some p
-    → IsTrue (p == q) ↔ StandsAt (event_of a) a.position s
+    → IsTrue (p == q) ↔ IsAtPosition (event_of a) a.position s
 item_stands a s p q step same at =
-    subst (λ (d : Bool). IsTrue (p == q) ↔ StandsAt (event_by d a.thread) a.position s) (sym step)
+    subst (λ (d : Bool). IsTrue (p == q) ↔ IsAtPosition (event_by d a.thread) a.position s) (sym step)
     ((λ t. at ∙ ap Some (eqb-true p q t ∙ same)), (λ h. eq-eqb p q (same_Some p a.position (sym at ∙ h) ∙ sym same)))
 
 -- an item stands for no eviction
@@ -26,48 +27,49 @@ no_eviction false t = refl
 module _ {M : Type 0} (mem : Memory M) where
   -- where a thread stands is seen without its memory
   stands_flat : (b : Bool) (t j : ℕ) (s : MachineState M)
-      → StandsAt (event_by b t) j s ↔ StandsAt (event_by b t) j (flatten mem s)
+      → IsAtPosition (event_by b t) j s ↔ IsAtPosition (event_by b t) j (over_flat_memory mem s)
   stands_flat true t j s = ((λ h. h), (λ h. h))
   stands_flat false t j s = ((λ h. h), (λ h. h))
 
   -- a memory that was put back to the start of the test is one on which it can start
-  pub can_start : (test : ProgramTest) (m : M) (inv : Invariant M) {program threads : List (List Instr)} {words : List ℕ}
+  pub can_start : (test : X86Test) (m : M) (inv : Invariant M) {program threads : List (List Instr)} {words : List ℕ}
       → inv.sound m
       → length program ≤ inv.cpus m
       → mem.content m ≡ words
       → program ≡ threads
       → threads ≡ test.threads
       → words ≡ test.head.init_words
-      → CanStart mem inv test m
+      → IsInitialMemory mem inv test m
   can_start test m inv sound cpus content same is initial = record {
     sound = sound;
     cpus = subst (λ (p : List (List Instr)). length p ≤ inv.cpus m) (same ∙ is) cpus;
     words = content ∙ initial;
   }
 
-  module _ (test : ProgramTest) (m : M) (items : List Item) where
+  module _ (test : X86Test) (m : M) (items : List Item) where
     -- The first k items of an order have led to a state that a run reaches, and over flat memory to the same in every run of
     -- the order.
     pub record RanFlat (order : List ℕ) (k : ℕ) (now : MachineState M) : Type 0 where
       pub events : List Event
-      pub reached : MachineRan mem test.threads events (machine_start test m) now
-      pub first : RanFirst (system_of flat test test.head.init_words) items order k (flatten mem now)
+      pub reached : MachineRunsTo mem test.threads events (initial_machine_state test m) now
+      pub first : RanFirst (x86_item_system flat_memory test test.head.init_words) items order k (over_flat_memory mem now)
 
     -- an event that is no eviction is done over the memory as over flat memory
     abbrev pub EventsAreFlat : Type 0
     EventsAreFlat =
-        (events : List Event) (s after : MachineState M) (e : Event) (answer : Answer)
-        → MachineRan mem test.threads events (machine_start test m) s
+        (events : List Event) (s after : MachineState M) (e : Event) (answer : EventResult)
+        → MachineRunsTo mem test.threads events (initial_machine_state test m) s
         → without_evictions (e ∷ []) ≡ e ∷ []
-        → EventDone mem test.threads e s answer after
-        → EventDone flat test.threads e (flatten mem s) answer (flatten mem after)
+        → MachineTransition mem test.threads e s answer after
+        → MachineTransition flat_memory test.threads e (over_flat_memory mem s) answer (over_flat_memory mem after)
 
     module _ (over_flat : EventsAreFlat) where
       -- an event of an item, over flat memory
-      done_flat : (order : List ℕ) (k : ℕ) (item : Item) (now after : MachineState M) (answer : Answer)
+      done_flat : (order : List ℕ) (k : ℕ) (item : Item) (now after : MachineState M) (answer : EventResult)
           → RanFlat order k now
-          → EventDone mem test.threads (event_of item) now answer after
-          → EventDone flat test.threads (event_of item) (flatten mem now) answer (flatten mem after)
+          → MachineTransition mem test.threads (event_of item) now answer after
+          → MachineTransition flat_memory test.threads (event_of item) (over_flat_memory mem now) answer
+          (over_flat_memory mem after)
       done_flat order k item now after answer r done =
           over_flat r.events now after (event_of item) answer r.reached (no_eviction item.is_drain item.thread) done
 
@@ -75,37 +77,40 @@ module _ {M : Type 0} (mem : Memory M) where
       pub carried_on : (order : List ℕ) (k : ℕ) (item : Item) (now next : MachineState M)
           → IsNext items order k item
           → RanFlat order k now
-          → CarriedOut mem test.threads item now next
+          → X86ItemTransition mem test.threads item now next
           → RanFlat order (k + 1) next
       carried_on order k item now next one r carried =
           let done = done_flat order k item now next (Ok tt) r carried.done in
           record {
             events = r.events ++ event_of item ∷ [];
             reached =
-                Ran-append (EventDone mem test.threads) r.events (event_of item ∷ []) (machine_start test m) now next r.reached
-                (next, carried.done, refl);
+                RunsTo-append (MachineTransition mem test.threads) r.events (event_of item ∷ []) (initial_machine_state test m)
+                now next r.reached (next, carried.done, refl);
             first =
-                ran_on (system_of flat test test.head.init_words) items order k item _ _ one
-                (record { stands = (stands_flat _ item.thread item.position now).0 carried.stands; done = done })
-                (λ other c. (event_once test.threads (event_of item) (flatten mem now) other _ (Ok tt) (Ok tt) c.done done).1)
-                r.first;
+                ran_on (x86_item_system flat_memory test test.head.init_words) items order k item _ _ one
+                (record { stands = (stands_flat _ item.thread item.position now).0 carried.stands; done = done }) (λ other c.
+                (MachineTransition-deterministic test.threads (event_of item) (over_flat_memory mem now) other _ (Ok tt) (Ok tt)
+                c.done done).1) r.first;
           }
 
       -- an item that is not carried out
       pub left_off : (order : List ℕ) (k : ℕ) (item : Item) (now after : MachineState M)
           → IsNext items order k item
           → RanFlat order k now
-          → (StandsAt (event_of item) item.position now
-          → (stop : Stop) × EventDone mem test.threads (event_of item) now (Err stop) after)
-          → (o : Final)
-          → StaysAndEnds flat test test.head.init_words items order o
+          → (IsAtPosition (event_of item) item.position now
+          → (stop : Stop) × MachineTransition mem test.threads (event_of item) now (Err stop) after)
+          → (o : FinalState)
+          → X86FollowsPathsToEnd flat_memory test test.head.init_words items order o
           → ⊥
       left_off order k item now after one r refused o run =
-          ran_off _ items order k item (flatten mem now) one none r.first run.end run.ran
+          ran_off _ items order k item (over_flat_memory mem now) one none r.first run.end run.ran
         where
-          none : (next : MachineState (List ℕ)) → CarriedOut flat test.threads item (flatten mem now) next → ⊥
+          none : (next : MachineState (List ℕ))
+              → X86ItemTransition flat_memory test.threads item (over_flat_memory mem now) next
+              → ⊥
           none next c =
               let no = refused ((stands_flat item.is_drain item.thread item.position now).1 c.stands) in
               let done = done_flat order k item now after (Err no.0) r no.1 in
-              let same = (event_once _ (event_of item) (flatten mem now) next _ (Ok tt) _ c.done done).0 in
+              let same =
+              (MachineTransition-deterministic _ (event_of item) (over_flat_memory mem now) next _ (Ok tt) _ c.done done).0 in
               cc

@@ -2,17 +2,19 @@
 use Rattle.lw_finals.proofs.Common.{◌≡◌, ◌≢◌, ℕ, ◌<◌, Bool, true, false, List, [], ◌∷◌, length, Option, Some}
 use Rattle.lw_finals.proofs.Common.{None, refl, sym, ap, ◌∙◌, subst, inl, arith, slice_get, ◌||◌}
 use Rattle.lw_finals.proofs.Common.{if◌then◌else◌, eq-eqb, cond-false, and_from, or_left, or_right}
-use Rattle.lw_finals.proofs.Common.{false_from_ne_true, same_Some, none-some, code_of, got_set_same}
-use Rattle.lw_finals.proofs.Common.{got_set_other, cpu_of, event_act, operation_act, step_act, drain_act}
-use Rattle.lw_finals.proofs.Common.{DoNotConflict, MayPass, MayPassOldest, ArePassing, AreIndependent}
-use Rattle.lw_finals.proofs.Common.{MachineState, Processor, Went, operation_accessed, Instr, Operation}
-use Rattle.lw_finals.proofs.Common.{Store, Load, is_one, is_store, location_of, writes, waits, x86_operation}
-use Rattle.lw_finals.proofs.Common.{x86, Item, drains, statement_of, location_by, writes_by, conflict_by}
-use Rattle.lw_finals.proofs.Common.{items_conflict, event_by, event_of}
-use Rattle.lw_finals.proofs.api.Waiting.{DrainsOldest, Climbs, climbs_in, own_waits, stored, waits_after}
-use Rattle.lw_finals.proofs.api.Waiting.{waits_same}
-use Rattle.lw_finals.proofs.api.X86Waiting.{act_by, Carried, went, DrainShape, drain_shape, Waits, AllHold}
-use Rattle.lw_tso.specs.Exchange as machine
+use Rattle.lw_finals.proofs.Common.{false_from_ne_true, same_Some, none-some, thread_code, get-set_same}
+use Rattle.lw_finals.proofs.Common.{get-set_other, cpu_of, event_effect, operation_effect, step_effect}
+use Rattle.lw_finals.proofs.Common.{drain_effect, DoNotConflict, CommutesWithDrain, MayPassOldest}
+use Rattle.lw_finals.proofs.Common.{AreDrainAndPassing, AreIndependent, MachineState, Processor}
+use Rattle.lw_finals.proofs.Common.{OperationTransition, operation_accessed, Instr, Operation, Store, Load}
+use Rattle.lw_finals.proofs.Common.{is_same_location, is_store, location_of, writes, needs_empty_buffer}
+use Rattle.lw_finals.proofs.Common.{x86_operation, x86_language, Item, drained_location, statement_of}
+use Rattle.lw_finals.proofs.Common.{location_by, writes_by, conflict_by, items_conflict, event_by, event_of}
+use Rattle.lw_finals.proofs.api.Waiting.{DrainsOldest, IsAscendingBetween, climbs_in, own_waits}
+use Rattle.lw_finals.proofs.api.Waiting.{entry_location, waits_after, waits_same}
+use Rattle.lw_finals.proofs.api.X86Waiting.{act_by, ItemStep, went, DrainShape, drain_shape, BufferHolds}
+use Rattle.lw_finals.proofs.api.X86Waiting.{AllHold}
+use Rattle.lw_tso.specs.Independence as machine
 
 -- ---- what an item that is carried out accesses
 
@@ -21,84 +23,89 @@ abbrev by_itself : Operation → Option ℕ
 by_itself o = if is_store o then None else location_of o
 
 -- an operation that accesses memory at once is no store, which makes an entry
-no_store : (o : Operation) (q : Processor) (z : ℕ) → machine.accessed (operation_act o q) ≡ Some z → is_store o ≡ false
+no_store : (o : Operation) (q : Processor) (z : ℕ)
+    → machine.accessed_location (operation_effect o q) ≡ Some z
+    → is_store o ≡ false
 no_store (Store x v) q z e = absurd (none-some z e)
 no_store o q z e = refl
 
 -- what a step accesses in memory is its operation's location, and it writes there only if the operation does
 step_touches : (o : Operation) (q : Processor) (z : ℕ)
-    → machine.accessed (operation_act o q) ≡ Some z
-    → (by_itself o ≡ Some z) × (machine.event_writes (operation_act o q) ≡ true → writes o ≡ true)
+    → machine.accessed_location (operation_effect o q) ≡ Some z
+    → (by_itself o ≡ Some z) × (machine.event_writes (operation_effect o q) ≡ true → writes o ≡ true)
 step_touches o q z e =
     let found = operation_accessed o q z e in
     (cond-false (is_store o) None _ (no_store o q z e) ∙ found.0, λ w. or_right (is_store o) _ (found.1 ∙ w))
 
 -- if some store waits, the buffer has an oldest entry, which the one that has waited longest made
 oldest_entry : (code : List Instr) (k : ℕ) (ws : List ℕ) (b : List (ℕ × ℕ)) (h : Instr)
-    → Waits code (k ∷ ws) b
+    → BufferHolds code (k ∷ ws) b
     → slice_get code k ≡ Some h
-    → (e : ℕ × ℕ) × (newer : List (ℕ × ℕ)) × (b ≡ e ∷ newer) × (drains x86 h ≡ Some e.0)
+    → (e : ℕ × ℕ) × (newer : List (ℕ × ℕ)) × (b ≡ e ∷ newer) × (drained_location x86_language h ≡ Some e.0)
 oldest_entry code k ws [] h w at = absurd w
-oldest_entry code k ws (e ∷ b) h w at = (e, b, refl, sym (ap (stored x86) at) ∙ w.0)
+oldest_entry code k ws (e ∷ b) h w at = (e, b, refl, sym (ap (entry_location x86_language) at) ∙ w.0)
 
 -- what a drain accesses in memory is the location of the store that has waited longest
 drain_touches : (code : List Instr) (k : ℕ) (ws : List ℕ) (b : List (ℕ × ℕ)) (q : Processor) {z : ℕ} {h : Instr}
-    → Waits code (k ∷ ws) b
+    → BufferHolds code (k ∷ ws) b
     → slice_get code k ≡ Some h
-    → machine.accessed (drain_act b q) ≡ Some z
-    → drains x86 h ≡ Some z
+    → machine.accessed_location (drain_effect b q) ≡ Some z
+    → drained_location x86_language h ≡ Some z
 drain_touches code k ws [] q w at e = absurd w
-drain_touches code k ws (f ∷ b) q w at e = sym (ap (stored x86) at) ∙ (w.0 ∙ e)
+drain_touches code k ws (f ∷ b) q w at e = sym (ap (entry_location x86_language) at) ∙ (w.0 ∙ e)
 
 -- Where these stores wait, an item of thread t at position j is carried out: the instruction i, or the drain of its entry,
 -- which is then that of the store that has waited longest.
 pub record ItemMoves (program : List (List Instr)) (W : ℕ → List ℕ) (t j : ℕ) (b : Bool) (i : Instr)
     (s mid : MachineState (List ℕ)) : Type 0 where
-  pub stands : slice_get (code_of program t) j ≡ Some i
+  pub stands : slice_get (thread_code program t) j ≡ Some i
   pub hold : AllHold program W s
   pub oldest : DrainsOldest b j (W t)
-  pub carried : Carried program t j b s mid
+  pub carried : ItemStep program t j b s mid
 
 -- an item that is carried out by `ItemMoves` accesses in memory its location alone, and writes it only if the item does
 touches : {program : List (List Instr)} {W : ℕ → List ℕ} {t j : ℕ} (b : Bool) {i : Instr} {s mid : MachineState (List ℕ)}
     (x : ItemMoves program W t j b i s mid) (z : ℕ)
-    → machine.accessed (act_by program t b x.carried.old) ≡ Some z
-    → (location_by x86 b i ≡ Some z) × (machine.event_writes (act_by program t b x.carried.old) ≡ true → writes_by x86 b i ≡ true)
+    → machine.accessed_location (act_by program t b x.carried.old) ≡ Some z
+    → (location_by x86_language b i ≡ Some z)
+    × (machine.event_writes (act_by program t b x.carried.old) ≡ true → writes_by x86_language b i ≡ true)
 touches {program = program} {t = t} {j = j} true x z e =
     let c = x.carried in
     let h = x.oldest refl in (
-      drain_touches (code_of program t) j h.0 c.old.buffer c.old
-          (subst (λ ws. Waits (code_of program t) ws c.old.buffer) h.1 (x.hold t c.old c.was).waits) x.stands e,
+      drain_touches (thread_code program t) j h.0 c.old.buffer c.old
+          (subst (λ ws. BufferHolds (thread_code program t) ws c.old.buffer) h.1 (x.hold t c.old c.was).waits) x.stands e,
       λ f. refl,
     )
 touches {program = program} {t = t} false x z e =
     let c = x.carried in
-    let here = ap (λ k. slice_get (code_of program t) k) (c.stands refl) ∙ x.stands in
-    let r = step_touches _ c.old z (ap (λ o. machine.accessed (step_act o c.old)) (sym here) ∙ e) in
-    (r.0, λ f. r.1 (ap (λ o. machine.event_writes (step_act o c.old)) (sym here) ∙ f))
+    let here = ap (λ k. slice_get (thread_code program t) k) (c.stands refl) ∙ x.stands in
+    let r = step_touches _ c.old z (ap (λ o. machine.accessed_location (step_effect o c.old)) (sym here) ∙ e) in
+    (r.0, λ f. r.1 (ap (λ o. machine.event_writes (step_effect o c.old)) (sym here) ∙ f))
 
 -- items on one location of which one writes conflict
 conflicting : (b c : Bool) (i h : Instr) (z : ℕ)
-    → location_by x86 b i ≡ Some z
-    → location_by x86 c h ≡ Some z
-    → (writes_by x86 b i || writes_by x86 c h) ≡ true
-    → conflict_by x86 b c (Some i) (Some h) ≡ true
+    → location_by x86_language b i ≡ Some z
+    → location_by x86_language c h ≡ Some z
+    → (writes_by x86_language b i || writes_by x86_language c h) ≡ true
+    → conflict_by x86_language b c (Some i) (Some h) ≡ true
 conflicting b c i h z e f w =
-    and_from (is_one (location_by x86 b i) (location_by x86 c h)) (writes_by x86 b i || writes_by x86 c h)
-    (ap (λ o. is_one o (location_by x86 c h)) e ∙ (ap (λ o. is_one (Some z) o) f ∙ eq-eqb z z refl)) w
+    and_from (is_same_location (location_by x86_language b i) (location_by x86_language c h))
+    (writes_by x86_language b i || writes_by x86_language c h)
+    (ap (λ o. is_same_location o (location_by x86_language c h)) e ∙ (ap (λ o. is_same_location (Some z) o) f ∙ eq-eqb z z refl))
+    w
 
 -- ---- an instruction beside a drain
 
 -- an operation may pass a drain to x, if it does not wait for an empty buffer and does not access x by itself
-passes : (x : ℕ) (o : Operation) → (waits o ≡ true → ⊥) → (by_itself o ≡ Some x → ⊥) → MayPass x o
+passes : (x : ℕ) (o : Operation) → (needs_empty_buffer o ≡ true → ⊥) → (by_itself o ≡ Some x → ⊥) → CommutesWithDrain x o
 passes x (Load d y) free other = λ e. other (ap Some (sym e))
-passes x o free other = false_from_ne_true (waits o) free
+passes x o free other = false_from_ne_true (needs_empty_buffer o) free
 
 -- an instruction that may pass a drain of the entry e may pass the oldest drain of a buffer whose oldest entry is e
 passes_oldest : (b : List (ℕ × ℕ)) (o : Option Instr) (e : ℕ × ℕ) (newer : List (ℕ × ℕ)) (i : Instr)
     → b ≡ e ∷ newer
     → o ≡ Some i
-    → MayPass e.0 (x86_operation i)
+    → CommutesWithDrain e.0 (x86_operation i)
     → MayPassOldest b o
 passes_oldest b o e newer i full at may =
     subst (λ c. MayPassOldest c o) (sym full) (subst (λ p. MayPassOldest (e ∷ newer) p) (sym at) may)
@@ -118,7 +125,7 @@ own_last None j k rest e = cc
 pub record Unfixed (b c : Bool) (h : Instr) (j k : ℕ) : Type 0 where
   pub unlike : b ≡ c → ⊥
   pub others : b ≡ false → c ≡ true → j ≡ k → ⊥
-  pub no_wait : b ≡ true → c ≡ false → j < k → waits (x86_operation h) ≡ true → ⊥
+  pub no_wait : b ≡ true → c ≡ false → j < k → needs_empty_buffer (x86_operation h) ≡ true → ⊥
 
 module _ (program : List (List Instr)) (W : ℕ → List ℕ) (s m1 m2 : MachineState (List ℕ)) where
   full_empty : (b : List (ℕ × ℕ)) (e : ℕ × ℕ) (newer : List (ℕ × ℕ)) → b ≡ e ∷ newer → b ≡ [] → ⊥
@@ -128,48 +135,52 @@ module _ (program : List (List Instr)) (W : ℕ → List ℕ) (s m1 m2 : Machine
   -- out. They neither conflict nor are fixed. What the first stores, if it does, is at o.
   record OfOneThread (t j k : ℕ) (b c : Bool) (i h : Instr) (o : Option ℕ) : Type 0 where
     moves : ItemMoves program W t j b i s m1
-    stands : slice_get (code_of program t) k ≡ Some h
+    stands : slice_get (thread_code program t) k ≡ Some h
     oldest : DrainsOldest c k (own_waits b o j (W t))
-    next : Carried program t k c m1 m2
-    free : conflict_by x86 b c (Some i) (Some h) ≡ true → ⊥
+    next : ItemStep program t k c m1 m2
+    free : conflict_by x86_language b c (Some i) (Some h) ≡ true → ⊥
     unfixed : Unfixed b c h j k
 
   -- One of them is a drain, and the other may pass the oldest entry.
   passing : (t j k : ℕ) (b c : Bool) (i h : Instr) (o : Option ℕ) (two : OfOneThread t j k b c i h o)
-      → ArePassing program (event_by b t) (event_by c t) two.moves.carried.old
+      → AreDrainAndPassing program (event_by b t) (event_by c t) two.moves.carried.old
   passing t j k false true i h o two =
       let x = two.moves.carried in
       let at = two.moves.hold t x.old x.was in
-      let here : slice_get (code_of program t) x.old.position ≡ Some i =
-      ap (λ n. slice_get (code_of program t) n) (x.stands refl) ∙ two.moves.stands in
-      let shape : Went (x86_operation i) x.old x.new = went program t j i s m1 x two.moves.stands in
+      let here : slice_get (thread_code program t) x.old.position ≡ Some i =
+      ap (λ n. slice_get (thread_code program t) n) (x.stands refl) ∙ two.moves.stands in
+      let shape : OperationTransition (x86_operation i) x.old x.new = went program t j i s m1 x two.moves.stands in
       let (rest, head) = two.oldest refl in
       let (e, newer, full, stores) = found (W t) at.waits at.climbs rest head in
-      passes_oldest x.old.buffer (slice_get (code_of program t) x.old.position) e newer i full here
+      passes_oldest x.old.buffer (slice_get (thread_code program t) x.old.position) e newer i full here
       (passes e.0 (x86_operation i) (λ w. full_empty x.old.buffer e newer full (shape.waited w))
-      (λ same. two.free (conflicting false true i h e.0 same stores (or_right (writes_by x86 false i) true refl))))
+      (λ same. two.free (conflicting false true i h e.0 same stores (or_right (writes_by x86_language false i) true refl))))
     where
       found : (ws : List ℕ)
-          → Waits (code_of program t) ws two.moves.carried.old.buffer
-          → Climbs 0 ws two.moves.carried.old.position
+          → BufferHolds (thread_code program t) ws two.moves.carried.old.buffer
+          → IsAscendingBetween 0 ws two.moves.carried.old.position
           → (rest : List ℕ)
           → own_waits false o j ws ≡ k ∷ rest
-          → (e : ℕ × ℕ) × (newer : List (ℕ × ℕ)) × (two.moves.carried.old.buffer ≡ e ∷ newer) × (drains x86 h ≡ Some e.0)
+          → (e : ℕ × ℕ)
+          × (newer : List (ℕ × ℕ))
+          × (two.moves.carried.old.buffer ≡ e ∷ newer)
+          × (drained_location x86_language h ≡ Some e.0)
       found [] w c rest e = absurd (two.unfixed.others refl refl (own_last o j k rest e))
       found (v ∷ ws) w c rest e =
-          oldest_entry (code_of program t) k ws two.moves.carried.old.buffer h
-          (subst (λ v. Waits (code_of program t) (v ∷ ws) two.moves.carried.old.buffer) (own_head o j v k ws rest e) w) two.stands
+          oldest_entry (thread_code program t) k ws two.moves.carried.old.buffer h
+          (subst (λ v. BufferHolds (thread_code program t) (v ∷ ws) two.moves.carried.old.buffer) (own_head o j v k ws rest e) w)
+          two.stands
   passing t j k true false i h o two =
       let x = two.moves.carried in
       let (rest, head) = two.moves.oldest refl in
       let g = two.moves.hold t x.old x.was in
       let (e, newer, full, stores) =
-      oldest_entry (code_of program t) j rest x.old.buffer i
-      (subst (λ ws. Waits (code_of program t) ws x.old.buffer) head g.waits) two.moves.stands in
+      oldest_entry (thread_code program t) j rest x.old.buffer i
+      (subst (λ ws. BufferHolds (thread_code program t) ws x.old.buffer) head g.waits) two.moves.stands in
       let at : x.old.position ≡ k = old_position in
       let less = climbs_in 0 x.old.position j (j ∷ rest) (rw head at g.climbs) (inl refl) in
-      passes_oldest x.old.buffer (slice_get (code_of program t) x.old.position) e newer h full
-      (ap (λ n. slice_get (code_of program t) n) at ∙ two.stands)
+      passes_oldest x.old.buffer (slice_get (thread_code program t) x.old.position) e newer h full
+      (ap (λ n. slice_get (thread_code program t) n) at ∙ two.stands)
       (passes e.0 _ (λ w. two.unfixed.no_wait refl refl (omega (arith, less.1, at)) w)
       (λ same. two.free (conflicting true false i h e.0 stores same refl)))
     where
@@ -179,7 +190,7 @@ module _ (program : List (List Instr)) (W : ℕ → List ℕ) (s m1 m2 : Machine
           let d : DrainShape x.old x.new = drain_shape x.old x.new s.memory x.words x.does in
           let same : x.new ≡ two.next.old =
           same_Some x.new two.next.old
-          (sym (ap (λ (z : MachineState (List ℕ)). slice_get z.processors t) x.is ∙ got_set_same s.processors t x.new x.old x.was)
+          (sym (ap (λ (z : MachineState (List ℕ)). slice_get z.processors t) x.is ∙ get-set_same s.processors t x.new x.old x.was)
           ∙ two.next.was) in
           ap (λ (z : Processor). z.position) (sym d.is) ∙ (ap (λ z. z.position) same ∙ two.next.stands refl)
   passing t j k _ _ i h o two = absurd (two.unfixed.unlike refl)
@@ -189,7 +200,7 @@ module _ (program : List (List Instr)) (W : ℕ → List ℕ) (s m1 m2 : Machine
     unlike : t ≢ u
     first : ItemMoves program W t j b i s m1
     second : ItemMoves program V u k c h m1 m2
-    free : conflict_by x86 b c (Some i) (Some h) ≡ true → ⊥
+    free : conflict_by x86_language b c (Some i) (Some h) ≡ true → ⊥
     here : slice_get s.processors t ≡ Some p
     there : slice_get s.processors u ≡ Some q
 
@@ -204,20 +215,20 @@ module _ (program : List (List Instr)) (W : ℕ → List ℕ) (s m1 m2 : Machine
       same_Some y.old q
       (sym y.was
       ∙ (ap (λ (z : MachineState (List ℕ)). slice_get z.processors u) x.is
-      ∙ (got_set_other s.processors t u x.new two.unlike ∙ two.there))) in
-      let one = touches b two.first z (ap (λ r. machine.accessed (act_by program t b r)) xs ∙ az) in
-      let other = touches c two.second z (ap (λ r. machine.accessed (act_by program u c r)) ys ∙ bz) in (
+      ∙ (get-set_other s.processors t u x.new two.unlike ∙ two.there))) in
+      let one = touches b two.first z (ap (λ r. machine.accessed_location (act_by program t b r)) xs ∙ az) in
+      let other = touches c two.second z (ap (λ r. machine.accessed_location (act_by program u c r)) ys ∙ bz) in (
         false_from_ne_true _ (λ w.
             two.free (conflicting b c i h z one.0 other.0
-            (or_left (writes_by x86 b i) (writes_by x86 c h)
+            (or_left (writes_by x86_language b i) (writes_by x86_language c h)
             (one.1 (ap (λ r. machine.event_writes (act_by program t b r)) xs ∙ w))))),
         false_from_ne_true _ (λ w.
             two.free (conflicting b c i h z one.0 other.0
-            (or_right (writes_by x86 b i) (writes_by x86 c h)
+            (or_right (writes_by x86_language b i) (writes_by x86_language c h)
             (other.1 (ap (λ r. machine.event_writes (act_by program u c r)) ys ∙ w))))),
       )
 
-  act_is : (locs t : ℕ) (b : Bool) (p : Processor) → event_act program locs (event_by b t) p ≡ act_by program t b p
+  act_is : (locs t : ℕ) (b : Bool) (p : Processor) → event_effect program locs (event_by b t) p ≡ act_by program t b p
   act_is locs t true p = refl
   act_is locs t false p = refl
 
@@ -228,8 +239,8 @@ module _ (program : List (List Instr)) (W : ℕ → List ℕ) (s m1 m2 : Machine
   -- An item, and the next one, which neither conflict nor are fixed: their events are independent.
   pub independent : (a b : Item) (i h : Instr)
       → ItemMoves program W a.thread a.position a.is_drain i s m1
-      → ItemMoves program (waits_after x86 program a W) b.thread b.position b.is_drain h m1 m2
-      → (items_conflict x86 program a b ≡ true → ⊥)
+      → ItemMoves program (waits_after x86_language program a W) b.thread b.position b.is_drain h m1 m2
+      → (items_conflict x86_language program a b ≡ true → ⊥)
       → (a.thread ≡ b.thread → Unfixed a.is_drain b.is_drain h a.position b.position)
       → AreIndependent program (event_of a) (event_of b) s
   independent a b i h first second free unfixed = record {
@@ -237,7 +248,7 @@ module _ (program : List (List Instr)) (W : ℕ → List ℕ) (s m1 m2 : Machine
         let threads : a.thread ≢ b.thread = λ same. ne (cpu_is a.is_drain a.thread ∙ (same ∙ sym (cpu_is b.is_drain b.thread))) in
         let e' : slice_get s.processors a.thread ≡ Some p = ap (slice_get s.processors) (sym (cpu_is a.is_drain a.thread)) ∙ e in
         let f' : slice_get s.processors b.thread ≡ Some q = ap (slice_get s.processors) (sym (cpu_is b.is_drain b.thread)) ∙ f in
-        subst (λ act. DoNotConflict act (event_act program (length s.memory) (event_of b) q))
+        subst (λ act. DoNotConflict act (event_effect program (length s.memory) (event_of b) q))
         (sym (act_is (length s.memory) a.thread a.is_drain p))
         (subst (λ act. DoNotConflict (act_by program a.thread a.is_drain p) act)
         (sym (act_is (length s.memory) b.thread b.is_drain q))
@@ -248,28 +259,30 @@ module _ (program : List (List Instr)) (W : ℕ → List ℕ) (s m1 m2 : Machine
         let x = first.carried in
         let is : x.old ≡ p =
         same_Some x.old p (sym x.was ∙ (ap (slice_get s.processors) (sym (cpu_is a.is_drain a.thread)) ∙ e)) in
-        subst (λ u. ArePassing program (event_of a) (event_by b.is_drain u) p) one
-        (subst (λ r. ArePassing program (event_of a) (event_by b.is_drain a.thread) r) is
-        (passing a.thread a.position b.position a.is_drain b.is_drain i h (stored x86 (statement_of x86 program a)) (record {
+        subst (λ u. AreDrainAndPassing program (event_of a) (event_by b.is_drain u) p) one
+        (subst (λ r. AreDrainAndPassing program (event_of a) (event_by b.is_drain a.thread) r) is
+        (passing a.thread a.position b.position a.is_drain b.is_drain i h
+        (entry_location x86_language (statement_of x86_language program a)) (record {
           moves = first;
-          stands = subst (λ u. slice_get (code_of program u) b.position ≡ Some h) (sym one) second.stands;
+          stands = subst (λ u. slice_get (thread_code program u) b.position ≡ Some h) (sym one) second.stands;
           oldest = heady one;
-          next = subst (λ u. Carried program u b.position b.is_drain m1 m2) (sym one) second.carried;
+          next = subst (λ u. ItemStep program u b.position b.is_drain m1 m2) (sym one) second.carried;
           free = never;
           unfixed = unfixed one;
         })));
   }
     where
-      never : conflict_by x86 a.is_drain b.is_drain (Some i) (Some h) ≡ true → ⊥
+      never : conflict_by x86_language a.is_drain b.is_drain (Some i) (Some h) ≡ true → ⊥
       never e =
-          free (ap (λ o. conflict_by x86 a.is_drain b.is_drain o (statement_of x86 program b)) first.stands
-          ∙ (ap (λ o. conflict_by x86 a.is_drain b.is_drain (Some i) o) second.stands ∙ e))
+          free (ap (λ o. conflict_by x86_language a.is_drain b.is_drain o (statement_of x86_language program b)) first.stands
+          ∙ (ap (λ o. conflict_by x86_language a.is_drain b.is_drain (Some i) o) second.stands ∙ e))
 
       -- the drain is of the store of this thread that has waited longest
       heady : a.thread ≡ b.thread
           → b.is_drain ≡ true
           → (rest : List ℕ)
-          × (own_waits a.is_drain (stored x86 (statement_of x86 program a)) a.position (W a.thread) ≡ b.position ∷ rest)
+          × (own_waits a.is_drain (entry_location x86_language (statement_of x86_language program a)) a.position (W a.thread)
+          ≡ b.position ∷ rest)
       heady one f =
           let r = second.oldest f in
-          (r.0, sym (waits_same x86 program a W a.thread refl) ∙ (ap (waits_after x86 program a W) one ∙ r.1))
+          (r.0, sym (waits_same x86_language program a W a.thread refl) ∙ (ap (waits_after x86_language program a W) one ∙ r.1))

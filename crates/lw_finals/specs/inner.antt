@@ -1,4 +1,4 @@
 pub mod Codes
-pub mod Gathered
+pub mod Collected
 pub mod Listed
 pub mod SourceRunners

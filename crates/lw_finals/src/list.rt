@@ -1,29 +1,29 @@
 //! The complete list of a test, of either language.
 ghost use Rattle.std.specs.Prelude.{◌≡◌, ◌↔◌, All, Contains, IfOk, IfErr, OnOk};
 ghost use Rattle.lw_base.specs.Heads.{head_of};
-ghost use Rattle.lw_base.specs.Outcomes.{Final};
+ghost use Rattle.lw_base.specs.Outcomes.{FinalState};
 ghost use Rattle.lw_mesi.specs.declared.protocol.Protocol.{Protocol};
 ghost use Rattle.lw_interleaving.specs.Runs.{SourceOutcome};
 ghost use Rattle.lw_litmus.specs.Views.{source_of, program_of};
-ghost use Rattle.lw_choices.specs.Counts.{TellsLimit, IsWithinLimits};
+ghost use Rattle.lw_paths.specs.Counts.{LimitFaultIsTrue, IsWithinLimits};
 ghost use Rattle.lw_base.specs.ListedOutcomes.{IsListedOutcome};
-ghost use Rattle.lw_listing.specs.Listings.{outcomes_of, IsStrictlySorted};
+ghost use Rattle.lw_outcome_map.specs.Listings.{outcomes_of, IsStrictlySorted};
 ghost use Rattle.lw_fence.specs.Compiling.{IsCompiled};
-ghost use Rattle.lw_whole.specs.CompleteLists.{ListsMachine, IsComplete};
-ghost use Rattle.lw_memory.specs.Flat.{flat};
-ghost use Rattle.lw_tso.specs.Runs.{MachineOutcome};
-ghost use Rattle.lw_whole.specs.OverCaches.{ReplaysOverCaches, OutcomeOverCaches};
-ghost use Rattle.lw_litmus.specs.Sources.{source as source_language};
-ghost use Rattle.lw_litmus.specs.Programs.{x86};
+ghost use Rattle.lw_tso_caches.specs.CompleteLists.{ListsMachine, IsComplete};
+ghost use Rattle.lw_memory.specs.Flat.{flat_memory};
+ghost use Rattle.lw_tso.specs.Runs.{IsMachineOutcome};
+ghost use Rattle.lw_tso_caches.specs.OverCaches.{ReplaysToOverCaches, OutcomeOverCaches};
+ghost use Rattle.lw_litmus.specs.Sources.{source_language as source_language};
+ghost use Rattle.lw_litmus.specs.Programs.{x86_language};
 
-use crate::gather::list_program;
+use crate::collect::list_program;
 use crate::laws::lists_are_complete;
 use crate::source_runner::SourceRunner;
 use crate::x86_runner::X86Runner;
-use lw_choices::ListFault;
 use lw_fence::{Compiled, compile};
-use lw_listing::Listing;
 use lw_litmus::{Program, Source};
+use lw_outcome_map::Listing;
+use lw_paths::ListFault;
 use std::alloc::Allocator;
 
 /// The list of all final states of a source test, each with a schedule of the program that it is compiled to.
@@ -34,14 +34,14 @@ pub fn list_source<A: Allocator + Copy>(
     // Each outcome stands once, and they go up.
     ensures sorted { IfOk result (λ l. IsStrictlySorted l) }
     // They are exactly those that interleaving on one memory reaches.
-    ensures exactly { IfOk result (λ l. (o : Final) → Contains (outcomes_of l) o ↔ SourceOutcome (source_of source.now) o) }
+    ensures exactly { IfOk result (λ l. (o : FinalState) → Contains (outcomes_of l) o ↔ SourceOutcome (source_of source.now) o) }
     // They are exactly those of the compiled program on the whole machine, and each entry's schedule replays to its outcome there.
     ensures machine { IfOk result (ListsMachine (source_of source.now)) }
     // Each entry is of the test's threads and locations.
     ensures of_test { IfOk result (λ l. All (IsListedOutcome (head_of source.now.head)) l) }
     // It is answered within the limits alone, and a limit is told where it is passed.
     ensures within { OnOk result (IsWithinLimits source_language source.now.threads) }
-    ensures limit { IfErr result (TellsLimit source_language source.now.threads) }
+    ensures limit { IfErr result (LimitFaultIsTrue source_language source.now.threads) }
 {
     let compiled = compile(alloc, source)?;
     list_compiled(alloc, source, &compiled)
@@ -54,12 +54,12 @@ fn list_compiled<A: Allocator + Copy>(
     compiled: &Compiled<A>,
 ) -> Result<Listing<A>, ListFault>
     requires compiled { IsCompiled (source_of source.now) (program_of compiled.now.program) compiled.now.starts }
-    requires outcomes { (o : Final)
-        → MachineOutcome flat (program_of compiled.now.program) compiled.now.program.head.init_words o ↔ SourceOutcome (source_of source.now) o }
+    requires outcomes { (o : FinalState)
+        → IsMachineOutcome flat_memory (program_of compiled.now.program) compiled.now.program.head.init_words o ↔ SourceOutcome (source_of source.now) o }
     ensures sorted { IfOk result (λ l. IsStrictlySorted l) }
     ensures whole { IfOk result (IsComplete (SourceOutcome (source_of source.now)) (program_of compiled.now.program)) }
     ensures within { OnOk result (IsWithinLimits source_language source.now.threads) }
-    ensures limit { IfErr result (TellsLimit source_language source.now.threads) }
+    ensures limit { IfErr result (LimitFaultIsTrue source_language source.now.threads) }
 {
     lists_are_complete();
     let mut runner = SourceRunner::new(alloc, source, compiled)?;
@@ -75,15 +75,15 @@ pub fn list_raw<A: Allocator + Copy>(
     ensures sorted { IfOk result (λ l. IsStrictlySorted l) }
     // They are exactly those that the machine reaches over caches of either protocol, over all schedules of steps, drains and
     // evictions.
-    ensures exactly { IfOk result (λ l. (protocol : Protocol) (o : Final)
+    ensures exactly { IfOk result (λ l. (protocol : Protocol) (o : FinalState)
         → Contains (outcomes_of l) o ↔ OutcomeOverCaches protocol (program_of program.now) o) }
     // Each entry's schedule replays there to its outcome.
-    ensures replays { IfOk result (λ l. (protocol : Protocol) → All (λ e. ReplaysOverCaches protocol (program_of program.now) e.1 e.0) l) }
+    ensures replays { IfOk result (λ l. (protocol : Protocol) → All (λ e. ReplaysToOverCaches protocol (program_of program.now) e.1 e.0) l) }
     // Each entry is of the test's threads and locations.
     ensures of_test { IfOk result (λ l. All (IsListedOutcome (head_of program.now.head)) l) }
     // It is answered within the limits alone, and a limit is told where it is passed.
-    ensures within { OnOk result (IsWithinLimits x86 program.now.threads) }
-    ensures limit { IfErr result (TellsLimit x86 program.now.threads) }
+    ensures within { OnOk result (IsWithinLimits x86_language program.now.threads) }
+    ensures limit { IfErr result (LimitFaultIsTrue x86_language program.now.threads) }
 {
     lists_are_complete();
     let mut runner = X86Runner::new(alloc, program)?;

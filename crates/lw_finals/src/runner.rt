@@ -1,12 +1,12 @@
 //! What carries out the items of a choice, in one order after another.
 ghost use Rattle.std.specs.Prelude.{◌≡◌, ◌<◌, ℕ, List, length, All, IfOk};
-ghost use Rattle.lw_base.specs.Outcomes.{Final};
+ghost use Rattle.lw_base.specs.Outcomes.{FinalState};
 ghost use Rattle.lw_base.specs.declared.event.Event.{Event};
-ghost use Rattle.lw_choices.specs.declared.item.Item.{Item};
-ghost use Rattle.lw_finals.specs.inner.Gathered.{RanSo};
+ghost use Rattle.lw_paths.specs.declared.item.Item.{Item};
+ghost use Rattle.lw_finals.specs.inner.Collected.{RunResult};
 
 use lw_base::{Event, Outcome, Sequence};
-use lw_choices::Item;
+use lw_paths::Item;
 use std::alloc::{AllocError, Allocator};
 
 /// A machine on which the orders of a test's items are run. Its room is made once: a run takes no memory.
@@ -18,22 +18,22 @@ pub(crate) trait OrderRunner<A: Allocator> {
     ghost test: { Self → Test };
 
     /// The outcome with which an order of items ends that stays on its paths to a final state.
-    ghost ends: { Test → List Item → List ℕ → Final → Type 0 };
+    ghost ends: { Test → List Item → List ℕ → FinalState → Type 0 };
 
     /// What a schedule leads to.
-    ghost leads: { Test → List Event → Final → Type 0 };
+    ghost leads: { Test → List Event → FinalState → Type 0 };
 
     /// With what the last run ended.
-    ghost end: { Self → Final };
+    ghost end: { Self → FinalState };
 
     /// Runs an order of items from the start of the test, and answers whether it stays on its paths to a final state.
     fn run(&mut self, items: &[Item], order: &[u8]) -> bool
         requires { All (λ i. i < length items.now) order.now }
         ensures same { test self.new ≡ test self.old }
-        ensures ends { RanSo (ends (test self.old) items.now order.now) result (end self.new) };
+        ensures ends { RunResult (ends (test self.old) items.now order.now) result (end self.new) };
 
     /// The outcome with which the last run that stayed on its paths ended.
-    fn end(&self) -> &Outcome<A>
+    fn last_outcome(&self) -> &Outcome<A>
         ensures { result.now ≡ end self.now };
 
     /// The outcome of the last run, with a schedule that leads to it.

@@ -3,17 +3,17 @@ ghost use Rattle.std.specs.Prelude.{◌≡◌, ◌<◌, true, false, length, All
 ghost use Rattle.lw_fence.specs.Compiling.{IsCompiled};
 ghost use Rattle.lw_interleaving.specs.Runs.{State};
 ghost use Rattle.lw_litmus.specs.Views.{source_of, program_of};
-ghost use Rattle.lw_finals.specs.SourceRuns.{CarriedOut, StaysAndEnds};
-ghost use Rattle.lw_choices.specs.Items.{item_at};
-ghost use Rattle.lw_finals.specs.X86Runs.{LeadsFlat};
-ghost use Rattle.lw_finals.specs.inner.SourceRunners.{CompiledSource, IsThere, item_events};
+ghost use Rattle.lw_finals.specs.SourceRuns.{SourceItemTransition, SourceFollowsPathsToEnd};
+ghost use Rattle.lw_paths.specs.Items.{item_at};
+ghost use Rattle.lw_finals.specs.X86Runs.{ReplaysFlatTo};
+ghost use Rattle.lw_finals.specs.inner.SourceRunners.{CompiledSource, HasStatementAt, item_events};
 
 use crate::runner::{OrderRunner, copy_outcome};
 use lw_base::{Event, Outcome, Sequence};
-use lw_choices::Item;
 use lw_fence::{Compiled, push_next, schedules_replay};
 use lw_interleaving::SourceRun;
 use lw_litmus::Source;
+use lw_paths::Item;
 use std::alloc::{AllocError, Allocator};
 use std::marker::Model;
 
@@ -30,15 +30,15 @@ pub(crate) struct SourceRunner<'a, A: Allocator> {
 impl<'a, A: Allocator> Model for SourceRunner<'a, A> {
     ghost use Rattle.std.specs.Prelude.{◌≡◌, length};
     ghost use Rattle.lw_fence.specs.Compiling.{IsCompiled};
-    ghost use Rattle.lw_interleaving.specs.Runs.{start_of};
+    ghost use Rattle.lw_interleaving.specs.Runs.{initial_state};
     ghost use Rattle.lw_litmus.specs.Views.{source_of, program_of};
-    ghost use Rattle.lw_finals.specs.X86Runs.{LeadsFlat};
-    ghost use Rattle.lw_finals.specs.inner.Gathered.{Running};
+    ghost use Rattle.lw_finals.specs.X86Runs.{ReplaysFlatTo};
+    ghost use Rattle.lw_finals.specs.inner.Collected.{RunnerState};
     ghost use Rattle.lw_finals.specs.inner.SourceRunners.{CompiledSource};
     ghost use Rattle.std.specs.Coded.{codes};
     ghost use Rattle.lw_finals.specs.inner.Codes.{formula_code};
 
-    ghost Value = { Running CompiledSource };
+    ghost Value = { RunnerState CompiledSource };
 
     ghost coded = { Prim.hlevel (codes, formula_code) };
 
@@ -49,7 +49,7 @@ impl<'a, A: Allocator> Model for SourceRunner<'a, A> {
 
     ghost invariant = { λ r.
         IsCompiled (source_of r.source.now) (program_of r.compiled.now.program) r.compiled.now.starts
-        × (r.run.program ≡ r.source.now.threads) × (r.run.start ≡ start_of (source_of r.source.now))
+        × (r.run.program ≡ r.source.now.threads) × (r.run.start ≡ initial_state (source_of r.source.now))
         × (length r.run.state.threads ≡ length r.source.now.threads) × (length r.run.state.words ≡ length r.source.now.head.locs)
         × (length r.end.regs ≡ length r.source.now.threads) × (length r.end.words ≡ length r.source.now.head.locs) };
 }
@@ -66,8 +66,8 @@ fn carry_out<A: Allocator, B: Allocator>(
     ensures start { run.new.start ≡ run.old.start }
     ensures threads { length run.new.state.threads ≡ length run.old.state.threads }
     ensures words { length run.new.state.words ≡ length run.old.state.words }
-    ensures done { result ≡ true → CarriedOut run.old.program item run.old.state run.new.state }
-    ensures left { result ≡ false → (next : State) → CarriedOut run.old.program item run.old.state next → ⊥ }
+    ensures done { result ≡ true → SourceItemTransition run.old.program item run.old.state run.new.state }
+    ensures left { result ≡ false → (next : State) → SourceItemTransition run.old.program item run.old.state next → ⊥ }
 {
     item.thread.index() < threads
         && run.position(item.thread) == usize::from(item.position)
@@ -107,7 +107,7 @@ fn schedule_of_items<A: Allocator>(
 ) -> Result<Vec<Event, A>, AllocError>
     requires within { All (λ i. i < length items.now) order.now }
     requires compiled { IsCompiled (source_of source.now) (program_of compiled.now.program) compiled.now.starts }
-    requires there { All (λ i. IsThere source.now.threads (item_at items.now i)) order.now }
+    requires there { All (λ i. HasStatementAt source.now.threads (item_at items.now i)) order.now }
     ensures { IfOk result (λ v. v.items ≡ item_events source.now.threads compiled.now.starts items.now order.now) }
 {
     let mut events = Vec::with_capacity(alloc, order.len().saturating_mul(2))?;
@@ -124,9 +124,9 @@ impl<'a, A: Allocator + Copy> OrderRunner<A> for SourceRunner<'a, A> {
 
     ghost test = { λ r. r.test };
 
-    ghost ends = { λ t. StaysAndEnds t.source };
+    ghost ends = { λ t. SourceFollowsPathsToEnd t.source };
 
-    ghost leads = { λ t. LeadsFlat t.program };
+    ghost leads = { λ t. ReplaysFlatTo t.program };
 
     ghost end = { λ r. r.end };
 
@@ -147,7 +147,7 @@ impl<'a, A: Allocator + Copy> OrderRunner<A> for SourceRunner<'a, A> {
     }
 
     /// The outcome of the last run that stayed on its paths.
-    fn end(&self) -> &Outcome<A> {
+    fn last_outcome(&self) -> &Outcome<A> {
         &self.end
     }
 

@@ -1,19 +1,19 @@
 //! Runs of the orders of an x86 test's items, on the machine over MESI caches.
 ghost use Rattle.std.specs.Prelude.{◌≡◌, ◌<◌, ◌↔◌, true, false, Err, IsTrue, length, All, IfOk};
 ghost use Rattle.lw_base.specs.declared.stop.Stop.{Stop};
-ghost use Rattle.lw_memory.specs.Flat.{flat};
+ghost use Rattle.lw_memory.specs.Flat.{flat_memory};
 ghost use Rattle.lw_memory.specs.Memory.{memory_of};
-ghost use Rattle.lw_tso.specs.Exchange.{StandsAt};
-ghost use Rattle.lw_tso.specs.Machines.{EventDone};
+ghost use Rattle.lw_tso.specs.Independence.{IsAtPosition};
+ghost use Rattle.lw_tso.specs.Machines.{MachineTransition};
 ghost use Rattle.lw_litmus.specs.Views.{program_of};
-ghost use Rattle.lw_finals.specs.X86Runs.{event_of, events_of, CarriedOut, StaysAndEnds, LeadsFlat};
+ghost use Rattle.lw_finals.specs.X86Runs.{event_of, events_of, X86ItemTransition, X86FollowsPathsToEnd, ReplaysFlatTo};
 
 use crate::runner::{OrderRunner, copy_outcome};
 use lw_base::{Event, Outcome, Sequence};
-use lw_choices::Item;
 use lw_litmus::Program;
 use lw_memory::MemorySystem;
 use lw_mesi::{Mesi, empty_caches_are_kept};
+use lw_paths::Item;
 use lw_tso::{Machine, events_are_flat};
 use std::alloc::{AllocError, Allocator};
 use std::marker::Model;
@@ -32,10 +32,10 @@ impl<'a, A: Allocator> Model for X86Runner<'a, A> {
     ghost use Rattle.std.specs.Coded.{codes};
     ghost use Rattle.lw_litmus.specs.Views.{program_of};
     ghost use Rattle.lw_finals.specs.inner.Codes.{formula_code};
-    ghost use Rattle.lw_finals.specs.inner.Gathered.{Running};
-    ghost use Rattle.lw_litmus.specs.Tests.{ProgramTest};
+    ghost use Rattle.lw_finals.specs.inner.Collected.{RunnerState};
+    ghost use Rattle.lw_litmus.specs.Tests.{X86Test};
 
-    ghost Value = { Running ProgramTest };
+    ghost Value = { RunnerState X86Test };
 
     ghost coded = { Prim.hlevel (codes, formula_code) };
 
@@ -75,13 +75,13 @@ fn events_of<A: Allocator>(
 }
 
 /// Whether an item's thread, one of so many, is at the item's instruction. A drain needs no position: of it this always holds.
-fn stands_at<M: MemorySystem, A: Allocator, B: Allocator>(
+fn is_at_item<M: MemorySystem, A: Allocator, B: Allocator>(
     machine: &Machine<'_, M, A, B>,
     threads: usize,
     item: &Item,
 ) -> bool
     requires { threads ≡ length machine.now.state.processors }
-    ensures { IsTrue result ↔ StandsAt (event_of item.now) item.now.position machine.now.state }
+    ensures { IsTrue result ↔ IsAtPosition (event_of item.now) item.now.position machine.now.state }
 {
     if item.is_drain {
         return true;
@@ -104,13 +104,13 @@ fn carry_out<M: MemorySystem, A: Allocator, B: Allocator>(
     ensures initial { machine.new.initial ≡ machine.old.initial }
     ensures processors { length machine.new.state.processors ≡ length machine.old.state.processors }
     ensures words { length (M.content machine.new.state.memory) ≡ length (M.content machine.old.state.memory) }
-    ensures done { result ≡ true → CarriedOut (memory_of M.content M.state M.serves)
+    ensures done { result ≡ true → X86ItemTransition (memory_of M.content M.state M.serves)
         machine.old.program item.now machine.old.state machine.new.state }
-    ensures left { result ≡ false → StandsAt (event_of item.now) item.now.position machine.old.state
-        → (stop : Stop) × EventDone (memory_of M.content M.state M.serves)
+    ensures left { result ≡ false → IsAtPosition (event_of item.now) item.now.position machine.old.state
+        → (stop : Stop) × MachineTransition (memory_of M.content M.state M.serves)
         machine.old.program (event_of item.now) machine.old.state (Err stop) machine.new.state }
 {
-    if !stands_at(machine, threads, item) {
+    if !is_at_item(machine, threads, item) {
         return false;
     }
     machine.step(event_of(item)).is_ok()
@@ -148,15 +148,15 @@ impl<'a, A: Allocator + Copy> X86Runner<'a, A> {
 }
 
 impl<'a, A: Allocator + Copy> OrderRunner<A> for X86Runner<'a, A> {
-    ghost use Rattle.lw_litmus.specs.Tests.{ProgramTest};
+    ghost use Rattle.lw_litmus.specs.Tests.{X86Test};
 
-    ghost Test = { ProgramTest };
+    ghost Test = { X86Test };
 
     ghost test = { λ r. r.test };
 
-    ghost ends = { λ t. StaysAndEnds flat t t.head.init_words };
+    ghost ends = { λ t. X86FollowsPathsToEnd flat_memory t t.head.init_words };
 
-    ghost leads = { LeadsFlat };
+    ghost leads = { ReplaysFlatTo };
 
     ghost end = { λ r. r.end };
 
@@ -178,7 +178,7 @@ impl<'a, A: Allocator + Copy> OrderRunner<A> for X86Runner<'a, A> {
     }
 
     /// The outcome of the last run that stayed on its paths.
-    fn end(&self) -> &Outcome<A> {
+    fn last_outcome(&self) -> &Outcome<A> {
         &self.end
     }
 

@@ -9,26 +9,30 @@ pub use Rattle.std.proofs.lemmas.Grind.{common_steps}
 pub use Rattle.std.proofs.lemmas.List.{drop_more, length-map, map-append, map_more, set-get_or, set_at}
 pub use Rattle.std.proofs.lemmas.List.{set_comm}
 pub use Rattle.std.proofs.lemmas.Option.{slice_get-map, slice_get_within}
-pub use Rattle.lw_base.proofs.Common.{EndsAs, Final, changed_at, code_of, word_after, word_at}
-pub use Rattle.lw_base.proofs.api.Lists.{at_index, got_set_other, got_set_same}
-pub use Rattle.lw_base.proofs.api.Replays.{Ran-more}
+pub use Rattle.lw_base.proofs.Common.{FinalState, HasReplayEnd, apply_change_if_some, changed_word}
+pub use Rattle.lw_base.proofs.Common.{thread_code, word_or_zero}
+pub use Rattle.lw_base.proofs.api.Lists.{at_index, get-set_other, get-set_same}
+pub use Rattle.lw_base.proofs.api.Replays.{RunsTo-more}
 pub use Rattle.lw_base.specs.declared.change.Change.{Change}
 pub use Rattle.lw_base.specs.declared.event.Event.{Event}
 pub use Rattle.lw_base.specs.declared.event.Event.TheVariants.{Drain, Evict, Step}
 pub use Rattle.lw_base.specs.declared.stop.End.{End}
 pub use Rattle.lw_base.specs.declared.stop.Stop.{Stop}
 pub use Rattle.lw_base.specs.declared.stop.Stop.TheVariants.{BufferEmpty, Ended, NoCpu, NoLocation, NotHeld}
-pub use Rattle.lw_litmus.proofs.Common.{Follows, IsStatement, IsThread, Leads, change_of, do_conflict, holds}
-pub use Rattle.lw_litmus.proofs.Common.{is_one, location_of, source, source_operation, writes}
+pub use Rattle.lw_litmus.proofs.Common.{IsFlowSuccessor, IsSuccessor, IsWellFormedStatement}
+pub use Rattle.lw_litmus.proofs.Common.{IsWellFormedThread, guard_holds, is_same_location, location_of}
+pub use Rattle.lw_litmus.proofs.Common.{operations_conflict, source_language, source_operation, writes}
+pub use Rattle.lw_litmus.proofs.Common.{written_change}
 pub use Rattle.lw_litmus.proofs.api.Kinds.{no_change}
 pub use Rattle.lw_litmus.specs.declared.operation.Guard.TheVariants.{Always}
 pub use Rattle.lw_litmus.specs.declared.operation.Operation.{Operation}
 pub use Rattle.lw_litmus.specs.declared.operation.Operation.TheVariants.{Branch}
 pub use Rattle.lw_litmus.specs.declared.stmt.Stmt.{Stmt}
-pub use Rattle.lw_interleaving.specs.Runs.{Answers, RunsTo, SourceEventDone, SourceOutcome, SourceRan}
-pub use Rattle.lw_interleaving.specs.Runs.{SourceReplayed, SourceRunState, State, carried_out}
-pub use Rattle.lw_interleaving.specs.Runs.{is_source_final, outcome_of, source_event, source_step, start_of}
-pub use Rattle.lw_interleaving.specs.Runs.{starting_thread, step_of}
-pub use Rattle.lw_interleaving.specs.Statements.{at_next, thread_after, thread_with, words_after}
-pub use Rattle.lw_interleaving.specs.Steps.{FollowsFlow, IsExchangeable, next_of, position_of}
+pub use Rattle.lw_interleaving.specs.Runs.{InterleavesTo, IsSourceReplay, IsStepResult, SourceOutcome}
+pub use Rattle.lw_interleaving.specs.Runs.{SourceRunState, SourceRunsTo, SourceTransition, State}
+pub use Rattle.lw_interleaving.specs.Runs.{initial_state, initial_thread, is_source_final}
+pub use Rattle.lw_interleaving.specs.Runs.{source_event_result, source_outcome, source_step, state_after_step}
+pub use Rattle.lw_interleaving.specs.Runs.{thread_step}
+pub use Rattle.lw_interleaving.specs.Statements.{advance, thread_after, thread_with, words_after}
+pub use Rattle.lw_interleaving.specs.Steps.{FollowsFlow, StepsCommute, next_statement, thread_position}
 pub use Rattle.lw_interleaving.specs.declared.thread.Thread.{Thread}

@@ -2,9 +2,9 @@
 use Rattle.std.specs.Prelude.{◌≡◌, ℕ, Bool, nat_lt, nat_le, if◌then◌else◌, Option, Some, None, Result, Ok, Err, List, length, map, slice_get, slice_set, IsTrue}
 use Rattle.std.specs.Prelude.{MatchResult}
 use Rattle.std.specs.List.{list_all, zip}
-use Rattle.lw_base.specs.Outcomes.{Final}
+use Rattle.lw_base.specs.Outcomes.{FinalState}
 use Rattle.lw_base.specs.Replays as replays
-use Rattle.lw_base.specs.Threads.{code_of}
+use Rattle.lw_base.specs.Threads.{thread_code}
 use Rattle.lw_base.specs.declared.event.Event.{Event}
 use Rattle.lw_base.specs.declared.event.Event.TheVariants.{Step, Drain, Evict}
 use Rattle.lw_base.specs.declared.stop.Stop.{Stop}
@@ -20,62 +20,62 @@ pub record State : Type 0 where  -- the threads, and one map from locations to w
   pub threads : List Thread
   pub words : List ℕ
 
-abbrev pub starting_thread : List ℕ → Thread  -- a thread at its first statement
-starting_thread regs = record { position = 0; regs = regs }
+abbrev pub initial_thread : List ℕ → Thread  -- a thread at its first statement
+initial_thread regs = record { position = 0; regs = regs }
 
 -- the state that a source test's runs begin in: each thread at its first statement, over the initial words
-abbrev pub start_of : SourceTest → State
-start_of s = record { threads = map starting_thread s.head.init_regs; words = s.head.init_words }
+abbrev pub initial_state : SourceTest → State
+initial_state s = record { threads = map initial_thread s.head.init_regs; words = s.head.init_words }
 
 -- a thread carries out the statement that it is at, if it is at one
-abbrev pub carried_out : ℕ → Thread → State → Option Stmt → Result State Stop
-carried_out t th s None = Err Ended
-carried_out t th s (Some stmt) =
+abbrev pub state_after_step : ℕ → Thread → State → Option Stmt → Result State Stop
+state_after_step t th s None = Err Ended
+state_after_step t th s (Some stmt) =
     Ok (record { threads = slice_set s.threads t (thread_after (source_operation stmt) th s.words); words = words_after (source_operation stmt) th s.words })
 
 -- a step of a thread of the program, if it is there: the state after it, or why there is none
-abbrev pub step_of : List (List Stmt) → ℕ → State → Option Thread → Result State Stop
-step_of program t s None = Err NoCpu
-step_of program t s (Some th) = carried_out t th s (slice_get (code_of program t) th.position)
+abbrev pub thread_step : List (List Stmt) → ℕ → State → Option Thread → Result State Stop
+thread_step program t s None = Err NoCpu
+thread_step program t s (Some th) = state_after_step t th s (slice_get (thread_code program t) th.position)
 
 abbrev pub source_step : List (List Stmt) → ℕ → State → Result State Stop  -- the state after a step of a thread, or why there is none
-source_step program t s = step_of program t s (slice_get s.threads t)
+source_step program t s = thread_step program t s (slice_get s.threads t)
 
 -- the state after any event, or why there is none: a source has no store buffers and no caches
-abbrev pub source_event : List (List Stmt) → Event → State → Result State Stop
-source_event program (Step t) s = source_step program t s
-source_event program (Drain t) s = if nat_lt t (length s.threads) then Err BufferEmpty else Err NoCpu
-source_event program (Evict t x) s =
+abbrev pub source_event_result : List (List Stmt) → Event → State → Result State Stop
+source_event_result program (Step t) s = source_step program t s
+source_event_result program (Drain t) s = if nat_lt t (length s.threads) then Err BufferEmpty else Err NoCpu
+source_event_result program (Evict t x) s =
     if nat_lt t (length s.threads) then (if nat_lt x (length s.words) then Err NotHeld else Err NoLocation) else Err NoCpu
 
 -- An event, from a state, is answered so and leaves a state; a refused one changes nothing.
-abbrev pub SourceEventDone : List (List Stmt) → Event → State → Result (Unit {0}) Stop → State → Type 0
-SourceEventDone program e s (Ok done) after = source_event program e s ≡ Ok after
-SourceEventDone program e s (Err stop) after = (source_event program e s ≡ Err stop) × (after ≡ s)
+abbrev pub SourceTransition : List (List Stmt) → Event → State → Result (Unit {0}) Stop → State → Type 0
+SourceTransition program e s (Ok done) after = source_event_result program e s ≡ Ok after
+SourceTransition program e s (Err stop) after = (source_event_result program e s ≡ Err stop) × (after ≡ s)
 
 abbrev pub is_source_final : List (List Stmt) → State → Bool  -- all threads are at their ends
 is_source_final program s = list_all (λ p. nat_le (length p.0) p.1.position) (zip program s.threads)
 
 -- The events lead, each possible in turn, from a state to another.
-abbrev pub SourceRan : List (List Stmt) → List Event → State → State → Type 0
-SourceRan program = replays.Ran (SourceEventDone program)
+abbrev pub SourceRunsTo : List (List Stmt) → List Event → State → State → Type 0
+SourceRunsTo program = replays.RunsTo (SourceTransition program)
 
 -- A replay carries out the events before the first that is refused, or all.
-abbrev pub SourceReplayed : List (List Stmt) → List Event → State → Replay → State → Type 0
-SourceReplayed program = replays.Replayed (SourceEventDone program) (is_source_final program)
+abbrev pub IsSourceReplay : List (List Stmt) → List Event → State → Replay → State → Type 0
+IsSourceReplay program = replays.IsReplayOf (SourceTransition program) (is_source_final program)
 
-abbrev pub outcome_of : State → Final  -- the registers and the memory of a state
-outcome_of s = record { regs = map (λ t. t.regs) s.threads; words = s.words }
+abbrev pub source_outcome : State → FinalState  -- the registers and the memory of a state
+source_outcome s = record { regs = map (λ t. t.regs) s.threads; words = s.words }
 
 -- The threads of the order lead, each step possible in turn, from the start to a final state with this outcome.
-pub record RunsTo (s : SourceTest) (order : List ℕ) (o : Final) : Type 0 where
+pub record InterleavesTo (s : SourceTest) (order : List ℕ) (o : FinalState) : Type 0 where
   pub end : State
-  pub ran : SourceRan s.threads (map Step order) (start_of s) end
+  pub ran : SourceRunsTo s.threads (map Step order) (initial_state s) end
   pub final : IsTrue (is_source_final s.threads end)
-  pub is : o ≡ outcome_of end
+  pub is : o ≡ source_outcome end
 
-abbrev pub SourceOutcome : SourceTest → Final → Type 0  -- Some order of steps leads from the start to the outcome.
-SourceOutcome s o = (order : List ℕ) × RunsTo s order o
+abbrev pub SourceOutcome : SourceTest → FinalState → Type 0  -- Some order of steps leads from the start to the outcome.
+SourceOutcome s o = (order : List ℕ) × InterleavesTo s order o
 
 pub record SourceRunState : Type 0 where  -- What a `SourceRun` is: a program, the state at which its test starts, and the state that it is in.
   pub program : List (List Stmt)
@@ -83,6 +83,6 @@ pub record SourceRunState : Type 0 where  -- What a `SourceRun` is: a program, t
   pub state : State
 
 -- What is answered where this is the state after a step, and what the run is then; a refused step changes nothing.
-abbrev pub Answers : Result State Stop → Result (Unit {0}) Stop → SourceRunState → SourceRunState → Type 0
-Answers step answer before after =
+abbrev pub IsStepResult : Result State Stop → Result (Unit {0}) Stop → SourceRunState → SourceRunState → Type 0
+IsStepResult step answer before after =
     MatchResult step (λ next. (answer ≡ Ok tt) × (after.state ≡ next)) (λ stop. (answer ≡ Err stop) × (after ≡ before))

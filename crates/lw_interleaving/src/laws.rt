@@ -3,15 +3,15 @@
 ghost use Rattle.std.specs.Prelude.{◌≡◌, ◌≢◌, ℕ, List, false, Ok};
 ghost use Rattle.lw_litmus.specs.declared.stmt.Stmt.{Stmt};
 ghost use Rattle.lw_interleaving.specs.Runs.{State, source_step};
-ghost use Rattle.lw_interleaving.specs.Steps.{FollowsFlow, position_of, next_of, IsExchangeable};
-ghost use Rattle.lw_litmus.specs.Conflicts.{do_conflict};
-ghost use Rattle.lw_litmus.specs.Sources.{source};
+ghost use Rattle.lw_interleaving.specs.Steps.{FollowsFlow, thread_position, next_statement, StepsCommute};
+ghost use Rattle.lw_litmus.specs.Conflicts.{operations_conflict};
+ghost use Rattle.lw_litmus.specs.Sources.{source_language};
 
 /// A theorem for readers: neighbouring steps of two threads whose statements don't conflict can be exchanged: the state
 /// after both is the same.
 pub fn steps_can_be_exchanged()
     ensures { (program : List (List Stmt)) (t u : ℕ) (s : State) → t ≢ u
-        → do_conflict source (next_of program s t) (next_of program s u) ≡ false → IsExchangeable program t u s }
+        → operations_conflict source_language (next_statement program s t) (next_statement program s u) ≡ false → StepsCommute program t u s }
 {}
 
 /// A theorem for readers: a step leads its thread to a successor of where it was.
@@ -23,5 +23,5 @@ pub fn a_step_follows_the_flow()
 /// A theorem for readers: a step moves no other thread.
 pub fn a_step_moves_one_thread()
     ensures { (program : List (List Stmt)) (t u : ℕ) (s next : State) → t ≢ u
-        → source_step program t s ≡ Ok next → position_of next u ≡ position_of s u }
+        → source_step program t s ≡ Ok next → thread_position next u ≡ thread_position s u }
 {}

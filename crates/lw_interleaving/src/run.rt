@@ -1,7 +1,7 @@
 //! A run of a source test.
 ghost use Rattle.std.specs.Prelude.{◌≡◌, ◌<◌, length, map, Some, slice_get, slice_index, IfOk};
 ghost use Rattle.lw_litmus.specs.Views.{source_of};
-ghost use Rattle.lw_interleaving.specs.Runs.{start_of, source_step, source_event, Answers, SourceReplayed, outcome_of};
+ghost use Rattle.lw_interleaving.specs.Runs.{initial_state, source_step, source_event_result, IsStepResult, IsSourceReplay, source_outcome};
 ghost use Rattle.lw_interleaving.specs.Runs as runs;
 
 use crate::thread::Thread;
@@ -25,12 +25,12 @@ impl<'a, A: Allocator, B: Allocator> Model for SourceRun<'a, A, B> {
 
     ghost Value = { SourceRunState };
 
-    ghost use Rattle.lw_interleaving.specs.Runs.{start_of};
+    ghost use Rattle.lw_interleaving.specs.Runs.{initial_state};
     ghost use Rattle.lw_litmus.specs.Views.{source_of};
 
     ghost view = { λ r. record {
       program = r.source.now.threads;
-      start = start_of (source_of r.source.now);
+      start = initial_state (source_of r.source.now);
       state = record { threads = r.threads; words = r.words };
     } };
 
@@ -41,8 +41,8 @@ impl<'a, A: Allocator + Copy, B: Allocator> SourceRun<'a, A, B> {
     /// A run at the start of a test.
     pub fn new(alloc: A, source: &'a Source<B>) -> Result<Self, AllocError>
         ensures program { IfOk result (λ r. r.program ≡ source.now.threads) }
-        ensures start { IfOk result (λ r. r.start ≡ start_of (source_of source.now)) }
-        ensures state { IfOk result (λ r. r.state ≡ start_of (source_of source.now)) }
+        ensures start { IfOk result (λ r. r.start ≡ initial_state (source_of source.now)) }
+        ensures state { IfOk result (λ r. r.state ≡ initial_state (source_of source.now)) }
     {
         let mut threads = Sequence::new(alloc);
         for regs in source.head.init_regs.as_slice() {
@@ -61,7 +61,7 @@ impl<'a, A: Allocator + Copy, B: Allocator> SourceRun<'a, A, B> {
 
     /// The registers and the memory as they are.
     pub fn outcome(&self) -> Result<Outcome<A>, AllocError>
-        ensures { IfOk result (λ o. o ≡ outcome_of self.now.state) }
+        ensures { IfOk result (λ o. o ≡ source_outcome self.now.state) }
     {
         let alloc = *self.words.allocator();
         let mut regs = Sequence::new(alloc);
@@ -98,7 +98,7 @@ impl<'a, A: Allocator, B: Allocator> SourceRun<'a, A, B> {
     pub fn write_outcome<C: Allocator>(&self, outcome: &mut Outcome<C>)
         requires threads { length outcome.old.regs ≡ length self.now.state.threads }
         requires words { length outcome.old.words ≡ length self.now.state.words }
-        ensures { outcome.new ≡ outcome_of self.now.state }
+        ensures { outcome.new ≡ source_outcome self.now.state }
     {
         for (cpu, thread) in self.threads.as_slice().iter().enumerate() {
             outcome.regs.set(cpu, thread.regs);
@@ -112,7 +112,7 @@ impl<'a, A: Allocator, B: Allocator> SourceRun<'a, A, B> {
         ensures start { self.new.start ≡ self.old.start }
         ensures threads { length self.new.state.threads ≡ length self.old.state.threads }
         ensures words { length self.new.state.words ≡ length self.old.state.words }
-        ensures done { Answers (source_step self.old.program cpu self.old.state) result self.old self.new }
+        ensures done { IsStepResult (source_step self.old.program cpu self.old.state) result self.old self.new }
     {
         let Some(thread) = self.threads.get(cpu.index()) else {
             return Err(Stop::NoCpu);
@@ -131,7 +131,7 @@ impl<'a, A: Allocator, B: Allocator> SourceRun<'a, A, B> {
     pub fn run(&mut self, events: &[Event]) -> Replay
         ensures program { self.new.program ≡ self.old.program }
         ensures start { self.new.start ≡ self.old.start }
-        ensures replayed { SourceReplayed self.old.program events.now self.old.state result self.new.state }
+        ensures replayed { IsSourceReplay self.old.program events.now self.old.state result self.new.state }
         ensures threads { length self.new.state.threads ≡ length self.old.state.threads }
         ensures words { length self.new.state.words ≡ length self.old.state.words }
     {
@@ -158,7 +158,7 @@ impl<'a, A: Allocator, B: Allocator> SourceRun<'a, A, B> {
     fn carry_out_event(&mut self, event: Event) -> Result<(), Stop>
         ensures program { self.new.program ≡ self.old.program }
         ensures start { self.new.start ≡ self.old.start }
-        ensures done { Answers (source_event self.old.program event self.old.state) result self.old self.new }
+        ensures done { IsStepResult (source_event_result self.old.program event self.old.state) result self.old self.new }
     {
         match event {
             Event::Step(cpu) => self.step(cpu),

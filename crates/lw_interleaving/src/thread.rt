@@ -1,9 +1,9 @@
 //! What a thread of a running source test has of its own, and what an operation makes of it.
 ghost use Rattle.std.specs.Prelude.{◌≡◌, ◌+◌, ◌<◌, ◌^◌, length, nat_le};
-ghost use Rattle.lw_base.specs.Changes.{sum_of};
+ghost use Rattle.lw_base.specs.Changes.{wrapping_sum};
 ghost use Rattle.lw_interleaving.specs.Statements as table;
 ghost use Rattle.lw_interleaving.specs.Statements.{words_after};
-ghost use Rattle.lw_litmus.specs.WellFormed.{IsOperation};
+ghost use Rattle.lw_litmus.specs.WellFormed.{IsWellFormedOperation};
 
 use lw_base::{REGISTERS, Reg, Sequence, Word};
 use lw_litmus::Operation;
@@ -31,7 +31,7 @@ impl Thread {
         operation: Operation,
         words: &mut Sequence<Word, A>,
     )
-        requires operation { IsOperation (length words.old) operation }
+        requires operation { IsWellFormedOperation (length words.old) operation }
         requires room { self.old.position + 1 < 2 ^ 64 }
         ensures thread { self.new ≡ table.thread_after operation self.old words.old }
         ensures words { words.new ≡ words_after operation self.old words.old }
@@ -51,7 +51,7 @@ impl Thread {
             }
             Operation::Store { loc, val } => {
                 words.set(loc.index(), val.value(&self.regs));
-                self.go_on();
+                self.advance();
             }
             Operation::Swap { dst, loc, src } => {
                 let word = words.as_slice()[loc.index()];
@@ -61,20 +61,20 @@ impl Thread {
             Operation::FetchAdd(dst, loc, val) => {
                 let word = words.as_slice()[loc.index()];
                 words.set(loc.index(), wrapping_sum(word, val.value(&self.regs)));
-                self.get_if(dst, word);
+                self.advance_with_register_if_some(dst, word);
             }
             Operation::Branch { guard, to } => {
                 let holds = guard.holds(&self.regs, false);
                 self.jump(holds, to);
             }
-            Operation::Compare { .. } | Operation::Fence => self.go_on(),
+            Operation::Compare { .. } | Operation::Fence => self.advance(),
         }
     }
 
     /// Goes on to the next statement.
-    fn go_on(&mut self)
+    fn advance(&mut self)
         requires { self.old.position + 1 < 2 ^ 64 }
-        ensures { self.new ≡ table.at_next self.old }
+        ensures { self.new ≡ table.advance self.old }
     {
         self.position += 1;
     }
@@ -82,27 +82,27 @@ impl Thread {
     /// Goes on to the next statement, with a word in a register.
     fn get(&mut self, dst: Reg, word: Word)
         requires { self.old.position + 1 < 2 ^ 64 }
-        ensures { self.new ≡ table.at_next_with self.old dst word }
+        ensures { self.new ≡ table.advance_with_register self.old dst word }
     {
         self.regs[dst.index()] = word;
         self.position += 1;
     }
 
     /// Goes on to the next statement, with a word in a register if one is named.
-    fn get_if(&mut self, dst: Option<Reg>, word: Word)
+    fn advance_with_register_if_some(&mut self, dst: Option<Reg>, word: Word)
         requires { self.old.position + 1 < 2 ^ 64 }
-        ensures { self.new ≡ table.at_next_with_if self.old dst word }
+        ensures { self.new ≡ table.advance_with_register_if_some self.old dst word }
     {
         match dst {
             Some(dst) => self.get(dst, word),
-            None => self.go_on(),
+            None => self.advance(),
         }
     }
 
     /// To the target where the guard holds, and else to the next statement.
     fn jump(&mut self, holds: bool, to: usize)
         requires { self.old.position + 1 < 2 ^ 64 }
-        ensures { self.new ≡ table.branched self.old holds to }
+        ensures { self.new ≡ table.jump_or_advance self.old holds to }
     {
         self.position = if holds { to } else { self.position + 1 };
     }
@@ -110,7 +110,7 @@ impl Thread {
 
 /// The sum of two words, as a word: without what is carried beyond 32 bits.
 fn wrapping_sum(left: Word, right: Word) -> Word
-    ensures { result ≡ sum_of left right }
+    ensures { result ≡ wrapping_sum left right }
 {
     left.wrapping_add(right)
 }

@@ -5,22 +5,22 @@ use Rattle.lw_bench.specs.declared.fault.BenchFault.{BenchFault}
 use Rattle.lw_bench.specs.declared.fault.BenchFault.TheVariants.{Memory}
 use Rattle.lw_bench.specs.Faults.{fault_text}
 use Rattle.lw_bench.specs.LitmusTests.{LitmusTest}
-use Rattle.lw_bench.specs.Told.{TellsRun, IsNoDevice}
+use Rattle.lw_bench.specs.FaultTruth.{RunFaultIsTrue, IsNotDeviceFault}
 use Rattle.lw_beyond.specs.Faults as beyond
 use Rattle.lw_beyond.specs.Requests.{IsMadeFor, RefusesText, IsNoDevice as IsNoDeviceFault}
 use Rattle.lw_beyond.specs.declared.fault.BeyondFault.{BeyondFault}
 use Rattle.lw_beyond.specs.declared.fault.BeyondFault.TheVariants.{Bench}
 use Rattle.lw_beyond.specs.declared.lists.Request.{Request}
-use Rattle.lw_bench.specs.Outputs.{Makes}
+use Rattle.lw_bench.specs.Outputs.{IsOutputOf}
 use Rattle.lw_library.specs.Reached.{IsReached, IsRefused, IsReachTold}
-use Rattle.lw_library.specs.declared.told.Told.{Told}
-use Rattle.lw_library.specs.Told.{TellsBytes, TellsLine, TellsOneOf, IsAnswer, IsFault, IsTold}
+use Rattle.lw_library.specs.declared.call_result.CallResult.{CallResult}
+use Rattle.lw_library.specs.CallResults.{ReturnsBytes, ReturnsFaultLine, TellsOneOf, IsAnswer, IsFault, IsCallResult}
 
-module _ (IsAnswer IsFault : ℕ → Bytes → Type 0) (told : Told) (before after : Bytes) where
+module _ (IsAnswer IsFault : ℕ → Bytes → Type 0) (told : CallResult) (before after : Bytes) where
   -- If an answer is told as bytes of kind 0, what the call tells is right.
   pub answer_told : (made : Bytes)
       → IsAnswer told.status made
-      → TellsBytes 0 made told before after
+      → ReturnsBytes 0 made told before after
       → TellsOneOf IsAnswer IsFault told before after
   answer_told made is tells = elim tells [
     | inl written ↦ record {
@@ -40,7 +40,7 @@ module _ (IsAnswer IsFault : ℕ → Bytes → Type 0) (told : Told) (before aft
   -- If a fault is told as bytes of kind 1, what the call tells is right.
   pub fault_told : (line : Bytes)
       → IsFault told.status line
-      → TellsBytes 1 line told before after
+      → ReturnsBytes 1 line told before after
       → TellsOneOf IsAnswer IsFault told before after
   fault_told line is tells = elim tells [
     | inl written ↦ record {
@@ -57,26 +57,26 @@ module _ (IsAnswer IsFault : ℕ → Bytes → Type 0) (told : Told) (before aft
     }
   ]
 
-module _ (IsMade : LitmusTest → Bytes → ℕ → Type 0) (Tells : LitmusTest → BenchFault → Type 0) (text : Bytes) (told : Told)
+module _ (IsMade : LitmusTest → Bytes → ℕ → Type 0) (Tells : LitmusTest → BenchFault → Type 0) (text : Bytes) (told : CallResult)
     (before after : Bytes) where
   abbrev Is : Type 0
-  Is = IsTold IsMade Tells text told before after
+  Is = IsCallResult IsMade Tells text told before after
 
   -- where a task has answered and its bytes are told, what the call tells is right
-  pub answered : (made : Bytes) → IsAnswer IsMade Tells text told.status made → TellsBytes 0 made told before after → Is
+  pub answered : (made : Bytes) → IsAnswer IsMade Tells text told.status made → ReturnsBytes 0 made told before after → Is
   answered = answer_told (IsAnswer IsMade Tells text) (IsFault IsMade Tells text) told before after
 
   -- where the text has a fault that is no device's, and its line is told, what the call tells is right
-  pub line_told : (f : BenchFault) → TellsRun Tells text f → IsNoDevice f → TellsLine f told before after → Is
+  pub line_told : (f : BenchFault) → RunFaultIsTrue Tells text f → IsNotDeviceFault f → ReturnsFaultLine f told before after → Is
   line_told f so no_device tells =
       fault_told (IsAnswer IsMade Tells text) (IsFault IsMade Tells text) told before after (fault_text f)
       (record { fault = f; tells = so; no_device = no_device; line_is = refl; status_is = tells.0 }) tells.1
 
   -- where the text has a fault that is no device's, and its line is told or that memory ran out, what the call tells is right
   pub refused : (f : BenchFault)
-      → TellsRun Tells text f
-      → IsNoDevice f
-      → TellsLine f told before after ⊎ TellsLine Memory told before after
+      → RunFaultIsTrue Tells text f
+      → IsNotDeviceFault f
+      → ReturnsFaultLine f told before after ⊎ ReturnsFaultLine Memory told before after
       → Is
   refused f so no_device tells = elim tells [
     | inl line ↦ line_told f so no_device line
@@ -85,12 +85,12 @@ module _ (IsMade : LitmusTest → Bytes → ℕ → Type 0) (Tells : LitmusTest 
 
 -- ---- lists of any size
 
-module _ (request : Request) (text : Bytes) (told : Told) (before after : Bytes) where
+module _ (request : Request) (text : Bytes) (told : CallResult) (before after : Bytes) where
   -- If a list was answered and its bytes are told, what the call tells is right.
   pub reached : (made : Bytes)
       → told.status ≡ 0
-      → Makes (IsMadeFor request.output) text made
-      → TellsBytes 0 made told before after
+      → IsOutputOf (IsMadeFor request.output) text made
+      → ReturnsBytes 0 made told before after
       → IsReachTold request text told before after
   reached made status made_of tells =
       answer_told (IsReached request text) (IsRefused request text) told before after made (status, made_of) tells
@@ -100,7 +100,7 @@ module _ (request : Request) (text : Bytes) (told : Told) (before after : Bytes)
       → RefusesText request text f
       → IsNoDeviceFault f
       → told.status ≡ beyond.fault_status f
-      → TellsBytes 1 (beyond.fault_text f) told before after
+      → ReturnsBytes 1 (beyond.fault_text f) told before after
       → IsReachTold request text told before after
   reach_refused f refuses no_device status tells =
       fault_told (IsReached request text) (IsRefused request text) told before after (beyond.fault_text f)
@@ -108,6 +108,6 @@ module _ (request : Request) (text : Bytes) (told : Told) (before after : Bytes)
 
   -- If it is told that memory ran out, what the call tells is right.
   pub reach_out_of_memory : told.status ≡ beyond.fault_status (Bench Memory)
-      → TellsBytes 1 (beyond.fault_text (Bench Memory)) told before after
+      → ReturnsBytes 1 (beyond.fault_text (Bench Memory)) told before after
       → IsReachTold request text told before after
   reach_out_of_memory = reach_refused (Bench Memory) tt (λ same. cc, λ same. cc)

@@ -1,23 +1,23 @@
 -- What a call for a list of any size tells.
 use Rattle.std.specs.Prelude.{◌≡◌, ℕ, false}
 use Rattle.lw_base.specs.Types.{Bytes}
-use Rattle.lw_bench.specs.Outputs.{Makes}
+use Rattle.lw_bench.specs.Outputs.{IsOutputOf}
 use Rattle.lw_beyond.specs.Faults.{fault_text, fault_status}
 use Rattle.lw_beyond.specs.Requests.{IsMadeFor, RefusesText, IsNoDevice}
 use Rattle.lw_beyond.specs.declared.fault.BeyondFault.{BeyondFault}
 use Rattle.lw_beyond.specs.declared.lists.Output.{Output}
 use Rattle.lw_beyond.specs.declared.lists.Request.{Request}
-use Rattle.lw_library.specs.Told.{TellsBytes, TellsOneOf}
-use Rattle.lw_library.specs.declared.told.Told.{Told}
+use Rattle.lw_library.specs.CallResults.{ReturnsBytes, TellsOneOf}
+use Rattle.lw_library.specs.declared.call_result.CallResult.{CallResult}
 
 -- The line of this fault is told, which is kind 1, and its exit status.
-abbrev pub TellsFault : BeyondFault → Told → Bytes → Bytes → Type 0
-TellsFault fault told before after = (told.status ≡ fault_status fault) × TellsBytes 1 (fault_text fault) told before after
+abbrev pub TellsFault : BeyondFault → CallResult → Bytes → Bytes → Type 0
+TellsFault fault told before after = (told.status ≡ fault_status fault) × ReturnsBytes 1 (fault_text fault) told before after
 
 module _ (request : Request) (text : Bytes) where
   -- The bytes are the output of the test that the text is, with the exit status 0.
   abbrev pub IsReached : ℕ → Bytes → Type 0
-  IsReached done made = (done ≡ 0) × Makes (IsMadeFor request.output) text made
+  IsReached done made = (done ≡ 0) × IsOutputOf (IsMadeFor request.output) text made
 
   -- The bytes are the line of a fault, which is true of the text and is no device's, and this is its exit status.
   pub record IsRefused (done : ℕ) (line : Bytes) : Type 0 where
@@ -28,7 +28,7 @@ module _ (request : Request) (text : Bytes) where
     pub status_is : done ≡ fault_status fault
 
   -- What the call tells: the output, or a fault.
-  abbrev pub IsReachTold : Told → Bytes → Bytes → Type 0
+  abbrev pub IsReachTold : CallResult → Bytes → Bytes → Type 0
   IsReachTold = TellsOneOf IsReached IsRefused
 
 -- The request for an output within a budget: by orders within the limits of lists, and by a search past them.

@@ -4,18 +4,18 @@ ghost use Rattle.std.specs.Str.{IsUtf8};
 ghost use Rattle.lw_bench.specs.declared.command.Task.TheVariants as task;
 ghost use Rattle.lw_bench.specs.declared.fault.BenchFault.TheVariants as fault;
 ghost use Rattle.lw_bench.specs.Lists.{IsReachedOnMachine, IsReachedOverCaches};
-ghost use Rattle.lw_bench.specs.Tasks.{IsDone, TellsTask};
-ghost use Rattle.lw_bench.specs.Told.{TellsReplay};
-ghost use Rattle.lw_library.specs.Told.{replay_protocol, IsReplayed, IsTold, TellsLine};
+ghost use Rattle.lw_bench.specs.Tasks.{IsTaskOutput, TaskFaultIsTrue};
+ghost use Rattle.lw_bench.specs.FaultTruth.{ReplayFaultIsTrue};
+ghost use Rattle.lw_library.specs.CallResults.{replay_protocol, IsReplayed, IsCallResult, ReturnsFaultLine};
 
-use crate::told::{ANSWER, Told, refuse, tell};
+use crate::call_result::{ANSWER, CallResult, write_fault, write_result};
 use lw_arena::{Arena, Memory};
 use lw_bench::{BenchFault, Protocol, Task, answer};
 
 /// `lw states`: the report of the test that the text is.
 #[unsafe(no_mangle)]
-pub extern "C" fn lw_states(memory: Memory, text: &[u8], room: &mut [u8], told: &mut Told)
-    ensures told { IsTold (IsDone task.States) (TellsTask task.States) text.now told.new room.old room.new }
+pub extern "C" fn lw_states(memory: Memory, text: &[u8], room: &mut [u8], told: &mut CallResult)
+    ensures told { IsCallResult (IsTaskOutput task.States) (TaskFaultIsTrue task.States) text.now told.new room.old room.new }
     ensures machine { IsReachedOnMachine text.now }
     ensures caches { IsReachedOverCaches text.now }
 {
@@ -24,8 +24,8 @@ pub extern "C" fn lw_states(memory: Memory, text: &[u8], room: &mut [u8], told: 
 
 /// `lw schedules`: the list of the test's final states, each with a schedule.
 #[unsafe(no_mangle)]
-pub extern "C" fn lw_schedules(memory: Memory, text: &[u8], room: &mut [u8], told: &mut Told)
-    ensures told { IsTold (IsDone task.Schedules) (TellsTask task.Schedules) text.now told.new room.old room.new }
+pub extern "C" fn lw_schedules(memory: Memory, text: &[u8], room: &mut [u8], told: &mut CallResult)
+    ensures told { IsCallResult (IsTaskOutput task.Schedules) (TaskFaultIsTrue task.Schedules) text.now told.new room.old room.new }
     ensures machine { IsReachedOnMachine text.now }
     ensures caches { IsReachedOverCaches text.now }
 {
@@ -34,8 +34,8 @@ pub extern "C" fn lw_schedules(memory: Memory, text: &[u8], room: &mut [u8], tol
 
 /// `lw compile`: the canonical text of the test, a source test compiled to x86.
 #[unsafe(no_mangle)]
-pub extern "C" fn lw_compile(memory: Memory, text: &[u8], room: &mut [u8], told: &mut Told)
-    ensures told { IsTold (IsDone task.Compile) (TellsTask task.Compile) text.now told.new room.old room.new }
+pub extern "C" fn lw_compile(memory: Memory, text: &[u8], room: &mut [u8], told: &mut CallResult)
+    ensures told { IsCallResult (IsTaskOutput task.Compile) (TaskFaultIsTrue task.Compile) text.now told.new room.old room.new }
 {
     *told = run(memory, Task::Compile, text, room);
 }
@@ -49,17 +49,17 @@ pub extern "C" fn lw_replay(
     schedule: &[u8],
     protocol: u32,
     room: &mut [u8],
-    told: &mut Told,
+    told: &mut CallResult,
 )
     ensures told { IsUtf8 schedule.now
-        → IsTold (IsReplayed schedule.now (replay_protocol protocol)) (TellsReplay schedule.now) text.now told.new room.old room.new }
+        → IsCallResult (IsReplayed schedule.now (replay_protocol protocol)) (ReplayFaultIsTrue schedule.now) text.now told.new room.old room.new }
     ensures no_utf8 { ¬ IsUtf8 schedule.now
-        → TellsLine fault.Read told.new room.old room.new ⊎ TellsLine fault.Memory told.new room.old room.new }
+        → ReturnsFaultLine fault.Read told.new room.old room.new ⊎ ReturnsFaultLine fault.Memory told.new room.old room.new }
 {
     let protocol = protocol_of(protocol);
     *told = match std::str::from_utf8(schedule) {
         Ok(schedule) => run(memory, Task::Replay(schedule, protocol), text, room),
-        Err(_) => refuse(&Arena::new(memory), &BenchFault::Read, room),
+        Err(_) => write_fault(&Arena::new(memory), &BenchFault::Read, room),
     };
 }
 
@@ -75,14 +75,14 @@ fn protocol_of(number: u32) -> Protocol
 }
 
 /// Carries a task out over the memory that is lent.
-fn run(memory: Memory, task: Task<'_>, text: &[u8], room: &mut [u8]) -> Told
-    ensures told { IsTold (IsDone task.entry) (TellsTask task.entry) text.now result room.old room.new }
+fn run(memory: Memory, task: Task<'_>, text: &[u8], room: &mut [u8]) -> CallResult
+    ensures told { IsCallResult (IsTaskOutput task.entry) (TaskFaultIsTrue task.entry) text.now result room.old room.new }
     ensures machine { IsReachedOnMachine text.now }
     ensures caches { IsReachedOverCaches text.now }
 {
     let arena = Arena::new(memory);
     match answer(&arena, task, text) {
-        Ok((made, status)) => tell(ANSWER, status, made.as_str().as_bytes(), room),
-        Err(fault) => refuse(&arena, &fault, room),
+        Ok((made, status)) => write_result(ANSWER, status, made.as_str().as_bytes(), room),
+        Err(fault) => write_fault(&arena, &fault, room),
     }
 }

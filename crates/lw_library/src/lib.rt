@@ -6,6 +6,6 @@
 //! `include/lw.h` has the same for C.
 #![tactic(auto)]
 
+mod call_result;
 mod exports;
 mod reached;
-mod told;

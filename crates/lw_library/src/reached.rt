@@ -6,10 +6,10 @@ ghost use Rattle.lw_bench.specs.Lists.{IsReachedOnMachine, IsReachedOverCaches};
 ghost use Rattle.lw_beyond.specs.declared.lists.Output.TheVariants as output;
 ghost use Rattle.lw_library.specs.Reached.{request_of, IsReachTold, TellsFault};
 
-use crate::told::{ANSWER, FAULT, Told, tell};
+use crate::call_result::{ANSWER, CallResult, FAULT, write_result};
 use lw_arena::{Arena, Memory};
 use lw_bench::{BenchFault, memory_line};
-use lw_beyond::{BeyondFault, Output, Request, answer_request, fault_line, status_of};
+use lw_beyond::{BeyondFault, Renderer, Request, answer_request, fault_line, status_of};
 
 /// `beyond --budget BUDGET states`: the report of the test that the text is, within the limits of lists or past them.
 #[unsafe(no_mangle)]
@@ -18,13 +18,13 @@ pub extern "C" fn lw_reach_states(
     text: &[u8],
     budget: usize,
     room: &mut [u8],
-    told: &mut Told,
+    told: &mut CallResult,
 )
     ensures told { IsReachTold (request_of output.States budget) text.now told.new room.old room.new }
     ensures machine { IsReachedOnMachine text.now }
     ensures caches { IsReachedOverCaches text.now }
 {
-    *told = run_request(memory, &request_of(Output::States, budget), text, room);
+    *told = run_request(memory, &request_of(Renderer::States, budget), text, room);
 }
 
 /// `beyond --budget BUDGET schedules`: the list of the test's final states, each with a schedule, within the limits of lists or past them.
@@ -34,17 +34,17 @@ pub extern "C" fn lw_reach_schedules(
     text: &[u8],
     budget: usize,
     room: &mut [u8],
-    told: &mut Told,
+    told: &mut CallResult,
 )
     ensures told { IsReachTold (request_of output.Schedules budget) text.now told.new room.old room.new }
     ensures machine { IsReachedOnMachine text.now }
     ensures caches { IsReachedOverCaches text.now }
 {
-    *told = run_request(memory, &request_of(Output::Schedules, budget), text, room);
+    *told = run_request(memory, &request_of(Renderer::Schedules, budget), text, room);
 }
 
 /// Returns the request for an output within a budget.
-fn request_of(output: Output, budget: usize) -> Request
+fn request_of(output: Renderer, budget: usize) -> Request
     ensures { result ≡ request_of output budget }
 {
     Request {
@@ -55,25 +55,25 @@ fn request_of(output: Output, budget: usize) -> Request
 }
 
 /// Answers a request over the memory that is lent.
-fn run_request(memory: Memory, request: &Request, text: &[u8], room: &mut [u8]) -> Told
+fn run_request(memory: Memory, request: &Request, text: &[u8], room: &mut [u8]) -> CallResult
     ensures told { IsReachTold request.now text.now result room.old room.new }
     ensures machine { IsReachedOnMachine text.now }
     ensures caches { IsReachedOverCaches text.now }
 {
     let arena = Arena::new(memory);
     match answer_request(&arena, request, text) {
-        Ok(answer) => tell(ANSWER, 0, answer.text.as_str().as_bytes(), room),
+        Ok(answer) => write_result(ANSWER, 0, answer.text.as_str().as_bytes(), room),
         Err(fault) => refuse_request(&arena, &fault, room),
     }
 }
 
 /// Tells of a fault by its line. If memory runs out for the line, that is told instead.
-fn refuse_request(arena: &Arena, fault: &BeyondFault, room: &mut [u8]) -> Told
+fn refuse_request(arena: &Arena, fault: &BeyondFault, room: &mut [u8]) -> CallResult
     ensures { TellsFault fault.now result room.old room.new ⊎ TellsFault (beyond.Bench bench.Memory) result room.old room.new }
 {
     match fault_line(arena, fault) {
-        Ok(line) => tell(FAULT, status_of(fault), line.as_bytes(), room),
-        Err(_) => tell(
+        Ok(line) => write_result(FAULT, status_of(fault), line.as_bytes(), room),
+        Err(_) => write_result(
             FAULT,
             status_of(&BeyondFault::Bench(BenchFault::Memory)),
             memory_line().as_bytes(),

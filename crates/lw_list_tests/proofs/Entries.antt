@@ -1,35 +1,35 @@
 -- The outcomes of a list whose entries are of a test.
-use Rattle.lw_listing.specs.Listings.{ListedOutcomes}
+use Rattle.lw_outcome_map.specs.Listings.{OutcomeEntries}
 use Rattle.std.proofs.Common.{◌≡◌, ℕ, List, zero, suc, Some, [], ◌∷◌, length, subst, slice_get, arith, All}
 use Rattle.std.proofs.lemmas.Option.{same_Some, slice_get_within}
 use Rattle.std.proofs.lemmas.List.Elements.{All-map, All-weaker}
 use Rattle.lw_base.specs.declared.event.Event.{Event}
 use Rattle.lw_base.specs.Heads.{TestHead}
-use Rattle.lw_base.specs.Outcomes.{Final, IsOutcomeOf}
+use Rattle.lw_base.specs.Outcomes.{FinalState, HasOutcomeShape}
 use Rattle.lw_base.specs.ListedOutcomes.{IsListedOutcome}
-use Rattle.lw_listing.specs.Listings.{outcomes_of}
+use Rattle.lw_outcome_map.specs.Listings.{outcomes_of}
 
-pub outcome_of_test : (head : TestHead) (entries : ListedOutcomes) (k : ℕ) (o : Final)
+pub outcome_of_test : (head : TestHead) (entries : OutcomeEntries) (k : ℕ) (o : FinalState)
     → All (IsListedOutcome head) entries
     → slice_get (outcomes_of entries) k ≡ Some o
-    → IsOutcomeOf head.threads (length head.locs) o
+    → HasOutcomeShape head.threads (length head.locs) o
 outcome_of_test head [] k o all at = absurd (omega (arith, slice_get_within (outcomes_of []) k o at))
 outcome_of_test head (e ∷ entries) zero o all at =
-    subst (IsOutcomeOf head.threads (length head.locs)) (same_Some e.0 o at) (all 0 e (omega arith)).outcome
+    subst (HasOutcomeShape head.threads (length head.locs)) (same_Some e.0 o at) (all 0 e (omega arith)).outcome
 outcome_of_test head (e ∷ entries) (suc k) o all at =
     outcome_of_test head entries k o (λ j d lt. all (suc j) d (omega (arith, lt))) at
 
-pub outcomes_of_test : (head : TestHead) (entries : ListedOutcomes)
+pub outcomes_of_test : (head : TestHead) (entries : OutcomeEntries)
     → All (IsListedOutcome head) entries
-    → All (IsOutcomeOf head.threads (length head.locs)) (outcomes_of entries)
+    → All (HasOutcomeShape head.threads (length head.locs)) (outcomes_of entries)
 outcomes_of_test head entries are =
-    All-map (IsOutcomeOf head.threads (length head.locs)) (λ (e : Final × List Event). e.0) entries
-    (All-weaker (IsListedOutcome head) (λ (e : Final × List Event). IsOutcomeOf head.threads (length head.locs) e.0)
+    All-map (HasOutcomeShape head.threads (length head.locs)) (λ (e : FinalState × List Event). e.0) entries
+    (All-weaker (IsListedOutcome head) (λ (e : FinalState × List Event). HasOutcomeShape head.threads (length head.locs) e.0)
     (λ e is. is.outcome) entries are)
 
 -- there is none in an empty list
-pub outcomes_of_none : (head : TestHead) (entries : ListedOutcomes)
+pub outcomes_of_none : (head : TestHead) (entries : OutcomeEntries)
     → length entries ≡ 0
-    → All (IsOutcomeOf head.threads (length head.locs)) (outcomes_of entries)
+    → All (HasOutcomeShape head.threads (length head.locs)) (outcomes_of entries)
 outcomes_of_none head [] none = λ k o within. absurd (omega (arith, within))
 outcomes_of_none head (e ∷ entries) none = absurd (omega (arith, none))

@@ -2,15 +2,15 @@
 //! folder `tables` show them too; where they are only some, these alone.
 ghost use Rattle.std.specs.Prelude.{◌≤◌, length, All};
 ghost use Rattle.lw_base.specs.Limits.{most_threads};
-ghost use Rattle.lw_base.specs.Outcomes.{IsOutcomeOf};
+ghost use Rattle.lw_base.specs.Outcomes.{HasOutcomeShape};
 ghost use Rattle.lw_base.specs.Propositions.{formula_of};
-ghost use Rattle.lw_base.specs.WellFormed.{HasLocations, SpeaksOf};
-ghost use Rattle.lw_listing.specs.Listings.{outcomes_of};
+ghost use Rattle.lw_base.specs.WellFormed.{MentionsLocationsBelow, MentionsOnly};
+ghost use Rattle.lw_outcome_map.specs.Listings.{outcomes_of};
 
 use lw_base::{Head, Word};
 use lw_finals::{list_raw, list_source};
-use lw_listing::{Findings, Listing};
 use lw_litmus::{Program, Source};
+use lw_outcome_map::{Listing, OutcomeMap};
 use lw_report::{Claim, States, Verdict, project, states_of, verdict, write_report};
 use lw_test_reader::{program_of, source_of};
 use std::alloc::Global;
@@ -63,7 +63,7 @@ SRC A {} P0; forall (false) => Unknown; Positive: 0 Negative: 0; Condition foral
 /// Whether states that are claimed to be some have this verdict, and a report that ends with these lines.
 fn are_judged(alloc: Global, head: &Head, states: &States, told: &str) -> bool
     requires threads { head.now.threads ≤ most_threads }
-    requires locations { HasLocations (length head.now.locs) (formula_of head.now.prop) }
+    requires locations { MentionsLocationsBelow (length head.now.locs) (formula_of head.now.prop) }
 {
     let word = word_of(verdict(head, states, Claim::Listed));
     match write_report(alloc, head, states, Claim::Listed) {
@@ -82,8 +82,8 @@ fn are_judged(alloc: Global, head: &Head, states: &States, told: &str) -> bool
 /// Whether the states of a listing, claimed to be some, are judged so.
 fn is_judged(alloc: Global, head: &Head, listing: &Listing, told: &str) -> bool
     requires threads { head.now.threads ≤ most_threads }
-    requires condition { SpeaksOf head.now.threads (length head.now.locs) (formula_of head.now.prop) }
-    requires outcomes { All (IsOutcomeOf head.now.threads (length head.now.locs)) (outcomes_of listing.now) }
+    requires condition { MentionsOnly head.now.threads (length head.now.locs) (formula_of head.now.prop) }
+    requires outcomes { All (HasOutcomeShape head.now.threads (length head.now.locs)) (outcomes_of listing.now) }
 {
     match states_of(alloc, head, listing) {
         Ok(states) => are_judged(alloc, head, &states, told),
@@ -109,7 +109,7 @@ fn is_x86_judged(alloc: Global, program: &Program, told: &str) -> bool {
 
 /// Whether those of a listing without entries are.
 fn is_none_judged(alloc: Global, source: &Source, told: &str) -> bool {
-    let Ok(listing) = Findings::new(alloc).into_listing() else {
+    let Ok(listing) = OutcomeMap::new(alloc).into_listing() else {
         return false;
     };
     listing.is_empty() && is_judged(alloc, &source.head, &listing, told)

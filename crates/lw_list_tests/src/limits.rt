@@ -1,6 +1,6 @@
 //! Lists that are refused: the causes as values.
-use lw_choices::ListFault;
 use lw_finals::{list_raw, list_source};
+use lw_paths::ListFault;
 use lw_test_reader::{program_of, source_of};
 use std::alloc::Global;
 use std::test::Fail;

@@ -1,8 +1,8 @@
 //! Complete lists of source tests whose outcomes and schedules are worked out by hand.
-use lw_base::{Arch, Head, Outcome, Sequence, Word, read_schedule, reg_named};
+use lw_base::{Arch, Head, Outcome, Sequence, Word, read_schedule, reg_from_name};
 use lw_finals::list_source;
-use lw_listing::Listing;
 use lw_litmus::Source;
+use lw_outcome_map::Listing;
 use lw_test_reader::source_of;
 use std::alloc::Global;
 
@@ -15,7 +15,7 @@ fn outcome_of(alloc: Global, head: &Head, words: &str) -> Option<Outcome> {
         let value = digits.parse::<Word>().ok()?;
         match place.split_once(':') {
             Some((cpu, name)) => {
-                let reg = reg_named(Arch::Source, name)?;
+                let reg = reg_from_name(Arch::Source, name)?;
                 let thread = regs.get_mut(cpu.parse::<usize>().ok()?)?;
                 thread[reg.index()] = value;
             }

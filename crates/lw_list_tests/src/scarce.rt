@@ -1,7 +1,7 @@
 //! Lists that are made where memory is refused, each growth in turn.
-use lw_choices::ListFault;
 use lw_finals::{list_raw, list_source};
-use lw_listing::Listing;
+use lw_outcome_map::Listing;
+use lw_paths::ListFault;
 use lw_test_reader::{Made, MadeByAllocator, Refusing, program_of, refusals, source_of};
 use std::alloc::Allocator;
 

@@ -2,7 +2,7 @@
 -- statement or an instruction elsewhere is made.
 use Rattle.std.specs.Prelude.{◌≡◌, ◌+◌, ◌==◌, ◌++◌, ℕ, Bool, true, false, not, ◌||◌, ◌⊎◌, Option, Some, None, List, [], ◌∷◌, slice_index}
 use Rattle.std.specs.Option.{option_to_list}
-use Rattle.lw_base.specs.Threads.{value_of}
+use Rattle.lw_base.specs.Threads.{operand_value}
 use Rattle.lw_base.specs.declared.change.Change.{Change}
 use Rattle.lw_base.specs.declared.change.Change.TheVariants as change
 use Rattle.lw_litmus.specs.Operands.{operand_registers, operand_numbers}
@@ -23,16 +23,16 @@ location_of Fence = None
 location_of (Branch c to) = None
 
 -- what it makes of its location's word, if it writes it, where the registers have these words
-abbrev pub change_of : Operation → List ℕ → Option Change
-change_of (Set d v) regs = None
-change_of (Sum d a v) regs = None
-change_of (Compare a v) regs = None
-change_of (Store x v) regs = Some (change.Put (value_of v regs))
-change_of (Load d x) regs = None
-change_of (Swap d x a) regs = Some (change.Put (slice_index regs a))
-change_of (FetchAdd d x v) regs = Some (change.Add (value_of v regs))
-change_of Fence regs = None
-change_of (Branch c to) regs = None
+abbrev pub written_change : Operation → List ℕ → Option Change
+written_change (Set d v) regs = None
+written_change (Sum d a v) regs = None
+written_change (Compare a v) regs = None
+written_change (Store x v) regs = Some (change.Put (operand_value v regs))
+written_change (Load d x) regs = None
+written_change (Swap d x a) regs = Some (change.Put (slice_index regs a))
+written_change (FetchAdd d x v) regs = Some (change.Add (operand_value v regs))
+written_change Fence regs = None
+written_change (Branch c to) regs = None
 
 -- it is a plain store, which on x86 goes by way of the store buffer
 abbrev pub is_store : Operation → Bool
@@ -63,26 +63,26 @@ is_locked (Branch c to) = false
 abbrev pub writes : Operation → Bool  -- it writes its location
 writes o = is_store o || is_locked o
 
-abbrev pub waits : Operation → Bool  -- x86 does it only once the store buffer is empty
-waits o = is_fence o || is_locked o
+abbrev pub needs_empty_buffer : Operation → Bool  -- x86 does it only once the store buffer is empty
+needs_empty_buffer o = is_fence o || is_locked o
 
-abbrev pub target_of : Operation → Option ℕ  -- the statement that a branch leads to
-target_of (Branch c to) = Some to
-target_of o = None
+abbrev pub branch_target : Operation → Option ℕ  -- the statement that a branch leads to
+branch_target (Branch c to) = Some to
+branch_target o = None
 
-abbrev pub goes_on : Operation → Bool  -- the next statement may follow: behind each but a branch without a condition
-goes_on (Branch Always to) = false
-goes_on o = true
+abbrev pub falls_through : Operation → Bool  -- the next statement may follow: behind each but a branch without a condition
+falls_through (Branch Always to) = false
+falls_through o = true
 
-abbrev pub Leads : Operation → ℕ → ℕ → Type 0  -- behind the position j, at which it is, the position k may come
-Leads o j k = ((goes_on o ≡ true) × (k ≡ j + 1)) ⊎ (target_of o ≡ Some k)
+abbrev pub IsSuccessor : Operation → ℕ → ℕ → Type 0  -- behind the position j, at which it is, the position k may come
+IsSuccessor o j k = ((falls_through o ≡ true) × (k ≡ j + 1)) ⊎ (branch_target o ≡ Some k)
 
-abbrev pub holds : Guard → List ℕ → Bool → Bool  -- a branch jumps, where the registers have these words, and the zero flag tells this
-holds Always regs flag = true
-holds (Equal a n) regs flag = slice_index regs a == n
-holds (NotEqual a n) regs flag = not (slice_index regs a == n)
-holds Zero regs flag = flag
-holds NotZero regs flag = not flag
+abbrev pub guard_holds : Guard → List ℕ → Bool → Bool  -- a branch jumps, where the registers have these words, and the zero flag tells this
+guard_holds Always regs flag = true
+guard_holds (Equal a n) regs flag = slice_index regs a == n
+guard_holds (NotEqual a n) regs flag = not (slice_index regs a == n)
+guard_holds Zero regs flag = flag
+guard_holds NotZero regs flag = not flag
 
 -- ---- what it names
 

@@ -23,5 +23,5 @@ x86_operation (Je to) = operation.Branch Zero to
 x86_operation (Jne to) = operation.Branch NotZero to
 x86_operation (Jmp to) = operation.Branch Always to
 
-abbrev pub x86 : Language Instr  -- the x86 language
-x86 = record { arch = X86; most = most_instructions; is_buffered = true; operation_of = x86_operation }
+abbrev pub x86_language : Language Instr  -- the x86 language
+x86_language = record { arch = X86; most = most_instructions; is_buffered = true; operation_of = x86_operation }

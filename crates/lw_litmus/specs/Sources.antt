@@ -21,5 +21,5 @@ source_operation (IfEq a n to) = operation.Branch (Equal a n) to
 source_operation (IfNe a n to) = operation.Branch (NotEqual a n) to
 source_operation (Goto to) = operation.Branch Always to
 
-abbrev pub source : Language Stmt  -- the source language
-source = record { arch = Source; most = most_statements; is_buffered = false; operation_of = source_operation }
+abbrev pub source_language : Language Stmt  -- the source language
+source_language = record { arch = Source; most = most_statements; is_buffered = false; operation_of = source_operation }

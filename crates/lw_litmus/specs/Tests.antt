@@ -13,8 +13,8 @@ pub record Test (Stmt : Type 0) : Type 0 where  -- a head, and for each thread i
 abbrev pub SourceTest : Type 0
 SourceTest = Test Stmt
 
-abbrev pub ProgramTest : Type 0  -- a test of the x86 language, whose statements are instructions
-ProgramTest = Test Instr
+abbrev pub X86Test : Type 0  -- a test of the x86 language, whose statements are instructions
+X86Test = Test Instr
 
 abbrev pub test_of : {A Stmt : Type 0} → Head A → List (List Stmt) → Test Stmt  -- the test of a head in memory and statements
 test_of head threads = record { head = head_of head; threads = threads }

@@ -4,30 +4,30 @@ use Rattle.std.specs.Option.{ForSome}
 use Rattle.lw_base.specs.WellFormed.{IsRegisterIndex, IsWordNumber, IsWellFormedHead}
 use Rattle.lw_litmus.specs.declared.operation.Operation.{Operation}
 use Rattle.lw_litmus.specs.Languages.{Language}
-use Rattle.lw_litmus.specs.Operations.{location_of, target_of, registers_of, numbers_of}
+use Rattle.lw_litmus.specs.Operations.{location_of, branch_target, registers_of, numbers_of}
 use Rattle.lw_litmus.specs.Tests.{Test}
 
 -- An operation is well-formed: its location is one of so many, its registers are registers, and its numbers words.
-abbrev pub IsOperation : ℕ → Operation → Type 0
-IsOperation locs o =
+abbrev pub IsWellFormedOperation : ℕ → Operation → Type 0
+IsWellFormedOperation locs o =
     ForSome (location_of o) (λ x. x < locs) × All IsRegisterIndex (registers_of o) × All IsWordNumber (numbers_of o)
 
 module _ {Stmt : Type 0} (language : Language Stmt) where
   -- A statement's operation is well-formed, on so many locations.
-  abbrev pub IsStatement : ℕ → Stmt → Type 0
-  IsStatement locs s = IsOperation locs (language.operation_of s)
+  abbrev pub IsWellFormedStatement : ℕ → Stmt → Type 0
+  IsWellFormedStatement locs s = IsWellFormedOperation locs (language.operation_of s)
 
   -- A code is well-formed: not too long for the language, its statements on so many locations, jumps forward, at most to the end.
-  pub record IsThread (locs : ℕ) (code : List Stmt) : Type 0 where
+  pub record IsWellFormedThread (locs : ℕ) (code : List Stmt) : Type 0 where
     pub short : length code ≤ language.most
-    pub there : All (IsStatement locs) code
+    pub there : All (IsWellFormedStatement locs) code
     pub forward :
         (k : ℕ) (s : Stmt) → slice_get code k ≡ Some s
-        → ForSome (target_of (language.operation_of s)) (λ to. (k < to) × (to ≤ length code))
+        → ForSome (branch_target (language.operation_of s)) (λ to. (k < to) × (to ≤ length code))
 
   -- A test is well-formed: its head is so for the language, and for each of its threads it has a well-formed code.
   pub record IsWellFormed (test : Test Stmt) : Type 0 where
     pub head : IsWellFormedHead test.head
     pub arch : test.head.arch ≡ language.arch
     pub as_many : length test.threads ≡ test.head.threads
-    pub code : All (IsThread (length test.head.locs)) test.threads
+    pub code : All (IsWellFormedThread (length test.head.locs)) test.threads

@@ -1,5 +1,5 @@
 //! The instructions of x86.
-ghost use Rattle.lw_litmus.specs.Programs.{x86};
+ghost use Rattle.lw_litmus.specs.Programs.{x86_language};
 
 use crate::operation::{Guard, Operation};
 use crate::statement::Statement;
@@ -35,7 +35,7 @@ pub enum Instr {
 }
 
 impl Statement for Instr {
-    ghost language = { x86 };
+    ghost language = { x86_language };
 
     /// What the instruction does.
     fn operation(&self) -> Operation {

@@ -45,7 +45,7 @@ pub enum Guard {
 impl Guard {
     /// Whether a branch jumps, where the registers have these words, and the zero flag tells this.
     pub fn holds(&self, regs: &[Word; REGISTERS], zero_flag: bool) -> bool
-        ensures { result ≡ table.holds self.now regs.now zero_flag }
+        ensures { result ≡ table.guard_holds self.now regs.now zero_flag }
     {
         match self {
             Guard::Always => true,
@@ -71,7 +71,7 @@ impl Operation {
 
     /// What it makes of its location's word, if it writes it, where a thread's registers have these words.
     pub fn change(&self, regs: &[Word; REGISTERS]) -> Option<Change>
-        ensures { result ≡ table.change_of self.now regs.now }
+        ensures { result ≡ table.written_change self.now regs.now }
     {
         match self {
             Operation::Store { val, .. } => Some(Change::Put(val.value(regs))),
@@ -104,14 +104,14 @@ impl Operation {
 
     /// Whether x86 does it only once the store buffer is empty.
     pub fn waits(&self) -> bool
-        ensures { result ≡ table.waits self.now }
+        ensures { result ≡ table.needs_empty_buffer self.now }
     {
         matches!(self, Operation::Fence) || self.is_locked()
     }
 
     /// The position that a branch leads to where its guard holds. No other operation has one.
     pub fn target(&self) -> Option<usize>
-        ensures { result ≡ table.target_of self.now }
+        ensures { result ≡ table.branch_target self.now }
     {
         match self {
             Operation::Branch { to, .. } => Some(*to),
@@ -120,8 +120,8 @@ impl Operation {
     }
 
     /// Whether the next statement may follow: behind each but a branch that always jumps.
-    pub fn goes_on(&self) -> bool
-        ensures { result ≡ table.goes_on self.now }
+    pub fn falls_through(&self) -> bool
+        ensures { result ≡ table.falls_through self.now }
     {
         !matches!(
             self,

@@ -1,7 +1,7 @@
 //! An x86 test.
 ghost use Rattle.lw_litmus.specs.Tests.{test_of};
 ghost use Rattle.lw_litmus.specs.TestProps.{IsWellFormed-prop};
-ghost use Rattle.lw_litmus.specs.Programs.{x86};
+ghost use Rattle.lw_litmus.specs.Programs.{x86_language};
 ghost use Rattle.lw_litmus.specs.WellFormedTests.{IsWellFormedProgram};
 
 use crate::instr::Instr;
@@ -14,5 +14,5 @@ use std::alloc::{Allocator, Global};
 pub struct Program<A: Allocator = Global> {
     pub head: Head<A>,
     pub threads: Sequence<Sequence<Instr, A>, A>,
-    pub ghost well_formed: { IsWellFormedProgram (test_of head threads) } by { IsWellFormed-prop x86 (test_of head threads) },
+    pub ghost well_formed: { IsWellFormedProgram (test_of head threads) } by { IsWellFormed-prop x86_language (test_of head threads) },
 }

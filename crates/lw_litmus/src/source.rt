@@ -1,7 +1,7 @@
 //! A source test.
 ghost use Rattle.lw_litmus.specs.Tests.{test_of};
 ghost use Rattle.lw_litmus.specs.TestProps.{IsWellFormed-prop};
-ghost use Rattle.lw_litmus.specs.Sources.{source};
+ghost use Rattle.lw_litmus.specs.Sources.{source_language};
 ghost use Rattle.lw_litmus.specs.WellFormedTests.{IsWellFormedSource};
 
 use crate::stmt::Stmt;
@@ -14,5 +14,5 @@ use std::alloc::{Allocator, Global};
 pub struct Source<A: Allocator = Global> {
     pub head: Head<A>,
     pub threads: Sequence<Sequence<Stmt, A>, A>,
-    pub ghost well_formed: { IsWellFormedSource (test_of head threads) } by { IsWellFormed-prop source (test_of head threads) },
+    pub ghost well_formed: { IsWellFormedSource (test_of head threads) } by { IsWellFormed-prop source_language (test_of head threads) },
 }

@@ -1,5 +1,5 @@
 //! The statements of the source language.
-ghost use Rattle.lw_litmus.specs.Sources.{source};
+ghost use Rattle.lw_litmus.specs.Sources.{source_language};
 
 use crate::operation::{Guard, Operation};
 use crate::statement::Statement;
@@ -30,7 +30,7 @@ pub enum Stmt {
 }
 
 impl Statement for Stmt {
-    ghost language = { source };
+    ghost language = { source_language };
 
     /// What the statement does.
     fn operation(&self) -> Operation {

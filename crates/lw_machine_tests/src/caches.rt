@@ -2,7 +2,7 @@
 use lw_base::{Change, Cpu, Loc, Word};
 use lw_memory::LineState::{self, E, I, M, O, S};
 use lw_memory::MemorySystem;
-use lw_mesi::{ByMesi, ByMoesi, KeptProtocol, SnoopingCaches};
+use lw_mesi::{MesiProtocol, MoesiProtocol, ProtocolType, SnoopingCaches};
 use std::alloc::Global;
 
 /// Requests by up to four processors for one location that begins with 0, and then what is held: the state of each processor's
@@ -77,7 +77,7 @@ fn word_of(digit: u8) -> Word {
 }
 
 /// Whether a request for the one location is answered as it spells.
-fn is_answered<P: KeptProtocol>(
+fn is_answered<P: ProtocolType>(
     memory: &mut SnoopingCaches<P>,
     cpu: Cpu,
     loc: Loc,
@@ -105,7 +105,7 @@ fn is_answered<P: KeptProtocol>(
 }
 
 /// Whether all requests of a row are answered as they spell.
-fn are_answered<P: KeptProtocol>(memory: &mut SnoopingCaches<P>, loc: Loc, requests: &str) -> bool {
+fn are_answered<P: ProtocolType>(memory: &mut SnoopingCaches<P>, loc: Loc, requests: &str) -> bool {
     for request in requests.split(' ') {
         let Some((first, spelled)) = request.as_bytes().split_first() else {
             return false;
@@ -133,7 +133,7 @@ fn letter_of(state: LineState) -> u8 {
 }
 
 /// Whether the caches hold a location in these states.
-fn are_held<P: KeptProtocol>(memory: &SnoopingCaches<P>, loc: Loc, states: &str) -> bool {
+fn are_held<P: ProtocolType>(memory: &SnoopingCaches<P>, loc: Loc, states: &str) -> bool {
     for (cpu, letter) in Cpu::all().iter().zip(states.as_bytes()) {
         if cpu.index() >= memory.cpu_count()
             || loc.index() >= memory.location_count()
@@ -146,7 +146,7 @@ fn are_held<P: KeptProtocol>(memory: &SnoopingCaches<P>, loc: Loc, states: &str)
 }
 
 /// Whether each processor that holds a location has this word in its copy, and the others have no copy.
-fn are_copied<P: KeptProtocol>(
+fn are_copied<P: ProtocolType>(
     memory: &SnoopingCaches<P>,
     loc: Loc,
     states: &str,
@@ -165,7 +165,7 @@ fn are_copied<P: KeptProtocol>(
 }
 
 /// Whether these digits are the word in memory and the word at the end of a location, which is that of all copies.
-fn are_words<P: KeptProtocol>(
+fn are_words<P: ProtocolType>(
     memory: &SnoopingCaches<P>,
     loc: Loc,
     states: &str,
@@ -181,7 +181,7 @@ fn are_words<P: KeptProtocol>(
 }
 
 /// Whether the row holds by a protocol.
-fn holds<P: KeptProtocol>(alloc: Global, row: &str) -> Option<bool> {
+fn holds<P: ProtocolType>(alloc: Global, row: &str) -> Option<bool> {
     let [loc, ..] = Loc::all();
     let (requests, held) = row.split_once(" => ")?;
     let (states, digits) = held.split_once(' ')?;
@@ -199,11 +199,11 @@ fn holds<P: KeptProtocol>(alloc: Global, row: &str) -> Option<bool> {
 #[test]
 fn rows_of_requests(rt: HostRuntime) {
     for row in MESI_ROWS.split('\n') {
-        let holds = row.is_empty() || holds::<ByMesi>(rt.alloc(), row) == Some(true);
+        let holds = row.is_empty() || holds::<MesiProtocol>(rt.alloc(), row) == Some(true);
         assert!(rt; holds, "{row}");
     }
     for row in MOESI_ROWS.split('\n') {
-        let holds = row.is_empty() || holds::<ByMoesi>(rt.alloc(), row) == Some(true);
+        let holds = row.is_empty() || holds::<MoesiProtocol>(rt.alloc(), row) == Some(true);
         assert!(rt; holds, "{row}");
     }
 }

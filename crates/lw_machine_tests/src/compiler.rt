@@ -2,7 +2,7 @@
 ghost use Rattle.std.specs.Prelude.{◌≡◌, map, true, IsTrue, IfOk};
 ghost use Rattle.lw_base.specs.declared.event.Event.TheVariants.{Step};
 ghost use Rattle.lw_fence.specs.Compiling.{IsCompiled};
-ghost use Rattle.lw_interleaving.specs.Runs.{State, SourceRan, start_of};
+ghost use Rattle.lw_interleaving.specs.Runs.{State, SourceRunsTo, initial_state};
 ghost use Rattle.lw_litmus.specs.Views.{source_of as test_of_source, program_of};
 
 use lw_base::{Cpu, End, Event, read_schedule};
@@ -22,7 +22,7 @@ fn steps_of<A: Allocator + Copy>(alloc: A, order: &[Cpu]) -> Result<Vec<Event, A
 /// Whether the source runs by these threads to its end.
 fn ends_by<A: Allocator + Copy>(alloc: A, source: &Source<A>, order: &[Cpu]) -> bool
     ensures { IsTrue result → (end : State)
-        × SourceRan source.now.threads (map Step order.now) (start_of (test_of_source source.now)) end }
+        × SourceRunsTo source.now.threads (map Step order.now) (initial_state (test_of_source source.now)) end }
 {
     let Ok(steps) = steps_of(alloc, order) else {
         return false;
@@ -165,7 +165,7 @@ fn scheduled_by<A: Allocator + Copy>(
     order: &[Cpu],
 ) -> Option<Made>
     requires compiled { IsCompiled (test_of_source source.now) (program_of compiled.now.program) compiled.now.starts }
-    requires ends { (end : State) × SourceRan source.now.threads (map Step order.now) (start_of (test_of_source source.now)) end }
+    requires ends { (end : State) × SourceRunsTo source.now.threads (map Step order.now) (initial_state (test_of_source source.now)) end }
 {
     let schedule = schedule_of(scarce, source, compiled, order);
     match (schedule, schedule_of(ample, source, compiled, order)) {

@@ -1,22 +1,22 @@
 //! Calls of the x86-TSO machine that no page shows.
 ghost use Rattle.std.specs.Prelude.{◌≡◌, ◌<◌, ◌≤◌, length, IfSome};
-ghost use Rattle.lw_mesi.specs.CacheLines.{contents_of};
+ghost use Rattle.lw_mesi.specs.CacheLines.{coherent_words};
 
 use lw_base::{Cpu, End, Event, Loc, Reg, Stop};
 use lw_litmus::Program;
-use lw_mesi::{KeptProtocol, Mesi, SnoopingCaches, empty_caches_are_kept};
+use lw_mesi::{Mesi, ProtocolType, SnoopingCaches, empty_caches_are_kept};
 use lw_test_reader::program_of;
 use lw_tso::Machine;
 use std::alloc::Global;
 
 /// Empty caches for a program, by a protocol, over its initial words.
-pub(crate) fn caches_of<P: KeptProtocol>(
+pub(crate) fn caches_of<P: ProtocolType>(
     alloc: Global,
     program: &Program,
 ) -> Option<SnoopingCaches<P>>
     ensures cpus { IfSome result (λ m. m.cpus ≡ program.now.head.threads) }
     ensures threads { IfSome result (λ m. length program.now.threads ≤ m.cpus) }
-    ensures words { IfSome result (λ m. contents_of m ≡ program.now.head.init_words) }
+    ensures words { IfSome result (λ m. coherent_words m ≡ program.now.head.init_words) }
 {
     empty_caches_are_kept();
     let head = &program.head;

@@ -5,7 +5,7 @@ use crate::machines::caches_of;
 use lw_base::{Cpu, End, Event, Loc, Outcome, Stop, Word};
 use lw_litmus::Program;
 use lw_memory::{FlatMemory, LineState, MemorySystem};
-use lw_mesi::{ByMesi, ByMoesi};
+use lw_mesi::{MesiProtocol, MoesiProtocol};
 use lw_test_reader::program_of;
 use lw_tso::{Machine, every_run_ends};
 use std::alloc::Global;
@@ -101,9 +101,9 @@ fn is_restarted<M: MemorySystem + Drop>(alloc: Global, program: &Program, memory
 fn are_restarted(alloc: Global, program: &Program) -> Option<bool> {
     let flat = FlatMemory::new(program.head.threads, program.head.init_words.as_slice());
     let over_flat = is_restarted(alloc, program, flat)?;
-    let mesi = caches_of::<ByMesi>(alloc, program)?;
+    let mesi = caches_of::<MesiProtocol>(alloc, program)?;
     let over_mesi = is_restarted(alloc, program, mesi)?;
-    let moesi = caches_of::<ByMoesi>(alloc, program)?;
+    let moesi = caches_of::<MoesiProtocol>(alloc, program)?;
     let over_moesi = is_restarted(alloc, program, moesi)?;
     Some(over_flat && over_mesi && over_moesi)
 }

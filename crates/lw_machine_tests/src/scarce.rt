@@ -3,7 +3,7 @@ use crate::machines::caches_of;
 use crate::restarts::is_untouched;
 use lw_base::{Cpu, End, Event, Outcome};
 use lw_litmus::Program;
-use lw_mesi::{ByMesi, ByMoesi, KeptProtocol, Mesi, SnoopingCaches};
+use lw_mesi::{Mesi, MesiProtocol, MoesiProtocol, ProtocolType, SnoopingCaches};
 use lw_test_reader::{Made, MadeByAllocator, Refusing, program_of, refusals};
 use lw_tso::Machine;
 use std::alloc::{AllocError, Global};
@@ -85,7 +85,7 @@ fn machines_where_memory_is_refused(rt: HostRuntime) {
 #[derive(Drop)]
 struct CachesBy<P>(PhantomData<P>);
 
-impl<P: KeptProtocol> MadeByAllocator for CachesBy<P> {
+impl<P: ProtocolType> MadeByAllocator for CachesBy<P> {
     fn make<'a>(&self, _ample: &'a Refusing, scarce: &'a Refusing) -> Option<Made> {
         let caches: Result<SnoopingCaches<P, &Refusing>, AllocError> = SnoopingCaches::new(
             scarce,
@@ -101,8 +101,8 @@ impl<P: KeptProtocol> MadeByAllocator for CachesBy<P> {
 
 #[test]
 fn caches_where_memory_is_refused(rt: HostRuntime) {
-    let mesi = refusals(rt.alloc(), &CachesBy::<ByMesi>(PhantomData));
-    let moesi = refusals(rt.alloc(), &CachesBy::<ByMoesi>(PhantomData));
+    let mesi = refusals(rt.alloc(), &CachesBy::<MesiProtocol>(PhantomData));
+    let moesi = refusals(rt.alloc(), &CachesBy::<MoesiProtocol>(PhantomData));
     assert!(rt;
         matches!((mesi, moesi), (Some(first), Some(second)) if first > 0 && second > 0),
         "{mesi:?} {moesi:?}"

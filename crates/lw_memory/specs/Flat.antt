@@ -3,7 +3,7 @@ use Rattle.std.specs.Prelude.{◌≡◌, ℕ, List, Option}
 use Rattle.lw_memory.specs.declared.system.LineState.TheVariants.{I}
 use Rattle.lw_memory.specs.declared.request.Request.{Request}
 use Rattle.lw_memory.specs.declared.request.Request.TheVariants.{Ask, Evict}
-use Rattle.lw_memory.specs.Content.{answer_at, words_after}
+use Rattle.lw_memory.specs.Content.{value_returned, words_after}
 use Rattle.lw_memory.specs.Memory.{Memory}
 
 -- What a contract sees of a flat memory: how many processors it was made for, and its words.
@@ -12,14 +12,14 @@ pub record Flat : Type 0 where
   pub words : List ℕ
 
 -- A list of words serves a request: an access, with this answer and these words after it. It serves no eviction.
-abbrev pub WordsServe : List ℕ → Request → Option ℕ → List ℕ → Type 0
-WordsServe words (Ask t x access) a after = (a ≡ answer_at words x access) × (after ≡ words_after words x access)
-WordsServe words (Evict t x) a after = ⊥
+abbrev pub WordsStep : List ℕ → Request → Option ℕ → List ℕ → Type 0
+WordsStep words (Ask t x access) a after = (a ≡ value_returned words x access) × (after ≡ words_after words x access)
+WordsStep words (Evict t x) a after = ⊥
 
 -- A flat memory serves a request by its words, and has as many processors after it.
-abbrev pub FlatServes : Flat → Request → Option ℕ → Flat → Type 0
-FlatServes m r a n = WordsServe m.words r a n.words × (n.cpus ≡ m.cpus)
+abbrev pub FlatStep : Flat → Request → Option ℕ → Flat → Type 0
+FlatStep m r a n = WordsStep m.words r a n.words × (n.cpus ≡ m.cpus)
 
 -- The flat memory of an abstract machine: its words alone.
-abbrev pub flat : Memory (List ℕ)
-flat = record { content = λ words. words; state = λ words t x. I; serves = WordsServe }
+abbrev pub flat_memory : Memory (List ℕ)
+flat_memory = record { content = λ words. words; state = λ words t x. I; serves = WordsStep }

@@ -1,5 +1,5 @@
 pub mod Content
 pub mod Memory
-pub mod MemoryLaws
+pub mod SystemLaws
 pub mod Flat
 pub mod laws

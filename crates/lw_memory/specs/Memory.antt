@@ -21,15 +21,15 @@ abbrev pub is_held : LineState → Bool  -- Every state but I is a held line.
 is_held I = false
 is_held held = true
 
-abbrev pub loc_of : Request → ℕ  -- The location of a request.
-loc_of (Ask t x access) = x
-loc_of (Evict t x) = x
+abbrev pub request_location : Request → ℕ  -- The location of a request.
+request_location (Ask t x access) = x
+request_location (Evict t x) = x
 
 abbrev pub IsInRange : ℕ → ℕ → Request → Type 0  -- The processor and the location of a request are there.
 IsInRange cpus locs (Ask t x access) = (t < cpus) × (x < locs)
 IsInRange cpus locs (Evict t x) = (t < cpus) × (x < locs)
 
 -- An eviction is possible where the processor holds the location, every other request always.
-abbrev pub IsPossible : (ℕ → ℕ → LineState) → Request → Type 0
-IsPossible state (Ask t x access) = Unit {0}
-IsPossible state (Evict t x) = is_held (state t x) ≡ true
+abbrev pub IsEnabled : (ℕ → ℕ → LineState) → Request → Type 0
+IsEnabled state (Ask t x access) = Unit {0}
+IsEnabled state (Evict t x) = is_held (state t x) ≡ true

@@ -2,7 +2,7 @@
 ghost use Rattle.std.specs.Prelude.{◌≡◌, ◌≤◌, length};
 ghost use Rattle.lw_base.specs.Limits.{most_threads, most_locations};
 ghost use Rattle.lw_memory.specs.declared.system.LineState.TheVariants.{I};
-ghost use Rattle.lw_memory.specs.Flat.{FlatServes};
+ghost use Rattle.lw_memory.specs.Flat.{FlatStep};
 ghost use Rattle.lw_memory.specs.laws.FlatLaws.{flat_lawful};
 
 use crate::system::{LineState, MemorySystem, NotHeld};
@@ -60,7 +60,7 @@ impl MemorySystem for FlatMemory {
 
     ghost start = { λ cpus words. record { cpus = cpus; words = words } };
 
-    ghost serves = { FlatServes };
+    ghost serves = { FlatStep };
 
     /// The location's word.
     fn load(&mut self, _cpu: Cpu, loc: Loc) -> Word {

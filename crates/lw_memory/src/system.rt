@@ -4,7 +4,7 @@ ghost use Rattle.lw_base.specs.Limits.{most_threads, most_locations};
 ghost use Rattle.lw_memory.specs.declared.system.LineState.{LineState};
 ghost use Rattle.lw_memory.specs.declared.request.Access.{Access};
 ghost use Rattle.lw_memory.specs.declared.request.Request.{Request};
-ghost use Rattle.lw_memory.specs.MemoryLaws.{invariant_of, Lawful};
+ghost use Rattle.lw_memory.specs.SystemLaws.{invariant_of, IsLawful};
 ghost use Rattle.lw_memory.specs.Memory.{memory_of, is_held};
 
 use lw_base::{Change, Cpu, Loc, Word};
@@ -122,5 +122,5 @@ pub trait MemorySystem {
         ensures words { content self.new ≡ words.now };
 
     /// The content alone decides every answer, and a request changes it as one word for each location would.
-    ghost lawful: { Lawful (memory_of content state serves) (invariant_of cpus sound) };
+    ghost lawful: { IsLawful (memory_of content state serves) (invariant_of cpus sound) };
 }

@@ -23,18 +23,19 @@ pub use Rattle.lw_memory.specs.declared.request.Request.TheVariants.{Ask}
 pub use Rattle.lw_memory.specs.declared.system.LineState.{LineState}
 pub use Rattle.lw_memory.specs.declared.system.LineState.TheVariants.{E, M, O, S}
 pub use Rattle.lw_mesi.specs.CacheLines.{CacheLine, Caches, Copy, Exclusive, Invalid, Modified, Owned, Shared}
-pub use Rattle.lw_mesi.specs.CacheLines.{cache_line_at, content_of, contents_of, copy_of, copy_word}
-pub use Rattle.lw_mesi.specs.CacheLines.{empty_caches, letter_of, unheld_cache_line}
-pub use Rattle.lw_mesi.specs.Coherence.{HasStatesOf, IsDirty, IsKept, IsKeptCacheLine, IsOnlyCopy, IsStateOf}
-pub use Rattle.lw_mesi.specs.Coherence.{caches_invariant}
+pub use Rattle.lw_mesi.specs.CacheLines.{cache_line_at, coherent_word, coherent_words, copy_of, copy_state}
+pub use Rattle.lw_mesi.specs.CacheLines.{copy_word, empty_caches, unheld_cache_line}
+pub use Rattle.lw_mesi.specs.Coherence.{HasProtocolStates, IsDirty, IsOnlyCopy, IsProtocolState}
+pub use Rattle.lw_mesi.specs.Coherence.{LineSatisfiesProtocol, SatisfiesProtocol, caches_invariant}
 pub use Rattle.lw_mesi.specs.Protocols.{caches_by, moesi_on_other_get_s, protocol_name, table_of}
-pub use Rattle.lw_mesi.specs.Snooping.{ProtocolTable, Serves, answer_to, any_held, cache_line_asked}
+pub use Rattle.lw_mesi.specs.Snooping.{ProtocolTable, ProtocolTransition, answer_to, cache_line_after_access}
 pub use Rattle.lw_mesi.specs.Snooping.{cache_line_evicted, cache_line_to_read, cache_line_to_write}
-pub use Rattle.lw_mesi.specs.Snooping.{cache_line_written, copy_from, on_evict, on_load, on_write}
+pub use Rattle.lw_mesi.specs.Snooping.{cache_line_written, copy_from, is_held_anywhere, on_evict, on_load}
+pub use Rattle.lw_mesi.specs.Snooping.{on_write}
 pub use Rattle.lw_mesi.specs.declared.cache_line.PackedCacheLine.TheInside.{Inside}
 pub use Rattle.lw_mesi.specs.declared.protocol.Protocol.{Protocol}
 pub use Rattle.lw_mesi.specs.declared.protocol.Protocol.TheVariants.{Mesi, Moesi}
-pub use Rattle.lw_mesi.specs.inner.EachIndex.{at_each, is_owner, members_of, nobody}
+pub use Rattle.lw_mesi.specs.inner.EachIndex.{at_each, cpu_set_of_bits, empty_cpu_set, is_owner}
 pub use Rattle.lw_mesi.specs.inner.Packed.{IsPacked, copy_at, owner_copy, sharer_copy, unpacked}
 pub use Rattle.lw_mesi.specs.laws.Cases.{from_word, none_held}
 pub use Rattle.lw_mesi.specs.laws.Coherent.{at_index, clean, copy_in, copy_map, dirty, no_word, put_here}

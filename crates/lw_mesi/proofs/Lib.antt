@@ -4,5 +4,5 @@ mod SetLemmas
 mod PackedCopies
 mod PackedReads
 mod PackedWrites
-mod Kept
+mod ProtocolInvariant
 mod Start

@@ -3,9 +3,9 @@ use Rattle.lw_mesi.proofs.Common.{◌≡◌, ℕ, zero, suc, ◌<◌, Option, So
 use Rattle.lw_mesi.proofs.Common.{List, [], ◌∷◌, refl, sym, ap, ap₂, ◌∙◌, subst, arith, if◌then◌else◌}
 use Rattle.lw_mesi.proofs.Common.{slice_index_or, eqb-true, eq-eqb, cases_lt, or_left, or_right, get_or_past}
 use Rattle.lw_mesi.proofs.Common.{most_threads, S, is_held, Copy, Owned, Shared, Invalid, CacheLine, copy_of}
-use Rattle.lw_mesi.proofs.Common.{letter_of, copy_word, content_of, is_owner, any_held, IsOnlyCopy, IsDirty}
-use Rattle.lw_mesi.proofs.Common.{copy_in, clean, dirty, Inside, IsPacked, owner_copy, sharer_copy, copy_at}
-use Rattle.lw_mesi.proofs.Common.{unpacked}
+use Rattle.lw_mesi.proofs.Common.{copy_state, copy_word, coherent_word, is_owner, is_held_anywhere}
+use Rattle.lw_mesi.proofs.Common.{IsOnlyCopy, IsDirty, copy_in, clean, dirty, Inside, IsPacked, owner_copy}
+use Rattle.lw_mesi.proofs.Common.{sharer_copy, copy_at, unpacked}
 use Rattle.lw_mesi.proofs.IndexLemmas.{at_each_long, at_each_get}
 
 -- ---- one processor's copy
@@ -35,7 +35,7 @@ not_held true false b s w e = cc
 not_held false d b s w e = refl
 
 -- Who has a copy in S is not the owner.
-pub not_shared : (own d b s : Bool) (w : ℕ) → letter_of (copy_by own d b s w) ≡ S → own ≡ false
+pub not_shared : (own d b s : Bool) (w : ℕ) → copy_state (copy_by own d b s w) ≡ S → own ≡ false
 not_shared true true true s w e = cc
 not_shared true true false s w e = cc
 not_shared true false b s w e = cc
@@ -64,7 +64,7 @@ pub sharer_is : (own d b s : Bool) (w : ℕ) → own ≡ false → s ≡ true �
 sharer_is own d b s w e f = ap₂ (λ (x y : Bool). copy_by x d b y w) e f
 
 -- An owner holds the cache line, in whichever state.
-pub owner_held : (d b : Bool) (w : ℕ) → is_held (letter_of (owner_copy d b w)) ≡ true
+pub owner_held : (d b : Bool) (w : ℕ) → is_held (copy_state (owner_copy d b w)) ≡ true
 owner_held true true w = refl
 owner_held true false w = refl
 owner_held false b w = refl
@@ -115,10 +115,10 @@ dirty_at p t h = elim (cases_lt t most_threads) [
 ]
 
 -- The content of the unpacked cache line is the packed one's word.
-pub content_is : (p : Inside) → IsPacked p → content_of (unpacked p) ≡ p.word
+pub content_is : (p : Inside) → IsPacked p → coherent_word (unpacked p) ≡ p.word
 content_is p ok = go p.is_dirty refl p.owner refl
   where
-    go : (d : Bool) → p.is_dirty ≡ d → (owner : Option ℕ) → p.owner ≡ owner → content_of (unpacked p) ≡ p.word
+    go : (d : Bool) → p.is_dirty ≡ d → (owner : Option ℕ) → p.owner ≡ owner → coherent_word (unpacked p) ≡ p.word
     go false ed owner eo = clean _ (unpacked p).copies (λ t h. let k = (dirty_at p t h).1 in cc) ∙ ok.clean ed
     go true ed None eo = absurd (let k = ok.unowned eo in cc)
     go true ed (Some o) eo =
@@ -127,17 +127,19 @@ content_is p ok = go p.is_dirty refl p.owner refl
         (ap copy_word at ∙ owner_word p.is_owned p.word)
         (λ u ne h. let e : p.owner ≡ Some u = own_is p.owner u (dirty_at p u h).0 in ne (let same : o ≡ u = cc in same))
 
--- Where a given processor holds the cache line, `any_held` says that some processor does.
-pub held_somewhere : (copies : List Copy) (t : ℕ) → is_held (letter_of (copy_in copies t)) ≡ true → any_held copies ≡ true
+-- Where a given processor holds the cache line, `is_held_anywhere` says that some processor does.
+pub held_somewhere : (copies : List Copy) (t : ℕ)
+    → is_held (copy_state (copy_in copies t)) ≡ true
+    → is_held_anywhere copies ≡ true
 held_somewhere [] t h = cc
-held_somewhere (c ∷ copies) zero h = or_left (is_held (letter_of c)) (any_held copies) h
-held_somewhere (c ∷ copies) (suc t) h = or_right _ (any_held copies) (held_somewhere copies t h)
+held_somewhere (c ∷ copies) zero h = or_left (is_held (copy_state c)) (is_held_anywhere copies) h
+held_somewhere (c ∷ copies) (suc t) h = or_right _ (is_held_anywhere copies) (held_somewhere copies t h)
 
 -- Where there is an owner, some processor holds the unpacked cache line.
-pub held_by : (p : Inside) (o : ℕ) → o < most_threads → p.owner ≡ Some o → any_held (unpacked p).copies ≡ true
+pub held_by : (p : Inside) (o : ℕ) → o < most_threads → p.owner ≡ Some o → is_held_anywhere (unpacked p).copies ≡ true
 held_by p o lt own =
     held_somewhere (unpacked p).copies o
-    (ap (λ (c : Copy). is_held (letter_of c)) (owner_at p o lt own) ∙ owner_held p.is_dirty p.is_owned p.word)
+    (ap (λ (c : Copy). is_held (copy_state c)) (owner_at p o lt own) ∙ owner_held p.is_dirty p.is_owned p.word)
 
 -- The cache line of these copies and memory's word.
 abbrev pub cache_line_of : List Copy → ℕ → CacheLine

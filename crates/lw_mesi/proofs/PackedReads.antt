@@ -4,11 +4,11 @@ use Rattle.lw_mesi.proofs.Common.{List, [], ◌∷◌, length, map, set, refl, s
 use Rattle.lw_mesi.proofs.Common.{length-set, get_or-set_same, get_or-set_other, ◌==◌, slice_index_or}
 use Rattle.lw_mesi.proofs.Common.{eqb-true, eq-eqb, ne_eqb, cases_lt, or_from, eqb-false, true_from_ne_false}
 use Rattle.lw_mesi.proofs.Common.{length-map, get_or_past, fill_by_all, most_threads, is_held, Protocol, Mesi}
-use Rattle.lw_mesi.proofs.Common.{Moesi, Copy, Invalid, CacheLine, copy_of, letter_of, copy_word, content_of}
-use Rattle.lw_mesi.proofs.Common.{nobody, is_owner, ProtocolTable, any_held, copy_from, cache_line_to_read}
-use Rattle.lw_mesi.proofs.Common.{on_load, table_of, moesi_on_other_get_s, IsStateOf, HasStatesOf, copy_in}
-use Rattle.lw_mesi.proofs.Common.{copy_map, put_here, none_held, from_word, Inside, IsPacked, sharer_copy}
-use Rattle.lw_mesi.proofs.Common.{copy_at, unpacked, shared_invalid}
+use Rattle.lw_mesi.proofs.Common.{Moesi, Copy, Invalid, CacheLine, copy_of, copy_state, copy_word}
+use Rattle.lw_mesi.proofs.Common.{coherent_word, empty_cpu_set, is_owner, ProtocolTable, is_held_anywhere}
+use Rattle.lw_mesi.proofs.Common.{copy_from, cache_line_to_read, on_load, table_of, moesi_on_other_get_s}
+use Rattle.lw_mesi.proofs.Common.{IsProtocolState, HasProtocolStates, copy_in, copy_map, put_here, none_held}
+use Rattle.lw_mesi.proofs.Common.{from_word, Inside, IsPacked, sharer_copy, copy_at, unpacked, shared_invalid}
 use Rattle.lw_mesi.proofs.IndexLemmas.{at_each_long, at_each_get, at_each_put}
 use Rattle.lw_mesi.proofs.PackedCopies.{copy_by, copy_there, sharer_is, owned_at, content_is, held_by}
 use Rattle.lw_mesi.proofs.PackedCopies.{cache_line_of, not_owner}
@@ -38,19 +38,19 @@ to_sharer Moesi false d true new w clean here there = ap (λ (x : Bool). sharer_
 to_sharer Moesi false d false new w clean here there = ap (λ (x : Bool). sharer_copy x w) (there refl)
 
 -- Under MESI no owner is in O.
-mesi_unowned : (p : Inside) → IsPacked p → HasStatesOf Mesi (unpacked p) → p.is_owned ≡ false
+mesi_unowned : (p : Inside) → IsPacked p → HasProtocolStates Mesi (unpacked p) → p.is_owned ≡ false
 mesi_unowned p ok states = go p.owner refl p.is_dirty refl p.is_owned refl
   where
     go : (owner : Option ℕ) → p.owner ≡ owner → (d : Bool) → p.is_dirty ≡ d → (b : Bool) → p.is_owned ≡ b → p.is_owned ≡ false
     go owner eo d ed false eb = eb
     go owner eo false ed true eb = ok.owned ed
     go None eo true ed true eb = ok.owned (ok.unowned eo)
-    go (Some o) eo true ed true eb = absurd (subst (IsStateOf Mesi) (owned_at p o (ok.in_range o eo) eo ed eb) (states o))
+    go (Some o) eo true ed true eb = absurd (subst (IsProtocolState Mesi) (owned_at p o (ok.in_range o eo) eo ed eb) (states o))
 
 -- Under MESI, and under MOESI where the owner is clean, no owner is in O.
 pub unowned_then : (p : Inside) (q : Protocol)
     → IsPacked p
-    → HasStatesOf q (unpacked p)
+    → HasProtocolStates q (unpacked p)
     → (q ≡ Moesi → p.is_dirty ≡ false)
     → p.is_owned ≡ false
 unowned_then p Mesi ok states clean = mesi_unowned p ok states
@@ -83,7 +83,7 @@ pub record IsReader (p : Inside) (t : ℕ) : Type 0 where
 -- are as the table says.
 record IsGotten (p q : Inside) (t : ℕ) (table : ProtocolTable) (held : Bool) : Type 0 where
   invalid : table.on_other_get_s Invalid ≡ Invalid
-  holds : any_held (unpacked p).copies ≡ held
+  holds : is_held_anywhere (unpacked p).copies ≡ held
   memory : table.memory_after_get_s (unpacked p) ≡ q.memory
   mine : copy_at q t ≡ copy_from held p.word
   others : (u : ℕ) → u < most_threads → u ≢ t → copy_at q u ≡ table.on_other_get_s (copy_at p u)
@@ -114,12 +114,12 @@ pub read_word : (p : Inside) (t : ℕ) (table : ProtocolTable)
 read_word p t table reader =
     let line : CacheLine = unpacked p in
     let others : List Copy = map table.on_other_get_s line.copies in
-    let mine : Copy = copy_from (any_held line.copies) (content_of line) in
+    let mine : Copy = copy_from (is_held_anywhere line.copies) (coherent_word line) in
     let long : length others ≡ most_threads = length-map line.copies table.on_other_get_s ∙ at_each_long (copy_at p) in
     ap (λ (v : ℕ). Some v) (sym (content_is p reader.packed))
     ∙ sym (ap (λ (c : Copy). copy_word (copy_of (on_load table c t line) t)) reader.without
     ∙ ap copy_word (put_here others t mine (let lt = reader.cpu in omega (arith, long, lt)))
-    ∙ from_word (any_held line.copies) (content_of line))
+    ∙ from_word (is_held_anywhere line.copies) (coherent_word line))
 
 -- A GetS under MOESI where the owner is dirty: that goes to O, or stays there, and the reader becomes a sharer.
 pub dirty_shared : (p : Inside) (t o : ℕ)
@@ -196,10 +196,10 @@ owner_shared p t o q reader own unowned clean =
 -- ---- a cache line without an owner
 
 -- Where no processor has a copy, the cache line is held nowhere.
-nowhere_held : (copies : List Copy) → ((t : ℕ) → copy_in copies t ≡ Invalid) → any_held copies ≡ false
+nowhere_held : (copies : List Copy) → ((t : ℕ) → copy_in copies t ≡ Invalid) → is_held_anywhere copies ≡ false
 nowhere_held [] h = refl
 nowhere_held (c ∷ copies) h =
-    or_from (is_held (letter_of c)) (any_held copies) (ap (λ (x : Copy). is_held (letter_of x)) (h 0))
+    or_from (is_held (copy_state c)) (is_held_anywhere copies) (ap (λ (x : Copy). is_held (copy_state x)) (h 0))
     (nowhere_held copies (λ t. h (suc t)))
 
 -- Who has no copy is not a sharer.
@@ -228,7 +228,8 @@ module _ (p : Inside) (t : ℕ) (q : Protocol) (reader : IsReader p t) (own : p.
   memory_stays Moesi = refl
 
   -- A GetS of a cache line that nobody holds: the reader becomes its owner, in E.
-  pub first_reader : p.sharers ≡ nobody → unpacked (record p { owner = Some t }) ≡ cache_line_to_read (table_of q) t (unpacked p)
+  pub first_reader : p.sharers ≡ empty_cpu_set
+      → unpacked (record p { owner = Some t }) ≡ cache_line_to_read (table_of q) t (unpacked p)
   first_reader alone = got p (record p { owner = Some t }) t (table_of q) false reader (record {
     invalid = shared_invalid q;
     holds = nowhere_held (unpacked p).copies none;
@@ -252,7 +253,7 @@ module _ (p : Inside) (t : ℕ) (q : Protocol) (reader : IsReader p t) (own : p.
       ]
 
   -- A GetS of a cache line that has sharers and no owner: the reader becomes a sharer.
-  pub next_reader : (p.sharers ≡ nobody → ⊥)
+  pub next_reader : (p.sharers ≡ empty_cpu_set → ⊥)
       → unpacked (record p { sharers = set p.sharers t true }) ≡ cache_line_to_read (table_of q) t (unpacked p)
   next_reader some = got p (record p { sharers = set p.sharers t true }) t (table_of q) true reader (record {
     invalid = shared_invalid q;
@@ -267,7 +268,10 @@ module _ (p : Inside) (t : ℕ) (q : Protocol) (reader : IsReader p t) (own : p.
         ∙ sharer_stays u;
   })
     where
-      nobody_if : any_held (unpacked p).copies ≡ false → (u : ℕ) → u < most_threads → slice_index_or p.sharers u false ≡ false
+      nobody_if : is_held_anywhere (unpacked p).copies ≡ false
+          → (u : ℕ)
+          → u < most_threads
+          → slice_index_or p.sharers u false ≡ false
       nobody_if none u within =
           not_sharer (slice_index_or p.sharers u false) p.word
           (sym (sharer_at u) ∙ sym (copy_there p u within) ∙ none_held (unpacked p).copies none u)

@@ -3,8 +3,8 @@ use Rattle.lw_mesi.proofs.Common.{◌≡◌, ◌≢◌, ◌⊎◌, ℕ, ◌<◌,
 use Rattle.lw_mesi.proofs.Common.{List, length, map, set, refl, sym, ap, ap₂, ◌∙◌, subst, arith, length-set}
 use Rattle.lw_mesi.proofs.Common.{get_or-set_same, get_or-set_other, slice_index_or, eq-eqb, ne_eqb}
 use Rattle.lw_mesi.proofs.Common.{length-map, most_threads, M, O, E, S, Copy, Modified, Owned, Exclusive}
-use Rattle.lw_mesi.proofs.Common.{Shared, Invalid, CacheLine, copy_of, letter_of, copy_word, content_of}
-use Rattle.lw_mesi.proofs.Common.{nobody, is_owner, cache_line_to_write, on_write, cache_line_written}
+use Rattle.lw_mesi.proofs.Common.{Shared, Invalid, CacheLine, copy_of, copy_state, copy_word, coherent_word}
+use Rattle.lw_mesi.proofs.Common.{empty_cpu_set, is_owner, cache_line_to_write, on_write, cache_line_written}
 use Rattle.lw_mesi.proofs.Common.{on_evict, cache_line_evicted, IsOnlyCopy, copy_in, copy_map, put_here}
 use Rattle.lw_mesi.proofs.Common.{put_there, Inside, IsPacked, sharer_copy, copy_at, unpacked}
 use Rattle.lw_mesi.proofs.IndexLemmas.{at_each_long, at_each_get, at_each_put}
@@ -13,7 +13,7 @@ use Rattle.lw_mesi.proofs.PackedCopies.{content_is, cache_line_of}
 
 -- The packed cache line after a write: the writer is the one holder, in M; by the writer, its word and memory's.
 abbrev one_holder : ℕ → ℕ → ℕ → Inside
-one_holder t w m = record { owner = Some t; is_dirty = true; is_owned = false; sharers = nobody; word = w; memory = m }
+one_holder t w m = record { owner = Some t; is_dirty = true; is_owned = false; sharers = empty_cpu_set; word = w; memory = m }
 
 -- Beside the only copy there is no other.
 no_other : (p : Inside) (t u : ℕ) → IsPacked p → IsOnlyCopy (copy_at p t) → u < most_threads → u ≢ t → copy_at p u ≡ Invalid
@@ -52,9 +52,9 @@ module _ (p : Inside) (t : ℕ) (ok : IsPacked p) (lt : t < most_threads) where
 
   given_up : (u : ℕ)
       → u ≢ t
-      → copy_in (set (map (λ c. Invalid) (unpacked p).copies) t (Modified (content_of (unpacked p)))) u ≡ Invalid
+      → copy_in (set (map (λ c. Invalid) (unpacked p).copies) t (Modified (coherent_word (unpacked p)))) u ≡ Invalid
   given_up u ne =
-      put_there (map (λ c. Invalid) (unpacked p).copies) t (Modified (content_of (unpacked p))) u (λ e. ne (sym e))
+      put_there (map (λ c. Invalid) (unpacked p).copies) t (Modified (coherent_word (unpacked p))) u (λ e. ne (sym e))
       ∙ copy_map (λ c. Invalid) (unpacked p).copies u refl
 
   write_others : (c : Copy)
@@ -86,9 +86,10 @@ write_word p t ok lt = go (copy_of (unpacked p) t) refl
         (ap copy_word (sym (copy_there p t lt) ∙ e) ∙ h)
         ∙ sym (ap copy_word e ∙ h)
 
-    brought : Some p.word ≡ copy_word (copy_in (set gone t (Modified (content_of line))) t)
+    brought : Some p.word ≡ copy_word (copy_in (set gone t (Modified (coherent_word line))) t)
     brought =
-        ap (λ (v : ℕ). Some v) (sym (content_is p ok)) ∙ sym (ap copy_word (put_here gone t (Modified (content_of line))
+        ap (λ (v : ℕ). Some v) (sym (content_is p ok))
+        ∙ sym (ap copy_word (put_here gone t (Modified (coherent_word line))
         (omega (arith, length-map line.copies (λ (c : Copy). Invalid), at_each_long (copy_at p)))))
 
     go : (c : Copy) → copy_of line t ≡ c → Some p.word ≡ copy_word (copy_of (on_write c t line) t)
@@ -107,14 +108,14 @@ write_only p t w ok lt =
     let copies : (unpacked (one_holder t w p.memory)).copies ≡ set l.copies t (Modified w) =
     at_each_put (copy_at (one_holder t w p.memory)) l.copies t (Modified w) Invalid
     (write_long (copy_of line t) t line ∙ at_each_long (copy_at p)) lt
-    (ap (λ (x : Bool). copy_by x true false (slice_index_or nobody t false) w) (eq-eqb t t refl)) (λ u within ne.
+    (ap (λ (x : Bool). copy_by x true false (slice_index_or empty_cpu_set t false) w) (eq-eqb t t refl)) (λ u within ne.
     ap₂ (λ (x s : Bool). copy_by x true false s w) (ne_eqb t u (λ e. ne (sym e))) (at_each_get (λ k. false) u false within)
     ∙ sym (write_others p t ok lt (copy_of line t) refl u within ne)) in
     ap₂ cache_line_of copies (sym (write_memory (copy_of line t) t line))
 
 -- An eviction of a copy in S takes that copy away, and leaves memory as it is.
 shared_case : (c : Copy) (t : ℕ) (line : CacheLine)
-    → letter_of c ≡ S
+    → copy_state c ≡ S
     → on_evict c t line ≡ record { copies = set line.copies t Invalid; memory = line.memory }
 shared_case (Shared w) t line e = refl
 shared_case _ t line e = cc
@@ -123,10 +124,10 @@ shared_case _ t line e = cc
 pub sharer_gone : (p : Inside) (t : ℕ)
     → IsPacked p
     → t < most_threads
-    → letter_of (copy_of (unpacked p) t) ≡ S
+    → copy_state (copy_of (unpacked p) t) ≡ S
     → unpacked (record p { sharers = set p.sharers t false }) ≡ cache_line_evicted t (unpacked p)
 sharer_gone p t ok lt shared =
-    let other = not_shared _ _ p.is_owned _ p.word (sym (ap letter_of (copy_there p t lt)) ∙ shared) in
+    let other = not_shared _ _ p.is_owned _ p.word (sym (ap copy_state (copy_there p t lt)) ∙ shared) in
     let copies : (unpacked (record p { sharers = set p.sharers t false })).copies ≡ set (unpacked p).copies t Invalid =
     at_each_put (copy_at (record p { sharers = set p.sharers t false })) (unpacked p).copies t Invalid Invalid
     (at_each_long (copy_at p)) lt
@@ -155,7 +156,7 @@ owner_gone p t m d b ok lt own =
 
 -- Who has a copy in M or O is the owner, and its eviction takes the word to memory.
 dirty_case : (own d b s : Bool) (w t : ℕ) (line : CacheLine)
-    → (letter_of (copy_by own d b s w) ≡ M) ⊎ (letter_of (copy_by own d b s w) ≡ O)
+    → (copy_state (copy_by own d b s w) ≡ M) ⊎ (copy_state (copy_by own d b s w) ≡ O)
     → (own ≡ true) × (on_evict (copy_by own d b s w) t line ≡ cache_line_of (set line.copies t Invalid) w)
 dirty_case true true true s w t line h = (refl, refl)
 dirty_case true true false s w t line h = (refl, refl)
@@ -168,7 +169,7 @@ dirty_case false d b false w t line (inr h) = cc
 
 -- Who has a copy in E is the owner, and its eviction leaves memory as it is.
 clean_case : (own d b s : Bool) (w t : ℕ) (line : CacheLine)
-    → letter_of (copy_by own d b s w) ≡ E
+    → copy_state (copy_by own d b s w) ≡ E
     → (own ≡ true) × (on_evict (copy_by own d b s w) t line ≡ cache_line_of (set line.copies t Invalid) line.memory)
 clean_case true true true s w t line h = cc
 clean_case true true false s w t line h = cc
@@ -180,13 +181,13 @@ clean_case false d b false w t line h = cc
 pub dirty_gone : (p : Inside) (t : ℕ)
     → IsPacked p
     → t < most_threads
-    → (letter_of (copy_of (unpacked p) t) ≡ M) ⊎ (letter_of (copy_of (unpacked p) t) ≡ O)
+    → (copy_state (copy_of (unpacked p) t) ≡ M) ⊎ (copy_state (copy_of (unpacked p) t) ≡ O)
     → unpacked (record p { owner = None; is_dirty = false; is_owned = false; memory = p.word })
     ≡ cache_line_evicted t (unpacked p)
 dirty_gone p t ok lt h =
     let row =
     dirty_case (is_owner p.owner t) p.is_dirty p.is_owned (slice_index_or p.sharers t false) p.word t (unpacked p)
-    (subst (λ (c : Copy). (letter_of c ≡ M) ⊎ (letter_of c ≡ O)) (copy_there p t lt) h) in
+    (subst (λ (c : Copy). (copy_state c ≡ M) ⊎ (copy_state c ≡ O)) (copy_there p t lt) h) in
     owner_gone p t p.word false false ok lt (own_is p.owner t row.0)
     ∙ sym row.1
     ∙ ap (λ (c : Copy). on_evict c t (unpacked p)) (sym (copy_there p t lt))
@@ -195,10 +196,10 @@ dirty_gone p t ok lt h =
 pub clean_gone : (p : Inside) (t : ℕ)
     → IsPacked p
     → t < most_threads
-    → letter_of (copy_of (unpacked p) t) ≡ E
+    → copy_state (copy_of (unpacked p) t) ≡ E
     → unpacked (record p { owner = None }) ≡ cache_line_evicted t (unpacked p)
 clean_gone p t ok lt h =
-    let row = clean_case _ _ p.is_owned _ p.word t _ (subst (λ c. letter_of c ≡ E) (copy_there p t lt) h) in
+    let row = clean_case _ _ p.is_owned _ p.word t _ (subst (λ c. copy_state c ≡ E) (copy_there p t lt) h) in
     owner_gone p t p.memory p.is_dirty p.is_owned ok lt (own_is p.owner t row.0)
     ∙ sym row.1
     ∙ ap (λ (c : Copy). on_evict c t (unpacked p)) (sym (copy_there p t lt))

@@ -2,22 +2,24 @@
 use Rattle.lw_mesi.proofs.Common.{and_le_l, ◌≡◌, ℕ, ◌-◌, ◌*◌, ◌/◌, ◌%◌, ◌^◌, ◌<◌, true, false, eqb, set}
 use Rattle.lw_mesi.proofs.Common.{get_or, bit_and, bit_or, ap, ◌∙◌, sym, arith, w8, bit_at, or_lt, pow_below}
 use Rattle.lw_mesi.proofs.Common.{shr_and_one, bit_at_set_same, bit_at_set_other, bit_at_clear_same}
-use Rattle.lw_mesi.proofs.Common.{bit_at_clear_other, most_threads, members_of}
+use Rattle.lw_mesi.proofs.Common.{bit_at_clear_other, most_threads, cpu_set_of_bits}
 use Rattle.lw_mesi.proofs.IndexLemmas.{at_each_set, at_each_get}
 
 -- The test of a processor's bit says whether it is in the set.
-pub bit_is_member : (n t : ℕ) → t < most_threads → eqb (bit_and (n / 2 ^ t) 1) 1 ≡ get_or (members_of n) t false
+pub bit_is_member : (n t : ℕ) → t < most_threads → eqb (bit_and (n / 2 ^ t) 1) 1 ≡ get_or (cpu_set_of_bits n) t false
 bit_is_member n t lt = ap (λ b. eqb b 1) (shr_and_one n t) ∙ sym (at_each_get (λ i. eqb (bit_at n i) 1) t false lt)
 
 -- With its bit set, a processor is in the set, and the others are as they were.
-pub members_with : (n t : ℕ) → t < most_threads → members_of (bit_or n (1 * 2 ^ t % 256)) ≡ set (members_of n) t true
+pub members_with : (n t : ℕ) → t < most_threads → cpu_set_of_bits (bit_or n (1 * 2 ^ t % 256)) ≡ set (cpu_set_of_bits n) t true
 members_with n t lt =
     at_each_set (λ i. eqb (bit_at (bit_or n (1 * 2 ^ t % 256)) i) 1) (λ i. eqb (bit_at n i) 1) t true lt
     (ap (λ b. eqb b 1) (bit_at_set_same w8 n t (omega arith)))
     (λ u lu ne. ap (λ b. eqb b 1) (bit_at_set_other w8 n t (omega arith) u ne))
 
 -- With its bit cleared, a processor is not in the set, and the others are as they were.
-pub members_without : (n t : ℕ) → t < most_threads → members_of (bit_and n (255 - 1 * 2 ^ t % 256)) ≡ set (members_of n) t false
+pub members_without : (n t : ℕ)
+    → t < most_threads
+    → cpu_set_of_bits (bit_and n (255 - 1 * 2 ^ t % 256)) ≡ set (cpu_set_of_bits n) t false
 members_without n t lt =
     at_each_set _ _ t false lt (ap (λ b. eqb b 1) (bit_at_clear_same w8 n t (omega arith)))
     (λ u lu ne. ap (λ b. eqb b 1) (bit_at_clear_other w8 n t (omega arith) u (omega arith) ne))

@@ -32,12 +32,12 @@ copy_of line t = slice_index_or line.copies t Invalid
 abbrev pub cache_line_at : List CacheLine → ℕ → CacheLine  -- The cache line of a location.
 cache_line_at cache_lines x = slice_index_or cache_lines x (unheld_cache_line 0)
 
-abbrev pub letter_of : Copy → LineState  -- A copy's letter.
-letter_of (Modified w) = M
-letter_of (Owned w) = O
-letter_of (Exclusive w) = E
-letter_of (Shared w) = S
-letter_of Invalid = I
+abbrev pub copy_state : Copy → LineState  -- A copy's letter.
+copy_state (Modified w) = M
+copy_state (Owned w) = O
+copy_state (Exclusive w) = E
+copy_state (Shared w) = S
+copy_state Invalid = I
 
 abbrev pub copy_word : Copy → Option ℕ  -- A copy's word.
 copy_word (Modified w) = Some w
@@ -46,20 +46,20 @@ copy_word (Exclusive w) = Some w
 copy_word (Shared w) = Some w
 copy_word Invalid = None
 
-abbrev pub dirty_or : ℕ → List Copy → ℕ  -- The word of the M or O copy if there is one, else the given one.
-dirty_or w [] = w
-dirty_or w (Modified v ∷ copies) = v
-dirty_or w (Owned v ∷ copies) = v
-dirty_or w (clean ∷ copies) = dirty_or w copies
+abbrev pub dirty_word_or : ℕ → List Copy → ℕ  -- The word of the M or O copy if there is one, else the given one.
+dirty_word_or w [] = w
+dirty_word_or w (Modified v ∷ copies) = v
+dirty_word_or w (Owned v ∷ copies) = v
+dirty_word_or w (clean ∷ copies) = dirty_word_or w copies
 
-abbrev pub content_of : CacheLine → ℕ  -- The content of a location: the word of the M or O copy if there is one, else memory's.
-content_of line = dirty_or line.memory line.copies
+abbrev pub coherent_word : CacheLine → ℕ  -- The content of a location: the word of the M or O copy if there is one, else memory's.
+coherent_word line = dirty_word_or line.memory line.copies
 
-abbrev pub contents_of : Caches → List ℕ  -- The content of every location.
-contents_of m = map content_of m.cache_lines
+abbrev pub coherent_words : Caches → List ℕ  -- The content of every location.
+coherent_words m = map coherent_word m.cache_lines
 
 abbrev pub memory_words_of : Caches → List ℕ  -- The words in memory.
 memory_words_of m = map (λ (line : CacheLine). line.memory) m.cache_lines
 
-abbrev pub state_in : Caches → ℕ → ℕ → LineState  -- How a processor holds a location.
-state_in m t x = letter_of (copy_of (cache_line_at m.cache_lines x) t)
+abbrev pub line_state : Caches → ℕ → ℕ → LineState  -- How a processor holds a location.
+line_state m t x = copy_state (copy_of (cache_line_at m.cache_lines x) t)

@@ -1,10 +1,10 @@
 -- When cache lines are coherent, and in the states of a protocol: what is true of the caches after any requests.
 use Rattle.std.specs.Prelude.{◌≡◌, ◌≢◌, ℕ, ◌<◌, ◌≤◌, length, Some}
 use Rattle.lw_base.specs.Limits.{most_threads}
-use Rattle.lw_memory.specs.MemoryLaws.{Invariant, invariant_of}
+use Rattle.lw_memory.specs.SystemLaws.{Invariant, invariant_of}
 use Rattle.lw_mesi.specs.declared.protocol.Protocol.{Protocol}
 use Rattle.lw_mesi.specs.declared.protocol.Protocol.TheVariants.{Mesi, Moesi}
-use Rattle.lw_mesi.specs.CacheLines.{Copy, Modified, Owned, Exclusive, Shared, Invalid, CacheLine, Caches, copy_of, copy_word, cache_line_at, content_of}
+use Rattle.lw_mesi.specs.CacheLines.{Copy, Modified, Owned, Exclusive, Shared, Invalid, CacheLine, Caches, copy_of, copy_word, cache_line_at, coherent_word}
 
 -- A copy in M or E: beside it there may be no other.
 abbrev pub IsOnlyCopy : Copy → Type 0
@@ -30,7 +30,7 @@ pub record IsCoherentCacheLine (line : CacheLine) : Type 0 where
   -- at most one copy is M or O
   pub one_dirty : (t u : ℕ) → IsDirty (copy_of line t) → IsDirty (copy_of line u) → t ≡ u
   -- every copy holds the content
-  pub same_word : (t w : ℕ) → copy_word (copy_of line t) ≡ Some w → w ≡ content_of line
+  pub same_word : (t w : ℕ) → copy_word (copy_of line t) ≡ Some w → w ≡ coherent_word line
 
 -- Caches are coherent: the cache line of every location is.
 pub record IsCoherent (m : Caches) : Type 0 where
@@ -38,25 +38,25 @@ pub record IsCoherent (m : Caches) : Type 0 where
   pub cache_lines : (x : ℕ) → x < length m.cache_lines → IsCoherentCacheLine (cache_line_at m.cache_lines x)
 
 -- A copy is in a state of the protocol: O is one of MOESI alone.
-abbrev pub IsStateOf : Protocol → Copy → Type 0
-IsStateOf Mesi (Owned w) = ⊥
-IsStateOf Mesi c = Unit {0}
-IsStateOf Moesi c = Unit {0}
+abbrev pub IsProtocolState : Protocol → Copy → Type 0
+IsProtocolState Mesi (Owned w) = ⊥
+IsProtocolState Mesi c = Unit {0}
+IsProtocolState Moesi c = Unit {0}
 
 -- Every copy of a cache line is in a state of the protocol.
-abbrev pub HasStatesOf : Protocol → CacheLine → Type 0
-HasStatesOf p line = (t : ℕ) → IsStateOf p (copy_of line t)
+abbrev pub HasProtocolStates : Protocol → CacheLine → Type 0
+HasProtocolStates p line = (t : ℕ) → IsProtocolState p (copy_of line t)
 
 -- A cache line keeps a protocol: it is coherent, and its copies are in states of the protocol.
-pub record IsKeptCacheLine (p : Protocol) (line : CacheLine) : Type 0 where
+pub record LineSatisfiesProtocol (p : Protocol) (line : CacheLine) : Type 0 where
   pub coherent : IsCoherentCacheLine line
-  pub states : HasStatesOf p line
+  pub states : HasProtocolStates p line
 
 -- Caches keep a protocol: each cache line is coherent and in its states. It is so after any requests.
-pub record IsKept (p : Protocol) (m : Caches) : Type 0 where
+pub record SatisfiesProtocol (p : Protocol) (m : Caches) : Type 0 where
   pub coherent : IsCoherent m
-  pub states : (x : ℕ) → x < length m.cache_lines → HasStatesOf p (cache_line_at m.cache_lines x)
+  pub states : (x : ℕ) → x < length m.cache_lines → HasProtocolStates p (cache_line_at m.cache_lines x)
 
--- What every request keeps of caches by a protocol: `IsKept`, as lw_memory's laws take it.
+-- What every request keeps of caches by a protocol: `SatisfiesProtocol`, as lw_memory's laws take it.
 abbrev pub caches_invariant : Protocol → Invariant Caches
-caches_invariant p = invariant_of (λ (m : Caches). m.cpus) (IsKept p)
+caches_invariant p = invariant_of (λ (m : Caches). m.cpus) (SatisfiesProtocol p)

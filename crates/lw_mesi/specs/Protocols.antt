@@ -5,8 +5,8 @@ use Rattle.lw_base.specs.Types.{Bytes}
 use Rattle.lw_mesi.specs.declared.protocol.Protocol.{Protocol}
 use Rattle.lw_mesi.specs.declared.protocol.Protocol.TheVariants.{Mesi, Moesi}
 use Rattle.lw_memory.specs.Memory.{Memory, memory_of}
-use Rattle.lw_mesi.specs.CacheLines.{Copy, Modified, Owned, Exclusive, Shared, Caches, content_of, contents_of, state_in}
-use Rattle.lw_mesi.specs.Snooping.{ProtocolTable, Serves}
+use Rattle.lw_mesi.specs.CacheLines.{Copy, Modified, Owned, Exclusive, Shared, Caches, coherent_word, coherent_words, line_state}
+use Rattle.lw_mesi.specs.Snooping.{ProtocolTable, ProtocolTransition}
 
 -- The name of a protocol, as it is written in a command.
 abbrev pub protocol_name : Protocol → Bytes
@@ -25,8 +25,8 @@ moesi_on_other_get_s other = other  -- O: send data to requestor / O; S, I: / th
 
 -- The column of a protocol's table that is its own.
 abbrev pub table_of : Protocol → ProtocolTable
-table_of Mesi = record { on_other_get_s = mesi_on_other_get_s; memory_after_get_s = content_of }
+table_of Mesi = record { on_other_get_s = mesi_on_other_get_s; memory_after_get_s = coherent_word }
 table_of Moesi = record { on_other_get_s = moesi_on_other_get_s; memory_after_get_s = λ line. line.memory }
 
 abbrev pub caches_by : Protocol → Memory Caches  -- The memory system that caches by a protocol are.
-caches_by p = memory_of contents_of state_in (Serves (table_of p))
+caches_by p = memory_of coherent_words line_state (ProtocolTransition (table_of p))

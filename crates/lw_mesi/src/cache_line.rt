@@ -2,10 +2,10 @@
 ghost use Rattle.std.specs.Prelude.{◌≡◌, ◌<◌, Some, is_ok, OnOk, OnErr};
 ghost use Rattle.lw_base.specs.Limits.{most_threads};
 ghost use Rattle.lw_memory.specs.Memory.{is_held};
-ghost use Rattle.lw_mesi.specs.CacheLines.{Invalid, unheld_cache_line, copy_of, letter_of, copy_word, content_of};
+ghost use Rattle.lw_mesi.specs.CacheLines.{Invalid, unheld_cache_line, copy_of, copy_state, copy_word, coherent_word};
 ghost use Rattle.lw_mesi.specs.Snooping.{cache_line_to_read, cache_line_to_write, cache_line_written, cache_line_evicted};
 ghost use Rattle.lw_mesi.specs.Protocols.{table_of};
-ghost use Rattle.lw_mesi.specs.Coherence.{HasStatesOf};
+ghost use Rattle.lw_mesi.specs.Coherence.{HasProtocolStates};
 ghost use Rattle.lw_mesi.specs.inner.EachIndex.{is_owner};
 
 use crate::cpu_set::CpuSet;
@@ -60,7 +60,7 @@ impl PackedCacheLine {
     /// How a processor holds the cache line.
     pub(crate) fn state_of(&self, cpu: Cpu) -> LineState
         requires { cpu < most_threads }
-        ensures { result ≡ letter_of (copy_of self.now cpu) }
+        ensures { result ≡ copy_state (copy_of self.now cpu) }
     {
         if is_owner(self.owner, cpu) {
             match (self.is_dirty, self.is_owned) {
@@ -77,7 +77,7 @@ impl PackedCacheLine {
 
     /// The word that the location ends with.
     pub(crate) fn word(&self) -> Word
-        ensures { result ≡ content_of self.now }
+        ensures { result ≡ coherent_word self.now }
     {
         self.word
     }
@@ -104,7 +104,7 @@ impl PackedCacheLine {
     /// The word that a processor's load takes, under a protocol.
     pub(crate) fn load(&mut self, protocol: Protocol, cpu: Cpu) -> Word
         requires cpu { cpu < most_threads }
-        requires states { HasStatesOf protocol self.old }
+        requires states { HasProtocolStates protocol self.old }
         ensures word { Some result ≡ copy_word (copy_of (cache_line_to_read (table_of protocol) cpu self.old) cpu) }
         ensures line { self.new ≡ cache_line_to_read (table_of protocol) cpu self.old }
     {
@@ -117,7 +117,7 @@ impl PackedCacheLine {
     /// The bus transaction of a load without a copy, a GetS, and the word that it brings.
     fn get_s(&mut self, protocol: Protocol, cpu: Cpu) -> Word
         requires cpu { cpu < most_threads }
-        requires states { HasStatesOf protocol self.old }
+        requires states { HasProtocolStates protocol self.old }
         requires without { copy_of self.old cpu ≡ Invalid }
         ensures word { Some result ≡ copy_word (copy_of (cache_line_to_read (table_of protocol) cpu self.old) cpu) }
         ensures line { self.new ≡ cache_line_to_read (table_of protocol) cpu self.old }
@@ -163,7 +163,7 @@ impl PackedCacheLine {
     /// Lets a processor's copy go, the word of one in M or O to memory.
     pub(crate) fn evict(&mut self, cpu: Cpu) -> Result<(), NotHeld>
         requires { cpu < most_threads }
-        ensures held { is_ok result ≡ is_held (letter_of (copy_of self.old cpu)) }
+        ensures held { is_ok result ≡ is_held (copy_state (copy_of self.old cpu)) }
         ensures ok { OnOk result (self.new ≡ cache_line_evicted cpu self.old) }
         ensures err { OnErr result (self.new ≡ self.old) }
     {

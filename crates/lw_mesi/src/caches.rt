@@ -1,40 +1,40 @@
 //! Caches that snoop on one atomic bus, over one memory, by either protocol.
 ghost use Rattle.std.specs.Prelude.{◌≡◌, ◌<◌, ◌≤◌, length, map, IfOk};
 ghost use Rattle.lw_base.specs.Limits.{most_threads, most_locations};
-ghost use Rattle.lw_mesi.specs.CacheLines.{unheld_cache_line, empty_caches, copy_of, cache_line_at, copy_word, contents_of, memory_words_of, state_in};
-ghost use Rattle.lw_mesi.specs.Snooping.{Serves};
+ghost use Rattle.lw_mesi.specs.CacheLines.{unheld_cache_line, empty_caches, copy_of, cache_line_at, copy_word, coherent_words, memory_words_of, line_state};
+ghost use Rattle.lw_mesi.specs.Snooping.{ProtocolTransition};
 ghost use Rattle.lw_mesi.specs.Protocols.{table_of};
-ghost use Rattle.lw_mesi.specs.Coherence.{IsKept};
+ghost use Rattle.lw_mesi.specs.Coherence.{SatisfiesProtocol};
 ghost use Rattle.lw_mesi.specs.laws.ProtocolLaws.{protocol_lawful};
 
 use crate::cache_line::PackedCacheLine;
-use crate::protocol::{ByMesi, ByMoesi, KeptProtocol};
+use crate::protocol::{MesiProtocol, MoesiProtocol, ProtocolType};
 use lw_base::{Change, Cpu, Loc, Word};
 use lw_memory::{LineState, MemorySystem, NotHeld};
 use std::alloc::{AllocError, Allocator, Global};
 use std::marker::{Model, PhantomData};
 
 /// Caches by the MESI protocol.
-pub type Mesi<A = Global> = SnoopingCaches<ByMesi, A>;
+pub type Mesi<A = Global> = SnoopingCaches<MesiProtocol, A>;
 
 /// Caches by the MOESI protocol.
-pub type Moesi<A = Global> = SnoopingCaches<ByMoesi, A>;
+pub type Moesi<A = Global> = SnoopingCaches<MoesiProtocol, A>;
 
 /// A cache for each processor, which snoop on one atomic bus, over one memory.
 ///
 /// A clause sees for each location the copies in the caches, with memory's word. Every call of it tells that they
 /// are coherent (one writer or many readers, and one word in all copies) and in states of their protocol.
 #[derive(Drop)]
-pub struct SnoopingCaches<P: KeptProtocol, A: Allocator = Global> {
+pub struct SnoopingCaches<P: ProtocolType, A: Allocator = Global> {
     cpus: usize,
     cache_lines: Vec<PackedCacheLine, A>,
     protocol: PhantomData<P>,
 }
 
-impl<P: KeptProtocol, A: Allocator> Model for SnoopingCaches<P, A> {
+impl<P: ProtocolType, A: Allocator> Model for SnoopingCaches<P, A> {
     ghost use Rattle.std.specs.Prelude.{◌≤◌, length};
     ghost use Rattle.lw_mesi.specs.CacheLines.{Caches};
-    ghost use Rattle.lw_mesi.specs.Coherence.{IsKept};
+    ghost use Rattle.lw_mesi.specs.Coherence.{SatisfiesProtocol};
     ghost use Rattle.lw_base.specs.Limits.{most_locations};
 
     ghost Value = { Caches };
@@ -42,10 +42,10 @@ impl<P: KeptProtocol, A: Allocator> Model for SnoopingCaches<P, A> {
     ghost view = { λ m. record { cpus = m.cpus; cache_lines = m.cache_lines.items } };
 
     ghost invariant = { λ m. (length m.cache_lines.items ≤ most_locations)
-        × IsKept P.protocol (record { cpus = m.cpus; cache_lines = m.cache_lines.items }) };
+        × SatisfiesProtocol P.protocol (record { cpus = m.cpus; cache_lines = m.cache_lines.items }) };
 }
 
-impl<P: KeptProtocol, A: Allocator + Copy> SnoopingCaches<P, A> {
+impl<P: ProtocolType, A: Allocator + Copy> SnoopingCaches<P, A> {
     /// Empty caches of so many processors, over a memory with these words. An error is that memory ran out; no later
     /// call takes any.
     pub fn new(alloc: A, cpus: usize, words: &[Word]) -> Result<Self, AllocError>
@@ -53,7 +53,7 @@ impl<P: KeptProtocol, A: Allocator + Copy> SnoopingCaches<P, A> {
         requires words { length words.now ≤ most_locations }
         ensures cpus { IfOk result (λ m. m.cpus ≡ cpus) }
         ensures cache_lines { IfOk result (λ m. m.cache_lines ≡ map unheld_cache_line words.now) }
-        ensures kept { IfOk result (IsKept P.protocol) }
+        ensures kept { IfOk result (SatisfiesProtocol P.protocol) }
     {
         let mut cache_lines = Vec::new(alloc);
         for word in words {
@@ -67,32 +67,32 @@ impl<P: KeptProtocol, A: Allocator + Copy> SnoopingCaches<P, A> {
     }
 }
 
-impl<P: KeptProtocol, A: Allocator> SnoopingCaches<P, A> {
+impl<P: ProtocolType, A: Allocator> SnoopingCaches<P, A> {
     /// The word of a processor's copy of a location, where it has one.
     pub fn copy(&self, cpu: Cpu, loc: Loc) -> Option<Word>
         requires cpu { cpu < self.now.cpus }
         requires loc { loc < length self.now.cache_lines }
         ensures word { result ≡ copy_word (copy_of (cache_line_at self.now.cache_lines loc) cpu) }
-        ensures kept { IsKept P.protocol self.now }
+        ensures kept { SatisfiesProtocol P.protocol self.now }
     {
         self.cache_lines[loc.index()].copy(cpu)
     }
 }
 
-impl<P: KeptProtocol, A: Allocator> MemorySystem for SnoopingCaches<P, A> {
-    ghost content = { contents_of };
+impl<P: ProtocolType, A: Allocator> MemorySystem for SnoopingCaches<P, A> {
+    ghost content = { coherent_words };
 
     ghost cpus = { λ m. m.cpus };
 
     ghost memory = { memory_words_of };
 
-    ghost state = { state_in };
+    ghost state = { line_state };
 
-    ghost sound = { IsKept P.protocol };
+    ghost sound = { SatisfiesProtocol P.protocol };
 
     ghost start = { empty_caches };
 
-    ghost serves = { Serves (table_of P.protocol) };
+    ghost serves = { ProtocolTransition (table_of P.protocol) };
 
     /// The location's word, by a GetS where the processor has no copy.
     fn load(&mut self, cpu: Cpu, loc: Loc) -> Word {

@@ -1,6 +1,6 @@
 //! A set of processors as the bits of a byte.
 ghost use Rattle.std.specs.Prelude.{◌≡◌, ◌↔◌, ◌<◌, IsTrue, false, true, slice_index_or, slice_set};
-ghost use Rattle.lw_mesi.specs.inner.EachIndex.{nobody};
+ghost use Rattle.lw_mesi.specs.inner.EachIndex.{empty_cpu_set};
 
 use lw_base::Cpu;
 use std::marker::Model;
@@ -12,11 +12,11 @@ pub(crate) struct CpuSet(u8);
 impl Model for CpuSet {
     ghost use Rattle.std.specs.Prelude.{List, Bool, ◌<◌, ◌^◌};
     ghost use Rattle.lw_base.specs.Limits.{most_threads};
-    ghost use Rattle.lw_mesi.specs.inner.EachIndex.{members_of};
+    ghost use Rattle.lw_mesi.specs.inner.EachIndex.{cpu_set_of_bits};
 
     ghost Value = { List Bool };
 
-    ghost view = { λ s. members_of s.0 };
+    ghost view = { λ s. cpu_set_of_bits s.0 };
 
     ghost invariant = { λ s. s.0 < 2 ^ most_threads };
 }
@@ -24,14 +24,14 @@ impl Model for CpuSet {
 impl CpuSet {
     /// The set without processors.
     pub(crate) fn new() -> Self
-        ensures { result ≡ nobody }
+        ensures { result ≡ empty_cpu_set }
     {
         CpuSet(0)
     }
 
     /// Whether no processor is in it.
     pub(crate) fn is_empty(&self) -> bool
-        ensures { IsTrue result ↔ (self.now ≡ nobody) }
+        ensures { IsTrue result ↔ (self.now ≡ empty_cpu_set) }
     {
         self.0 == 0
     }

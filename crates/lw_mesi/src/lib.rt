@@ -11,4 +11,4 @@ mod protocol;
 
 pub use caches::{Mesi, Moesi, SnoopingCaches};
 pub use laws::{empty_caches_are_kept, requests_keep_coherence};
-pub use protocol::{ByMesi, ByMoesi, KeptProtocol, Protocol};
+pub use protocol::{MesiProtocol, MoesiProtocol, Protocol, ProtocolType};

@@ -1,6 +1,6 @@
 //! The protocols that caches keep: by name, and as types.
 ghost use Rattle.std.specs.Prelude.{◌≡◌, MatchOption};
-ghost use Rattle.lw_base.specs.Refusals.{NoSuch};
+ghost use Rattle.lw_base.specs.NoParse.{HoldsOfNothing};
 ghost use Rattle.lw_mesi.specs.declared.protocol.Protocol.{Protocol};
 ghost use Rattle.lw_mesi.specs.declared.protocol.Protocol.TheVariants.{Mesi, Moesi};
 ghost use Rattle.lw_mesi.specs.Protocols.{protocol_name};
@@ -16,8 +16,8 @@ pub enum Protocol {
 
 impl Protocol {
     /// The protocol of this name, which is its own in small letters.
-    pub fn named(name: &str) -> Option<Protocol>
-        ensures { MatchOption result (NoSuch (λ p. protocol_name p ≡ name.now)) (λ p. protocol_name p ≡ name.now) }
+    pub fn from_name(name: &str) -> Option<Protocol>
+        ensures { MatchOption result (HoldsOfNothing (λ p. protocol_name p ≡ name.now)) (λ p. protocol_name p ≡ name.now) }
     {
         match name {
             "mesi" => Some(Protocol::Mesi),
@@ -28,7 +28,7 @@ impl Protocol {
 }
 
 /// A protocol as a type.
-pub trait KeptProtocol {
+pub trait ProtocolType {
     /// Which protocol the type stands for.
     ghost protocol: { Protocol };
 
@@ -39,9 +39,9 @@ pub trait KeptProtocol {
 
 /// The MESI protocol as a type.
 #[derive(Clone, Copy)]
-pub struct ByMesi;
+pub struct MesiProtocol;
 
-impl KeptProtocol for ByMesi {
+impl ProtocolType for MesiProtocol {
     ghost protocol = { Mesi };
 
     /// This type stands for MESI.
@@ -52,9 +52,9 @@ impl KeptProtocol for ByMesi {
 
 /// The MOESI protocol as a type.
 #[derive(Clone, Copy)]
-pub struct ByMoesi;
+pub struct MoesiProtocol;
 
-impl KeptProtocol for ByMoesi {
+impl ProtocolType for MoesiProtocol {
     ghost protocol = { Moesi };
 
     /// This type stands for MOESI.

@@ -38,21 +38,26 @@ pub use Rattle.std.specs.Int.Count.{trailing_of_zero}
 pub use Rattle.std.specs.List.{cons_option, list_any}
 pub use Rattle.std.specs.Vec.{with_items}
 pub use mir.Val.{bits}
-pub use Rattle.lw_orders.specs.Exchange.{AreJoined, Exchanged, IsKeptByExchanges, IsTied, JoinedBy}
 pub use Rattle.lw_orders.specs.Limits.{most_items, most_open, most_orders}
-pub use Rattle.lw_orders.specs.Order.{Alike, AreOpen, AreSorted, Before, Constraints, ExactlyOne, GoUp}
-pub use Rattle.lw_orders.specs.Order.{HasWays, IsBelow, IsDecided, IsLinearExtension, IsOrder, IsWellFormed}
-pub use Rattle.lw_orders.specs.Order.{Keeps, Once, SameWayRound, Walk, index_in}
+pub use Rattle.lw_orders.specs.Order.{AreAscending, AreDistinct, AreSorted, AreTraceEquivalent}
+pub use Rattle.lw_orders.specs.Order.{AreUnorderedConflicts, Before, Constraints, ExactlyOne}
+pub use Rattle.lw_orders.specs.Order.{HasOrientationCount, IsLexicographicallyLess, IsLinearExtension}
+pub use Rattle.lw_orders.specs.Order.{IsOrder, IsOrderedByPath, IsWellFormed, OrderAgreesOn, Respects, Walk}
+pub use Rattle.lw_orders.specs.Order.{index_in}
+pub use Rattle.lw_orders.specs.Orientations.{is_ordered, orientation_count, reaches_within}
+pub use Rattle.lw_orders.specs.Orientations.{unordered_conflicts}
 pub use Rattle.lw_orders.specs.Progress.{Progress}
-pub use Rattle.lw_orders.specs.Sequence.{Within, directions, in_turn, indices, is_free, lowest_order, orders}
-pub use Rattle.lw_orders.specs.Sequence.{without}
-pub use Rattle.lw_orders.specs.Ways.{count_of, is_decided, leads, open_pairs}
-pub use Rattle.lw_orders.specs.inner.Candidates.{IsFound, Narrowed, Waits}
-pub use Rattle.lw_orders.specs.inner.Closure.{Closes, GoesOn, IsDrawn, IsReachedFrom, Reaches}
-pub use Rattle.lw_orders.specs.inner.Directions.{IsTaken, Tried, TriedAs, pair_at}
-pub use Rattle.lw_orders.specs.inner.Remaining.{CanBeSearched, IsTabled, Stands, calls_left, most_of_call}
-pub use Rattle.lw_orders.specs.inner.Remaining.{most_tries, orders_left, reach}
-pub use Rattle.lw_orders.specs.inner.Search.{Chosen, TurnedLast, after_ways, directed, from_ways, search_from}
-pub use Rattle.lw_orders.specs.inner.Search.{search_on, turned}
-pub use Rattle.lw_orders.specs.inner.Sets.{AreNeighbours, ArePredecessors, LeadInto, apart, has, joins}
-pub use Rattle.lw_orders.specs.inner.Sets.{leads_by}
+pub use Rattle.lw_orders.specs.Sequence.{AreInRange, greedy_order, indices, is_minimal, lowest_order, orders}
+pub use Rattle.lw_orders.specs.Sequence.{orientations, without}
+pub use Rattle.lw_orders.specs.Swaps.{AreConnected, AreConnectedBySwaps, AreDependent, IsAdjacentSwap}
+pub use Rattle.lw_orders.specs.Swaps.{IsSwapInvariant}
+pub use Rattle.lw_orders.specs.inner.Candidates.{IsBlocked, IsFound, Narrowed}
+pub use Rattle.lw_orders.specs.inner.Closure.{AreGraphTables, IsAcyclicClosure, IsReachedFrom}
+pub use Rattle.lw_orders.specs.inner.Closure.{IsTransitiveBelow, Reaches}
+pub use Rattle.lw_orders.specs.inner.Directions.{IsTaken, TriedAs, TriesOrientation, pair_at}
+pub use Rattle.lw_orders.specs.inner.Remaining.{CanBeSearched, HasSearchTables, IsSearchState, calls_left}
+pub use Rattle.lw_orders.specs.inner.Remaining.{most_of_call, most_tries, reach, remaining_orders}
+pub use Rattle.lw_orders.specs.inner.Search.{SearchState, TurnedLast, after_ways, from_ways, oriented}
+pub use Rattle.lw_orders.specs.inner.Search.{reverse_if, search_from, search_on}
+pub use Rattle.lw_orders.specs.inner.Sets.{AreNeighbours, ArePredecessors, EdgesAreIn, are_disjoint, has}
+pub use Rattle.lw_orders.specs.inner.Sets.{has_edge, reaches_in}

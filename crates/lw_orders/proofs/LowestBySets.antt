@@ -7,9 +7,9 @@ use Rattle.lw_orders.proofs.Common.{lt-ltb, length-take, get_or-take, append_ass
 use Rattle.lw_orders.proofs.Common.{cases_Bool, false_from_ne_true, both_ways, nat_tests, same_from_decides}
 use Rattle.lw_orders.proofs.Common.{take_more_set, get_or_append_left, All-contains, Contains-get_or}
 use Rattle.lw_orders.proofs.Common.{list_any-append, AllPass-from_list_all, list_all-from_AllPass}
-use Rattle.lw_orders.proofs.Common.{option_map_id, bit_at-zero, Walk, without, is_free, in_turn, lowest_order}
-use Rattle.lw_orders.proofs.Common.{indices, has, apart, joins, ArePredecessors, leads_by, IsDrawn, Waits}
-use Rattle.lw_orders.proofs.Common.{Narrowed, IsFound}
+use Rattle.lw_orders.proofs.Common.{option_map_id, bit_at-zero, Walk, without, is_minimal, greedy_order}
+use Rattle.lw_orders.proofs.Common.{lowest_order, indices, has, are_disjoint, has_edge, ArePredecessors}
+use Rattle.lw_orders.proofs.Common.{reaches_in, AreGraphTables, IsBlocked, Narrowed, IsFound}
 use Rattle.lw_orders.proofs.LowestOrder.{is_in}
 use Rattle.lw_orders.proofs.Walks.{joins_gives, joins_from, closes_step}
 use Rattle.lw_orders.proofs.Bits.{not_both, none_both}
@@ -72,7 +72,7 @@ module _ {len : ℕ} {predecessors reach : List ℕ} {left old mid : ℕ} (new i
     (n : Narrowed len predecessors reach left old mid) (there : has mid item ≡ true)
     (says : (k : ℕ) → k < most_items → has new k ≡ (has mid k && not (has (get_or reach item 0) k))) where
   -- where the candidate `item` waits, it may be dropped from the candidates, with all that is reached from it
-  pub Narrowed-more : Waits predecessors left item → Narrowed len predecessors reach left old new
+  pub Narrowed-more : IsBlocked predecessors left item → Narrowed len predecessors reach left old new
   Narrowed-more w = record {
     kept = λ k lk h. n.kept k lk (grind (arith, says k lk));
     dropped = λ k lk was gone. elim (cases_Bool (has mid k)) [
@@ -85,7 +85,7 @@ module _ {len : ℕ} {predecessors reach : List ℕ} {left old mid : ℕ} (new i
   pub lowest_rises : (next width : ℕ)
       → len ≤ width
       → ((k : ℕ) → k < item → has mid k ≡ false)
-      → leads_by reach item item ≡ true
+      → reaches_in reach item item ≡ true
       → (next < width → has new next ≡ true)
       → item < next
   lowest_rises next width wide below itself lowest = grind (arith, below next, says next)
@@ -100,10 +100,11 @@ members len left = filter (has left) (indices 0 len)
 -- are left. Those left are candidates, or they wait; and what is reached from one that is left is left
 pub record Searching (pairs : List (ℕ × ℕ)) (len : ℕ) (predecessors reach items : List ℕ)
     (left candidates turn : ℕ) : Type 0 where
-  pub so_far : lowest_order len pairs ≡ option_map (λ xs. take turn items ++ xs) (in_turn (len - turn) pairs (members len left))
+  pub so_far : lowest_order len pairs
+      ≡ option_map (λ xs. take turn items ++ xs) (greedy_order (len - turn) pairs (members len left))
   pub inside : (k : ℕ) → k < most_items → has candidates k ≡ true → has left k ≡ true
-  pub waiting : (k : ℕ) → k < len → has left k ≡ true → has candidates k ≡ false → Waits predecessors left k
-  pub closed : (i j : ℕ) → i < len → j < len → has left i ≡ true → leads_by reach i j ≡ true → has left j ≡ true
+  pub waiting : (k : ℕ) → k < len → has left k ≡ true → has candidates k ≡ false → IsBlocked predecessors left k
+  pub closed : (i j : ℕ) → i < len → j < len → has left i ≡ true → reaches_in reach i j ≡ true → has left j ≡ true
 
 -- before the first turn all items are left, and all are candidates
 pub Searching-start : {len : ℕ} {predecessors reach items : List ℕ} (pairs : List (ℕ × ℕ)) (left : ℕ)
@@ -114,7 +115,8 @@ Searching-start {len = len} pairs left few below =
     let all : members len left ≡ indices 0 len =
     filter_all (has left) 0 len (λ k a b. below k (omega arith) ∙ lt-ltb k len (omega arith)) in
     record {
-      so_far = rw (all, (let e : len - 0 ≡ len = omega arith in e)) (sym (option_map_id (in_turn len pairs (indices 0 len))));
+      so_far =
+          rw (all, (let e : len - 0 ≡ len = omega arith in e)) (sym (option_map_id (greedy_order len pairs (indices 0 len))));
       inside = λ k l h. h;
       waiting = λ k l h n. absurd (both_ways (has left k) n h);
       closed = λ i j li lj h r. below j (omega arith) ∙ lt-ltb j len lj;
@@ -128,13 +130,14 @@ pushed front x more None e = refl
 pushed front x more (Some xs) e = ap Some (sym (ap (λ ys. ys ++ xs) e ∙ append_assoc front (x ∷ []) xs))
 
 module _ {pairs : List (ℕ × ℕ)} {len : ℕ} {predecessors reach neighbours items : List ℕ} {left candidates turn : ℕ}
-    (few : len ≤ most_items) (fits : left < 2 ^ most_items) (l : turn < len) (d : IsDrawn len pairs predecessors reach neighbours)
+    (few : len ≤ most_items) (fits : left < 2 ^ most_items) (l : turn < len)
+    (d : AreGraphTables len pairs predecessors reach neighbours)
     (so : Searching pairs len predecessors reach items left candidates turn) where
   -- an item is free where its set and the set of those left are apart
   abbrev NoneLeads : ℕ → Type 0
   NoneLeads i = (j : ℕ) → j < len → Contains pairs (j, i) → has left j ≡ true → ⊥
 
-  apart_tells : (i : ℕ) → i < len → Decides (apart (get_or predecessors i 0) left) (NoneLeads i)
+  apart_tells : (i : ℕ) → i < len → Decides (are_disjoint (get_or predecessors i 0) left) (NoneLeads i)
   apart_tells i li = (
     λ e j lj c h.
         not_both (get_or predecessors i 0) left j (eqb-true _ 0 e)
@@ -146,7 +149,7 @@ module _ {pairs : List (ℕ × ℕ)} {len : ℕ} {predecessors reach neighbours 
   abbrev is_kept : ℕ → ℕ × ℕ → Bool
   is_kept i p = not (eqb p.1 i && is_in (members len left) p.0)
 
-  free_tells : (i : ℕ) → Decides (is_free pairs (members len left) i) (NoneLeads i)
+  free_tells : (i : ℕ) → Decides (is_minimal pairs (members len left) i) (NoneLeads i)
   free_tells i = (
     λ e j lj c h.
         (let t : is_kept i (j, i) ≡ true =
@@ -166,7 +169,7 @@ module _ {pairs : List (ℕ × ℕ)} {len : ℕ} {predecessors reach neighbours 
         | inr ne ↦ grind (arith, nat_tests)
       ]
 
-  free_is_apart : (i : ℕ) → i < len → is_free pairs (members len left) i ≡ apart (get_or predecessors i 0) left
+  free_is_apart : (i : ℕ) → i < len → is_minimal pairs (members len left) i ≡ are_disjoint (get_or predecessors i 0) left
   free_is_apart i li = same_from_decides _ _ (free_tells i) (apart_tells i li)
 
   -- so what is reached from one that is left waits, be it another or one that waits
@@ -174,43 +177,45 @@ module _ {pairs : List (ℕ × ℕ)} {len : ℕ} {predecessors reach neighbours 
       → i < len
       → Walk pairs m i k
       → has left i ≡ true
-      → (i ≡ k → Waits predecessors left k)
-      → Waits predecessors left k
+      → (i ≡ k → IsBlocked predecessors left k)
+      → IsBlocked predecessors left k
   waits_behind zero i k li e there w = w e
   waits_behind (suc m) i k li (h, c, walk) there w =
       let (_, lh, on, _) = closes_step d.closes i h c in
       waits_behind m h k lh walk (so.closed i h li lh there on)
       (λ e.
-      subst (Waits predecessors left) e
-      (false_from_ne_true (apart (get_or predecessors h 0) left) (λ a. (apart_tells h lh).0 a i li c there)))
+      subst (IsBlocked predecessors left) e
+      (false_from_ne_true (are_disjoint (get_or predecessors h 0) left) (λ a. (apart_tells h lh).0 a i li c there)))
 
   module _ {narrow : ℕ} (narrowed : Narrowed len predecessors reach left candidates narrow) where
     -- those that are no candidate wait, still
-    waits_still : (k : ℕ) → k < len → has left k ≡ true → has narrow k ≡ false → Waits predecessors left k
+    waits_still : (k : ℕ) → k < len → has left k ≡ true → has narrow k ≡ false → IsBlocked predecessors left k
     waits_still k lk there gone = elim (cases_Bool (has candidates k)) [
       | inl e ↦
           (let (i, li, was, w, r) = narrowed.dropped k (omega (arith, lk, few)) e gone in
           let (m, walk) = (d.closes.walks i k li lk).0 r in
-          waits_behind m i k li walk (so.inside i (omega (arith, li, few)) was) (λ e. subst (Waits predecessors left) e w))
+          waits_behind m i k li walk (so.inside i (omega (arith, li, few)) was) (λ e. subst (IsBlocked predecessors left) e w))
       | inr n ↦ so.waiting k lk there n
     ]
 
     one_turn : (o : Option ℕ)
-        → find (is_free pairs (members len left)) (members len left) ≡ o
+        → find (is_minimal pairs (members len left)) (members len left) ≡ o
         → lowest_order len pairs
         ≡ option_map (λ xs. take turn items ++ xs)
-        (option_and_then (λ x. option_map (λ xs. x ∷ xs) (in_turn (len - (turn + 1)) pairs (without (members len left) x))) o)
+        (option_and_then (λ x. option_map (λ xs. x ∷ xs) (greedy_order (len - (turn + 1)) pairs (without (members len left) x)))
+        o)
     one_turn o e =
         so.so_far
-        ∙ (ap (λ n. option_map (λ xs. take turn items ++ xs) (in_turn n pairs (members len left)))
+        ∙ (ap (λ n. option_map (λ xs. take turn items ++ xs) (greedy_order n pairs (members len left)))
         (let q : len - turn ≡ suc (len - (turn + 1)) = omega arith in q)
         ∙ ap (λ f.
         option_map (λ xs. take turn items ++ xs)
-        (option_and_then (λ x. option_map (λ xs. x ∷ xs) (in_turn (len - (turn + 1)) pairs (without (members len left) x))) f)) e)
+        (option_and_then (λ x. option_map (λ xs. x ∷ xs) (greedy_order (len - (turn + 1)) pairs (without (members len left) x)))
+        f)) e)
 
     -- where no candidate is found, no item is free, so there is no order
     pub Searching-none : IsFound len predecessors left narrow None → lowest_order len pairs ≡ None
-    Searching-none none = one_turn None (find_none (has left) (is_free pairs (members len left)) 0 len
+    Searching-none none = one_turn None (find_none (has left) (is_minimal pairs (members len left)) 0 len
         (λ k lk there. free_is_apart k (omega arith) ∙ waits_still k (omega arith) there (none k (omega arith))))
 
     -- where a candidate is found, it is the lowest free item, and the turn takes it
@@ -220,34 +225,39 @@ module _ {pairs : List (ℕ × ℕ)} {len : ℕ} {predecessors reach neighbours 
       there = so.inside item (omega (arith, found.0, few)) (narrowed.kept item (omega (arith, found.0, few)) found.1)
 
       so_far_next : lowest_order len pairs
-          ≡ option_map (λ xs. take (turn + 1) (set items turn item) ++ xs) (in_turn (len - (turn + 1)) pairs (members len next))
+          ≡ option_map (λ xs. take (turn + 1) (set items turn item) ++ xs)
+          (greedy_order (len - (turn + 1)) pairs (members len next))
       so_far_next =
           one_turn (Some item)
-          (find_lowest (has left) (is_free pairs (members len left)) 0 len item (omega arith) (omega (arith, found.0)) there
+          (find_lowest (has left) (is_minimal pairs (members len left)) 0 len item (omega arith) (omega (arith, found.0)) there
           (free_is_apart item found.0 ∙ found.2)
           (λ k lk e. free_is_apart k (omega (arith, lk, found.0)) ∙ waits_still k (omega (arith, lk, found.0)) e (found.3 k lk)))
           ∙ (pushed (take turn items) item (take (turn + 1) (set items turn item))
-          (in_turn (len - (turn + 1)) pairs (without (members len left) item))
+          (greedy_order (len - (turn + 1)) pairs (without (members len left) item))
           (take_more_set items turn item (omega (arith, room, l, few)))
-          ∙ ap (λ xs. option_map (λ ys. take (turn + 1) (set items turn item) ++ ys) (in_turn (len - (turn + 1)) pairs xs))
+          ∙ ap (λ xs. option_map (λ ys. take (turn + 1) (set items turn item) ++ ys) (greedy_order (len - (turn + 1)) pairs xs))
           (sym (filter-without (has left) (has next) item 0 len there (λ k a b. cleared k (omega (arith, b, few))))))
 
       -- one that is no neighbour of the item that was taken waits as it did
-      waits_on : (k : ℕ) → k < len → Waits predecessors left k → leads_by neighbours item k ≡ false → Waits predecessors next k
+      waits_on : (k : ℕ)
+          → k < len
+          → IsBlocked predecessors left k
+          → reaches_in neighbours item k ≡ false
+          → IsBlocked predecessors next k
       waits_on k lk w away =
-          false_from_ne_true (apart (get_or predecessors k 0) next)
+          false_from_ne_true (are_disjoint (get_or predecessors k 0) next)
           (λ e.
-          both_ways (apart (get_or predecessors k 0) left) w
+          both_ways (are_disjoint (get_or predecessors k 0) left) w
           (eq-eqb _ 0 (none_both (get_or predecessors k 0) left fits (λ j lj hr hl. elim (cases_eq j item) [
             | inl q ↦
                 (let c = joins_gives pairs j k (sym (d.are k j lk lj) ∙ hr) in
-                both_ways (leads_by neighbours item k) away
-                (rw (← q) (All-contains (λ p. leads_by neighbours p.0 p.1 ≡ true) pairs (j, k) d.into c)))
+                both_ways (reaches_in neighbours item k) away
+                (rw (← q) (All-contains (λ p. reaches_in neighbours p.0 p.1 ≡ true) pairs (j, k) d.into c)))
             | inr ne ↦ not_both (get_or predecessors k 0) next j (eqb-true _ 0 e) hr (grind (arith, nat_tests, cleared j lj))
           ]))))
 
       pub Searching-more : (more : ℕ)
-          → ((k : ℕ) → k < most_items → has more k ≡ ((has narrow k || leads_by neighbours item k) && has next k))
+          → ((k : ℕ) → k < most_items → has more k ≡ ((has narrow k || reaches_in neighbours item k) && has next k))
           → Searching pairs len predecessors reach (set items turn item) next more (turn + 1)
       Searching-more more says = record {
         so_far = so_far_next;
@@ -261,7 +271,7 @@ module _ {pairs : List (ℕ × ℕ)} {len : ℕ} {predecessors reach neighbours 
             let there' : has left i ≡ true = grind arith in
             let (m, walk) = (d.closes.walks i j li lj).0 r in
             let other : j ≡ item → ⊥ = λ q.
-            both_ways (apart (get_or predecessors item 0) left)
+            both_ways (are_disjoint (get_or predecessors item 0) left)
             (waits_behind m i item li (subst (Walk pairs m i) q walk) there' (λ e. absurd (grind (arith, nat_tests)))) found.2 in
             let still = so.closed i j li lj there' r in
             grind (arith, nat_tests, cleared j (omega (arith, lj, few))));
@@ -270,10 +280,10 @@ module _ {pairs : List (ℕ × ℕ)} {len : ℕ} {predecessors reach neighbours 
 -- the predecessors' sets of one list of pairs, with the pairs of a second list added, are those of both
 pub sets_with : (n : ℕ) (first second : List ℕ) (xs ys : List (ℕ × ℕ))
     → ArePredecessors n xs first
-    → ((i j : ℕ) → i < n → j < most_items → has (get_or second i 0) j ≡ (has (get_or first i 0) j || joins ys j i))
+    → ((i j : ℕ) → i < n → j < most_items → has (get_or second i 0) j ≡ (has (get_or first i 0) j || has_edge ys j i))
     → ArePredecessors n (xs ++ ys) second
 sets_with n first second xs ys are more i j li lj =
-    more i j li lj ∙ (ap (λ x. x || joins ys j i) (are i j li lj) ∙ sym (list_any-append (λ p. eqb p.0 j && eqb p.1 i) xs ys))
+    more i j li lj ∙ (ap (λ x. x || has_edge ys j i) (are i j li lj) ∙ sym (list_any-append (λ p. eqb p.0 j && eqb p.1 i) xs ys))
 
 -- empty sets are the predecessors' sets of no pairs
 pub no_sets : (none : List ℕ) → ((i : ℕ) → i < most_items → get_or none i 0 ≡ 0) → ArePredecessors most_items [] none

@@ -2,7 +2,8 @@
 use Rattle.lw_orders.proofs.Common.{most_items, ℕ, zero, suc, ◌≡◌, ◌<◌, ◌≤◌, List, sym, ◌∙◌, inl, inr, ◌⊎◌}
 use Rattle.lw_orders.proofs.Common.{arith, or_left, or_right, and_parts, ne_eqb, eq-eqb, refl, true, false}
 use Rattle.lw_orders.proofs.Common.{not, ◌&&◌, ◌||◌, eqb, Decides, cases_eq, or_cases, nat_tests}
-use Rattle.lw_orders.proofs.Common.{All-contains, GoUp, Walk, has, joins, leads_by, IsReachedFrom}
+use Rattle.lw_orders.proofs.Common.{All-contains, AreAscending, Walk, has, has_edge, reaches_in}
+use Rattle.lw_orders.proofs.Common.{IsReachedFrom}
 use Rattle.lw_orders.proofs.Walks.{joins_gives, joins_from}
 
 -- What holds in the loop that finds what an item reaches: `set` has what is found so far. Of the item's steps (those to which a
@@ -13,12 +14,12 @@ pub record IsReaching (item len steps : ℕ) (sets : List ℕ) (set left next : 
       → k < len
       → j < most_items
       → has steps k ≡ true
-      → leads_by sets k j ≡ true
+      → reaches_in sets k j ≡ true
       → (has left k ≡ true) ⊎ (has set j ≡ true)
   pub nothing_else : (j : ℕ)
       → j < most_items
       → has set j ≡ true
-      → (item ≡ j) ⊎ ((k : ℕ) × (k < len) × (has steps k ≡ true) × (leads_by sets k j ≡ true))
+      → (item ≡ j) ⊎ ((k : ℕ) × (k < len) × (has steps k ≡ true) × (reaches_in sets k j ≡ true))
   pub within : (k : ℕ) → k < most_items → has left k ≡ true → has steps k ≡ true
   pub below : (k : ℕ) → k < next → has left k ≡ false
   pub lowest : next < most_items → has left next ≡ true
@@ -51,7 +52,7 @@ module _ {item len steps : ℕ} {sets : List ℕ} {set left next : ℕ} (few : l
   }
 
   module _ (more rest further : ℕ) (more_is : next < len)
-      (join : (k : ℕ) → k < most_items → has more k ≡ (has set k || leads_by sets next k))
+      (join : (k : ℕ) → k < most_items → has more k ≡ (has set k || reaches_in sets next k))
       (drop_next : (k : ℕ) → k < most_items → has rest k ≡ (not (eqb k next) && has left k))
       (below : (k : ℕ) → k < further → has rest k ≡ false) (lowest : further < most_items → has rest further ≡ true) where
     -- when the step `next` is taken, and its set joined to what is found, this holds of the steps that are left
@@ -65,7 +66,7 @@ module _ {item len steps : ℕ} {sets : List ℕ} {set left next : ℕ} (few : l
         ]
         | inr h ↦ inr (join j lj ∙ or_left _ _ h)
       ];
-      nothing_else = λ j lj e. elim (or_cases (has set j) (leads_by sets next j) (sym (join j lj) ∙ e)) [
+      nothing_else = λ j lj e. elim (or_cases (has set j) (reaches_in sets next j) (sym (join j lj) ∙ e)) [
         | inl h ↦ r.nothing_else j lj h
         | inr h ↦ inr (next, more_is, r.within next (omega (arith, more_is, few)) (r.lowest (omega (arith, more_is, few))), h)
       ];
@@ -80,13 +81,13 @@ module _ {item len steps : ℕ} {sets : List ℕ} {set left next : ℕ} (few : l
 
 -- the set that is found for an item has exactly those to which a walk leads from it, if the sets of the items above it are so
 pub set_of_steps : {item len set_of steps : ℕ} {sets : List ℕ} (fixed : List (ℕ × ℕ))
-    → GoUp len fixed
+    → AreAscending len fixed
     → len ≤ most_items
-    → ((k : ℕ) → k < most_items → has steps k ≡ joins fixed item k)
+    → ((k : ℕ) → k < most_items → has steps k ≡ has_edge fixed item k)
     → IsReachedFrom item len steps sets set_of
     → (j : ℕ)
     → j < len
-    → ((k : ℕ) → item < k → k < len → Decides (leads_by sets k j) ((m : ℕ) × Walk fixed m k j))
+    → ((k : ℕ) → item < k → k < len → Decides (reaches_in sets k j) ((m : ℕ) × Walk fixed m k j))
     → Decides (has set_of j) ((m : ℕ) × Walk fixed m item j)
 set_of_steps {item = item} {len = len} {set_of = set_of} fixed up few says r j lj above = (
   λ e. elim (r.nothing_else j (omega (arith, lj, few)) e) [

@@ -3,25 +3,25 @@ use Rattle.lw_orders.proofs.Common.{most_items, ℕ, ◌≡◌, ◌+◌, ◌<◌
 use Rattle.lw_orders.proofs.Common.{get_or, get_or_append_left, ap, sym, ◌∙◌, refl, inl, inr, arith, true}
 use Rattle.lw_orders.proofs.Common.{false, not, ◌&&◌, ◌||◌, length-set, filter, get_or-set_same}
 use Rattle.lw_orders.proofs.Common.{get_or-set_other, cases_eq, same_from_decides, All-head, All-tail}
-use Rattle.lw_orders.proofs.Common.{Constraints, IsWellFormed, GoUp, is_decided, open_pairs, has, leads_by}
-use Rattle.lw_orders.proofs.Common.{Reaches}
+use Rattle.lw_orders.proofs.Common.{Constraints, IsWellFormed, AreAscending, is_ordered, unordered_conflicts}
+use Rattle.lw_orders.proofs.Common.{has, reaches_in, Reaches}
 use Rattle.lw_orders.proofs.Walks.{decided_walk, walk_decided}
 
 -- the conflicts that the sets of the closure do not decide are the open ones
 pub open_is : (t : Constraints)
     → IsWellFormed t
     → (sets : List ℕ)
-    → Reaches t.len t.fixed (leads_by sets)
-    → filter (λ p. not (leads_by sets p.0 p.1)) t.conflicts ≡ open_pairs t
+    → Reaches t.len t.fixed (reaches_in sets)
+    → filter (λ p. not (reaches_in sets p.0 p.1)) t.conflicts ≡ unordered_conflicts t
 open_is t are sets walks = kept t.conflicts are.conflicts_up
   where
     kept : (ps : List (ℕ × ℕ))
-        → GoUp t.len ps
-        → filter (λ p. not (leads_by sets p.0 p.1)) ps ≡ filter (λ p. not (is_decided t.fixed p)) ps
+        → AreAscending t.len ps
+        → filter (λ p. not (reaches_in sets p.0 p.1)) ps ≡ filter (λ p. not (is_ordered t.fixed p)) ps
     kept [] up = refl
     kept (p ∷ ps) up =
         let (a, b) = All-head (λ p. (p.0 < p.1) × (p.1 < t.len)) p ps up in
-        let same : leads_by sets p.0 p.1 ≡ is_decided t.fixed p =
+        let same : reaches_in sets p.0 p.1 ≡ is_ordered t.fixed p =
         same_from_decides _ _ (walks p.0 p.1 (omega (arith, a, b)) b)
         (decided_walk t.fixed p, walk_decided t.len t.fixed p are.fixed_up) in
         let rest = kept ps (All-tail (λ p. (p.0 < p.1) × (p.1 < t.len)) p ps up) in
@@ -55,14 +55,14 @@ module _ (xs front back : List (List ℕ)) (level : ℕ) (e : xs ≡ front ++ ba
       → ((i j : ℕ)
       → i < len
       → j < len
-      → leads_by more i j
-      ≡ (leads_by (get_or front level []) i j
-      || (leads_by (get_or front level []) i from && leads_by (get_or front level []) to j)))
+      → reaches_in more i j
+      ≡ (reaches_in (get_or front level []) i j
+      || (reaches_in (get_or front level []) i from && reaches_in (get_or front level []) to j)))
       → (i j : ℕ)
       → i < len
       → j < len
-      → leads_by (get_or (front ++ set back 0 more) (level + 1) []) i j
-      ≡ (leads_by (get_or xs level []) i j || (leads_by (get_or xs level []) i from && leads_by (get_or xs level []) to j))
+      → reaches_in (get_or (front ++ set back 0 more) (level + 1) []) i j
+      ≡ (reaches_in (get_or xs level []) i j || (reaches_in (get_or xs level []) i from && reaches_in (get_or xs level []) to j))
   grown_behind from to more some grown i j li lj = rw (← long, read_behind front back some, ← read_in_front) (grown i j li lj)
     where
       read_behind : (front back : List (List ℕ)) → 0 < length back → get_or (front ++ set back 0 more) (length front) [] ≡ more
@@ -78,14 +78,14 @@ pub record IsGrowing (sets more : List ℕ) (len from to item : ℕ) : Type 0 wh
   pub grown : (i j : ℕ)
       → i < item
       → j < len
-      → leads_by more i j ≡ (leads_by sets i j || (leads_by sets i from && leads_by sets to j))
+      → reaches_in more i j ≡ (reaches_in sets i j || (reaches_in sets i from && reaches_in sets to j))
 
 module _ {sets more : List ℕ} {len from to item : ℕ} (few : len ≤ most_items) (l : item < len)
     (is : IsGrowing sets more len from to item) where
   -- where an item reaches the new pair's first, its set is joined with that of the second
   pub joined_set : (set' : ℕ)
-      → ((j : ℕ) → j < most_items → has set' j ≡ (leads_by sets item j || leads_by sets to j))
-      → leads_by sets item from ≡ true
+      → ((j : ℕ) → j < most_items → has set' j ≡ (reaches_in sets item j || reaches_in sets to j))
+      → reaches_in sets item from ≡ true
       → IsGrowing sets (set more item set') len from to (item + 1)
   joined_set set' joined on = record {
     room = length-set more item set' ∙ is.room;
@@ -97,7 +97,7 @@ module _ {sets more : List ℕ} {len from to item : ℕ} (few : len ≤ most_ite
   }
 
   -- where an item does not reach the new pair's first, its set stays as it is
-  pub kept_set : leads_by sets item from ≡ false → IsGrowing sets more len from to (item + 1)
+  pub kept_set : reaches_in sets item from ≡ false → IsGrowing sets more len from to (item + 1)
   kept_set off = record {
     room = is.room;
     kept = λ i past li. is.kept i (omega arith) li;

@@ -2,7 +2,7 @@
 
 ghost use Rattle.std.specs.Prelude.{◌≡◌, ℕ, ◌^◌, ◌<◌, ◌≤◌, ◌==◌, ◌&&◌, ◌||◌, false, true, not, nat_lt};
 ghost use Rattle.lw_orders.specs.Limits.{most_items};
-ghost use Rattle.lw_orders.specs.inner.Sets.{has, apart};
+ghost use Rattle.lw_orders.specs.inner.Sets.{has, are_disjoint};
 
 use crate::item_set::ItemSet;
 
@@ -49,6 +49,6 @@ pub(crate) trait ItemBits: Copy {
             → has (number result) k ≡ ((has (number self) k || has set k) && has (number others) k) };
 
     /// Whether the other set has none of its items.
-    fn is_apart(self, set: ItemSet) -> bool
-        ensures { result ≡ apart set (number self) };
+    fn is_disjoint(self, set: ItemSet) -> bool
+        ensures { result ≡ are_disjoint set (number self) };
 }

@@ -24,6 +24,7 @@
 //! It names std alone.
 #![tactic(auto)]
 
+mod adjacency;
 mod greedy;
 mod item_bits;
 mod item_set;
@@ -31,7 +32,6 @@ mod items;
 mod laws;
 mod limits;
 mod low_items;
-mod neighbours;
 mod order;
 mod orders;
 mod reach;

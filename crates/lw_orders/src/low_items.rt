@@ -6,9 +6,9 @@ use std::marker::Model;
 
 /// A set of items below 64, each a bit of a number.
 #[derive(Clone, Copy)]
-pub(crate) struct LowItems(u64);
+pub(crate) struct SmallItemSet(u64);
 
-impl Model for LowItems {
+impl Model for SmallItemSet {
     ghost use Rattle.std.specs.Prelude.{ℕ, ◌<◌, ◌^◌};
 
     ghost Value = { ℕ };
@@ -20,7 +20,7 @@ impl Model for LowItems {
     ghost inverse = { λ n. record { 0 = n } };
 }
 
-impl ItemBits for LowItems {
+impl ItemBits for SmallItemSet {
     ghost number = { λ s. s };
 
     ghost WIDTH = { 64 };
@@ -30,15 +30,15 @@ impl ItemBits for LowItems {
     /// The items below a number, all of them where it is the width.
     fn below(len: usize) -> Self {
         if len == Self::WIDTH {
-            LowItems(u64::MAX)
+            SmallItemSet(u64::MAX)
         } else {
-            LowItems((1 << len) - 1)
+            SmallItemSet((1 << len) - 1)
         }
     }
 
     /// The set of one item, its bit alone.
     fn only(item: usize) -> Self {
-        LowItems(1 << item)
+        SmallItemSet(1 << item)
     }
 
     /// The lowest item, by the zeros below its bit.
@@ -48,21 +48,21 @@ impl ItemBits for LowItems {
 
     /// The set without an item, its bit cleared.
     fn without(self, item: usize) -> Self {
-        LowItems(self.0 & !(1 << item))
+        SmallItemSet(self.0 & !(1 << item))
     }
 
     /// The items of this set that are not among the other's low ones.
     fn without_all(self, set: ItemSet) -> Self {
-        LowItems(self.0 & !set.low())
+        SmallItemSet(self.0 & !set.low())
     }
 
     /// The items of this set and of the other's low ones, as far as they are in a third.
     fn with_all_among(self, set: ItemSet, others: Self) -> Self {
-        LowItems((self.0 | set.low()) & others.0)
+        SmallItemSet((self.0 | set.low()) & others.0)
     }
 
     /// Whether the other set's low items are none of its own.
-    fn is_apart(self, set: ItemSet) -> bool {
+    fn is_disjoint(self, set: ItemSet) -> bool {
         set.low() & self.0 == 0
     }
 }

@@ -33,32 +33,34 @@ pub use Rattle.std.specs.Int.{from_bool}
 pub use Rattle.std.specs.List.{AllByRecursion, dedup, dedup_from, range_with_len}
 pub use Rattle.std.specs.Ordering.{ordering_reverse, ordering_then}
 pub use lib.Pointwise.{pointwise}
-pub use Rattle.lw_base.proofs.Common.{And, Bytes, Final, Formula, IsEvent, IsOutcomeOf, IsSeen, NameTable}
-pub use Rattle.lw_base.proofs.Common.{Not, Or, Reg_is, SpeaksOf, TestHead, Word_is, all_registers}
-pub use Rattle.lw_base.proofs.Common.{condition_text, formula_of, head_of, joined, locations, most_threads}
-pub use Rattle.lw_base.proofs.Common.{register_name, same_seen, schedule_text, thread_registers}
+pub use Rattle.lw_base.proofs.Common.{And, Bytes, FinalState, Formula, HasOutcomeShape, IsEvent}
+pub use Rattle.lw_base.proofs.Common.{IsSeenInRange, MentionsOnly, NameTable, Not, Or, Reg_is, TestHead}
+pub use Rattle.lw_base.proofs.Common.{Word_is, all_registers, condition_text, formula_of, head_of, joined}
+pub use Rattle.lw_base.proofs.Common.{locations, most_threads, register_name, schedule_text, seen_eq}
+pub use Rattle.lw_base.proofs.Common.{thread_registers}
 pub use Rattle.lw_base.proofs.api.Elements.{all_filter}
-pub use Rattle.lw_base.proofs.api.ListedAgain.{has_left, has_location, has_register, has_right, has_seen}
-pub use Rattle.lw_base.proofs.api.ListedAgain.{same_seen_is, same_seen_itself}
-pub use Rattle.lw_base.proofs.api.Members.{Contains-cons, Contains-here, Contains-there, none_in}
+pub use Rattle.lw_base.proofs.api.Members.{Contains-cons, Contains-head, Contains-tail, not-Contains-nil}
 pub use Rattle.lw_base.proofs.api.SeenLists.{all_seen}
+pub use Rattle.lw_base.proofs.api.SeenMembership.{has_left, has_location, has_register, has_right, has_seen}
+pub use Rattle.lw_base.proofs.api.SeenMembership.{same_seen_is, same_seen_itself}
 pub use Rattle.lw_base.proofs.api.Writing.{both_written, items_all, items_more, pushed, then_written}
 pub use Rattle.lw_base.proofs.api.Writing.{written_as}
 pub use Rattle.lw_base.specs.declared.event.Event.{Event}
 pub use Rattle.lw_base.specs.declared.head.Quant.TheVariants.{Exists, Forall, NotExists}
 pub use Rattle.lw_base.specs.declared.head.Seen.{Seen}
 pub use Rattle.lw_base.specs.declared.head.Seen.TheVariants.{Location, Register}
-pub use Rattle.lw_listing.specs.Listings.{ListedOutcomes, outcomes_of, schedules_of}
-pub use Rattle.lw_report.specs.Judgement.{MeansOfAll, negative, positive, verdict_of}
-pub use Rattle.lw_report.specs.Observed.{is_named, is_observed, observed, projected}
+pub use Rattle.lw_outcome_map.specs.Listings.{OutcomeEntries, outcomes_of, schedules_of}
+pub use Rattle.lw_report.specs.Judgement.{OkMeans, negative, positive, verdict_of}
+pub use Rattle.lw_report.specs.Observed.{is_named, is_observed, observed, observed_words}
 pub use Rattle.lw_report.specs.Reports.{IsReport, IsScheduleList, claim_line, count_line, judgement_lines}
 pub use Rattle.lw_report.specs.Reports.{kind_text, observation_line, observation_text, report_text}
 pub use Rattle.lw_report.specs.Reports.{schedule_list_text, scheduled, scheduled_lines, state_line}
 pub use Rattle.lw_report.specs.Reports.{title_line, verdict_text, word_text}
-pub use Rattle.lw_report.specs.States.{AreListedStates, AreStatesOf, IsSmallestOf, ListedState, Shown}
-pub use Rattle.lw_report.specs.States.{ShowsFirst, shown, shown_of}
+pub use Rattle.lw_report.specs.States.{AreListedStates, AreStatesOf, IsFirstWithWords, IsSmallestOf}
+pub use Rattle.lw_report.specs.States.{ListedState, ProjectedState, project_state, projection_of}
 pub use Rattle.lw_report.specs.Truth.{final_word, is_true}
 pub use Rattle.lw_report.specs.declared.judgement.Claim.{Claim}
 pub use Rattle.lw_report.specs.declared.judgement.Claim.TheVariants.{Exact}
-pub use Rattle.lw_report.specs.inner.Gathered.{AreFirstStates, AreStatesOfFirst, Shows, state_at, state_cmp}
 pub use Rattle.lw_report.specs.inner.Labels.{gap, label, labelled_word, labelled_words, labels, schedule_line}
+pub use Rattle.lw_report.specs.inner.UnsortedStates.{AreFirstStates, AreStatesOfFirst, Shows, state_at}
+pub use Rattle.lw_report.specs.inner.UnsortedStates.{state_cmp}

@@ -2,7 +2,7 @@
 use Rattle.lw_report.proofs.Common.{◌≡◌, ℕ, suc, ◌+◌, ◌-◌, ◌<◌, ◌≤◌, Bool, true, false, List, [], ◌∷◌, length}
 use Rattle.lw_report.proofs.Common.{map, take, get_or, refl, sym, ap, ◌∙◌, cond, arith, filter, take_all}
 use Rattle.lw_report.proofs.Common.{from_bool, length-map, length-filter_both, length-filter_more, positive}
-use Rattle.lw_report.proofs.Common.{negative, Shown, ListedState, shown_of}
+use Rattle.lw_report.proofs.Common.{negative, ProjectedState, ListedState, projection_of}
 
 -- a truth value counts as one at most
 pub one_at_most : (b : Bool) (n : ℕ) → n ≡ from_bool b → n ≤ 1
@@ -29,12 +29,14 @@ counted_more {s} {n} states k lt is is_b before added =
     ∙ sym (length-filter_more (λ (t : ListedState). t.holds) states k s lt)
 
 -- of listed states, and of what a report shows of them, as many make the proposition true
-counted : (states : List ListedState) → length (filter (λ (s : ListedState). s.holds) states) ≡ positive (map shown_of states)
+counted : (states : List ListedState)
+    → length (filter (λ (s : ListedState). s.holds) states) ≡ positive (map projection_of states)
 counted [] = refl
 counted (s ∷ states) =
     elim s.holds as (λ b.
     length (cond b (s ∷ filter (λ t. t.holds) states) (filter (λ t. t.holds) states))
-    ≡ length (cond b (shown_of s ∷ filter (λ t. t.holds) (map shown_of states)) (filter (λ t. t.holds) (map shown_of states)))) [
+    ≡ length (cond b (projection_of s ∷ filter (λ t. t.holds) (map projection_of states))
+    (filter (λ t. t.holds) (map projection_of states)))) [
       | true ↦ ap (λ (n : ℕ). suc n) (counted states)
       | false ↦ counted states
     ]
@@ -43,14 +45,14 @@ counted (s ∷ states) =
 pub shown_counted : (states : List ListedState) (k count : ℕ)
     → length states ≤ k
     → count ≡ length (filter (λ (t : ListedState). t.holds) (take k states))
-    → count ≡ positive (map shown_of states)
+    → count ≡ positive (map projection_of states)
 shown_counted states k count le is =
     is ∙ ap (λ l. length (filter (λ (t : ListedState). t.holds) l)) (take_all k states le) ∙ counted states
 
 -- where so many states make the proposition true, the others are as many as do not
 pub others_counted : (states : List ListedState) (count : ℕ)
-    → count ≡ positive (map shown_of states)
-    → length states - count ≡ negative (map shown_of states)
+    → count ≡ positive (map projection_of states)
+    → length states - count ≡ negative (map projection_of states)
 others_counted states count is =
-    let both = length-filter_both (λ (s : Shown). s.holds) _ (λ s. refl) (map shown_of states) in
-    omega (arith, is, both, length-map states shown_of)
+    let both = length-filter_both (λ (s : ProjectedState). s.holds) _ (λ s. refl) (map projection_of states) in
+    omega (arith, is, both, length-map states projection_of)

@@ -8,7 +8,7 @@ use Rattle.lw_report.proofs.Common.{register_name, condition_text, TestHead, joi
 use Rattle.lw_report.proofs.Common.{gap, label, labels, labelled_word, labelled_words, positive, negative}
 use Rattle.lw_report.proofs.Common.{verdict_of, kind_text, verdict_text, word_text, state_line, title_line}
 use Rattle.lw_report.proofs.Common.{count_line, observation_line, claim_line, judgement_lines, report_text}
-use Rattle.lw_report.proofs.Common.{Claim, observed, Shown, ListedState, shown_of}
+use Rattle.lw_report.proofs.Common.{Claim, observed, ProjectedState, ListedState, projection_of}
 
 -- a label and its word are the text of the name with its word
 label_told : (head : TestHead) (before : Bytes) (s : Seen) (w : ℕ)
@@ -189,7 +189,7 @@ judgement_told head claim p q verdict condition is_verdict is_condition = rw (is
 -- the lines of states that are listed are those of what is shown of them
 pub lines_shown : (head : TestHead) (states : List ListedState)
     → flat_map (λ (s : ListedState). state_line head s.words) states
-    ≡ flat_map (λ (s : Shown). state_line head s.words) (map shown_of states)
+    ≡ flat_map (λ (s : ProjectedState). state_line head s.words) (map projection_of states)
 lines_shown head [] = refl
 lines_shown head (s ∷ states) = ap (λ t. state_line head s.words ++ t) (lines_shown head states)
 
@@ -206,20 +206,20 @@ pub record ReportParts (head : TestHead) (claim : Claim) (states : List ListedSt
   pub lined : lines ≡ title ++ flat_map (λ (s : ListedState). state_line head s.words) states
   pub ended : end ≡ lines ++ judgement_lines head claim p q
   pub is_count : count ≡ length states
-  pub is_positive : p ≡ positive (map shown_of states)
-  pub is_negative : q ≡ negative (map shown_of states)
+  pub is_positive : p ≡ positive (map projection_of states)
+  pub is_negative : q ≡ negative (map projection_of states)
 
 -- the parts of a report, one behind the other, are the report
 pub report_written : (head : TestHead) (claim : Claim) (states : List ListedState) (end : Bytes)
     → ReportParts head claim states end
-    → end ≡ report_text head claim (map shown_of states)
+    → end ≡ report_text head claim (map projection_of states)
 report_written head claim states end parts =
-    let shown = map shown_of states in
+    let shown = map projection_of states in
     let begun =
     parts.titled
     ∙ ap (λ t. t ++ (title_line head ++ count_line parts.count)) parts.none
-    ∙ ap (λ (m : ℕ). title_line head ++ count_line m) (parts.is_count ∙ sym (length-map states shown_of)) in
-    let all : Bytes = flat_map (λ (s : Shown). state_line head s.words) shown in
+    ∙ ap (λ (m : ℕ). title_line head ++ count_line m) (parts.is_count ∙ sym (length-map states projection_of)) in
+    let all : Bytes = flat_map (λ (s : ProjectedState). state_line head s.words) shown in
     let told : parts.lines ≡ title_line head ++ (count_line (length shown) ++ all) =
     parts.lined
     ∙ ap (λ t. parts.title ++ t) (lines_shown head states)

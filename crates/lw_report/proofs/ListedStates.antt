@@ -5,27 +5,28 @@ use Rattle.lw_report.proofs.Common.{IsPermutation, AllPairs, nat_cmp, Less, slic
 use Rattle.lw_report.proofs.Common.{length-map, All-push, All-contains, All-get_or, Contains-append_left}
 use Rattle.lw_report.proofs.Common.{Contains-push, Contains-get_or, All-permutation, Contains-permutation}
 use Rattle.lw_report.proofs.Common.{same_Some, slice_get_within, slice_get-get_or, get_or_from_slice_get}
-use Rattle.lw_report.proofs.Common.{TestHead, Final, IsOutcomeOf, SpeaksOf, ListedOutcomes, outcomes_of}
-use Rattle.lw_report.proofs.Common.{state_at, Shows, AreStatesOfFirst, AreFirstStates, projected, Shown}
-use Rattle.lw_report.proofs.Common.{ListedState, shown, shown_of, ShowsFirst, AreListedStates, is_true}
+use Rattle.lw_report.proofs.Common.{TestHead, FinalState, HasOutcomeShape, MentionsOnly, OutcomeEntries}
+use Rattle.lw_report.proofs.Common.{outcomes_of, state_at, Shows, AreStatesOfFirst, AreFirstStates}
+use Rattle.lw_report.proofs.Common.{observed_words, ProjectedState, ListedState, project_state, projection_of}
+use Rattle.lw_report.proofs.Common.{IsFirstWithWords, AreListedStates, is_true}
 use Rattle.lw_report.proofs.Truths.{words_agree}
 
 -- ---- the outcomes of entries
 
 -- where all outcomes of a listing have the test's threads and locations, so has the one at an index
-pub outcome_of_entry : (head : TestHead) (entries : ListedOutcomes) (k : ℕ) (o : Final)
-    → All (IsOutcomeOf head.threads (length head.locs)) (outcomes_of entries)
+pub outcome_of_entry : (head : TestHead) (entries : OutcomeEntries) (k : ℕ) (o : FinalState)
+    → All (HasOutcomeShape head.threads (length head.locs)) (outcomes_of entries)
     → slice_get (outcomes_of entries) k ≡ Some o
-    → IsOutcomeOf head.threads (length head.locs) o
+    → HasOutcomeShape head.threads (length head.locs) o
 outcome_of_entry head entries k o each at =
-    let P : Final → Type 0 = IsOutcomeOf head.threads (length head.locs) in
+    let P : FinalState → Type 0 = HasOutcomeShape head.threads (length head.locs) in
     subst P (get_or_from_slice_get _ k o o at) (All-get_or P _ k o (slice_get_within _ k o at) each)
 
 -- ---- one for each
 
-module _ (head : TestHead) (outcomes : List Final) where
+module _ (head : TestHead) (outcomes : List FinalState) where
   -- where the states of the first `count` outcomes were gathered, and then that of the next, those of one outcome more were
-  pub states_more : (count : ℕ) (states after : List ListedState) (o : Final)
+  pub states_more : (count : ℕ) (states after : List ListedState) (o : FinalState)
       → AreStatesOfFirst head outcomes count states
       → slice_get outcomes count ≡ Some o
       → after ≡ states ++ state_at head count o ∷ []
@@ -38,7 +39,7 @@ module _ (head : TestHead) (outcomes : List Final) where
       x : ListedState
       x = state_at head count o
 
-      found : (i : ℕ) (p : Final)
+      found : (i : ℕ) (p : FinalState)
           → i < count + 1
           → slice_get outcomes i ≡ Some p
           → Contains (states ++ state_at head count o ∷ []) (state_at head i p)
@@ -65,49 +66,54 @@ module _ (head : TestHead) (outcomes : List Final) where
 
 module _ (states : List ListedState) where
   -- what is shown of a state in the list is in the list of what is shown
-  shown_there : (s : ListedState) → Contains states s → Contains (map shown_of states) (shown_of s)
+  shown_there : (s : ListedState) → Contains states s → Contains (map projection_of states) (projection_of s)
   shown_there s h =
-      let within : h.0 < length (map shown_of states) = omega (arith, h.1, length-map states shown_of) in
-      (h.0, within, get_or-map shown_of states h.0 s (shown_of s) h.1 ∙ ap shown_of h.2)
+      let within : h.0 < length (map projection_of states) = omega (arith, h.1, length-map states projection_of) in
+      (h.0, within, get_or-map projection_of states h.0 s (projection_of s) h.1 ∙ ap projection_of h.2)
 
   -- what is in the list of what is shown is shown of a state in the list
-  there_of_shown : (s : Shown) → Contains (map shown_of states) s → (t : ListedState) × Contains states t × (shown_of t ≡ s)
+  there_of_shown : (s : ProjectedState)
+      → Contains (map projection_of states) s
+      → (t : ListedState) × Contains states t × (projection_of t ≡ s)
   there_of_shown s h =
       let d : ListedState = record { words = s.words; entry = 0; holds = s.holds } in
-      let within : h.0 < length states = omega (arith, h.1, length-map states shown_of) in
+      let within : h.0 < length states = omega (arith, h.1, length-map states projection_of) in
       (get_or states h.0 d, Contains-get_or _ h.0 d within, sym (get_or-map _ states h.0 d s within) ∙ h.2)
 
   -- where states are sorted by their words, so is what is shown of them
   shown_in_order : AllPairs (λ (first later : ListedState). slice_cmp nat_cmp first.words later.words ≡ Less) states
-      → AllPairs (λ (first later : Shown). slice_cmp nat_cmp first.words later.words ≡ Less) (map shown_of states)
+      → AllPairs (λ (first later : ProjectedState). slice_cmp nat_cmp first.words later.words ≡ Less) (map projection_of states)
   shown_in_order up i j d less lt =
       let e : ListedState = record { words = d.words; entry = 0; holds = d.holds } in
-      let within : j < length states = omega (arith, lt, length-map states shown_of) in
-      rw (get_or-map shown_of states i e d (omega (arith, less, within)), get_or-map shown_of states j e d within)
+      let within : j < length states = omega (arith, lt, length-map states projection_of) in
+      rw (get_or-map projection_of states i e d (omega (arith, less, within)), get_or-map projection_of states j e d within)
       (up i j e less within)
 
 -- ---- the first of each
 
-module _ (head : TestHead) (outcomes : List Final) (all states : List ListedState)
-    (speaks : SpeaksOf head.threads (length head.locs) head.condition)
+module _ (head : TestHead) (outcomes : List FinalState) (all states : List ListedState)
+    (speaks : MentionsOnly head.threads (length head.locs) head.condition)
     (are : AreStatesOfFirst head outcomes (length outcomes) all) (firsts : AreFirstStates all states) where
   -- what each outcome shows is shown of one of the first states
-  each_there : (o : Final) → Contains outcomes o → Contains (map shown_of states) (shown head o)
+  each_there : (o : FinalState) → Contains outcomes o → Contains (map projection_of states) (project_state head o)
   each_there o h =
       let at : slice_get outcomes h.0 ≡ Some o = slice_get-get_or outcomes h.0 o h.1 ∙ ap Some h.2 in
       let found = firsts.each (state_at head h.0 o) (are.each h.0 o h.1 at) in
       let s : ListedState = found.0 in
       let from : Shows head outcomes s =
       All-contains (Shows head outcomes) all s are.shows (All-contains (λ t. Contains all t) states s firsts.among found.1) in
-      let words : projected head from.outcome ≡ projected head o = ap (λ (t : Shown). t.words) from.shows ∙ found.2 in
+      let words : observed_words head from.outcome ≡ observed_words head o =
+      ap (λ (t : ProjectedState). t.words) from.shows ∙ found.2 in
       let truth : is_true head.condition from.outcome ≡ is_true head.condition o = words_agree head from.outcome o speaks words in
-      let same : shown head from.outcome ≡ shown head o = cc in
-      subst (Contains (map shown_of states)) (sym from.shows ∙ same) (shown_there states s found.1)
+      let same : project_state head from.outcome ≡ project_state head o = cc in
+      subst (Contains (map projection_of states)) (sym from.shows ∙ same) (shown_there states s found.1)
 
   shows_of : (s : ListedState) → Contains states s → Shows head outcomes s
   shows_of s h = All-contains (Shows head outcomes) all s are.shows (All-contains (λ t. Contains all t) states s firsts.among h)
 
-  from_outcome : (s : Shown) → Contains (map shown_of states) s → (o : Final) × Contains outcomes o × (shown head o ≡ s)
+  from_outcome : (s : ProjectedState)
+      → Contains (map projection_of states) s
+      → (o : FinalState) × Contains outcomes o × (project_state head o ≡ s)
   from_outcome s h =
       let found = there_of_shown states s h in
       let from : Shows head outcomes found.0 = shows_of found.0 found.1 in (
@@ -120,7 +126,7 @@ module _ (head : TestHead) (outcomes : List Final) (all states : List ListedStat
         from.shows ∙ found.2,
       )
 
-  shows_first : All (ShowsFirst head outcomes) states
+  shows_first : All (IsFirstWithWords head outcomes) states
   shows_first k d lt =
       let s : ListedState = get_or states k d in
       let from : Shows head outcomes s = shows_of s (Contains-get_or states k d lt) in
@@ -138,7 +144,7 @@ module _ (head : TestHead) (outcomes : List Final) (all states : List ListedStat
   listed_states = record {
     are = record {
       sorted = shown_in_order states firsts.sorted;
-      exactly = λ s. (from_outcome s, λ o. subst (Contains (map shown_of states)) o.2 (each_there o.0 o.1));
+      exactly = λ s. (from_outcome s, λ o. subst (Contains (map projection_of states)) o.2 (each_there o.0 o.1));
     };
     entries = shows_first;
   }

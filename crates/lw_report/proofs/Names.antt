@@ -5,14 +5,16 @@ use Rattle.lw_report.proofs.Common.{take, get_or, sym, ap, ◌∙◌, append_ass
 use Rattle.lw_report.proofs.Common.{get_or-take, arith, flat_map, All, filter, append-nil, take_all}
 use Rattle.lw_report.proofs.Common.{range_with_len, map-append, take_more, All-from_recursion, All-same}
 use Rattle.lw_report.proofs.Common.{filter-append, get_or-range_with_len, map-range_with_len_more, TestHead}
-use Rattle.lw_report.proofs.Common.{most_threads, IsSeen, Seen, thread_registers, all_registers, locations}
-use Rattle.lw_report.proofs.Common.{all_filter, all_seen, is_observed, observed}
+use Rattle.lw_report.proofs.Common.{most_threads, IsSeenInRange, Seen, thread_registers, all_registers}
+use Rattle.lw_report.proofs.Common.{locations, all_filter, all_seen, is_observed, observed}
 
 -- each observed name is a register or a location of the test
-pub all_there : (head : TestHead) (names : List Seen) → names ≡ observed head → All (IsSeen head.threads (length head.locs)) names
+pub all_there : (head : TestHead) (names : List Seen)
+    → names ≡ observed head
+    → All (IsSeenInRange head.threads (length head.locs)) names
 all_there head names e =
     let seen : List Seen = all_registers head.threads ++ locations (length head.locs) in
-    All-same (IsSeen head.threads (length head.locs)) names (observed head) e
+    All-same (IsSeenInRange head.threads (length head.locs)) names (observed head) e
     (All-from_recursion _ (observed head) (all_filter _ (is_observed head) seen (all_seen head.threads (length head.locs))))
 
 -- ---- the observed names, as they are put one behind another

@@ -3,21 +3,21 @@ use Rattle.lw_report.proofs.Common.{◌≡◌, ℕ, ◌<◌, Some, List, [], ◌
 use Rattle.lw_report.proofs.Common.{ap, ◌∙◌, append_assoc, subst, codes, arith, All, slice_index_or, flat_map}
 use Rattle.lw_report.proofs.Common.{decimal, AllByRecursion, length-map, All-weaker, All-get_or}
 use Rattle.lw_report.proofs.Common.{length-keys_of, slice_get_within, get_or_from_slice_get, Bytes, NameTable}
-use Rattle.lw_report.proofs.Common.{TestHead, IsEvent, schedule_text, Event, ListedOutcomes, outcomes_of}
+use Rattle.lw_report.proofs.Common.{TestHead, IsEvent, schedule_text, Event, OutcomeEntries, outcomes_of}
 use Rattle.lw_report.proofs.Common.{schedules_of, labels, labelled_words, schedule_line, observed, scheduled}
-use Rattle.lw_report.proofs.Common.{scheduled_lines, count_line, schedule_list_text, ListedState, ShowsFirst}
-use Rattle.lw_report.proofs.Common.{AreListedStates}
+use Rattle.lw_report.proofs.Common.{scheduled_lines, count_line, schedule_list_text, ListedState}
+use Rattle.lw_report.proofs.Common.{IsFirstWithWords, AreListedStates}
 use Rattle.lw_report.proofs.Lines.{line_told}
 
 -- the index of the outcome that a state shows first is below the length of the listing
-entry_within : (head : TestHead) (entries : ListedOutcomes) (s : ListedState)
-    → ShowsFirst head (outcomes_of entries) s
+entry_within : (head : TestHead) (entries : OutcomeEntries) (s : ListedState)
+    → IsFirstWithWords head (outcomes_of entries) s
     → s.entry < length entries
 entry_within head entries s first =
     omega (arith, slice_get_within (outcomes_of entries) s.entry first.outcome first.at, length-keys_of entries)
 
 -- the indices of the outcomes that states show first are all below the length of the listing
-pub entries_within : (head : TestHead) (entries : ListedOutcomes) (states : List ListedState)
+pub entries_within : (head : TestHead) (entries : OutcomeEntries) (states : List ListedState)
     → AreListedStates head (outcomes_of entries) states
     → All (λ (s : ListedState). s.entry < length entries) states
 entries_within head entries states are = All-weaker _ _ (λ s. entry_within head entries s) states are.entries
@@ -32,7 +32,7 @@ state_within len states k s all lt is =
     subst (λ (t : ListedState). t.entry < len) (sym is) (All-get_or (λ (t : ListedState). t.entry < len) states k s lt all)
 
 -- where all schedules of a listing speak of the test's locations, so does the one at an index
-pub schedule_there : (head : TestHead) (entries : ListedOutcomes) (k : ℕ) (events : List Event)
+pub schedule_there : (head : TestHead) (entries : OutcomeEntries) (k : ℕ) (events : List Event)
     → All (AllByRecursion (IsEvent head.locs)) (schedules_of entries)
     → slice_get (schedules_of entries) k ≡ Some events
     → AllByRecursion (IsEvent head.locs) events

@@ -3,10 +3,11 @@
 use Rattle.lw_report.proofs.Common.{◌≡◌, ℕ, ◌⊎◌, inl, inr, Bool, true, false, List, [], ◌∷◌, ◌++◌, length}
 use Rattle.lw_report.proofs.Common.{map, ◌||◌, refl, sym, ap, ◌∙◌, subst, filter, not, ◌==◌, ◌&&◌}
 use Rattle.lw_report.proofs.Common.{slice_index, slice_index_or, true≢false, cases_Bool, or_cases, or_right}
-use Rattle.lw_report.proofs.Common.{Formula, Reg_is, Word_is, Not, And, Or, TestHead, Final, SpeaksOf, Seen}
-use Rattle.lw_report.proofs.Common.{Register, Location, same_seen, all_registers, locations, has_seen}
-use Rattle.lw_report.proofs.Common.{same_seen_is, same_seen_itself, has_left, has_right, has_register}
-use Rattle.lw_report.proofs.Common.{has_location, is_named, is_observed, projected, final_word, is_true}
+use Rattle.lw_report.proofs.Common.{Formula, Reg_is, Word_is, Not, And, Or, TestHead, FinalState}
+use Rattle.lw_report.proofs.Common.{MentionsOnly, Seen, Register, Location, seen_eq, all_registers, locations}
+use Rattle.lw_report.proofs.Common.{has_seen, same_seen_is, same_seen_itself, has_left, has_right}
+use Rattle.lw_report.proofs.Common.{has_register, has_location, is_named, is_observed, observed_words}
+use Rattle.lw_report.proofs.Common.{final_word, is_true}
 
 -- where two functions of names give the same words for all names that pass a test, they agree at each of these names
 same_word : (f g : Seen → ℕ) (p : Seen → Bool) (us : List Seen) (s : Seen)
@@ -15,10 +16,10 @@ same_word : (f g : Seen → ℕ) (p : Seen → Bool) (us : List Seen) (s : Seen)
     → p s ≡ true
     → f s ≡ g s
 same_word f g p [] s e h k = absurd cc
-same_word f g p (u ∷ us) s e h k = go (cases_Bool (p u)) (or_cases (same_seen u s) (has_seen us s) h) (same_word f g p us s)
+same_word f g p (u ∷ us) s e h k = go (cases_Bool (p u)) (or_cases (seen_eq u s) (has_seen us s) h) (same_word f g p us s)
   where
     go : (p u ≡ true) ⊎ (p u ≡ false)
-        → (same_seen u s ≡ true) ⊎ (has_seen us s ≡ true)
+        → (seen_eq u s ≡ true) ⊎ (has_seen us s ≡ true)
         → (map f (filter p us) ≡ map g (filter p us) → has_seen us s ≡ true → p s ≡ true → f s ≡ g s)
         → f s ≡ g s
     go (inl t) (inl same) rest =
@@ -34,9 +35,9 @@ same_word f g p (u ∷ us) s e h k = go (cases_Bool (p u)) (or_cases (same_seen 
         absurd cc
     go (inr t) (inr there) rest = let later = rw t at e in rest later there k
 
-module _ (threads locs : ℕ) (o p : Final) where
+module _ (threads locs : ℕ) (o p : FinalState) where
   same_truth : (phi : Formula)
-      → SpeaksOf threads locs phi
+      → MentionsOnly threads locs phi
       → ((s : Seen)
       → has_seen (all_registers threads ++ locations locs) s ≡ true
       → is_named phi s ≡ true
@@ -61,9 +62,9 @@ module _ (threads locs : ℕ) (o p : Final) where
   same_truth _ speaks same = refl
 
 -- outcomes with the same words of the observed names make the proposition true alike
-pub words_agree : (head : TestHead) (o p : Final)
-    → SpeaksOf head.threads (length head.locs) head.condition
-    → projected head o ≡ projected head p
+pub words_agree : (head : TestHead) (o p : FinalState)
+    → MentionsOnly head.threads (length head.locs) head.condition
+    → observed_words head o ≡ observed_words head p
     → is_true head.condition o ≡ is_true head.condition p
 words_agree head o p speaks e = same_truth head.threads (length head.locs) o p head.condition speaks (λ s h k.
     same_word (final_word o) (final_word p) (is_observed head) (all_registers head.threads ++ locations (length head.locs)) s e h
@@ -94,7 +95,7 @@ and_left_is false true q e h = absurd (true≢false (sym h))
 and_left_is true p q e h = absurd (true≢false e)
 
 -- whether a register has this word, as the proposition asks it
-pub register_is : {regs : List (List ℕ)} {i j t r : ℕ} (o : Final) (n : ℕ)
+pub register_is : {regs : List (List ℕ)} {i j t r : ℕ} (o : FinalState) (n : ℕ)
     → regs ≡ o.regs
     → i ≡ t
     → j ≡ r
@@ -102,7 +103,7 @@ pub register_is : {regs : List (List ℕ)} {i j t r : ℕ} (o : Final) (n : ℕ)
 register_is o n are is_thread is_register = rw (are, is_thread, is_register) refl
 
 -- whether a location has this word, as the proposition asks it
-pub location_is : {words : List ℕ} {i x : ℕ} (o : Final) (n : ℕ)
+pub location_is : {words : List ℕ} {i x : ℕ} (o : FinalState) (n : ℕ)
     → words ≡ o.words
     → i ≡ x
     → (slice_index words i == n) ≡ is_true (Word_is x n) o

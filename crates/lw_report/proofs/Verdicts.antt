@@ -1,9 +1,9 @@
 -- What the numbers of states say of all outcomes.
 use Rattle.lw_report.proofs.Common.{not-true, ◌↔◌, ◌≡◌, ℕ, suc, ◌⊎◌, inl, inr, Bool, true, false, List, []}
 use Rattle.lw_report.proofs.Common.{◌∷◌, length, refl, sym, ap, ◌∙◌, arith, filter, not, ◌==◌, Contains}
-use Rattle.lw_report.proofs.Common.{eqb-true, cases_Bool, TestHead, Final, positive, negative, MeansOfAll}
-use Rattle.lw_report.proofs.Common.{verdict_of, Shown, shown, Exists, NotExists, Forall, Exact, AreStatesOf}
-use Rattle.lw_report.proofs.Common.{is_true, Contains-here, Contains-there, Contains-cons}
+use Rattle.lw_report.proofs.Common.{eqb-true, cases_Bool, TestHead, FinalState, positive, negative, OkMeans}
+use Rattle.lw_report.proofs.Common.{verdict_of, ProjectedState, project_state, Exists, NotExists, Forall}
+use Rattle.lw_report.proofs.Common.{Exact, AreStatesOf, is_true, Contains-head, Contains-tail, Contains-cons}
 use Rattle.lw_report.specs.declared.judgement.Verdict.TheVariants as verdict
 
 -- Of what a set has, nothing passes a test.
@@ -30,24 +30,26 @@ filter_decides {X} p (x ∷ xs) = go (cases_Bool (p x)) (filter_decides p xs)
     go : (p x ≡ true) ⊎ (p x ≡ false)
         → TellsIfAny (Contains xs) p (length (filter p xs))
         → TellsIfAny (Contains (x ∷ xs)) p (length (filter p (x ∷ xs)))
-    go (inl t) rest = inr (rw t (not_zero (length (filter p xs))), (x, Contains-here x x xs refl, t))
+    go (inl t) rest = inr (rw t (not_zero (length (filter p xs))), (x, Contains-head x x xs refl, t))
     go (inr t) (inl nothing) =
         inl (rw t nothing.0, λ y h. elim (Contains-cons x y xs h) [ inl e ↦ ap p (sym e) ∙ t | inr k ↦ nothing.1 y k ])
-    go (inr t) (inr some) = inr (rw t some.0, (some.1.0, Contains-there x some.1.0 xs some.1.1, some.1.2))
+    go (inr t) (inr some) = inr (rw t some.0, (some.1.0, Contains-tail x some.1.0 xs some.1.1, some.1.2))
 
 -- how many states of a set of outcomes pass a test tells whether any outcome does
-counted : (head : TestHead) (Has : Final → Type 0) (states : List Shown)
+counted : (head : TestHead) (Has : FinalState → Type 0) (states : List ProjectedState)
     → AreStatesOf head Has states
     → (p : Bool → Bool)
-    → TellsIfAny Has (λ o. p (is_true head.condition o)) (length (filter (λ (s : Shown). p s.holds) states))
-counted head Has states are p = go (filter_decides (λ (s : Shown). p s.holds) states)
+    → TellsIfAny Has (λ o. p (is_true head.condition o)) (length (filter (λ (s : ProjectedState). p s.holds) states))
+counted head Has states are p = go (filter_decides (λ (s : ProjectedState). p s.holds) states)
   where
-    go : TellsIfAny (Contains states) (λ (s : Shown). p s.holds) (length (filter (λ (s : Shown). p s.holds) states))
-        → TellsIfAny Has (λ o. p (is_true head.condition o)) (length (filter (λ (s : Shown). p s.holds) states))
-    go (inl nothing) = inl (nothing.0, λ o h. nothing.1 (shown head o) ((are.exactly (shown head o)).1 (o, h, refl)))
+    go : TellsIfAny (Contains states) (λ (s : ProjectedState). p s.holds)
+        (length (filter (λ (s : ProjectedState). p s.holds) states))
+        → TellsIfAny Has (λ o. p (is_true head.condition o)) (length (filter (λ (s : ProjectedState). p s.holds) states))
+    go (inl nothing) =
+        inl (nothing.0, λ o h. nothing.1 (project_state head o) ((are.exactly (project_state head o)).1 (o, h, refl)))
     go (inr some) =
         let (o, has, is) = (are.exactly some.1.0).0 some.1.1 in
-        inr (some.0, (o, has, ap (λ (s : Shown). p s.holds) is ∙ some.1.2))
+        inr (some.0, (o, has, ap (λ (s : ProjectedState). p s.holds) is ∙ some.1.2))
 
 -- what is not false is true
 not_false : (b : Bool) → not b ≡ false → b ≡ true
@@ -55,7 +57,7 @@ not_false true e = refl
 not_false false e = absurd cc
 
 -- What an `Ok` says, where the states are all: p of them make the proposition true, and q do not.
-module _ {Has : Final → Type 0} {holds : Final → Bool} (p q : ℕ) where
+module _ {Has : FinalState → Type 0} {holds : FinalState → Bool} (p q : ℕ) where
   not_both : NonePasses Has holds → SomePasses Has holds → ⊥
   not_both none (o, has, is) = let f = none o has in cc
 
@@ -71,7 +73,7 @@ module _ {Has : Final → Type 0} {holds : Final → Bool} (p q : ℕ) where
 
   -- `forall`: each does
   all_pass : TellsIfAny Has (λ o. not (holds o)) q
-      → verdict_of Exact Forall p q ≡ verdict.Ok ↔ ((o : Final) → Has o → holds o ≡ true)
+      → verdict_of Exact Forall p q ≡ verdict.Ok ↔ ((o : FinalState) → Has o → holds o ≡ true)
   all_pass (inl none) = rw none.0 (λ e o has. not_false (holds o) (none.1 o has), λ _. refl)
   all_pass (inr (counted, (o, has, is))) = rw counted (
     λ e. absurd cc,
@@ -82,9 +84,9 @@ module _ {Has : Final → Type 0} {holds : Final → Bool} (p q : ℕ) where
   )
 
 -- what an `Ok` says of all outcomes, by the numbers of all their states
-pub means_of_all : (head : TestHead) (Has : Final → Type 0) (states : List Shown)
+pub means_of_all : (head : TestHead) (Has : FinalState → Type 0) (states : List ProjectedState)
     → AreStatesOf head Has states
-    → MeansOfAll head Has (positive states) (negative states)
+    → OkMeans head Has (positive states) (negative states)
 means_of_all head Has states are =
     let true_ones = counted head Has states are (λ b. b) in
     record {

@@ -3,8 +3,8 @@ use Rattle.std.specs.Prelude.{◌≡◌, ◌↔◌, ℕ, true, false, not, ◌==
 use Rattle.lw_base.specs.declared.head.Quant.{Quant}
 use Rattle.lw_base.specs.declared.head.Quant.TheVariants.{Exists, NotExists, Forall}
 use Rattle.lw_base.specs.Heads.{TestHead}
-use Rattle.lw_base.specs.Outcomes.{Final}
-use Rattle.lw_report.specs.States.{Shown}
+use Rattle.lw_base.specs.Outcomes.{FinalState}
+use Rattle.lw_report.specs.States.{ProjectedState}
 use Rattle.lw_report.specs.Truth.{is_true}
 use Rattle.lw_report.specs.declared.judgement.Claim.{Claim}
 use Rattle.lw_report.specs.declared.judgement.Claim.TheVariants.{Exact, Listed}
@@ -13,11 +13,11 @@ use Rattle.lw_report.specs.declared.judgement.Verdict.TheVariants as verdict
 use Rattle.lw_report.specs.declared.judgement.Observation.{Observation}
 use Rattle.lw_report.specs.declared.judgement.Observation.TheVariants as seen
 
-abbrev pub positive : List Shown → ℕ  -- the states that make the proposition true
-positive states = length (filter (λ (s : Shown). s.holds) states)
+abbrev pub positive : List ProjectedState → ℕ  -- the states that make the proposition true
+positive states = length (filter (λ (s : ProjectedState). s.holds) states)
 
-abbrev pub negative : List Shown → ℕ  -- the states that do not make the proposition true
-negative states = length (filter (λ (s : Shown). not s.holds) states)
+abbrev pub negative : List ProjectedState → ℕ  -- the states that do not make the proposition true
+negative states = length (filter (λ (s : ProjectedState). not s.holds) states)
 
 -- Whether the condition is met. Where the states are all, one that makes the proposition true meets `exists` and breaks
 -- `~exists`, and one that does not breaks `forall`. Where there may be others, only such a state decides.
@@ -35,7 +35,7 @@ observation_of Exact p q = if p == 0 then seen.Never else if q == 0 then seen.Al
 observation_of Listed p q = if p == 0 then seen.Unknown else if q == 0 then seen.Unknown else seen.Sometimes
 
 -- What an `Ok` says of all outcomes of a set, of whose states p make the proposition true and q do not.
-pub record MeansOfAll (head : TestHead) (Has : Final → Type 0) (p q : ℕ) : Type 0 where
-  pub exists_some : verdict_of Exact Exists p q ≡ verdict.Ok ↔ ((o : Final) × Has o × (is_true head.condition o ≡ true))
-  pub exists_none : verdict_of Exact NotExists p q ≡ verdict.Ok ↔ ((o : Final) → Has o → is_true head.condition o ≡ false)
-  pub all : verdict_of Exact Forall p q ≡ verdict.Ok ↔ ((o : Final) → Has o → is_true head.condition o ≡ true)
+pub record OkMeans (head : TestHead) (Has : FinalState → Type 0) (p q : ℕ) : Type 0 where
+  pub exists_some : verdict_of Exact Exists p q ≡ verdict.Ok ↔ ((o : FinalState) × Has o × (is_true head.condition o ≡ true))
+  pub exists_none : verdict_of Exact NotExists p q ≡ verdict.Ok ↔ ((o : FinalState) → Has o → is_true head.condition o ≡ false)
+  pub all : verdict_of Exact Forall p q ≡ verdict.Ok ↔ ((o : FinalState) → Has o → is_true head.condition o ≡ true)

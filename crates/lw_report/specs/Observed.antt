@@ -3,26 +3,26 @@ use Rattle.std.specs.Prelude.{ℕ, Bool, false, ◌||◌, List, ◌++◌, length
 use Rattle.std.specs.List.{list_any}
 use Rattle.lw_base.specs.Formula.{Formula, Yes, No, Reg_is, Word_is, Not, And, Or}
 use Rattle.lw_base.specs.Heads.{TestHead}
-use Rattle.lw_base.specs.Outcomes.{Final}
+use Rattle.lw_base.specs.Outcomes.{FinalState}
 use Rattle.lw_base.specs.declared.head.Seen.{Seen}
 use Rattle.lw_base.specs.declared.head.Seen.TheVariants.{Register, Location}
-use Rattle.lw_base.specs.SeenLists.{same_seen, all_registers, locations}
+use Rattle.lw_base.specs.SeenLists.{seen_eq, all_registers, locations}
 use Rattle.lw_report.specs.Truth.{final_word}
 
 abbrev pub is_named : Formula → Seen → Bool  -- whether a proposition names a register or a location
 is_named Yes s = false
 is_named No s = false
-is_named (Reg_is t r n) s = same_seen (Register t r) s
-is_named (Word_is x n) s = same_seen (Location x) s
+is_named (Reg_is t r n) s = seen_eq (Register t r) s
+is_named (Word_is x n) s = seen_eq (Location x) s
 is_named (Not p) s = is_named p s
 is_named (And p q) s = is_named p s || is_named q s
 is_named (Or p q) s = is_named p s || is_named q s
 
 abbrev pub is_observed : TestHead → Seen → Bool  -- whether a register or a location is in the condition, or is listed
-is_observed head s = is_named head.condition s || list_any (λ l. same_seen l s) head.listed
+is_observed head s = is_named head.condition s || list_any (λ l. seen_eq l s) head.listed
 
 abbrev pub observed : TestHead → List Seen  -- the observed names: registers by thread and index, then locations by index
 observed head = filter (is_observed head) (all_registers head.threads ++ locations (length head.locs))
 
-abbrev pub projected : TestHead → Final → List ℕ  -- an outcome's words of the observed names
-projected head o = map (final_word o) (observed head)
+abbrev pub observed_words : TestHead → FinalState → List ℕ  -- an outcome's words of the observed names
+observed_words head o = map (final_word o) (observed head)

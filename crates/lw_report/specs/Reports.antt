@@ -6,7 +6,7 @@ use Rattle.std.specs.Fmt.{decimal}
 use Rattle.lw_base.specs.Types.{Bytes}
 use Rattle.lw_base.specs.ConditionTexts.{site_text, assignment, condition_text}
 use Rattle.lw_base.specs.Heads.{TestHead}
-use Rattle.lw_base.specs.Outcomes.{Final}
+use Rattle.lw_base.specs.Outcomes.{FinalState}
 use Rattle.lw_base.specs.Schedules.{schedule_text}
 use Rattle.lw_base.specs.Texts.{joined}
 use Rattle.lw_base.specs.declared.event.Event.{Event}
@@ -15,7 +15,7 @@ use Rattle.lw_base.specs.declared.head.Quant.TheVariants.{Exists, NotExists, For
 use Rattle.lw_base.specs.declared.head.Seen.{Seen}
 use Rattle.lw_report.specs.Judgement.{positive, negative, verdict_of, observation_of}
 use Rattle.lw_report.specs.Observed.{observed}
-use Rattle.lw_report.specs.States.{Shown, AreStatesOf, IsSmallestOf, ListedState, shown_of}
+use Rattle.lw_report.specs.States.{ProjectedState, AreStatesOf, IsSmallestOf, ListedState, projection_of}
 use Rattle.lw_report.specs.declared.judgement.Claim.{Claim}
 use Rattle.lw_report.specs.declared.judgement.Claim.TheVariants.{Exact, Listed}
 use Rattle.lw_report.specs.declared.judgement.Verdict.{Verdict}
@@ -82,36 +82,36 @@ judgement_lines head claim p q =
     ++ (condition_line head
     ++ (observation_line head claim p q ++ claim_line claim)))
 
-abbrev pub report_text : TestHead → Claim → List Shown → Bytes  -- a whole report
+abbrev pub report_text : TestHead → Claim → List ProjectedState → Bytes  -- a whole report
 report_text head claim states =
     title_line head
     ++ (count_line (length states)
-    ++ (flat_map (λ (s : Shown). state_line head s.words) states
+    ++ (flat_map (λ (s : ProjectedState). state_line head s.words) states
     ++ judgement_lines head claim (positive states) (negative states)))
 
-pub record IsReport (head : TestHead) (Has : Final → Type 0) (claim : Claim) (text : Bytes) : Type 0 where  -- The report of a set of outcomes.
-  pub states : List Shown
+pub record IsReport (head : TestHead) (Has : FinalState → Type 0) (claim : Claim) (text : Bytes) : Type 0 where  -- The report of a set of outcomes.
+  pub states : List ProjectedState
   pub are : AreStatesOf head Has states
   pub is : text ≡ report_text head claim states
 
 -- ---- the list of schedules
 
-abbrev pub scheduled_lines : TestHead → (Shown × List Event) → Bytes  -- a state's line, and behind a space its schedule
+abbrev pub scheduled_lines : TestHead → (ProjectedState × List Event) → Bytes  -- a state's line, and behind a space its schedule
 scheduled_lines head s = state_line head s.0.words ++ (codes " " ++ (schedule_text head.locs s.1 ++ codes "\n"))
 
 -- the whole list: the test's name, how many states there are, and the lines of each
-abbrev pub schedule_list_text : TestHead → List (Shown × List Event) → Bytes
+abbrev pub schedule_list_text : TestHead → List (ProjectedState × List Event) → Bytes
 schedule_list_text head states =
     codes "Test " ++ (head.name ++ (codes "\n" ++ (count_line (length states) ++ flat_map (scheduled_lines head) states)))
 
 -- a listed state as it is shown, with the schedule at its index among those of all outcomes
-abbrev pub scheduled : List (List Event) → ListedState → Shown × List Event
-scheduled schedules s = (shown_of s, slice_index_or schedules s.entry [])
+abbrev pub scheduled : List (List Event) → ListedState → ProjectedState × List Event
+scheduled schedules s = (projection_of s, slice_index_or schedules s.entry [])
 
 -- The list of the states of a set of outcomes, each with a schedule that leads to the smallest outcome that shows it.
 pub record IsScheduleList
-    (head : TestHead) (Has : Final → Type 0) (Leads : List Event → Final → Type 0) (text : Bytes) : Type 0 where
-  pub states : List (Shown × List Event)
+    (head : TestHead) (Has : FinalState → Type 0) (Leads : List Event → FinalState → Type 0) (text : Bytes) : Type 0 where
+  pub states : List (ProjectedState × List Event)
   pub are : AreStatesOf head Has (map (λ s. s.0) states)
-  pub lead : All (λ s. (o : Final) × IsSmallestOf head Has s.0.words o × Leads s.1 o) states
+  pub lead : All (λ s. (o : FinalState) × IsSmallestOf head Has s.0.words o × Leads s.1 o) states
   pub is : text ≡ schedule_list_text head states

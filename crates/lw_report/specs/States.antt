@@ -5,29 +5,29 @@ use Rattle.std.specs.Cmp.Lexicographic.{slice_cmp}
 use Rattle.std.specs.Ordering.{nat_cmp}
 use Rattle.std.specs.declared.cmp.Ordering.TheVariants.{Less}
 use Rattle.lw_base.specs.Heads.{TestHead}
-use Rattle.lw_base.specs.Outcomes.{Final, final_cmp}
+use Rattle.lw_base.specs.Outcomes.{FinalState, final_state_cmp}
 use Rattle.lw_report.specs.Truth.{is_true}
-use Rattle.lw_report.specs.Observed.{projected}
+use Rattle.lw_report.specs.Observed.{observed_words}
 
 -- what a report shows of an outcome: its words of the observed names, and whether the test's proposition is true in it
-pub record Shown : Type 0 where
+pub record ProjectedState : Type 0 where
   pub words : List ℕ
   pub holds : Bool
 
 -- what a report shows of an outcome of the test
-abbrev pub shown : TestHead → Final → Shown
-shown head o = record { words = projected head o; holds = is_true head.condition o }
+abbrev pub project_state : TestHead → FinalState → ProjectedState
+project_state head o = record { words = observed_words head o; holds = is_true head.condition o }
 
 -- The states of a set of outcomes: what is shown of each, sorted by the words, and no words twice.
-pub record AreStatesOf (head : TestHead) (Has : Final → Type 0) (states : List Shown) : Type 0 where
-  pub sorted : AllPairs (λ (first : Shown) (later : Shown). slice_cmp nat_cmp first.words later.words ≡ Less) states
-  pub exactly : (s : Shown) → Contains states s ↔ ((o : Final) × Has o × (shown head o ≡ s))
+pub record AreStatesOf (head : TestHead) (Has : FinalState → Type 0) (states : List ProjectedState) : Type 0 where
+  pub sorted : AllPairs (λ (first : ProjectedState) (later : ProjectedState). slice_cmp nat_cmp first.words later.words ≡ Less) states
+  pub exactly : (s : ProjectedState) → Contains states s ↔ ((o : FinalState) × Has o × (project_state head o ≡ s))
 
 -- Of the outcomes of a set that have these words, this is the smallest.
-pub record IsSmallestOf (head : TestHead) (Has : Final → Type 0) (words : List ℕ) (o : Final) : Type 0 where
+pub record IsSmallestOf (head : TestHead) (Has : FinalState → Type 0) (words : List ℕ) (o : FinalState) : Type 0 where
   pub has : Has o
-  pub shows : projected head o ≡ words
-  pub least : (other : Final) → Has other → projected head other ≡ words → (o ≡ other) ⊎ (final_cmp o other ≡ Less)
+  pub shows : observed_words head o ≡ words
+  pub least : (other : FinalState) → Has other → observed_words head other ≡ words → (o ≡ other) ⊎ (final_state_cmp o other ≡ Less)
 
 -- ---- the states of a list of outcomes
 
@@ -38,17 +38,17 @@ pub record ListedState : Type 0 where
   pub holds : Bool
 
 -- what a report shows of a state that is listed
-abbrev pub shown_of : ListedState → Shown
-shown_of s = record { words = s.words; holds = s.holds }
+abbrev pub projection_of : ListedState → ProjectedState
+projection_of s = record { words = s.words; holds = s.holds }
 
 -- The outcome at the state's index shows it, and none before that has its words.
-pub record ShowsFirst (head : TestHead) (outcomes : List Final) (s : ListedState) : Type 0 where
-  pub outcome : Final
+pub record IsFirstWithWords (head : TestHead) (outcomes : List FinalState) (s : ListedState) : Type 0 where
+  pub outcome : FinalState
   pub at : slice_get outcomes s.entry ≡ Some outcome
-  pub shows : shown head outcome ≡ shown_of s
-  pub first : (i : ℕ) (o : Final) → i < s.entry → slice_get outcomes i ≡ Some o → projected head o ≢ s.words
+  pub shows : project_state head outcome ≡ projection_of s
+  pub first : (i : ℕ) (o : FinalState) → i < s.entry → slice_get outcomes i ≡ Some o → observed_words head o ≢ s.words
 
 -- The states of the outcomes that are listed, each with the index of the first that shows it.
-pub record AreListedStates (head : TestHead) (outcomes : List Final) (states : List ListedState) : Type 0 where
-  pub are : AreStatesOf head (Contains outcomes) (map shown_of states)
-  pub entries : All (ShowsFirst head outcomes) states
+pub record AreListedStates (head : TestHead) (outcomes : List FinalState) (states : List ListedState) : Type 0 where
+  pub are : AreStatesOf head (Contains outcomes) (map projection_of states)
+  pub entries : All (IsFirstWithWords head outcomes) states

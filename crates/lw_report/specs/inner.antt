@@ -1,3 +1,3 @@
 -- What serves the code's own writers of lines: no public call cites it.
-pub mod Gathered
+pub mod UnsortedStates
 pub mod Labels

@@ -3,41 +3,41 @@
 ghost use Rattle.std.specs.Prelude.{◌≡◌, ◌↔◌, List, length};
 ghost use Rattle.lw_base.specs.Types.{Bytes};
 ghost use Rattle.lw_base.specs.Heads.{TestHead};
-ghost use Rattle.lw_base.specs.Outcomes.{Final};
-ghost use Rattle.lw_base.specs.WellFormed.{SpeaksOf};
-ghost use Rattle.lw_report.specs.Judgement.{positive, negative, MeansOfAll};
-ghost use Rattle.lw_report.specs.Observed.{projected};
+ghost use Rattle.lw_base.specs.Outcomes.{FinalState};
+ghost use Rattle.lw_base.specs.WellFormed.{MentionsOnly};
+ghost use Rattle.lw_report.specs.Judgement.{positive, negative, OkMeans};
+ghost use Rattle.lw_report.specs.Observed.{observed_words};
 ghost use Rattle.lw_report.specs.Reports.{IsReport};
-ghost use Rattle.lw_report.specs.States.{Shown, AreStatesOf};
+ghost use Rattle.lw_report.specs.States.{ProjectedState, AreStatesOf};
 ghost use Rattle.lw_report.specs.Truth.{is_true};
 ghost use Rattle.lw_report.specs.declared.judgement.Claim.{Claim};
 
 /// A set of outcomes, as a type.
 pub trait OutcomeSet {
-    ghost use Rattle.lw_base.specs.Outcomes.{Final};
+    ghost use Rattle.lw_base.specs.Outcomes.{FinalState};
 
     /// Which outcomes it has.
-    ghost has: { Final → Type 0 };
+    ghost has: { FinalState → Type 0 };
 }
 
 /// Outcomes with the same words of the observed names agree on the test's proposition.
 pub fn same_words_agree()
-    ensures { (head : TestHead) (o p : Final) → SpeaksOf head.threads (length head.locs) head.condition
-        → projected head o ≡ projected head p → is_true head.condition o ≡ is_true head.condition p }
+    ensures { (head : TestHead) (o p : FinalState) → MentionsOnly head.threads (length head.locs) head.condition
+        → observed_words head o ≡ observed_words head p → is_true head.condition o ≡ is_true head.condition p }
 {}
 
 /// The states, and with them their numbers, the verdict and the report, depend on the set of outcomes alone: where two sets have
 /// the same outcomes, they have the same states and the same report.
 pub fn a_set_has_one_report<S: OutcomeSet, T: OutcomeSet>()
-    ensures states { (head : TestHead) (states others : List Shown) → ((o : Final) → S.has o ↔ T.has o)
+    ensures states { (head : TestHead) (states others : List ProjectedState) → ((o : FinalState) → S.has o ↔ T.has o)
         → AreStatesOf head S.has states → AreStatesOf head T.has others → states ≡ others }
-    ensures report { (head : TestHead) (claim : Claim) (text other : Bytes) → ((o : Final) → S.has o ↔ T.has o)
+    ensures report { (head : TestHead) (claim : Claim) (text other : Bytes) → ((o : FinalState) → S.has o ↔ T.has o)
         → IsReport head S.has claim text → IsReport head T.has claim other → text ≡ other }
 {}
 
 /// Where states are those of all outcomes of a set, an `Ok` means for `exists` that some outcome makes the proposition true, for
 /// `~exists` that none does, and for `forall` that all do.
 pub fn exact_verdicts_are_of_all_outcomes<S: OutcomeSet>()
-    ensures { (head : TestHead) (states : List Shown) → AreStatesOf head S.has states
-        → MeansOfAll head S.has (positive states) (negative states) }
+    ensures { (head : TestHead) (states : List ProjectedState) → AreStatesOf head S.has states
+        → OkMeans head S.has (positive states) (negative states) }
 {}

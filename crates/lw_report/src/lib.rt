@@ -2,7 +2,7 @@
 //! its condition, the report, and the list of schedules. The texts are functions of the set of outcomes; `specs/Reports.antt`
 //! says which.
 //!
-//! It names lw_base, and lw_listing for the list of outcomes.
+//! It names lw_base, and lw_outcome_map for the list of outcomes.
 #![tactic(auto)]
 
 mod judgement;

@@ -4,7 +4,7 @@ ghost use Rattle.std.specs.Fmt.{decimal};
 ghost use Rattle.std.specs.String.{string_bytes};
 ghost use Rattle.lw_base.specs.Heads.{head_of};
 ghost use Rattle.lw_base.specs.Limits.{most_threads};
-ghost use Rattle.lw_base.specs.WellFormed.{IsSeen};
+ghost use Rattle.lw_base.specs.WellFormed.{IsSeenInRange};
 ghost use Rattle.lw_report.specs.inner.Labels.{label, labels, labelled_words};
 ghost use Rattle.lw_report.specs.Observed as specs;
 
@@ -35,7 +35,7 @@ fn labels_of<A: Allocator + Copy>(
     head: &Head<A>,
     names: &[Seen],
 ) -> Result<Labels<A>, AllocError>
-    requires { All (IsSeen head.now.threads (length head.now.locs)) names.now }
+    requires { All (IsSeenInRange head.now.threads (length head.now.locs)) names.now }
     ensures { IfOk result (λ texts. texts ≡ labels (head_of head.now) names.now) }
 {
     let mut texts = Sequence::new(alloc);
@@ -54,7 +54,7 @@ fn label_of<A: Allocator>(
     before: &str,
     name: Seen,
 ) -> Result<Text<A>, AllocError>
-    requires { IsSeen head.now.threads (length head.now.locs) name }
+    requires { IsSeenInRange head.now.threads (length head.now.locs) name }
     ensures { IfOk result (λ text. text ≡ label (head_of head.now) before.now name) }
 {
     let mut out = String::new(alloc);
@@ -69,7 +69,7 @@ fn write_label<A: Allocator>(
     before: &str,
     name: Seen,
 ) -> Result<(), AllocError>
-    requires { IsSeen head.now.threads (length head.now.locs) name }
+    requires { IsSeenInRange head.now.threads (length head.now.locs) name }
     ensures { OnOk result (string_bytes out.new ≡ string_bytes out.old ++ label (head_of head.now) before.now name) }
 {
     match name {

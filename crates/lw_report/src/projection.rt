@@ -3,12 +3,12 @@ ghost use Rattle.std.specs.Prelude.{◌≡◌, ◌≤◌, ◌++◌, ◌∷◌, [
 ghost use Rattle.std.specs.List.{list_any};
 ghost use Rattle.lw_base.specs.Heads.{head_of};
 ghost use Rattle.lw_base.specs.Limits.{most_threads};
-ghost use Rattle.lw_base.specs.Outcomes.{IsOutcomeOf};
+ghost use Rattle.lw_base.specs.Outcomes.{HasOutcomeShape};
 ghost use Rattle.lw_base.specs.Propositions.{formula_of};
-ghost use Rattle.lw_base.specs.WellFormed.{IsSeen};
-ghost use Rattle.lw_base.specs.SeenLists.{same_seen, thread_registers, locations};
+ghost use Rattle.lw_base.specs.WellFormed.{IsSeenInRange};
+ghost use Rattle.lw_base.specs.SeenLists.{seen_eq, thread_registers, locations};
 ghost use Rattle.lw_report.specs.Observed as specs;
-ghost use Rattle.lw_report.specs.Observed.{is_observed, projected};
+ghost use Rattle.lw_report.specs.Observed.{is_observed, observed_words};
 ghost use Rattle.lw_report.specs.Truth.{final_word};
 
 use lw_base::{Cpu, Head, Loc, Outcome, Prop, Reg, Seen, Sequence, Word};
@@ -22,8 +22,8 @@ pub fn project<A: Allocator + Copy, B: Allocator, C: Allocator>(
     outcome: &Outcome<C>,
 ) -> Result<Sequence<Word, A>, AllocError>
     requires threads { head.now.threads ≤ most_threads }
-    requires outcome { IsOutcomeOf head.now.threads (length head.now.locs) outcome.now }
-    ensures { IfOk result (λ words. words ≡ projected (head_of head.now) outcome.now) }
+    requires outcome { HasOutcomeShape head.now.threads (length head.now.locs) outcome.now }
+    ensures { IfOk result (λ words. words ≡ observed_words (head_of head.now) outcome.now) }
 {
     let names = observed(alloc, head)?;
     let words = words_of(alloc, names.as_slice(), outcome);
@@ -38,7 +38,7 @@ pub(crate) fn observed<A: Allocator, B: Allocator>(
 ) -> Result<Sequence<Seen, A>, AllocError>
     requires { head.now.threads ≤ most_threads }
     ensures names { IfOk result (λ names. names ≡ specs.observed (head_of head.now)) }
-    ensures there { IfOk result (λ names. All (IsSeen head.now.threads (length head.now.locs)) names) }
+    ensures there { IfOk result (λ names. All (IsSeenInRange head.now.threads (length head.now.locs)) names) }
 {
     let mut names = Sequence::new(alloc);
     for cpu in &Cpu::all()[..head.threads] {
@@ -117,8 +117,8 @@ pub(crate) fn words_of<A: Allocator, B: Allocator>(
     names: &[Seen],
     outcome: &Outcome<B>,
 ) -> Result<Sequence<Word, A>, AllocError>
-    requires names { All (IsSeen (length outcome.now.regs) (length outcome.now.words)) names.now }
-    requires outcome { IsOutcomeOf (length outcome.now.regs) (length outcome.now.words) outcome.now }
+    requires names { All (IsSeenInRange (length outcome.now.regs) (length outcome.now.words)) names.now }
+    requires outcome { HasOutcomeShape (length outcome.now.regs) (length outcome.now.words) outcome.now }
     ensures { IfOk result (λ words. words ≡ map (final_word outcome.now) names.now) }
 {
     let mut words = Vec::with_capacity(alloc, names.len())?;
@@ -130,8 +130,8 @@ pub(crate) fn words_of<A: Allocator, B: Allocator>(
 
 /// The word with which a register or a location ends.
 fn word_of<A: Allocator>(outcome: &Outcome<A>, name: Seen) -> Word
-    requires name { IsSeen (length outcome.now.regs) (length outcome.now.words) name }
-    requires outcome { IsOutcomeOf (length outcome.now.regs) (length outcome.now.words) outcome.now }
+    requires name { IsSeenInRange (length outcome.now.regs) (length outcome.now.words) name }
+    requires outcome { HasOutcomeShape (length outcome.now.regs) (length outcome.now.words) outcome.now }
     ensures { result ≡ final_word outcome.now name }
 {
     match name {

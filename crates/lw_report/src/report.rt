@@ -4,13 +4,13 @@ ghost use Rattle.std.specs.List.{flat_map};
 ghost use Rattle.std.specs.String.{string_bytes};
 ghost use Rattle.lw_base.specs.Heads.{head_of};
 ghost use Rattle.lw_base.specs.Limits.{most_threads};
-ghost use Rattle.lw_base.specs.WellFormed.{HasLocations};
+ghost use Rattle.lw_base.specs.WellFormed.{MentionsLocationsBelow};
 ghost use Rattle.lw_base.specs.Propositions.{formula_of};
 ghost use Rattle.lw_report.specs.Judgement as told;
 ghost use Rattle.lw_report.specs.Judgement.{positive, negative};
 ghost use Rattle.lw_report.specs.inner.Labels.{labels};
 ghost use Rattle.lw_report.specs.Reports.{title_line, state_line, count_line, observation_line, claim_line, judgement_lines, report_text};
-ghost use Rattle.lw_report.specs.States.{ListedState, shown_of};
+ghost use Rattle.lw_report.specs.States.{ListedState, projection_of};
 
 use crate::judgement::{Claim, Counts, Verdict, kind_text, observation_of, verdict_of};
 use crate::line::{observed_labels, write_state};
@@ -20,7 +20,7 @@ use std::alloc::{AllocError, Allocator};
 
 /// The verdict on a head's condition, where these states are all, or some. It takes no memory.
 pub fn verdict<A: Allocator>(head: &Head<A>, states: &States<A>, claim: Claim) -> Verdict
-    ensures { result ≡ told.verdict_of claim head.now.quant (positive (map shown_of states.now)) (negative (map shown_of states.now)) }
+    ensures { result ≡ told.verdict_of claim head.now.quant (positive (map projection_of states.now)) (negative (map projection_of states.now)) }
 {
     verdict_of(claim, head.quant, counts_of(states.as_slice()))
 }
@@ -33,8 +33,8 @@ pub fn write_report<A: Allocator + Copy>(
     claim: Claim,
 ) -> Result<Text<A>, AllocError>
     requires threads { head.now.threads ≤ most_threads }
-    requires locations { HasLocations (length head.now.locs) (formula_of head.now.prop) }
-    ensures { IfOk result (λ text. text ≡ report_text (head_of head.now) claim (map shown_of states.now)) }
+    requires locations { MentionsLocationsBelow (length head.now.locs) (formula_of head.now.prop) }
+    ensures { IfOk result (λ text. text ≡ report_text (head_of head.now) claim (map projection_of states.now)) }
 {
     let mut out = String::new(alloc);
     write_title(&mut out, head, states.len())?;
@@ -45,8 +45,8 @@ pub fn write_report<A: Allocator + Copy>(
 
 /// How many states make the proposition true, and how many do not.
 fn counts_of<A: Allocator>(states: &[State<A>]) -> Counts
-    ensures positive { result.positive ≡ positive (map shown_of states.now) }
-    ensures negative { result.negative ≡ negative (map shown_of states.now) }
+    ensures positive { result.positive ≡ positive (map projection_of states.now) }
+    ensures negative { result.negative ≡ negative (map projection_of states.now) }
 {
     let mut positive = 0;
     for state in states {
@@ -101,7 +101,7 @@ fn write_judgement<A: Allocator>(
     claim: Claim,
     counts: Counts,
 ) -> Result<(), AllocError>
-    requires { HasLocations (length head.now.locs) (formula_of head.now.prop) }
+    requires { MentionsLocationsBelow (length head.now.locs) (formula_of head.now.prop) }
     ensures { OnOk result (string_bytes out.new
         ≡ string_bytes out.old ++ judgement_lines (head_of head.now) claim counts.positive counts.negative) }
 {

@@ -5,7 +5,7 @@ ghost use Rattle.std.specs.String.{string_bytes};
 ghost use Rattle.lw_base.specs.Heads.{head_of};
 ghost use Rattle.lw_base.specs.Limits.{most_threads};
 ghost use Rattle.lw_base.specs.Schedules.{IsEvent};
-ghost use Rattle.lw_listing.specs.Listings.{outcomes_of, schedules_of};
+ghost use Rattle.lw_outcome_map.specs.Listings.{outcomes_of, schedules_of};
 ghost use Rattle.lw_report.specs.inner.Labels.{labelled_words, schedule_line};
 ghost use Rattle.lw_report.specs.Reports.{schedule_list_text, scheduled, scheduled_lines};
 ghost use Rattle.lw_report.specs.States.{ListedState, AreListedStates};
@@ -13,7 +13,7 @@ ghost use Rattle.lw_report.specs.States.{ListedState, AreListedStates};
 use crate::line::{observed_labels, write_state};
 use crate::states::{State, States};
 use lw_base::{Head, Text, write_schedule};
-use lw_listing::Listing;
+use lw_outcome_map::Listing;
 use std::alloc::{AllocError, Allocator};
 
 /// The list of these states of a test with this head, each with the schedule of its entry in the listing. The schedules speak of

@@ -3,18 +3,18 @@ ghost use Rattle.std.specs.Prelude.{◌≡◌, ◌≤◌, length, All, IfOk};
 ghost use Rattle.std.specs.List.Sorted.{IsSorted};
 ghost use Rattle.lw_base.specs.Heads.{head_of};
 ghost use Rattle.lw_base.specs.Limits.{most_threads};
-ghost use Rattle.lw_base.specs.Outcomes.{IsOutcomeOf};
+ghost use Rattle.lw_base.specs.Outcomes.{HasOutcomeShape};
 ghost use Rattle.lw_base.specs.Propositions.{formula_of};
-ghost use Rattle.lw_base.specs.WellFormed.{SpeaksOf};
-ghost use Rattle.lw_listing.specs.Listings.{outcomes_of};
-ghost use Rattle.lw_report.specs.inner.Gathered.{state_at, state_cmp, AreStatesOfFirst, AreFirstStates};
+ghost use Rattle.lw_base.specs.WellFormed.{MentionsOnly};
+ghost use Rattle.lw_outcome_map.specs.Listings.{outcomes_of};
+ghost use Rattle.lw_report.specs.inner.UnsortedStates.{state_at, state_cmp, AreStatesOfFirst, AreFirstStates};
 ghost use Rattle.lw_report.specs.Observed as specs;
 ghost use Rattle.lw_report.specs.States.{AreListedStates};
 
 use crate::projection::{observed, words_of};
 use crate::truth::holds;
 use lw_base::{Head, Outcome, Seen, Sequence, Word};
-use lw_listing::Listing;
+use lw_outcome_map::Listing;
 use std::alloc::{AllocError, Allocator, Global};
 use std::marker::Model;
 
@@ -52,42 +52,42 @@ pub fn states_of<A: Allocator + Copy>(
     listing: &Listing<A>,
 ) -> Result<States<A>, AllocError>
     requires threads { head.now.threads ≤ most_threads }
-    requires condition { SpeaksOf head.now.threads (length head.now.locs) (formula_of head.now.prop) }
-    requires outcomes { All (IsOutcomeOf head.now.threads (length head.now.locs)) (outcomes_of listing.now) }
+    requires condition { MentionsOnly head.now.threads (length head.now.locs) (formula_of head.now.prop) }
+    requires outcomes { All (HasOutcomeShape head.now.threads (length head.now.locs)) (outcomes_of listing.now) }
     ensures { IfOk result (λ states. AreListedStates (head_of head.now) (outcomes_of listing.now) states) }
 {
-    let mut states = gathered(alloc, head, listing)?;
+    let mut states = unsorted_states(alloc, head, listing)?;
     states.sort()?;
-    Ok(firsts(states))
+    Ok(first_of_each(states))
 }
 
 /// The states of all outcomes of a listing, one for each outcome, not yet sorted.
-fn gathered<A: Allocator + Copy>(
+fn unsorted_states<A: Allocator + Copy>(
     alloc: A,
     head: &Head<A>,
     listing: &Listing<A>,
 ) -> Result<Vec<State<A>, A>, AllocError>
     requires threads { head.now.threads ≤ most_threads }
-    requires condition { SpeaksOf head.now.threads (length head.now.locs) (formula_of head.now.prop) }
-    requires outcomes { All (IsOutcomeOf head.now.threads (length head.now.locs)) (outcomes_of listing.now) }
+    requires condition { MentionsOnly head.now.threads (length head.now.locs) (formula_of head.now.prop) }
+    requires outcomes { All (HasOutcomeShape head.now.threads (length head.now.locs)) (outcomes_of listing.now) }
     ensures { IfOk result (λ states. AreStatesOfFirst (head_of head.now) (outcomes_of listing.now) (length listing.now) states.items) }
 {
     let names = observed(alloc, head)?;
-    let states = shown_by(alloc, head, names.as_slice(), listing);
+    let states = project_outcomes(alloc, head, names.as_slice(), listing);
     drop(names);
     states
 }
 
 /// The states of all outcomes of a listing, one for each outcome, where `names` are the observed names.
-fn shown_by<A: Allocator + Copy>(
+fn project_outcomes<A: Allocator + Copy>(
     alloc: A,
     head: &Head<A>,
     names: &[Seen],
     listing: &Listing<A>,
 ) -> Result<Vec<State<A>, A>, AllocError>
-    requires condition { SpeaksOf head.now.threads (length head.now.locs) (formula_of head.now.prop) }
+    requires condition { MentionsOnly head.now.threads (length head.now.locs) (formula_of head.now.prop) }
     requires names { names.now ≡ specs.observed (head_of head.now) }
-    requires outcomes { All (IsOutcomeOf head.now.threads (length head.now.locs)) (outcomes_of listing.now) }
+    requires outcomes { All (HasOutcomeShape head.now.threads (length head.now.locs)) (outcomes_of listing.now) }
     ensures { IfOk result (λ states. AreStatesOfFirst (head_of head.now) (outcomes_of listing.now) (length listing.now) states.items) }
 {
     let mut states = Vec::new(alloc);
@@ -106,9 +106,9 @@ fn state_of<A: Allocator + Copy>(
     outcome: &Outcome<A>,
     entry: usize,
 ) -> Result<State<A>, AllocError>
-    requires condition { SpeaksOf head.now.threads (length head.now.locs) (formula_of head.now.prop) }
+    requires condition { MentionsOnly head.now.threads (length head.now.locs) (formula_of head.now.prop) }
     requires names { names.now ≡ specs.observed (head_of head.now) }
-    requires outcome { IsOutcomeOf head.now.threads (length head.now.locs) outcome.now }
+    requires outcome { HasOutcomeShape head.now.threads (length head.now.locs) outcome.now }
     ensures { IfOk result (λ state. state ≡ state_at (head_of head.now) entry outcome.now) }
 {
     Ok(State {
@@ -119,7 +119,7 @@ fn state_of<A: Allocator + Copy>(
 }
 
 /// Of states that are sorted, the first of those with the same words: each state once.
-fn firsts<A: Allocator>(sorted: Vec<State<A>, A>) -> States<A>
+fn first_of_each<A: Allocator>(sorted: Vec<State<A>, A>) -> States<A>
     requires { IsSorted state_cmp sorted.items }
     ensures { AreFirstStates sorted.items result }
 {

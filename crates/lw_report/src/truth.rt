@@ -1,8 +1,8 @@
 //! The truth of a proposition in an outcome.
 ghost use Rattle.std.specs.Prelude.{◌≡◌, length};
-ghost use Rattle.lw_base.specs.Outcomes.{IsOutcomeOf};
+ghost use Rattle.lw_base.specs.Outcomes.{HasOutcomeShape};
 ghost use Rattle.lw_base.specs.Propositions.{formula_of};
-ghost use Rattle.lw_base.specs.WellFormed.{SpeaksOf};
+ghost use Rattle.lw_base.specs.WellFormed.{MentionsOnly};
 ghost use Rattle.lw_report.specs.Truth.{is_true};
 
 use lw_base::{Outcome, Prop};
@@ -11,8 +11,8 @@ use std::alloc::Allocator;
 /// Whether a proposition is true in an outcome. It takes no memory.
 pub fn holds<A: Allocator, B: Allocator>(prop: &Prop<A>, outcome: &Outcome<B>) -> bool
     // The proposition names only threads and locations that the outcome has.
-    requires prop { SpeaksOf (length outcome.now.regs) (length outcome.now.words) (formula_of prop.now) }
-    requires outcome { IsOutcomeOf (length outcome.now.regs) (length outcome.now.words) outcome.now }
+    requires prop { MentionsOnly (length outcome.now.regs) (length outcome.now.words) (formula_of prop.now) }
+    requires outcome { HasOutcomeShape (length outcome.now.regs) (length outcome.now.words) outcome.now }
     ensures { result ≡ is_true (formula_of prop.now) outcome.now }
 {
     match prop {

@@ -1,9 +1,9 @@
 //! Faults, statuses and the words of a command as values.
 use lw_base::{CellCause, CellFault, End, ScheduleCause, ScheduleFault, Stop};
 use lw_bench::{
-    BenchFault, Protocol, Task, command_of, done_status, end_status, fault_line, status_of,
+    BenchFault, Protocol, Task, command_of, end_status, fault_line, status_of, success_status,
 };
-use lw_choices::ListFault;
+use lw_paths::ListFault;
 use lw_text::{TextCause, TextFault};
 use std::alloc::Global;
 use std::test::Fail;
@@ -46,7 +46,7 @@ fn statuses(rt: HostRuntime) {
     ] {
         assert!(rt; end_status(end) == status);
     }
-    assert!(rt; done_status() == 0);
+    assert!(rt; success_status() == 0);
     let text = BenchFault::Text(TextFault {
         at: 0,
         cause: TextCause::Name,

@@ -1,7 +1,8 @@
 -- Where each state that was found is looked at, all final states were found.
 use Rattle.lw_search.proofs.Common.{◌≡◌, ℕ, zero, suc, ◌≤◌, Some, List, [], ◌∷◌, length, sym, subst, arith}
-use Rattle.lw_search.proofs.Common.{slice_get, IsTrue, slice_get_within, Event, flat, Instr, MachineRan}
-use Rattle.lw_search.proofs.Common.{is_final, State, Components, Visited, IsCovered, SearchInvariant}
+use Rattle.lw_search.proofs.Common.{slice_get, IsTrue, slice_get_within, Event, flat_memory, Instr}
+use Rattle.lw_search.proofs.Common.{MachineRunsTo, is_final, State, Components, Visited, IsCovered}
+use Rattle.lw_search.proofs.Common.{SearchInvariant}
 
 module _ (program : List (List Instr)) (found : List State)
     (served : (i : ℕ) (s : State) → slice_get found i ≡ Some s → (e : Event) → IsCovered program found s e) where
@@ -12,7 +13,7 @@ module _ (program : List (List Instr)) (found : List State)
   pub run-found : (n : ℕ) (events : List Event) (s end : State)
       → length events ≤ n
       → IsFound s
-      → MachineRan flat program events s end
+      → MachineRunsTo flat_memory program events s end
       → IsTrue (is_final program end)
       → IsFound end
   run-found n [] s end few has ran final = subst IsFound (sym ran) has
@@ -27,7 +28,7 @@ pub final_state-found : (program : List (List Instr)) (start : State) (tables : 
     (found : List State)
     → SearchInvariant program start tables visited found (length found)
     → (events : List Event) (end : State)
-    → MachineRan flat program events start end
+    → MachineRunsTo flat_memory program events start end
     → IsTrue (is_final program end)
     → (i : ℕ) × (slice_get found i ≡ Some end)
 final_state-found program start tables visited found invariant events end ran final =

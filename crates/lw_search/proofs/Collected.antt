@@ -2,14 +2,15 @@
 use Rattle.lw_search.proofs.Common.{◌≡◌, ℕ, zero, suc, ◌+◌, ◌<◌, ◌≤◌, Bool, true, false, true≢false, inl, inr}
 use Rattle.lw_search.proofs.Common.{Some, None, List, [], ◌∷◌, ◌++◌, length, map, take, refl, sym, ap, ◌∙◌}
 use Rattle.lw_search.proofs.Common.{subst, arith, ap₂, slice_get, slice_index, IsTrue, cases_lt, same_Some}
-use Rattle.lw_search.proofs.Common.{slice_get_within, get_some, map-append, zip_pass, zip_passes, Ran-append}
-use Rattle.lw_search.proofs.Common.{get_or, slice_get_read, get_or_from_slice_get, get_or_past, Event, flat}
-use Rattle.lw_search.proofs.Common.{Instr, Processor, EventDone, MachineRan, is_done, is_final, Final, All}
-use Rattle.lw_search.proofs.Common.{machine_outcome, Contains, Contains-append_left, Contains-push, All-push}
-use Rattle.lw_search.proofs.Common.{take_one, ListedOutcomes, outcomes_of, Origin, State, Components, Visited}
-use Rattle.lw_search.proofs.Common.{Represents, events_of, SearchInvariant, ReportsThreadEnd, ReachesOutcome}
-use Rattle.lw_search.proofs.Common.{ReachesIndex, CollectsState, CollectsAll, events_at, All-permutation}
-use Rattle.lw_search.proofs.Common.{IsPermutation, stays_listed}
+use Rattle.lw_search.proofs.Common.{slice_get_within, get_some, map-append, zip_pass, zip_passes}
+use Rattle.lw_search.proofs.Common.{RunsTo-append, get_or, slice_get_read, get_or_from_slice_get, get_or_past}
+use Rattle.lw_search.proofs.Common.{Event, flat_memory, Instr, Processor, MachineTransition, MachineRunsTo}
+use Rattle.lw_search.proofs.Common.{has_terminated, is_final, FinalState, All, machine_outcome, Contains}
+use Rattle.lw_search.proofs.Common.{Contains-append_left, Contains-push, All-push, take_one, OutcomeEntries}
+use Rattle.lw_search.proofs.Common.{outcomes_of, Origin, State, Components, Visited, Represents, events_of}
+use Rattle.lw_search.proofs.Common.{SearchInvariant, ReportsThreadEnd, ReachesOutcome, ReachesIndex}
+use Rattle.lw_search.proofs.Common.{CollectsState, CollectsAll, events_at, All-permutation, IsPermutation}
+use Rattle.lw_search.proofs.Common.{stays_listed}
 use Rattle.lw_search.proofs.Start.{length-past}
 
 -- The item of a loop over a list is the list's at the loop's index.
@@ -30,7 +31,7 @@ module _ (program : List (List Instr)) (tables : Components) (key : List ℕ) wh
       → t < n
       → slice_get program t ≡ Some code
       → slice_get tables.threads (slice_index key (t + 1)) ≡ Some p
-      → is_done code p ≡ true
+      → has_terminated code p ≡ true
 
   pub are_done-more : (n : ℕ) (code : List Instr) (answer : Bool)
       → AreDone n
@@ -45,7 +46,7 @@ module _ (program : List (List Instr)) (tables : Components) (key : List ℕ) wh
         let one : code ≡ c = same_Some code c (sym at ∙ ap (slice_get program) same ∙ coded) in
         let there : slice_get tables.threads (slice_index key (n + 1)) ≡ Some p =
         ap (λ u. slice_get tables.threads (slice_index key (u + 1))) same ∙ thread in
-        ap (λ l. is_done l p) (sym one) ∙ sym (is p there) ∙ passed
+        ap (λ l. has_terminated l p) (sym one) ∙ sym (is p there) ∙ passed
   ]
 
   pub is_final-all_done : (n : ℕ)
@@ -56,7 +57,7 @@ module _ (program : List (List Instr)) (tables : Components) (key : List ℕ) wh
       → length s.processors ≡ length program
       → IsTrue (is_final program s)
   is_final-all_done n done few s stands as_many =
-      zip_pass (λ (x : List Instr × Processor). is_done x.0 x.1) program s.processors (λ t code p at and.
+      zip_pass (λ (x : List Instr × Processor). has_terminated x.0 x.1) program s.processors (λ t code p at and.
       let lt = slice_get_within program t code at in done t code p (omega (arith, lt, few)) at (stands.threads t p and))
 
   pub not_final : (n : ℕ) (code : List Instr) (answer : Bool)
@@ -71,8 +72,8 @@ module _ (program : List (List Instr)) (tables : Components) (key : List ℕ) wh
   not_final n code answer at is failed s stands as_many final =
       let lt : n < length s.processors = subst (λ k. n < k) (sym as_many) (slice_get_within program n code at) in
       let p = get_some s.processors n lt in
-      let done : is_done code p.0 ≡ true =
-      zip_passes (λ (x : List Instr × Processor). is_done x.0 x.1) program s.processors n code p.0 final at p.1 in
+      let done : has_terminated code p.0 ≡ true =
+      zip_passes (λ (x : List Instr × Processor). has_terminated x.0 x.1) program s.processors n code p.0 final at p.1 in
       true≢false (sym done ∙ sym (is p.0 (stands.threads n p.0 p.1)) ∙ failed)
 
   -- ---- the outcome
@@ -130,8 +131,8 @@ reaches_index-next visited (suc i) origin more after at leads = λ program start
     let predecessor = invariant.predecessor i origin s at stood in
     let is : events_at visited.runs origin.run ≡ events_of predecessor.run =
     ap events_of (get_or_from_slice_get visited.runs origin.run predecessor.run [] predecessor.listed) in
-    subst (λ es. MachineRan flat program (more ++ es) start s) (sym is)
-    (Ran-append (EventDone flat program) more (events_of predecessor.run) start predecessor.from s
+    subst (λ es. MachineRunsTo flat_memory program (more ++ es) start s) (sym is)
+    (RunsTo-append (MachineTransition flat_memory program) more (events_of predecessor.run) start predecessor.from s
     (leads program start tables found closed predecessor.from invariant predecessor.stood) predecessor.ran)
 
 -- Each state that was found is reachable.
@@ -141,7 +142,7 @@ pub found-reachable : (program : List (List Instr)) (start : State) (tables : Co
     → (n i : ℕ) (s : State)
     → i < n
     → slice_get found i ≡ Some s
-    → (events : List Event) × MachineRan flat program events start s
+    → (events : List Event) × MachineRunsTo flat_memory program events start s
 found-reachable program start tables visited found closed invariant zero i s lt at = absurd (omega (arith, lt))
 found-reachable program start tables visited found closed invariant (suc n) zero s lt at =
     ([], same_Some s start (sym at ∙ invariant.first))
@@ -153,15 +154,16 @@ found-reachable program start tables visited found closed invariant (suc n) (suc
     found-reachable program start tables visited found closed invariant n origin.0.parent predecessor.from
     (omega (arith, predecessor.before, lt)) predecessor.stood in (
       before.0 ++ events_of predecessor.run,
-      Ran-append (EventDone flat program) before.0 (events_of predecessor.run) start predecessor.from s before.1 predecessor.ran,
+      RunsTo-append (MachineTransition flat_memory program) before.0 (events_of predecessor.run) start predecessor.from s before.1
+          predecessor.ran,
     )
 
 -- ---- entries
 
 module _ (program : List (List Instr)) (tables : Components) (visited : Visited) where
-  pub collects-known : (at : ℕ) (key : List ℕ) (o : Final) (es : ListedOutcomes)
+  pub collects-known : (at : ℕ) (key : List ℕ) (o : FinalState) (es : OutcomeEntries)
       → slice_get visited.keys at ≡ Some key
-      → ((s : State) → Represents tables key s → length s.processors ≡ length program → o ≡ machine_outcome flat s)
+      → ((s : State) → Represents tables key s → length s.processors ≡ length program → o ≡ machine_outcome flat_memory s)
       → Contains (outcomes_of es) o
       → CollectsState program tables visited at es es
   collects-known at key o es keyed is there = record {
@@ -172,9 +174,9 @@ module _ (program : List (List Instr)) (tables : Components) (visited : Visited)
     lead = λ start found closed invariant a. a;
   }
 
-  pub collects-new : (at : ℕ) (key : List ℕ) (o : Final) (events : List Event) (es fs : ListedOutcomes)
+  pub collects-new : (at : ℕ) (key : List ℕ) (o : FinalState) (events : List Event) (es fs : OutcomeEntries)
       → slice_get visited.keys at ≡ Some key
-      → ((s : State) → Represents tables key s → length s.processors ≡ length program → o ≡ machine_outcome flat s)
+      → ((s : State) → Represents tables key s → length s.processors ≡ length program → o ≡ machine_outcome flat_memory s)
       → ((s : State) → Represents tables key s → length s.processors ≡ length program → IsTrue (is_final program s))
       → ReachesIndex visited at events
       → fs ≡ es ++ (o, events) ∷ []
@@ -200,24 +202,24 @@ module _ (program : List (List Instr)) (tables : Components) (visited : Visited)
       keys = ap outcomes_of grown ∙ map-append _ es ((o, events) ∷ [])
 
   -- the first states are gathered
-  pub record CollectsFirst (n : ℕ) (entries : ListedOutcomes) : Type 0 where
+  pub record CollectsFirst (n : ℕ) (entries : OutcomeEntries) : Type 0 where
     pub covered : (start : State) (found : List State) (closed : ℕ) (i : ℕ) (s : State)
         → SearchInvariant program start tables visited found closed
         → i < n
         → slice_get found i ≡ Some s
         → IsTrue (is_final program s)
-        → Contains (outcomes_of entries) (machine_outcome flat s)
+        → Contains (outcomes_of entries) (machine_outcome flat_memory s)
     pub lead : (start : State) (found : List State) (closed : ℕ)
         → SearchInvariant program start tables visited found closed
         → All (λ e. ReachesOutcome program start e.1 e.0) entries
 
-  pub collects_first-more : (n : ℕ) (es fs : ListedOutcomes)
+  pub collects_first-more : (n : ℕ) (es fs : OutcomeEntries)
       → CollectsFirst n es
       → CollectsState program tables visited n es fs
       → CollectsFirst (n + 1) fs
   collects_first-more n es fs first here = record {
     covered = λ start found closed i s invariant lt at final. elim (cases_lt i n) [
-      | inl less ↦ here.kept (machine_outcome flat s) (first.covered start found closed i s invariant less at final)
+      | inl less ↦ here.kept (machine_outcome flat_memory s) (first.covered start found closed i s invariant less at final)
       | inr not ↦
           let same : i ≡ n = omega arith in
           here.covered start found closed s invariant (ap (slice_get found) (sym same) ∙ at) final
@@ -226,7 +228,7 @@ module _ (program : List (List Instr)) (tables : Components) (visited : Visited)
   }
 
   -- all that is gathered is a list of all, in whatever sequence
-  pub collects_all : (n : ℕ) (es fs : ListedOutcomes)
+  pub collects_all : (n : ℕ) (es fs : OutcomeEntries)
       → CollectsFirst n es
       → length visited.keys ≤ n
       → IsPermutation es fs
@@ -234,7 +236,7 @@ module _ (program : List (List Instr)) (tables : Components) (visited : Visited)
   collects_all n es fs first few same = record {
     covered = λ start found closed i s invariant at final.
         let lt : i < n = (let h = slice_get_within found i s at in omega (arith, h, few, invariant.key_count)) in
-        (stays_listed es fs (machine_outcome flat s) same).0 (first.covered start found closed i s invariant lt at final);
+        (stays_listed es fs (machine_outcome flat_memory s) same).0 (first.covered start found closed i s invariant lt at final);
     lead = λ start found closed invariant.
         All-permutation (λ e. ReachesOutcome program start e.1 e.0) es fs same (first.lead start found closed invariant);
   }

@@ -20,40 +20,42 @@ pub use Rattle.std.specs.Cmp.Lexicographic.{pointwise, pointwise_decides}
 pub use Rattle.std.specs.List.{list_any}
 pub use Rattle.std.specs.Option.{option_or}
 pub use mathlib.Core.Bool.{beq}
-pub use Rattle.lw_base.proofs.Common.{EachOnce, Final, IsListedOutcome, code_of}
-pub use Rattle.lw_base.proofs.api.Lists.{get_append, get_seam, get_some, got_set_other, got_set_same, set_own}
-pub use Rattle.lw_base.proofs.api.Lists.{take_one}
-pub use Rattle.lw_base.proofs.api.Members.{Contains-cons, Contains-here, Contains-there, none_in}
-pub use Rattle.lw_base.proofs.api.Replays.{Ran-append}
-pub use Rattle.lw_base.proofs.api.SideBySide.{got_map, zip_pass, zip_passes}
+pub use Rattle.lw_base.proofs.Common.{FinalState, IsDuplicateFree, IsListedOutcome, thread_code}
+pub use Rattle.lw_base.proofs.api.Lists.{get-append_middle, get-set_other, get-set_same, get_append, get_some}
+pub use Rattle.lw_base.proofs.api.Lists.{set-get_same, take_one}
+pub use Rattle.lw_base.proofs.api.Members.{Contains-cons, Contains-head, Contains-tail, not-Contains-nil}
+pub use Rattle.lw_base.proofs.api.Replays.{RunsTo-append}
+pub use Rattle.lw_base.proofs.api.Zips.{get-map, zip_pass, zip_passes}
 pub use Rattle.lw_base.specs.declared.event.Event.{Event}
 pub use Rattle.lw_base.specs.declared.event.Event.TheVariants.{Drain, Evict, Step}
 pub use Rattle.lw_base.specs.declared.stop.Stop.{Stop}
 pub use Rattle.lw_base.specs.declared.stop.Stop.TheVariants.{BufferEmpty, Ended, FenceWaits, NoLocation}
 pub use Rattle.lw_base.specs.declared.stop.Stop.TheVariants.{SwapWaits}
-pub use Rattle.lw_litmus.proofs.Common.{IsThread, IsWellFormedProgram, ProgramTest, is_locked, is_store}
-pub use Rattle.lw_litmus.proofs.Common.{location_of, program_of, writes, x86, x86_operation}
+pub use Rattle.lw_litmus.proofs.Common.{IsWellFormedProgram, IsWellFormedThread, X86Test, is_locked, is_store}
+pub use Rattle.lw_litmus.proofs.Common.{location_of, program_of, writes, x86_language, x86_operation}
 pub use Rattle.lw_litmus.specs.declared.instr.Instr.{Instr}
 pub use Rattle.lw_litmus.specs.declared.operation.Operation.{Operation}
 pub use Rattle.lw_litmus.specs.declared.operation.Operation.TheVariants.{Branch, Compare, FetchAdd, Load, Set}
 pub use Rattle.lw_litmus.specs.declared.operation.Operation.TheVariants.{Store, Sum, Swap}
-pub use Rattle.lw_memory.proofs.Common.{flat}
+pub use Rattle.lw_memory.proofs.Common.{flat_memory}
 pub use Rattle.lw_mesi.specs.declared.protocol.Protocol.{Protocol}
 pub use Rattle.lw_mesi.specs.declared.protocol.Protocol.TheVariants.{Mesi}
-pub use Rattle.lw_tso.proofs.Common.{Act, ActDone, AreIndependent, Asks, DoNotConflict, DoneAt, EventDone}
-pub use Rattle.lw_tso.proofs.Common.{Evicts, Goes, MachineOutcome, MachineRan, Processor, Refused, Replays}
-pub use Rattle.lw_tso.proofs.Common.{StandsAt, accessed, cpu_of, drain_act, event_act, event_writes, is_done}
-pub use Rattle.lw_tso.proofs.Common.{is_final, load_act, machine_outcome, machine_start, newest, once_empty}
-pub use Rattle.lw_tso.proofs.Common.{operation_act, starting, step_act, without_evictions}
-pub use Rattle.lw_tso.proofs.api.Effects.{Did, Does, done_does, event_once, leads_from, leads_to, no_eviction}
-pub use Rattle.lw_tso.proofs.api.Effects.{state}
+pub use Rattle.lw_tso.proofs.Common.{AreIndependent, DoNotConflict, EffectTransition, EventEffect, Eviction}
+pub use Rattle.lw_tso.proofs.Common.{IsAtPosition, IsMachineOutcome, LocalStep, MachineRunsTo}
+pub use Rattle.lw_tso.proofs.Common.{MachineTransition, MemoryAccess, Processor, Refused, ReplaysTo}
+pub use Rattle.lw_tso.proofs.Common.{TransitionAt, accessed_location, cpu_of, drain_effect, event_effect}
+pub use Rattle.lw_tso.proofs.Common.{event_writes, has_terminated, if_buffer_empty, initial_machine_state}
+pub use Rattle.lw_tso.proofs.Common.{initial_processor, is_final, load_effect, machine_outcome}
+pub use Rattle.lw_tso.proofs.Common.{newest_buffered, operation_effect, step_effect, without_evictions}
+pub use Rattle.lw_tso.proofs.api.Effects.{EffectLeadsTo, EventOccurrence, MachineTransition-deterministic}
+pub use Rattle.lw_tso.proofs.api.Effects.{done_does, effect_of_event, event_of_effect, no_eviction, state}
 pub use Rattle.lw_tso.proofs.api.Neighbours.{exchanged, position_at}
-pub use Rattle.lw_tso.proofs.api.Operations.{Buffers, Went, operation_accessed, operation_does}
-pub use Rattle.lw_listing.proofs.api.Listings.{stays_listed}
-pub use Rattle.lw_listing.specs.Listings.{ListedOutcomes, outcomes_of}
-pub use Rattle.lw_whole.proofs.api.CompleteLists.{no_evictions, of_source, on_machine}
-pub use Rattle.lw_whole.specs.CompleteLists.{IsComplete}
-pub use Rattle.lw_whole.specs.OverCaches.{OutcomeOverCaches, ReplaysOverCaches}
+pub use Rattle.lw_tso.proofs.api.Operations.{Buffers, OperationTransition, operation_accessed, operation_does}
+pub use Rattle.lw_outcome_map.proofs.api.Listings.{stays_listed}
+pub use Rattle.lw_outcome_map.specs.Listings.{OutcomeEntries, outcomes_of}
+pub use Rattle.lw_tso_caches.proofs.api.CompleteLists.{no_evictions, of_source, on_machine}
+pub use Rattle.lw_tso_caches.specs.CompleteLists.{IsComplete}
+pub use Rattle.lw_tso_caches.specs.OverCaches.{OutcomeOverCaches, ReplaysToOverCaches}
 pub use Rattle.lw_search.specs.Reachability.{AreReachable, ExceedsBudget, IsReachable, Visits}
 pub use Rattle.lw_search.specs.declared.states.Origin.{Origin}
 pub use Rattle.lw_search.specs.inner.Invariant.{CollectsAll, CollectsState, Covers, CoversThread}

@@ -1,10 +1,10 @@
 -- What other threads can still do: the tests of positions and store buffers.
 use Rattle.lw_search.proofs.Common.{◌≡◌, ◌≢◌, ℕ, zero, suc, ◌+◌, ◌<◌, ◌≤◌, inl, inr, Bool, true, Option, Some}
 use Rattle.lw_search.proofs.Common.{None, List, [], ◌∷◌, length, refl, sym, ap, ◌∙◌, subst, arith, slice_get}
-use Rattle.lw_search.proofs.Common.{slice_index, ◌==◌, eq-eqb, option_or, if◌then◌else◌, newest, cases_lt}
-use Rattle.lw_search.proofs.Common.{same_Some, slice_get_within, get_or_from_slice_get, Instr, x86_operation}
-use Rattle.lw_search.proofs.Common.{location_of, Processor, code_of, ◌||◌, writes, NeverConflicts, Components}
-use Rattle.lw_search.proofs.Common.{OthersNeverConflict}
+use Rattle.lw_search.proofs.Common.{slice_index, ◌==◌, eq-eqb, option_or, if◌then◌else◌, newest_buffered}
+use Rattle.lw_search.proofs.Common.{cases_lt, same_Some, slice_get_within, get_or_from_slice_get, Instr}
+use Rattle.lw_search.proofs.Common.{x86_operation, location_of, Processor, thread_code, ◌||◌, writes}
+use Rattle.lw_search.proofs.Common.{NeverConflicts, Components, OthersNeverConflict}
 
 -- An instruction conflicts with an access of location x that writes it, or reads it.
 abbrev pub Conflicts : Instr → ℕ → Bool → Type 0
@@ -45,19 +45,19 @@ none_conflicts-all code from to x written none past j i le at loc conflict =
     none j i le (let lt = slice_get_within code j i at in omega (arith, lt, past)) at (loc, conflict)
 
 -- A store buffer without a newest entry for a location has no entry for it.
-pub newest-none : (es : List (ℕ × ℕ)) (x : ℕ)
-    → newest es x ≡ None
+pub newest_buffered-none : (es : List (ℕ × ℕ)) (x : ℕ)
+    → newest_buffered es x ≡ None
     → (k : ℕ) (entry : ℕ × ℕ)
     → slice_get es k ≡ Some entry
     → entry.0 ≢ x
-newest-none [] x none k entry at = absurd cc
-newest-none (e ∷ es) x none zero entry at =
-    λ same. go (newest es x) (eq-eqb e.0 x (ap (λ (z : ℕ × ℕ). z.0) (same_Some e entry at) ∙ same)) none
+newest_buffered-none [] x none k entry at = absurd cc
+newest_buffered-none (e ∷ es) x none zero entry at =
+    λ same. go (newest_buffered es x) (eq-eqb e.0 x (ap (λ (z : ℕ × ℕ). z.0) (same_Some e entry at) ∙ same)) none
   where
     go : (o : Option ℕ) → (e.0 == x) ≡ true → option_or o (if e.0 == x then Some e.1 else None) ≡ None → ⊥
     go None is n = let all : Some e.1 ≡ None = ap (λ b. if b then Some e.1 else None) (sym is) ∙ n in cc
     go (Some w) is n = cc
-newest-none (e ∷ es) x none (suc k) entry at = newest-none es x (go (newest es x) none) k entry at
+newest_buffered-none (e ∷ es) x none (suc k) entry at = newest_buffered-none es x (go (newest_buffered es x) none) k entry at
   where
     go : (o : Option ℕ) → option_or o (if e.0 == x then Some e.1 else None) ≡ None → o ≡ None
     go None n = refl
@@ -74,7 +74,7 @@ module _ (program : List (List Instr)) (tables : Components) (key : List ℕ) (t
       → u < length program
       → u ≢ t
       → slice_get tables.threads (slice_index key (u + 1)) ≡ Some p
-      → NeverConflicts (code_of program u) p x written
+      → NeverConflicts (thread_code program u) p x written
 
   pub first_never_conflict-none : FirstNeverConflict 0
   first_never_conflict-none u p lt = absurd (omega (arith, lt))
@@ -88,7 +88,8 @@ module _ (program : List (List Instr)) (tables : Components) (key : List ℕ) (t
     | inl less ↦ first u p less within ne at
     | inr ge ↦
         let same : n ≡ u = omega arith in
-        let is : code ≡ code_of program u = sym (get_or_from_slice_get program n code [] coded) ∙ ap (code_of program) same in
+        let is : code ≡ thread_code program u =
+        sym (get_or_from_slice_get program n code [] coded) ∙ ap (thread_code program) same in
         subst (λ c. NeverConflicts c p x written) is
         (never (λ e. ne (sym same ∙ e)) p (ap (λ k. slice_get tables.threads (slice_index key (k + 1))) same ∙ at))
   ]

@@ -2,18 +2,21 @@
 use Rattle.lw_search.proofs.Common.{◌≡◌, ◌≢◌, ℕ, suc, ◌<◌, ◌≤◌, inl, inr, ⊎_elim, Bool, true, false}
 use Rattle.lw_search.proofs.Common.{true≢false, Option, Some, None, Ok, List, [], ◌∷◌, length, refl, sym, ap}
 use Rattle.lw_search.proofs.Common.{ap₂, if◌then◌else◌, ◌∙◌, subst, arith, slice_get, slice_set, slice_index}
-use Rattle.lw_search.proofs.Common.{IsTrue, and_parts, leb-true, nat_le, nat_lt, ◌==◌, set-set, got_set_same}
-use Rattle.lw_search.proofs.Common.{got_set_other, cases_eq, same_Some, slice_get_within, length-set}
+use Rattle.lw_search.proofs.Common.{IsTrue, and_parts, leb-true, nat_le, nat_lt, ◌==◌, set-set, get-set_same}
+use Rattle.lw_search.proofs.Common.{get-set_other, cases_eq, same_Some, slice_get_within, length-set}
 use Rattle.lw_search.proofs.Common.{get_some, get_or_from_slice_get, zip_passes, get_or-set_same}
-use Rattle.lw_search.proofs.Common.{get_or-set_other, option_or, Event, Step, Drain, Evict, code_of, flat}
-use Rattle.lw_search.proofs.Common.{Instr, x86_operation, Operation, NoLocation, Set, Sum, Compare, Store}
-use Rattle.lw_search.proofs.Common.{Load, FetchAdd, Branch, location_of, is_store, is_locked, Processor, Act}
-use Rattle.lw_search.proofs.Common.{Goes, Asks, Refused, Evicts, cpu_of, event_act, step_act, drain_act}
-use Rattle.lw_search.proofs.Common.{operation_act, load_act, newest, EventDone, MachineRan, is_done, is_final}
-use Rattle.lw_search.proofs.Common.{accessed, event_writes, DoNotConflict, AreIndependent, DoneAt, StandsAt}
-use Rattle.lw_search.proofs.Common.{eq-eqb, state, Does, Did, leads_from, leads_to, event_once, no_eviction}
-use Rattle.lw_search.proofs.Common.{exchanged, position_at, Went, Buffers, operation_accessed, operation_does}
-use Rattle.lw_search.proofs.Common.{Swap, writes, get_append, ◌||◌, eqb-true, operation_access, step_access}
+use Rattle.lw_search.proofs.Common.{get_or-set_other, option_or, Event, Step, Drain, Evict, thread_code}
+use Rattle.lw_search.proofs.Common.{flat_memory, Instr, x86_operation, Operation, NoLocation, Set, Sum}
+use Rattle.lw_search.proofs.Common.{Compare, Store, Load, FetchAdd, Branch, location_of, is_store, is_locked}
+use Rattle.lw_search.proofs.Common.{Processor, EventEffect, LocalStep, MemoryAccess, Refused, Eviction}
+use Rattle.lw_search.proofs.Common.{cpu_of, event_effect, step_effect, drain_effect, operation_effect}
+use Rattle.lw_search.proofs.Common.{load_effect, newest_buffered, MachineTransition, MachineRunsTo}
+use Rattle.lw_search.proofs.Common.{has_terminated, is_final, accessed_location, event_writes, DoNotConflict}
+use Rattle.lw_search.proofs.Common.{AreIndependent, TransitionAt, IsAtPosition, eq-eqb, state, EffectLeadsTo}
+use Rattle.lw_search.proofs.Common.{EventOccurrence, event_of_effect, effect_of_event}
+use Rattle.lw_search.proofs.Common.{MachineTransition-deterministic, no_eviction, exchanged, position_at}
+use Rattle.lw_search.proofs.Common.{OperationTransition, Buffers, operation_accessed, operation_does, Swap}
+use Rattle.lw_search.proofs.Common.{writes, get_append, ◌||◌, eqb-true, operation_access, step_access}
 use Rattle.lw_search.proofs.Common.{drain_access, event_access, NeverConflicts, IsUncontended, IsInvisible}
 use Rattle.lw_search.proofs.Common.{IsForward, State, Covers}
 use Rattle.lw_memory.specs.declared.request.Access.TheVariants as to
@@ -21,28 +24,28 @@ use Rattle.lw_memory.specs.declared.request.Access.TheVariants as to
 -- ---- acts over memory
 
 -- No act changes the number of locations.
-words_length : (act : Act) (m n : List ℕ) (q : Processor) → Does m act q n → length n ≡ length m
-words_length (Goes next) m n q d = ap length d.1
-words_length (Asks x to.Load next) m n q d = ap length d.1
-words_length (Asks x (to.Store w) next) m n q d = ap length d.1 ∙ length-set m x w
-words_length (Asks x (to.Update change) next) m n q d = ap length d.1 ∙ length-set m x _
+words_length : (act : EventEffect) (m n : List ℕ) (q : Processor) → EffectLeadsTo m act q n → length n ≡ length m
+words_length (LocalStep next) m n q d = ap length d.1
+words_length (MemoryAccess x to.Load next) m n q d = ap length d.1
+words_length (MemoryAccess x (to.Store w) next) m n q d = ap length d.1 ∙ length-set m x w
+words_length (MemoryAccess x (to.Update change) next) m n q d = ap length d.1 ∙ length-set m x _
 words_length _ m n q d = absurd d
 
 -- An act that is possible over some memory is possible over each.
-possible_elsewhere : (act : Act) (m n k : List ℕ) (q : Processor)
-    → Does m act q n
-    → (r : Processor) × (l : List ℕ) × Does k act r l
-possible_elsewhere (Goes next) m n k q d = (next, k, (refl, refl))
-possible_elsewhere (Asks x access next) m n k q d = (_, _, (refl, refl))
+possible_elsewhere : (act : EventEffect) (m n k : List ℕ) (q : Processor)
+    → EffectLeadsTo m act q n
+    → (r : Processor) × (l : List ℕ) × EffectLeadsTo k act r l
+possible_elsewhere (LocalStep next) m n k q d = (next, k, (refl, refl))
+possible_elsewhere (MemoryAccess x access next) m n k q d = (_, _, (refl, refl))
 possible_elsewhere _ m n k q d = absurd d
 
 -- A step that is possible has an instruction.
 record HasInstr (o : Option Instr) (p q : Processor) (m n : List ℕ) : Type 0 where
   instr : Instr
   is : o ≡ Some instr
-  does : Does m (operation_act (x86_operation instr) p) q n
+  does : EffectLeadsTo m (operation_effect (x86_operation instr) p) q n
 
-has_instr : (o : Option Instr) (p q : Processor) (m n : List ℕ) → Does m (step_act o p) q n → HasInstr o p q m n
+has_instr : (o : Option Instr) (p q : Processor) (m n : List ℕ) → EffectLeadsTo m (step_effect o p) q n → HasInstr o p q m n
 has_instr None p q m n d = absurd d
 has_instr (Some i) p q m n d = record { instr = i; is = refl; does = d }
 
@@ -60,10 +63,10 @@ record DrainEffect (p q : Processor) (m n : List ℕ) : Type 0 where
   left : q ≡ behind
   words : n ≡ slice_set m entry.0 entry.1
 
-drain_effect : (p q : Processor) (m n : List ℕ) → Does m (drain_act p.buffer p) q n → DrainEffect p q m n
-drain_effect p q m n does = go p.buffer refl does
+DrainEffect-of_drain : (p q : Processor) (m n : List ℕ) → EffectLeadsTo m (drain_effect p.buffer p) q n → DrainEffect p q m n
+DrainEffect-of_drain p q m n does = go p.buffer refl does
   where
-    go : (b : List (ℕ × ℕ)) → p.buffer ≡ b → Does m (drain_act b p) q n → DrainEffect p q m n
+    go : (b : List (ℕ × ℕ)) → p.buffer ≡ b → EffectLeadsTo m (drain_effect b p) q n → DrainEffect p q m n
     go [] e d = absurd d
     go (entry ∷ newer) e d = record {
       entry = entry;
@@ -78,17 +81,18 @@ record Passes (entry : ℕ × ℕ) (o : Operation) (behind q : Processor) (m n :
   new : Processor
   is : q ≡ with_oldest entry new
   kept : n ≡ m
-  does : Does (slice_set m entry.0 entry.1) (operation_act o behind) new (slice_set m entry.0 entry.1)
+  does : EffectLeadsTo (slice_set m entry.0 entry.1) (operation_effect o behind) new (slice_set m entry.0 entry.1)
 
 -- A load beside the drain of an entry: `found` is the newest word of the other entries, `same` says whether the entry is for the location.
 load-passes : (entry : ℕ × ℕ) (x : ℕ) (next : ℕ → Processor) (q : Processor) (m n : List ℕ) (found : Option ℕ) (same : Bool)
     → (entry.0 == x) ≡ same
     → (entry.0 ≡ x → x < length m)
-    → Does m (load_act (option_or found (if same then Some entry.1 else None)) x (λ w. with_oldest entry (next w))) q n
+    → EffectLeadsTo m (load_effect (option_or found (if same then Some entry.1 else None)) x (λ w. with_oldest entry (next w))) q
+    n
     → (new : Processor)
     × (q ≡ with_oldest entry new)
     × (n ≡ m)
-    × Does (slice_set m entry.0 entry.1) (load_act found x next) new (slice_set m entry.0 entry.1)
+    × EffectLeadsTo (slice_set m entry.0 entry.1) (load_effect found x next) new (slice_set m entry.0 entry.1)
 load-passes entry x next q m n (Some w) same is range d = (next w, d.0, d.1, (refl, refl))
 load-passes entry x next q m n None true is range d =
     let at : entry.0 ≡ x = eqb-true entry.0 x is in
@@ -101,7 +105,7 @@ load-passes entry x next q m n None false is range d =
     (next (slice_index m x), d.0, d.1, (ap next (sym read), refl))
 
 local-passes : (entry : ℕ × ℕ) (o : Operation) (behind next q : Processor) (m n : List ℕ)
-    → operation_act o behind ≡ Goes next
+    → operation_effect o behind ≡ LocalStep next
     → q ≡ with_oldest entry next
     → n ≡ m
     → Passes entry o behind q m n
@@ -109,14 +113,14 @@ local-passes entry o behind next q m n act is kept = record {
   new = next;
   is = is;
   kept = kept;
-  does = subst (λ a. Does (slice_set m entry.0 entry.1) a next (slice_set m entry.0 entry.1)) (sym act) (refl, refl);
+  does = subst (λ a. EffectLeadsTo (slice_set m entry.0 entry.1) a next (slice_set m entry.0 entry.1)) (sym act) (refl, refl);
 }
 
 -- An operation that does not wait commutes with the drain of the oldest entry: a load of the entry's own location is forwarded the
 -- word before the drain, and reads it from memory after it.
 operation-passes : (entry : ℕ × ℕ) (o : Operation) (behind q : Processor) (m n : List ℕ)
     → ((x : ℕ) → operation_access o ≡ Some (x, false) → entry.0 ≡ x → x < length m)
-    → Does m (operation_act o (with_oldest entry behind)) q n
+    → EffectLeadsTo m (operation_effect o (with_oldest entry behind)) q n
     → Passes entry o behind q m n
 operation-passes entry (Set d v) behind q m n range does = local-passes entry (Set d v) behind _ q m n refl does.0 does.1
 operation-passes entry (Sum d a v) behind q m n range does = local-passes entry (Sum d a v) behind _ q m n refl does.0 does.1
@@ -124,7 +128,7 @@ operation-passes entry (Compare a v) behind q m n range does = local-passes entr
 operation-passes entry (Store x v) behind q m n range does = local-passes entry (Store x v) behind _ q m n refl does.0 does.1
 operation-passes entry (Branch c to) behind q m n range does = local-passes entry (Branch c to) behind _ q m n refl does.0 does.1
 operation-passes entry (Load d x) behind q m n range does =
-    let r = load-passes entry x _ q m n (newest behind.buffer x) (entry.0 == x) refl (range x refl) does in
+    let r = load-passes entry x _ q m n (newest_buffered behind.buffer x) (entry.0 == x) refl (range x refl) does in
     record { new = r.0; is = r.1; kept = r.2; does = r.3 }
 operation-passes entry _ behind q m n range does = absurd does
 
@@ -132,8 +136,8 @@ operation-passes entry _ behind q m n range does = absurd does
 
 -- The location that an act accesses is the one of its operation's access, which it writes if the access does.
 operation_access-is : (o : Operation) (p : Processor) (x : ℕ)
-    → accessed (operation_act o p) ≡ Some x
-    → operation_access o ≡ Some (x, event_writes (operation_act o p))
+    → accessed_location (operation_effect o p) ≡ Some x
+    → operation_access o ≡ Some (x, event_writes (operation_effect o p))
 operation_access-is (Load d y) p x at =
     let h = operation_accessed (Load d y) p x at in ap₂ (λ z w. Some (z, w)) (same_Some y x h.0) h.1
 operation_access-is (Swap d y a) p x at =
@@ -144,18 +148,18 @@ operation_access-is (Store y v) p x at = absurd cc
 operation_access-is o p x at = absurd (let e = (operation_accessed o p x at).0 in cc)
 
 step_access-is : (o : Option Instr) (p : Processor) (x : ℕ)
-    → accessed (step_act o p) ≡ Some x
-    → step_access o ≡ Some (x, event_writes (step_act o p))
+    → accessed_location (step_effect o p) ≡ Some x
+    → step_access o ≡ Some (x, event_writes (step_effect o p))
 step_access-is None p x at = absurd cc
 step_access-is (Some i) p x at = operation_access-is (x86_operation i) p x at
 
 drain_access-is : (b : List (ℕ × ℕ)) (p : Processor) (x : ℕ)
-    → accessed (drain_act b p) ≡ Some x
-    → drain_access b ≡ Some (x, event_writes (drain_act b p))
+    → accessed_location (drain_effect b p) ≡ Some x
+    → drain_access b ≡ Some (x, event_writes (drain_effect b p))
 drain_access-is [] p x at = absurd cc
 drain_access-is (entry ∷ newer) p x at = ap (λ z. Some (z, true)) (same_Some entry.0 x at)
 
-eviction-accesses_none : (b : Bool) (x y : ℕ) → accessed (if b then Evicts x else Refused NoLocation) ≡ Some y → ⊥
+eviction-accesses_none : (b : Bool) (x y : ℕ) → accessed_location (if b then Eviction x else Refused NoLocation) ≡ Some y → ⊥
 eviction-accesses_none true x y at = cc
 eviction-accesses_none false x y at = cc
 
@@ -176,9 +180,9 @@ store-writes false o store = ap (λ b. b || is_locked o) store
 
 module _ (program : List (List Instr)) (forward : IsForward program) where
   event_access-is : (locs : ℕ) (e : Event) (p : Processor) (x : ℕ)
-      → accessed (event_act program locs e p) ≡ Some x
-      → event_access (code_of program (cpu_of e)) e p ≡ Some (x, event_writes (event_act program locs e p))
-  event_access-is locs (Step t) p x at = step_access-is (slice_get (code_of program t) p.position) p x at
+      → accessed_location (event_effect program locs e p) ≡ Some x
+      → event_access (thread_code program (cpu_of e)) e p ≡ Some (x, event_writes (event_effect program locs e p))
+  event_access-is locs (Step t) p x at = step_access-is (slice_get (thread_code program t) p.position) p x at
   event_access-is locs (Drain t) p x at = drain_access-is p.buffer p x at
   event_access-is locs (Evict t y) p x at = absurd (eviction-accesses_none (nat_lt y locs) y x at)
 
@@ -186,15 +190,15 @@ module _ (program : List (List Instr)) (forward : IsForward program) where
 
   -- A thread that never conflicts with an access does not conflict with it by its next event.
   never_conflicts-now : (locs : ℕ) (f : Event) (p : Processor) (x : ℕ) (written : Bool)
-      → NeverConflicts (code_of program (cpu_of f)) p x written
-      → accessed (event_act program locs f p) ≡ Some x
-      → (written ≡ false) × (event_writes (event_act program locs f p) ≡ false)
-  never_conflicts-now locs (Step t) p x written never at = go (slice_get (code_of program t) p.position) refl at
+      → NeverConflicts (thread_code program (cpu_of f)) p x written
+      → accessed_location (event_effect program locs f p) ≡ Some x
+      → (written ≡ false) × (event_writes (event_effect program locs f p) ≡ false)
+  never_conflicts-now locs (Step t) p x written never at = go (slice_get (thread_code program t) p.position) refl at
     where
       go : (o : Option Instr)
-          → slice_get (code_of program t) p.position ≡ o
-          → accessed (step_act o p) ≡ Some x
-          → (written ≡ false) × (event_writes (step_act o p) ≡ false)
+          → slice_get (thread_code program t) p.position ≡ o
+          → accessed_location (step_effect o p) ≡ Some x
+          → (written ≡ false) × (event_writes (step_effect o p) ≡ false)
       go None is a = absurd cc
       go (Some i) is a =
           let h = operation_accessed (x86_operation i) p x a in
@@ -204,17 +208,17 @@ module _ (program : List (List Instr)) (forward : IsForward program) where
     where
       go : (b : List (ℕ × ℕ))
           → p.buffer ≡ b
-          → accessed (drain_act b p) ≡ Some x
-          → (written ≡ false) × (event_writes (drain_act b p) ≡ false)
+          → accessed_location (drain_effect b p) ≡ Some x
+          → (written ≡ false) × (event_writes (drain_effect b p) ≡ false)
       go [] is a = absurd cc
       go (entry ∷ newer) is a = absurd (never.entries 0 entry (ap (λ b. slice_get b 0) is) (same_Some entry.0 x a))
   never_conflicts-now locs (Evict t y) p x written never at = absurd (eviction-accesses_none (nat_lt y locs) y x at)
 
   never_conflicts-step : (t : ℕ) (p q : Processor) (i : Instr) (x : ℕ) (written : Bool)
-      → slice_get (code_of program t) p.position ≡ Some i
-      → Went (x86_operation i) p q
-      → NeverConflicts (code_of program t) p x written
-      → NeverConflicts (code_of program t) q x written
+      → slice_get (thread_code program t) p.position ≡ Some i
+      → OperationTransition (x86_operation i) p q
+      → NeverConflicts (thread_code program t) p x written
+      → NeverConflicts (thread_code program t) q x written
   never_conflicts-step t p q i x written at went never =
       record { entries = λ k entry is. entries went.buffers k entry is; instructions = instructions }
     where
@@ -234,7 +238,7 @@ module _ (program : List (List Instr)) (forward : IsForward program) where
 
       instructions : (j : ℕ) (k : Instr)
           → q.position ≤ j
-          → slice_get (code_of program t) j ≡ Some k
+          → slice_get (thread_code program t) j ≡ Some k
           → location_of (x86_operation k) ≡ Some x
           → (written || writes (x86_operation k)) ≡ true
           → ⊥
@@ -242,14 +246,14 @@ module _ (program : List (List Instr)) (forward : IsForward program) where
 
   -- A thread that never conflicts with an access still does not after its events.
   never_conflicts-after : (locs : ℕ) (f : Event) (p q : Processor) (m n : List ℕ) (x : ℕ) (written : Bool)
-      → Does m (event_act program locs f p) q n
-      → NeverConflicts (code_of program (cpu_of f)) p x written
-      → NeverConflicts (code_of program (cpu_of f)) q x written
+      → EffectLeadsTo m (event_effect program locs f p) q n
+      → NeverConflicts (thread_code program (cpu_of f)) p x written
+      → NeverConflicts (thread_code program (cpu_of f)) q x written
   never_conflicts-after locs (Step t) p q m n x written does never =
-      let i = has_instr (slice_get (code_of program t) p.position) p q m n does in
+      let i = has_instr (slice_get (thread_code program t) p.position) p q m n does in
       never_conflicts-step t p q i.instr x written i.is (operation_does (x86_operation i.instr) p q m n i.does) never
   never_conflicts-after locs (Drain t) p q m n x written does never =
-      let d = drain_effect p q m n does in
+      let d = DrainEffect-of_drain p q m n does in
       record {
         entries = λ k entry is.
             never.entries (suc k) entry
@@ -264,14 +268,14 @@ module _ (program : List (List Instr)) (forward : IsForward program) where
 
   -- An access that is uncontended still is after any event.
   uncontended-after : (f : Event) (s mid : State) (t : ℕ) (access : ℕ × Bool)
-      → Did program f s mid
+      → EventOccurrence program f s mid
       → IsUncontended program s t access
       → IsUncontended program mid t access
   uncontended-after f s mid t access d free = record {
     in_range =
         let size : length mid.memory ≡ length s.memory =
         ap (λ (z : State). length z.memory) d.is
-        ∙ words_length (event_act program (length s.memory) f d.from) s.memory d.words d.to d.does in
+        ∙ words_length (event_effect program (length s.memory) f d.from) s.memory d.words d.to d.does in
         subst (λ n. access.0 < n) (sym size) free.in_range;
     others = others;
   }
@@ -279,24 +283,24 @@ module _ (program : List (List Instr)) (forward : IsForward program) where
       others : (u : ℕ) (p : Processor)
           → u ≢ t
           → slice_get mid.processors u ≡ Some p
-          → NeverConflicts (code_of program u) p access.0 access.1
+          → NeverConflicts (thread_code program u) p access.0 access.1
       others u p ne at = elim (cases_eq u (cpu_of f)) [
         | inl same ↦
             let is : d.to ≡ p =
             same_Some d.to p
-            (sym (got_set_same s.processors (cpu_of f) d.to d.from d.was)
+            (sym (get-set_same s.processors (cpu_of f) d.to d.from d.was)
             ∙ ap (λ v. slice_get (slice_set s.processors (cpu_of f) d.to) v) (sym same)
             ∙ ap (λ (z : State). slice_get z.processors u) (sym d.is)
             ∙ at) in
-            let before : NeverConflicts (code_of program (cpu_of f)) d.from access.0 access.1 =
+            let before : NeverConflicts (thread_code program (cpu_of f)) d.from access.0 access.1 =
             free.others (cpu_of f) d.from (λ e. ne (same ∙ e)) d.was in
-            let after : NeverConflicts (code_of program (cpu_of f)) d.to access.0 access.1 =
+            let after : NeverConflicts (thread_code program (cpu_of f)) d.to access.0 access.1 =
             never_conflicts-after (length s.memory) f d.from d.to s.memory d.words access.0 access.1 d.does before in
-            subst (λ v. NeverConflicts (code_of program v) p access.0 access.1) (sym same)
-            (subst (λ r. NeverConflicts (code_of program (cpu_of f)) r access.0 access.1) is after)
+            subst (λ v. NeverConflicts (thread_code program v) p access.0 access.1) (sym same)
+            (subst (λ r. NeverConflicts (thread_code program (cpu_of f)) r access.0 access.1) is after)
         | inr apart ↦
             free.others u p ne
-            (sym (got_set_other s.processors (cpu_of f) u d.to (λ e. apart (sym e)))
+            (sym (get-set_other s.processors (cpu_of f) u d.to (λ e. apart (sym e)))
             ∙ ap (λ (z : State). slice_get z.processors u) (sym d.is)
             ∙ at)
       ]
@@ -307,60 +311,61 @@ module _ (program : List (List Instr)) (forward : IsForward program) where
   -- still invisible.
   record Exchanged (e f : Event) (first mid : State) : Type 0 where
     end : State
-    again : EventDone flat program e mid (Ok tt) end
-    behind : EventDone flat program f first (Ok tt) end
+    again : MachineTransition flat_memory program e mid (Ok tt) end
+    behind : MachineTransition flat_memory program f first (Ok tt) end
     still : IsInvisible program e mid
 
   -- The position of a thread that is to step.
-  stands : (e : Event) (s : State) (p : Processor) → slice_get s.processors (cpu_of e) ≡ Some p → (j : ℕ) × StandsAt e j s
+  stands : (e : Event) (s : State) (p : Processor) → slice_get s.processors (cpu_of e) ≡ Some p → (j : ℕ) × IsAtPosition e j s
   stands (Step t) s p at = (p.position, position_at s t at)
   stands (Drain t) s p at = (0, tt)
   stands (Evict t x) s p at = (0, tt)
 
   -- An event is possible in each state with the same state of its thread.
   possible_in : (e : Event) (s first mid : State) (p : Processor)
-      → EventDone flat program e s (Ok tt) first
+      → MachineTransition flat_memory program e s (Ok tt) first
       → slice_get s.processors (cpu_of e) ≡ Some p
       → slice_get mid.processors (cpu_of e) ≡ Some p
-      → (end : State) × EventDone flat program e mid (Ok tt) end
+      → (end : State) × MachineTransition flat_memory program e mid (Ok tt) end
   possible_in (Step t) s first mid p done at and =
-      let d = leads_to program (Step t) s first done in
+      let d = effect_of_event program (Step t) s first done in
       let same : d.from ≡ p = same_Some d.from p (sym d.was ∙ at) in
       let r =
-      possible_elsewhere (step_act (slice_get (code_of program t) p.position) p) s.memory d.words mid.memory d.to
-      (subst (λ (r : Processor). Does s.memory (step_act (slice_get (code_of program t) r.position) r) d.to d.words) same
+      possible_elsewhere (step_effect (slice_get (thread_code program t) p.position) p) s.memory d.words mid.memory d.to
+      (subst
+      (λ (r : Processor). EffectLeadsTo s.memory (step_effect (slice_get (thread_code program t) r.position) r) d.to d.words) same
       d.does) in
-      (state (slice_set mid.processors t r.0) r.1, leads_from program (Step t) mid.processors p r.0 mid.memory r.1 and r.2)
+      (state (slice_set mid.processors t r.0) r.1, event_of_effect program (Step t) mid.processors p r.0 mid.memory r.1 and r.2)
   possible_in (Drain t) s first mid p done at and =
-      let d = leads_to program (Drain t) s first done in
+      let d = effect_of_event program (Drain t) s first done in
       let same : d.from ≡ p = same_Some d.from p (sym d.was ∙ at) in
       let r =
-      possible_elsewhere (drain_act p.buffer p) s.memory d.words mid.memory d.to
-      (subst (λ (r : Processor). Does s.memory (drain_act r.buffer r) d.to d.words) same d.does) in
-      (state (slice_set mid.processors t r.0) r.1, leads_from program (Drain t) mid.processors p r.0 mid.memory r.1 and r.2)
+      possible_elsewhere (drain_effect p.buffer p) s.memory d.words mid.memory d.to
+      (subst (λ (r : Processor). EffectLeadsTo s.memory (drain_effect r.buffer r) d.to d.words) same d.does) in
+      (state (slice_set mid.processors t r.0) r.1, event_of_effect program (Drain t) mid.processors p r.0 mid.memory r.1 and r.2)
   possible_in (Evict t x) s first mid p done at and =
-      let d = leads_to program (Evict t x) s first done in
+      let d = effect_of_event program (Evict t x) s first done in
       absurd (no_eviction program (length s.memory) t x d.from d.to s.memory d.words d.does)
 
-  module _ (e f : Event) (s first mid : State) (enabled : EventDone flat program e s (Ok tt) first)
-      (invisible : IsInvisible program e s) (done : EventDone flat program f s (Ok tt) mid) where
-    d : Did program e s first
-    d = leads_to program e s first enabled
+  module _ (e f : Event) (s first mid : State) (enabled : MachineTransition flat_memory program e s (Ok tt) first)
+      (invisible : IsInvisible program e s) (done : MachineTransition flat_memory program f s (Ok tt) mid) where
+    d : EventOccurrence program e s first
+    d = effect_of_event program e s first enabled
 
-    g : Did program f s mid
-    g = leads_to program f s mid done
+    g : EventOccurrence program f s mid
+    g = effect_of_event program f s mid done
 
     -- The acts of an invisible event and of another thread's do not conflict.
     apart : cpu_of f ≢ cpu_of e
         → (r p : Processor)
         → slice_get s.processors (cpu_of f) ≡ Some r
         → slice_get s.processors (cpu_of e) ≡ Some p
-        → DoNotConflict (event_act program (length s.memory) f r) (event_act program (length s.memory) e p)
+        → DoNotConflict (event_effect program (length s.memory) f r) (event_effect program (length s.memory) e p)
     apart ne r p at and x a b =
         let access = event_access-is (length s.memory) e p x b in
-        let free = invisible p (x, event_writes (event_act program (length s.memory) e p)) and access in
+        let free = invisible p (x, event_writes (event_effect program (length s.memory) e p)) and access in
         let n =
-        never_conflicts-now (length s.memory) f r x (event_writes (event_act program (length s.memory) e p))
+        never_conflicts-now (length s.memory) f r x (event_writes (event_effect program (length s.memory) e p))
         (free.others (cpu_of f) r ne at) a in
         (n.1, n.0)
 
@@ -368,41 +373,41 @@ module _ (program : List (List Instr)) (forward : IsForward program) where
     other_thread ne = record {
       end = z.0;
       again = z.1;
-      behind = subst (λ o. EventDone flat program f o (Ok tt) z.0) once x.2.done;
+      behind = subst (λ o. MachineTransition flat_memory program f o (Ok tt) z.0) once x.2.done;
       still = λ p access at is. uncontended-after f s mid (cpu_of e) access g (invisible p access (there p at) is);
     }
       where
         there : (p : Processor) → slice_get mid.processors (cpu_of e) ≡ Some p → slice_get s.processors (cpu_of e) ≡ Some p
         there p at =
-            sym (got_set_other s.processors (cpu_of f) (cpu_of e) g.to ne)
+            sym (get-set_other s.processors (cpu_of f) (cpu_of e) g.to ne)
             ∙ ap (λ (y : State). slice_get y.processors (cpu_of e)) (sym g.is)
             ∙ at
 
         here : slice_get mid.processors (cpu_of e) ≡ Some d.from
         here =
             ap (λ (y : State). slice_get y.processors (cpu_of e)) g.is
-            ∙ got_set_other s.processors (cpu_of f) (cpu_of e) g.to ne
+            ∙ get-set_other s.processors (cpu_of f) (cpu_of e) g.to ne
             ∙ d.was
 
-        z : (end : State) × EventDone flat program e mid (Ok tt) end
+        z : (end : State) × MachineTransition flat_memory program e mid (Ok tt) end
         z = possible_in e s first mid d.from enabled d.was here
 
         independent : AreIndependent program f e s
         independent = record { of_two = λ n r p at and. apart ne r p at and; of_one = λ same. absurd (ne same) }
 
-        j : (j : ℕ) × StandsAt f j s
+        j : (j : ℕ) × IsAtPosition f j s
         j = stands f s g.from g.was
 
-        k : (k : ℕ) × StandsAt e k mid
+        k : (k : ℕ) × IsAtPosition e k mid
         k = stands e mid d.from here
 
-        x : (other : State) × DoneAt flat program e k.0 s other × DoneAt flat program f j.0 other z.0
+        x : (other : State) × TransitionAt flat_memory program e k.0 s other × TransitionAt flat_memory program f j.0 other z.0
         x =
             exchanged program f e s independent j.0 k.0 mid z.0 (record { stands = j.1; done = done })
             (record { stands = k.1; done = z.1 })
 
         once : x.0 ≡ first
-        once = (event_once program e s x.0 first (Ok tt) (Ok tt) x.1.done enabled).1
+        once = (MachineTransition-deterministic program e s x.0 first (Ok tt) (Ok tt) x.1.done enabled).1
 
   -- ---- the step and the drain of one thread
 
@@ -415,17 +420,17 @@ module _ (program : List (List Instr)) (forward : IsForward program) where
     stepped_at : slice_get stepped.processors t ≡ Some (with_oldest entry new)
     drained_at : slice_get drained.processors t ≡ Some behind
     end : State
-    drains : EventDone flat program (Drain t) stepped (Ok tt) end
-    steps : EventDone flat program (Step t) drained (Ok tt) end
+    drains : MachineTransition flat_memory program (Drain t) stepped (Ok tt) end
+    steps : MachineTransition flat_memory program (Step t) drained (Ok tt) end
 
   diamond : (t : ℕ) (s stepped drained : State)
       → ((p : Processor) (x : ℕ)
       → slice_get s.processors t ≡ Some p
-      → step_access (slice_get (code_of program t) p.position) ≡ Some (x, false)
+      → step_access (slice_get (thread_code program t) p.position) ≡ Some (x, false)
       → drain_access p.buffer ≡ Some (x, true)
       → x < length s.memory)
-      → EventDone flat program (Step t) s (Ok tt) stepped
-      → EventDone flat program (Drain t) s (Ok tt) drained
+      → MachineTransition flat_memory program (Step t) s (Ok tt) stepped
+      → MachineTransition flat_memory program (Drain t) s (Ok tt) drained
       → Diamond t s stepped drained
   diamond t s stepped drained range step drain = record {
     entry = b.entry;
@@ -434,50 +439,53 @@ module _ (program : List (List Instr)) (forward : IsForward program) where
     was = was;
     stepped_at =
         ap (λ (z : State). slice_get z.processors t) stepped_is
-        ∙ got_set_same s.processors t held (with_oldest b.entry b.behind) was;
+        ∙ get-set_same s.processors t held (with_oldest b.entry b.behind) was;
     drained_at =
         ap (λ (z : State). slice_get z.processors t) drained_is
-        ∙ got_set_same s.processors t b.behind (with_oldest b.entry b.behind) was;
+        ∙ get-set_same s.processors t b.behind (with_oldest b.entry b.behind) was;
     end = state (slice_set s.processors t i.new) written;
     drains =
-        subst (λ z. EventDone flat program (Drain t) z (Ok tt) (state (slice_set s.processors t i.new) written)) (sym stepped_is)
-        (subst
-        (λ ps. EventDone flat program (Drain t) (state (slice_set s.processors t held) s.memory) (Ok tt) (state ps written))
-        (set-set s.processors t held i.new)
-        (leads_from program (Drain t) (slice_set s.processors t held) held i.new s.memory written
-        (got_set_same s.processors t held (with_oldest b.entry b.behind) was) (refl, refl)));
+        subst (λ z. MachineTransition flat_memory program (Drain t) z (Ok tt) (state (slice_set s.processors t i.new) written))
+        (sym stepped_is)
+        (subst (λ ps.
+        MachineTransition flat_memory program (Drain t) (state (slice_set s.processors t held) s.memory) (Ok tt)
+        (state ps written)) (set-set s.processors t held i.new)
+        (event_of_effect program (Drain t) (slice_set s.processors t held) held i.new s.memory written
+        (get-set_same s.processors t held (with_oldest b.entry b.behind) was) (refl, refl)));
     steps =
-        subst (λ z. EventDone flat program (Step t) z (Ok tt) (state (slice_set s.processors t i.new) written)) (sym drained_is)
-        (subst
-        (λ ps. EventDone flat program (Step t) (state (slice_set s.processors t b.behind) written) (Ok tt) (state ps written))
-        (set-set s.processors t b.behind i.new)
-        (leads_from program (Step t) (slice_set s.processors t b.behind) b.behind i.new written written
-        (got_set_same s.processors t b.behind (with_oldest b.entry b.behind) was)
-        (subst (λ o. Does written (step_act o b.behind) i.new written) (sym instr.is) i.does)));
+        subst (λ z. MachineTransition flat_memory program (Step t) z (Ok tt) (state (slice_set s.processors t i.new) written))
+        (sym drained_is)
+        (subst (λ ps.
+        MachineTransition flat_memory program (Step t) (state (slice_set s.processors t b.behind) written) (Ok tt)
+        (state ps written)) (set-set s.processors t b.behind i.new)
+        (event_of_effect program (Step t) (slice_set s.processors t b.behind) b.behind i.new written written
+        (get-set_same s.processors t b.behind (with_oldest b.entry b.behind) was)
+        (subst (λ o. EffectLeadsTo written (step_effect o b.behind) i.new written) (sym instr.is) i.does)));
   }
     where
-      x : Did program (Step t) s stepped
-      x = leads_to program (Step t) s stepped step
+      x : EventOccurrence program (Step t) s stepped
+      x = effect_of_event program (Step t) s stepped step
 
-      y : Did program (Drain t) s drained
-      y = leads_to program (Drain t) s drained drain
+      y : EventOccurrence program (Drain t) s drained
+      y = effect_of_event program (Drain t) s drained drain
 
       same : y.from ≡ x.from
       same = same_Some y.from x.from (sym y.was ∙ x.was)
 
       b : DrainEffect x.from y.to s.memory y.words
       b =
-          drain_effect x.from y.to s.memory y.words
-          (subst (λ (r : Processor). Does s.memory (drain_act r.buffer r) y.to y.words) same y.does)
+          DrainEffect-of_drain x.from y.to s.memory y.words
+          (subst (λ (r : Processor). EffectLeadsTo s.memory (drain_effect r.buffer r) y.to y.words) same y.does)
 
       was : slice_get s.processors t ≡ Some (with_oldest b.entry b.behind)
       was = x.was ∙ ap Some b.is
 
-      instr : HasInstr (slice_get (code_of program t) b.behind.position) (with_oldest b.entry b.behind) x.to s.memory x.words
+      instr : HasInstr (slice_get (thread_code program t) b.behind.position) (with_oldest b.entry b.behind) x.to s.memory x.words
       instr =
-          has_instr (slice_get (code_of program t) b.behind.position) (with_oldest b.entry b.behind) x.to s.memory x.words
-          (subst (λ (r : Processor). Does s.memory (step_act (slice_get (code_of program t) r.position) r) x.to x.words) b.is
-          x.does)
+          has_instr (slice_get (thread_code program t) b.behind.position) (with_oldest b.entry b.behind) x.to s.memory x.words
+          (subst
+          (λ (r : Processor). EffectLeadsTo s.memory (step_effect (slice_get (thread_code program t) r.position) r) x.to x.words)
+          b.is x.does)
 
       i : Passes b.entry (x86_operation instr.instr) b.behind x.to s.memory x.words
       i =
@@ -498,9 +506,9 @@ module _ (program : List (List Instr)) (forward : IsForward program) where
 
   -- The step is invisible, and the drain is first.
   own_drain : (t : ℕ) (s first mid : State)
-      → EventDone flat program (Step t) s (Ok tt) first
+      → MachineTransition flat_memory program (Step t) s (Ok tt) first
       → IsInvisible program (Step t) s
-      → EventDone flat program (Drain t) s (Ok tt) mid
+      → MachineTransition flat_memory program (Drain t) s (Ok tt) mid
       → Exchanged (Step t) (Drain t) first mid
   own_drain t s first mid enabled invisible done =
       let d = diamond t s first mid (λ p x at access entry. (invisible p (x, false) at access).in_range) enabled done in
@@ -510,16 +518,16 @@ module _ (program : List (List Instr)) (forward : IsForward program) where
         behind = d.drains;
         still = λ p access at is.
             let same : d.behind ≡ p = same_Some d.behind p (sym d.drained_at ∙ at) in
-            uncontended-after (Drain t) s mid t access (leads_to program (Drain t) s mid done)
+            uncontended-after (Drain t) s mid t access (effect_of_event program (Drain t) s mid done)
             (invisible (with_oldest d.entry d.behind) access d.was
-            (ap (λ (r : Processor). step_access (slice_get (code_of program t) r.position)) same ∙ is));
+            (ap (λ (r : Processor). step_access (slice_get (thread_code program t) r.position)) same ∙ is));
       }
 
   -- The drain is invisible, and the step is first.
   own_step : (t : ℕ) (s first mid : State)
-      → EventDone flat program (Drain t) s (Ok tt) first
+      → MachineTransition flat_memory program (Drain t) s (Ok tt) first
       → IsInvisible program (Drain t) s
-      → EventDone flat program (Step t) s (Ok tt) mid
+      → MachineTransition flat_memory program (Step t) s (Ok tt) mid
       → Exchanged (Drain t) (Step t) first mid
   own_step t s first mid enabled invisible done =
       let d = diamond t s mid first (λ p x at access entry. (invisible p (x, true) at entry).in_range) done enabled in
@@ -529,7 +537,7 @@ module _ (program : List (List Instr)) (forward : IsForward program) where
         behind = d.steps;
         still = λ p access at is.
             let same : with_oldest d.entry d.new ≡ p = same_Some (with_oldest d.entry d.new) p (sym d.stepped_at ∙ at) in
-            uncontended-after (Step t) s mid t access (leads_to program (Step t) s mid done)
+            uncontended-after (Step t) s mid t access (effect_of_event program (Step t) s mid done)
             (invisible (with_oldest d.entry d.behind) access d.was (ap (λ (r : Processor). drain_access r.buffer) same ∙ is));
       }
 
@@ -539,21 +547,26 @@ module _ (program : List (List Instr)) (forward : IsForward program) where
   record ShorterRun (events : List Event) (from end : State) : Type 0 where
     more : List Event
     few : length more ≤ length events
-    ran : MachineRan flat program more from end
+    ran : MachineRunsTo flat_memory program more from end
 
-  module _ (es : List Event) (s first mid end : State) (ran : MachineRan flat program es mid end) where
+  module _ (es : List Event) (s first mid end : State) (ran : MachineRunsTo flat_memory program es mid end) where
     itself : (e : Event)
-        → EventDone flat program e s (Ok tt) first
-        → EventDone flat program e s (Ok tt) mid
+        → MachineTransition flat_memory program e s (Ok tt) first
+        → MachineTransition flat_memory program e s (Ok tt) mid
         → ShorterRun (e ∷ es) first end
     itself e enabled done = record {
       more = es;
       few = omega arith;
-      ran = subst (λ z. MachineRan flat program es z end) (event_once program e s mid first (Ok tt) (Ok tt) done enabled).1 ran;
+      ran =
+          subst (λ z. MachineRunsTo flat_memory program es z end)
+          (MachineTransition-deterministic program e s mid first (Ok tt) (Ok tt) done enabled).1 ran;
     }
 
     behind_other : (e f : Event)
-        → ((next : State) → EventDone flat program e mid (Ok tt) next → IsInvisible program e mid → ShorterRun es next end)
+        → ((next : State)
+        → MachineTransition flat_memory program e mid (Ok tt) next
+        → IsInvisible program e mid
+        → ShorterRun es next end)
         → Exchanged e f first mid
         → ShorterRun (f ∷ es) first end
     behind_other e f rest both =
@@ -562,10 +575,13 @@ module _ (program : List (List Instr)) (forward : IsForward program) where
 
     -- The run's first event, if the rest of the run is known.
     event-first : (e f : Event)
-        → EventDone flat program e s (Ok tt) first
+        → MachineTransition flat_memory program e s (Ok tt) first
         → IsInvisible program e s
-        → EventDone flat program f s (Ok tt) mid
-        → ((next : State) → EventDone flat program e mid (Ok tt) next → IsInvisible program e mid → ShorterRun es next end)
+        → MachineTransition flat_memory program f s (Ok tt) mid
+        → ((next : State)
+        → MachineTransition flat_memory program e mid (Ok tt) next
+        → IsInvisible program e mid
+        → ShorterRun es next end)
         → ShorterRun (f ∷ es) first end
     event-first e f enabled invisible done rest = elim (cases_eq (cpu_of f) (cpu_of e)) [
       | inr ne ↦ behind_other e f rest (other_thread e f s first mid enabled invisible done ne)
@@ -574,66 +590,69 @@ module _ (program : List (List Instr)) (forward : IsForward program) where
       where
         own : (e f : Event)
             → cpu_of f ≡ cpu_of e
-            → EventDone flat program e s (Ok tt) first
+            → MachineTransition flat_memory program e s (Ok tt) first
             → IsInvisible program e s
-            → EventDone flat program f s (Ok tt) mid
-            → ((next : State) → EventDone flat program e mid (Ok tt) next → IsInvisible program e mid → ShorterRun es next end)
+            → MachineTransition flat_memory program f s (Ok tt) mid
+            → ((next : State)
+            → MachineTransition flat_memory program e mid (Ok tt) next
+            → IsInvisible program e mid
+            → ShorterRun es next end)
             → ShorterRun (f ∷ es) first end
         own (Step t) (Step u) is a i b r =
-            itself (Step u) (subst (λ v. EventDone flat program (Step v) s (Ok tt) first) (sym is) a) b
+            itself (Step u) (subst (λ v. MachineTransition flat_memory program (Step v) s (Ok tt) first) (sym is) a) b
         own (Drain t) (Drain u) is a i b r =
-            itself (Drain u) (subst (λ v. EventDone flat program (Drain v) s (Ok tt) first) (sym is) a) b
+            itself (Drain u) (subst (λ v. MachineTransition flat_memory program (Drain v) s (Ok tt) first) (sym is) a) b
         own (Step t) (Drain u) is a i b r =
             behind_other (Step t) (Drain u) r
-            (subst (λ v. EventDone flat program (Drain v) s (Ok tt) mid → Exchanged (Step t) (Drain v) first mid) (sym is)
-            (own_drain t s first mid a i) b)
+            (subst (λ v. MachineTransition flat_memory program (Drain v) s (Ok tt) mid → Exchanged (Step t) (Drain v) first mid)
+            (sym is) (own_drain t s first mid a i) b)
         own (Drain t) (Step u) is a i b r =
             behind_other (Drain t) (Step u) r
-            (subst (λ v. EventDone flat program (Step v) s (Ok tt) mid → Exchanged (Drain t) (Step v) first mid) (sym is)
-            (own_step t s first mid a i) b)
+            (subst (λ v. MachineTransition flat_memory program (Step v) s (Ok tt) mid → Exchanged (Drain t) (Step v) first mid)
+            (sym is) (own_step t s first mid a i) b)
         own (Evict t x) g is a i b r =
-            let h = leads_to program (Evict t x) s first a in
+            let h = effect_of_event program (Evict t x) s first a in
             absurd (no_eviction program (length s.memory) t x h.from h.to s.memory h.words h.does)
         own g (Evict u x) is a i b r =
-            let h = leads_to program (Evict u x) s mid b in
+            let h = effect_of_event program (Evict u x) s mid b in
             absurd (no_eviction program (length s.memory) u x h.from h.to s.memory h.words h.does)
 
   -- No state in which an event of a thread is enabled is final.
   not_final : (e : Event) (s first : State)
-      → EventDone flat program e s (Ok tt) first
+      → MachineTransition flat_memory program e s (Ok tt) first
       → cpu_of e < length program
       → IsTrue (is_final program s)
       → ⊥
   not_final e s first enabled lt final =
-      let d = leads_to program e s first enabled in
+      let d = effect_of_event program e s first enabled in
       let code = get_some program (cpu_of e) lt in
-      let is : code_of program (cpu_of e) ≡ code.0 = get_or_from_slice_get program (cpu_of e) code.0 [] code.1 in
-      let done : is_done code.0 d.from ≡ true =
-      zip_passes (λ (x : List Instr × Processor). is_done x.0 x.1) program s.processors (cpu_of e) code.0 d.from final code.1
-      d.was in
+      let is : thread_code program (cpu_of e) ≡ code.0 = get_or_from_slice_get program (cpu_of e) code.0 [] code.1 in
+      let done : has_terminated code.0 d.from ≡ true =
+      zip_passes (λ (x : List Instr × Processor). has_terminated x.0 x.1) program s.processors (cpu_of e) code.0 d.from final
+      code.1 d.was in
       let parts = and_parts (nat_le (length code.0) d.from.position) (length d.from.buffer == 0) done in
       go e d (subst (λ c. length c ≤ d.from.position) (sym is) (leb-true (length code.0) d.from.position parts.0)) parts.1
     where
-      go : (e : Event) (a : Did program e s first)
-          → length (code_of program (cpu_of e)) ≤ a.from.position
+      go : (e : Event) (a : EventOccurrence program e s first)
+          → length (thread_code program (cpu_of e)) ≤ a.from.position
           → (length a.from.buffer == 0) ≡ true
           → ⊥
       go (Step t) a past empty =
-          let i = has_instr (slice_get (code_of program t) a.from.position) a.from a.to s.memory a.words a.does in
-          let within = slice_get_within (code_of program t) a.from.position i.instr i.is in
+          let i = has_instr (slice_get (thread_code program t) a.from.position) a.from a.to s.memory a.words a.does in
+          let within = slice_get_within (thread_code program t) a.from.position i.instr i.is in
           absurd (omega (arith, past, within))
       go (Drain t) a past empty =
-          let b = drain_effect a.from a.to s.memory a.words a.does in
+          let b = DrainEffect-of_drain a.from a.to s.memory a.words a.does in
           let size : length a.from.buffer ≡ length (b.entry ∷ b.behind.buffer) = ap (λ (r : Processor). length r.buffer) b.is in
           let none : length a.from.buffer ≡ 0 = eqb-true (length a.from.buffer) 0 empty in
           absurd (omega (arith, size, none))
       go (Evict t x) a past empty = no_eviction program (length s.memory) t x a.from a.to s.memory a.words a.does
 
   invisible_event-first : (e : Event) (events : List Event) (s first end : State)
-      → EventDone flat program e s (Ok tt) first
+      → MachineTransition flat_memory program e s (Ok tt) first
       → IsInvisible program e s
       → cpu_of e < length program
-      → MachineRan flat program events s end
+      → MachineRunsTo flat_memory program events s end
       → IsTrue (is_final program end)
       → ShorterRun events first end
   invisible_event-first e [] s first end enabled invisible lt ran final =
@@ -644,7 +663,7 @@ module _ (program : List (List Instr)) (forward : IsForward program) where
 
   -- The state after an invisible event covers the state before it.
   pub covers-invisible_event : (e : Event) (s next : State)
-      → EventDone flat program e s (Ok tt) next
+      → MachineTransition flat_memory program e s (Ok tt) next
       → IsInvisible program e s
       → cpu_of e < length program
       → Covers program next s

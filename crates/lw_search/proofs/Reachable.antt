@@ -1,9 +1,9 @@
 -- The states that a search has found are different from each other, and each is reachable.
 use Rattle.lw_search.proofs.Common.{◌≡◌, ◌<◌, ℕ, zero, suc, List, [], ◌∷◌, length, inl, inr, subst, sym, refl}
-use Rattle.lw_search.proofs.Common.{arith, slice_get, Some, All, ProgramTest, machine_start, Contains}
-use Rattle.lw_search.proofs.Common.{All-cons, All-nil, none_in, Contains-here, Contains-there, Contains-cons}
-use Rattle.lw_search.proofs.Common.{EachOnce, IsReachable, AreReachable, Visits, ExceedsBudget, State}
-use Rattle.lw_search.proofs.Common.{Components, Visited, AreDistinct, SearchInvariant}
+use Rattle.lw_search.proofs.Common.{arith, slice_get, Some, All, X86Test, initial_machine_state, Contains}
+use Rattle.lw_search.proofs.Common.{All-cons, All-nil, not-Contains-nil, Contains-head, Contains-tail}
+use Rattle.lw_search.proofs.Common.{Contains-cons, IsDuplicateFree, IsReachable, AreReachable, Visits}
+use Rattle.lw_search.proofs.Common.{ExceedsBudget, State, Components, Visited, AreDistinct, SearchInvariant}
 use Rattle.lw_search.proofs.AllFound.{final_state-found}
 use Rattle.lw_search.proofs.Collected.{found-reachable}
 
@@ -11,7 +11,7 @@ use Rattle.lw_search.proofs.Collected.{found-reachable}
 
 -- A member of a list has an index.
 Contains-index : {X : Type 0} (xs : List X) (x : X) → Contains xs x → (i : ℕ) × (slice_get xs i ≡ Some x)
-Contains-index [] x c = absurd (none_in x c)
+Contains-index [] x c = absurd (not-Contains-nil x c)
 Contains-index (y ∷ xs) x c = elim (Contains-cons y x xs c) [
   | inl e ↦ (0, λ i. Some (e i))
   | inr r ↦ (let found = Contains-index xs x r in (suc found.0, found.1))
@@ -20,14 +20,14 @@ Contains-index (y ∷ xs) x c = elim (Contains-cons y x xs c) [
 -- An item at an index is a member.
 slice_get-Contains : {X : Type 0} (xs : List X) (i : ℕ) (x : X) → slice_get xs i ≡ Some x → Contains xs x
 slice_get-Contains [] i x at = absurd cc
-slice_get-Contains (y ∷ xs) zero x at = Contains-here y x xs (same_item y x at)
+slice_get-Contains (y ∷ xs) zero x at = Contains-head y x xs (same_item y x at)
   where
     same_item : {X : Type 0} (y x : X) → Some y ≡ Some x → y ≡ x
     same_item y x e = cc
-slice_get-Contains (y ∷ xs) (suc i) x at = Contains-there y x xs (slice_get-Contains xs i x at)
+slice_get-Contains (y ∷ xs) (suc i) x at = Contains-tail y x xs (slice_get-Contains xs i x at)
 
 -- A list whose items are at one index each has no duplicates.
-each_once-distinct : {X : Type 0} (xs : List X) → AreDistinct xs → EachOnce xs
+each_once-distinct : {X : Type 0} (xs : List X) → AreDistinct xs → IsDuplicateFree xs
 each_once-distinct [] distinct = tt
 each_once-distinct (x ∷ xs) distinct = (
   λ c.
@@ -44,38 +44,40 @@ All-slice_get P (x ∷ xs) each = All-cons P x xs (each 0 x refl) (All-slice_get
 
 -- ---- what was found
 
-module _ (test : ProgramTest) (tables : Components) (visited : Visited) (found : List State) where
+module _ (test : X86Test) (tables : Components) (visited : Visited) (found : List State) where
   -- whatever was visited of the found states
   pub found-are_reachable : (closed : ℕ)
-      → SearchInvariant test.threads (machine_start test test.head.init_words) tables visited found closed
+      → SearchInvariant test.threads (initial_machine_state test test.head.init_words) tables visited found closed
       → AreReachable test found
   found-are_reachable closed invariant = record {
     distinct = each_once-distinct found invariant.distinct;
     reachable = All-slice_get (IsReachable test) found (λ i s at.
-        found-reachable test.threads (machine_start test test.head.init_words) tables visited found closed invariant (suc i) i s
-        (omega arith) at);
+        found-reachable test.threads (initial_machine_state test test.head.init_words) tables visited found closed invariant
+        (suc i) i s (omega arith) at);
   }
 
   -- A search that visited each state that it found visited so many.
   pub visits-found :
-      SearchInvariant test.threads (machine_start test test.head.init_words) tables visited found (length visited.keys)
+      SearchInvariant test.threads (initial_machine_state test test.head.init_words) tables visited found (length visited.keys)
       → Visits test (length visited.keys)
   visits-found invariant = record {
     states = found;
     size = sym invariant.key_count;
     reachable = found-are_reachable (length visited.keys) invariant;
     final = λ s (events, ran) final.
-        let all : SearchInvariant test.threads (machine_start test test.head.init_words) tables visited found (length found) =
-        subst (λ n. SearchInvariant test.threads (machine_start test test.head.init_words) tables visited found n)
+        let all : SearchInvariant test.threads (initial_machine_state test test.head.init_words) tables visited found
+        (length found) =
+        subst (λ n. SearchInvariant test.threads (initial_machine_state test test.head.init_words) tables visited found n)
         invariant.key_count invariant in
         let at =
-        final_state-found test.threads (machine_start test test.head.init_words) tables visited found all events s ran final in
+        final_state-found test.threads (initial_machine_state test test.head.init_words) tables visited found all events s ran
+        final in
         slice_get-Contains found at.0 s at.1;
   }
 
   -- A search that found more states than its budget exceeds it.
   pub exceeds-found : (budget closed : ℕ)
-      → SearchInvariant test.threads (machine_start test test.head.init_words) tables visited found closed
+      → SearchInvariant test.threads (initial_machine_state test test.head.init_words) tables visited found closed
       → budget < length found
       → ExceedsBudget test budget
   exceeds-found budget closed invariant more =

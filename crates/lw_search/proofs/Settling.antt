@@ -2,28 +2,28 @@
 use Rattle.lw_search.proofs.Common.{cases_eq, inl, inr, slice_set, get_some, ◌≢◌, ◌+◌, slice_index}
 use Rattle.lw_search.proofs.Common.{length-append, ◌≡◌, ℕ, ◌<◌, ◌≤◌, ⊎_elim, Bool, true, false, Option, Some}
 use Rattle.lw_search.proofs.Common.{Ok, List, [], ◌∷◌, ◌++◌, length, refl, sym, ap, ap₂, ◌∙◌, subst, arith}
-use Rattle.lw_search.proofs.Common.{slice_get, length-set, map-append, set-set, set_own, got_set_same}
-use Rattle.lw_search.proofs.Common.{got_set_other, same_Some, slice_get_within, get_or_from_slice_get}
-use Rattle.lw_search.proofs.Common.{cases_lt, Event, Step, Drain, code_of, flat, Instr, Processor, cpu_of}
-use Rattle.lw_search.proofs.Common.{EventDone, MachineRan, Ran-append, if◌then◌else◌, operation_act}
-use Rattle.lw_search.proofs.Common.{x86_operation, event_act, drain_act, step_act, IsThread}
-use Rattle.lw_search.proofs.Common.{IsWellFormedProgram, ProgramTest, x86, get_or_past, append-nil, state}
-use Rattle.lw_search.proofs.Common.{Does, leads_from, done_does, option_to_list, operation_access}
-use Rattle.lw_search.proofs.Common.{step_access, drain_access, event_access, IsInvisible, IsForward}
-use Rattle.lw_search.proofs.Common.{ActResult, State, Components, Extends, Represents, RepresentsOthers}
-use Rattle.lw_search.proofs.Common.{RepresentsThreads, event_of, events_of, set_thread, Covers, Settles}
-use Rattle.lw_search.proofs.Common.{Settled, SettlesFrom, IsLoaded, IsWorking, OthersNeverConflict}
-use Rattle.lw_search.proofs.Common.{append_assoc}
+use Rattle.lw_search.proofs.Common.{slice_get, length-set, map-append, set-set, set-get_same, get-set_same}
+use Rattle.lw_search.proofs.Common.{get-set_other, same_Some, slice_get_within, get_or_from_slice_get}
+use Rattle.lw_search.proofs.Common.{cases_lt, Event, Step, Drain, thread_code, flat_memory, Instr, Processor}
+use Rattle.lw_search.proofs.Common.{cpu_of, MachineTransition, MachineRunsTo, RunsTo-append, if◌then◌else◌}
+use Rattle.lw_search.proofs.Common.{operation_effect, x86_operation, event_effect, drain_effect, step_effect}
+use Rattle.lw_search.proofs.Common.{IsWellFormedThread, IsWellFormedProgram, X86Test, x86_language}
+use Rattle.lw_search.proofs.Common.{get_or_past, append-nil, state, EffectLeadsTo, event_of_effect, done_does}
+use Rattle.lw_search.proofs.Common.{option_to_list, operation_access, step_access, drain_access, event_access}
+use Rattle.lw_search.proofs.Common.{IsInvisible, IsForward, ActResult, State, Components, Extends, Represents}
+use Rattle.lw_search.proofs.Common.{RepresentsOthers, RepresentsThreads, event_of, events_of, set_thread}
+use Rattle.lw_search.proofs.Common.{Covers, Settles, Settled, SettlesFrom, IsLoaded, IsWorking}
+use Rattle.lw_search.proofs.Common.{OthersNeverConflict, append_assoc}
 use Rattle.lw_search.proofs.InvisibleEvents.{covers-invisible_event}
 use Rattle.lw_search.proofs.Rows.{extends-refl, extends-trans}
 
 -- Jumps of a well-formed program lead forward, and so do its other instructions.
-pub well_formed-forward : (test : ProgramTest) → IsWellFormedProgram test → IsForward test.threads
+pub well_formed-forward : (test : X86Test) → IsWellFormedProgram test → IsForward test.threads
 well_formed-forward test formed t k j i at leads =
     ⊎_elim (λ lt.
-    let thread : IsThread x86 (length test.head.locs) (code_of test.threads t) = formed.code t [] lt in
+    let thread : IsWellFormedThread x86_language (length test.head.locs) (thread_code test.threads t) = formed.code t [] lt in
     ⊎_elim (λ on. omega (arith, on.1)) (λ to. (thread.forward k i at j to).0) leads) (λ past.
-    let none : code_of test.threads t ≡ [] = get_or_past test.threads t [] past in
+    let none : thread_code test.threads t ≡ [] = get_or_past test.threads t [] past in
     absurd (let e = ap (λ c. slice_get c k) (sym none) ∙ at in cc)) (cases_lt t (length test.threads))
 
 module _ (program : List (List Instr)) where
@@ -46,7 +46,7 @@ module _ (program : List (List Instr)) where
         → RepresentsOthers tables key t (set_thread s t q n)
     others-set_thread s q n stands = record {
       size = stands.size;
-      threads = λ u p ne at. stands.threads u p ne (sym (got_set_other s.processors t u q (λ e. ne (sym e))) ∙ at);
+      threads = λ u p ne at. stands.threads u p ne (sym (get-set_other s.processors t u q (λ e. ne (sym e))) ∙ at);
       unused = λ u le. stands.unused u (subst (λ k. k ≤ u) (length-set s.processors t q) le);
     }
 
@@ -61,14 +61,15 @@ module _ (program : List (List Instr)) where
     settles-none p m s stands size at words = (same, covers-eq (set_thread s t p m) s same)
       where
         same : set_thread s t p m ≡ s
-        same = ap₂ (λ ps k. state ps k) (set_own s.processors t p at) (sym words)
+        same = ap₂ (λ ps k. state ps k) (set-get_same s.processors t p at) (sym words)
 
     pub settles-append : (es fs : List Event) (p q r : Processor) (m n o : List ℕ)
         → Settles program tables key t es p m q n
         → Settles program tables key t fs q n r o
         → Settles program tables key t (es ++ fs) p m r o
     settles-append es fs p q r m n o first second s stands size at words = (
-      Ran-append (EventDone flat program) es fs s mid end a.0 (subst (λ z. MachineRan flat program fs mid z) same b.0),
+      RunsTo-append (MachineTransition flat_memory program) es fs s mid end a.0
+          (subst (λ z. MachineRunsTo flat_memory program fs mid z) same b.0),
       covers-trans end mid s (subst (λ z. Covers program z mid) same b.1) a.1,
     )
       where
@@ -78,12 +79,12 @@ module _ (program : List (List Instr)) where
         end : State
         end = set_thread s t r o
 
-        a : MachineRan flat program es s (set_thread s t q n) × Covers program (set_thread s t q n) s
+        a : MachineRunsTo flat_memory program es s (set_thread s t q n) × Covers program (set_thread s t q n) s
         a = first s stands size at words
 
-        b : MachineRan flat program fs mid (set_thread mid t r o) × Covers program (set_thread mid t r o) mid
+        b : MachineRunsTo flat_memory program fs mid (set_thread mid t r o) × Covers program (set_thread mid t r o) mid
         b =
-            second mid (others-set_thread s q n stands) (length-set s.processors t q ∙ size) (got_set_same s.processors t q p at)
+            second mid (others-set_thread s q n stands) (length-set s.processors t q ∙ size) (get-set_same s.processors t q p at)
             refl
 
         same : set_thread mid t r o ≡ end
@@ -110,9 +111,9 @@ module _ (program : List (List Instr)) where
     -- An invisible event that is enabled is taken at once.
     settles-event : (e : Event) (p q : Processor) (m n : List ℕ)
         → cpu_of e < length program
-        → ((locs : ℕ) → Does m (event_act program locs e p) q n)
+        → ((locs : ℕ) → EffectLeadsTo m (event_effect program locs e p) q n)
         → ((a : ℕ × Bool)
-        → event_access (code_of program (cpu_of e)) e p ≡ Some a
+        → event_access (thread_code program (cpu_of e)) e p ≡ Some a
         → (a.0 < length m) × OthersNeverConflict program tables key (cpu_of e) a.0 a.1)
         → Settles program tables key (cpu_of e) (e ∷ []) p m q n
     settles-event e p q m n lt does free s stands size at words = (
@@ -120,15 +121,15 @@ module _ (program : List (List Instr)) where
       covers-invisible_event program forward e s (set_thread s (cpu_of e) q n) done invisible lt,
     )
       where
-        done : EventDone flat program e s (Ok tt) (set_thread s (cpu_of e) q n)
+        done : MachineTransition flat_memory program e s (Ok tt) (set_thread s (cpu_of e) q n)
         done =
-            leads_from program e s.processors p q s.memory n at
-            (subst (λ k. Does k (event_act program (length s.memory) e p) q n) (sym words) (does (length s.memory)))
+            event_of_effect program e s.processors p q s.memory n at
+            (subst (λ k. EffectLeadsTo k (event_effect program (length s.memory) e p) q n) (sym words) (does (length s.memory)))
 
         invisible : IsInvisible program e s
         invisible r a is access =
             let same : r ≡ p = same_Some r p (sym is ∙ at) in
-            let f = free a (subst (λ z. event_access (code_of program (cpu_of e)) e z ≡ Some a) same access) in
+            let f = free a (subst (λ z. event_access (thread_code program (cpu_of e)) e z ≡ Some a) same access) in
             record {
               in_range = subst (λ k. a.0 < length k) (sym words) f.0;
               others = λ u z ne there.
@@ -141,14 +142,15 @@ module _ (program : List (List Instr)) where
         → ((a : ℕ × Bool)
         → operation_access (x86_operation i) ≡ Some a
         → (a.0 < length m) × OthersNeverConflict program tables key t a.0 a.1)
-        → ActResult (operation_act (x86_operation i) p) p m done q n
+        → ActResult (operation_effect (x86_operation i) p) p m done q n
         → Settles program tables key t (if done then Step t ∷ [] else []) p m q n
     settles-step t code i p q m n true coded next free result =
         settles-event (Step t) p q m n (slice_get_within program t code coded) (λ locs.
-        subst (λ o. Does m (step_act o p) q n) (sym here) (done_does t (operation_act (x86_operation i) p) p q m n (result t)))
+        subst (λ o. EffectLeadsTo m (step_effect o p) q n) (sym here)
+        (done_does t (operation_effect (x86_operation i) p) p q m n (result t)))
         (λ a access. free a (ap step_access (sym here) ∙ access))
       where
-        here : slice_get (code_of program t) p.position ≡ Some i
+        here : slice_get (thread_code program t) p.position ≡ Some i
         here = ap (λ c. slice_get c p.position) (get_or_from_slice_get program t code [] coded) ∙ next
     settles-step t code i p q m n false coded next free result =
         subst (λ r. Settles program tables key t [] p m r n) (sym result.1)
@@ -157,10 +159,10 @@ module _ (program : List (List Instr)) where
     pub settles-drain : (t : ℕ) (p q : Processor) (m n : List ℕ) (done : Bool)
         → t < length program
         → ((a : ℕ × Bool) → drain_access p.buffer ≡ Some a → (a.0 < length m) × OthersNeverConflict program tables key t a.0 a.1)
-        → ActResult (drain_act p.buffer p) p m done q n
+        → ActResult (drain_effect p.buffer p) p m done q n
         → Settles program tables key t (if done then Drain t ∷ [] else []) p m q n
     settles-drain t p q m n true lt free result =
-        settles-event (Drain t) p q m n lt (λ locs. done_does t (drain_act p.buffer p) p q m n (result t)) free
+        settles-event (Drain t) p q m n lt (λ locs. done_does t (drain_effect p.buffer p) p q m n (result t)) free
     settles-drain t p q m n false lt free result =
         subst (λ r. Settles program tables key t [] p m r n) (sym result.1)
         (subst (λ k. Settles program tables key t [] p m p k) (sym result.2) (settles-none tables key t p m))
@@ -193,11 +195,11 @@ module _ (program : List (List Instr)) where
         | inl same ↦
             let is : q ≡ r =
             same_Some q r
-            (sym (got_set_same s.processors t q p there) ∙ ap (slice_get (slice_set s.processors t q)) (sym same) ∙ at) in
+            (sym (get-set_same s.processors t q p there) ∙ ap (slice_get (slice_set s.processors t q)) (sym same) ∙ at) in
             ap (λ v. slice_get new.threads (slice_index next (v + 1))) same ∙ thread ∙ ap Some is
         | inr ne ↦
             ap (slice_get new.threads) (others u ne)
-            ∙ extended.threads _ r (stands.threads u r ne (sym (got_set_other s.processors t u q (λ e. ne (sym e))) ∙ at))
+            ∙ extended.threads _ r (stands.threads u r ne (sym (get-set_other s.processors t u q (λ e. ne (sym e))) ∙ at))
       ]
 
   -- What a loaded thread took, with its number in the key.
@@ -285,7 +287,7 @@ module _ (program : List (List Instr)) where
       unmoved s working loaded =
           let a = settles s loaded.represented loaded.thread_count loaded.thread loaded.words in
           let same : set_thread s t q n ≡ s =
-          subst (λ es. MachineRan flat program (events_of es) s (set_thread s t q n)) none a.0 in
+          subst (λ es. MachineRunsTo flat_memory program (events_of es) s (set_thread s t q n)) none a.0 in
           record {
             end = s;
             working = record {
@@ -293,7 +295,7 @@ module _ (program : List (List Instr)) where
               thread_count = working.thread_count;
               words = sym (ap (λ (z : State). z.memory) same);
             };
-            ran = subst (λ es. MachineRan flat program (events_of es) s s) (sym none) refl;
+            ran = subst (λ es. MachineRunsTo flat_memory program (events_of es) s s) (sym none) refl;
             covers = covers-refl program s;
           }
 
@@ -326,8 +328,9 @@ module _ (program : List (List Instr)) where
             end = b.end;
             working = b.working;
             ran =
-                subst (λ es. MachineRan flat program es s b.end) (sym (map-append event_of first.more second.more))
-                (Ran-append (EventDone flat program) (events_of first.more) (events_of second.more) s a.end b.end a.ran b.ran);
+                subst (λ es. MachineRunsTo flat_memory program es s b.end) (sym (map-append event_of first.more second.more))
+                (RunsTo-append (MachineTransition flat_memory program) (events_of first.more) (events_of second.more) s a.end
+                b.end a.ran b.ran);
             covers = covers-trans program b.end a.end s b.covers a.covers;
           }
 

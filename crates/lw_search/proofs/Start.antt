@@ -1,8 +1,8 @@
 -- A search begins with the start of the program.
 use Rattle.lw_search.proofs.Common.{◌≡◌, ◌≢◌, ℕ, zero, suc, ◌+◌, ◌<◌, ◌≤◌, Bool, inl, inr, Some, None, List}
 use Rattle.lw_search.proofs.Common.{[], ◌∷◌, length, refl, sym, ap, ◌∙◌, subst, arith, slice_get, slice_index}
-use Rattle.lw_search.proofs.Common.{cases_lt, slice_get_past, slice_get_within, same_Some, starting}
-use Rattle.lw_search.proofs.Common.{machine_start, ProgramTest, IsWellFormedProgram, length-map, got_map}
+use Rattle.lw_search.proofs.Common.{cases_lt, slice_get_past, slice_get_within, same_Some, initial_processor}
+use Rattle.lw_search.proofs.Common.{initial_machine_state, X86Test, IsWellFormedProgram, length-map, get-map}
 use Rattle.lw_search.proofs.Common.{State, Components, Visited, Extends, Represents, InsertsKey, IsStarted}
 use Rattle.lw_search.proofs.Rows.{distinct-append}
 use Rattle.lw_search.proofs.ThreadStates.{slice_index-past}
@@ -16,7 +16,7 @@ pub record IsStartKey (tables : Components) (memory : ℕ) (key : List ℕ) (beg
   pub threads : (t : ℕ) (r : List ℕ)
       → t < n
       → slice_get regs t ≡ Some r
-      → slice_get tables.threads (slice_index key (t + 1)) ≡ Some (starting r)
+      → slice_get tables.threads (slice_index key (t + 1)) ≡ Some (initial_processor r)
   pub unused : (t : ℕ) → n ≤ t → slice_index key (t + 1) ≡ 0
 
 -- At first no thread has a number.
@@ -48,7 +48,7 @@ pub start_key-more : {old new : Components} (memory : ℕ) (key next : List ℕ)
     → length next ≡ length key
     → slice_index next 0 ≡ memory
     → slice_index next (n + 1) ≡ thread
-    → slice_get new.threads thread ≡ Some (starting r)
+    → slice_get new.threads thread ≡ Some (initial_processor r)
     → ((t : ℕ) → t ≢ n → slice_index next (t + 1) ≡ slice_index key (t + 1))
     → IsStartKey new memory next words regs (n + 1)
 start_key-more {old} {new} memory key next words regs n thread r extended begun at size first is there others = record {
@@ -62,7 +62,7 @@ start_key-more {old} {new} memory key next words regs n thread r extended begun 
     threads : (t : ℕ) (q : List ℕ)
         → t < n + 1
         → slice_get regs t ≡ Some q
-        → slice_get new.threads (slice_index next (t + 1)) ≡ Some (starting q)
+        → slice_get new.threads (slice_index next (t + 1)) ≡ Some (initial_processor q)
     threads t q lt got = elim (cases_lt t n) [
       | inl less ↦
           let ne : t ≢ n = λ e. absurd (omega (arith, e, less)) in
@@ -73,21 +73,21 @@ start_key-more {old} {new} memory key next words regs n thread r extended begun 
           ap (λ u. slice_get new.threads (slice_index next (u + 1))) (sym same)
           ∙ ap (slice_get new.threads) is
           ∙ there
-          ∙ ap (λ z. Some (starting z)) one
+          ∙ ap (λ z. Some (initial_processor z)) one
     ]
 
-pub start_key-represents : {tables : Components} (test : ProgramTest) (memory : ℕ) (key : List ℕ) (n : ℕ)
+pub start_key-represents : {tables : Components} (test : X86Test) (memory : ℕ) (key : List ℕ) (n : ℕ)
     → IsStartKey tables memory key test.head.init_words test.head.init_regs n
     → n ≡ length test.head.init_regs
-    → Represents tables key (machine_start test test.head.init_words)
+    → Represents tables key (initial_machine_state test test.head.init_words)
 start_key-represents {tables} test memory key n begun all = record {
   size = begun.size;
   memory = ap (slice_get tables.memories) begun.first ∙ begun.words;
   threads = λ t p at.
-      let r = got_map starting test.head.init_regs t p at in
+      let r = get-map initial_processor test.head.init_regs t p at in
       let lt = slice_get_within test.head.init_regs t r.0 r.1 in
       begun.threads t r.0 (omega (arith, lt, all)) r.1 ∙ ap Some (sym r.2);
-  unused = λ t le. begun.unused t (subst (λ m. m ≤ t) (length-map test.head.init_regs starting ∙ sym all) le);
+  unused = λ t le. begun.unused t (subst (λ m. m ≤ t) (length-map test.head.init_regs initial_processor ∙ sym all) le);
 }
 
 -- A list without an item at an index is no longer than that.
@@ -97,10 +97,10 @@ length-past (x ∷ xs) zero none = absurd cc
 length-past (x ∷ xs) (suc n) none = let h = length-past xs n none in omega arith
 
 -- A search whose tables were empty has found the start.
-pub start-invariant : {tables : Components} (test : ProgramTest) (key : List ℕ) (parent : ℕ) (run : List (ℕ × Bool))
+pub start-invariant : {tables : Components} (test : X86Test) (key : List ℕ) (parent : ℕ) (run : List (ℕ × Bool))
     (visited : Visited)
     → IsWellFormedProgram test
-    → Represents tables key (machine_start test test.head.init_words)
+    → Represents tables key (initial_machine_state test test.head.init_words)
     → Extends (record { threads = []; memories = [] }) tables
     → InsertsKey (record { keys = []; origins = []; runs = [] }) key parent run visited
     → IsStarted test tables visited
@@ -123,7 +123,7 @@ start-invariant {tables} test key parent run visited formed stands extended (inl
 )
   where
     start : State
-    start = machine_start test test.head.init_words
+    start = initial_machine_state test test.head.init_words
 
     represents : (i : ℕ) (k : List ℕ) (s : State)
         → slice_get (key ∷ []) i ≡ Some k
@@ -137,7 +137,7 @@ start-invariant {tables} test key parent run visited formed stands extended (inl
     thread_count : (i : ℕ) (s : State) → slice_get (start ∷ []) i ≡ Some s → length s.processors ≡ length test.threads
     thread_count zero s at =
         ap (λ (z : State). length z.processors) (sym (same_Some start s at))
-        ∙ length-map test.head.init_regs starting
+        ∙ length-map test.head.init_regs initial_processor
         ∙ formed.head.regs
         ∙ sym formed.as_many
     thread_count (suc i) s at = absurd cc

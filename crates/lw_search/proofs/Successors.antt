@@ -1,17 +1,19 @@
 -- The invariant of a search after a state is expanded: what was found stays so, and the successors are covered.
 use Rattle.lw_search.proofs.Common.{◌≡◌, ℕ, zero, suc, ◌+◌, ◌<◌, ◌≤◌, ◌⊎◌, inl, inr, Some, None, Ok, List, []}
 use Rattle.lw_search.proofs.Common.{◌∷◌, ◌++◌, length, refl, sym, ap, ap₂, ◌∙◌, subst, arith, slice_get}
-use Rattle.lw_search.proofs.Common.{slice_set, slice_index, length-append, length-set, got_set_same, cases_lt}
+use Rattle.lw_search.proofs.Common.{slice_set, slice_index, length-append, length-set, get-set_same, cases_lt}
 use Rattle.lw_search.proofs.Common.{slice_get_past, same_Some, slice_get_within, get_some}
-use Rattle.lw_search.proofs.Common.{get_or_from_slice_get, Event, Step, Drain, Evict, flat, Instr, Processor}
-use Rattle.lw_search.proofs.Common.{cpu_of, EventDone, MachineRan, Bool, true, false, Operation}
-use Rattle.lw_search.proofs.Common.{operation_act, x86_operation, Ended, Act, Refused, event_act, step_act}
-use Rattle.lw_search.proofs.Common.{ActDone, Stop, state, Does, Did, leads_from, leads_to, event_once}
-use Rattle.lw_search.proofs.Common.{no_eviction, done_does, get_append, get_seam, Origin, ActResult, State}
-use Rattle.lw_search.proofs.Common.{Components, Visited, Extends, Represents, IsPrefix, AreDistinct}
-use Rattle.lw_search.proofs.Common.{InsertsKey, AppendsOrigin, event_of, events_of, set_thread, Covers}
-use Rattle.lw_search.proofs.Common.{IsCovered, HasPredecessor, SearchInvariant, Expansion, ExpandsState}
-use Rattle.lw_search.proofs.Common.{ExpandsUpTo, CoversThread, Settled, SettlesFrom, IsLoaded}
+use Rattle.lw_search.proofs.Common.{get_or_from_slice_get, Event, Step, Drain, Evict, flat_memory, Instr}
+use Rattle.lw_search.proofs.Common.{Processor, cpu_of, MachineTransition, MachineRunsTo, Bool, true, false}
+use Rattle.lw_search.proofs.Common.{Operation, operation_effect, x86_operation, Ended, EventEffect, Refused}
+use Rattle.lw_search.proofs.Common.{event_effect, step_effect, EffectTransition, Stop, state, EffectLeadsTo}
+use Rattle.lw_search.proofs.Common.{EventOccurrence, event_of_effect, effect_of_event}
+use Rattle.lw_search.proofs.Common.{MachineTransition-deterministic, no_eviction, done_does, get_append}
+use Rattle.lw_search.proofs.Common.{get-append_middle, Origin, ActResult, State, Components, Visited, Extends}
+use Rattle.lw_search.proofs.Common.{Represents, IsPrefix, AreDistinct, InsertsKey, AppendsOrigin, event_of}
+use Rattle.lw_search.proofs.Common.{events_of, set_thread, Covers, IsCovered, HasPredecessor, SearchInvariant}
+use Rattle.lw_search.proofs.Common.{Expansion, ExpandsState, ExpandsUpTo, CoversThread, Settled, SettlesFrom}
+use Rattle.lw_search.proofs.Common.{IsLoaded}
 use Rattle.lw_search.proofs.Settling.{represents-others, represents-working}
 use Rattle.lw_search.proofs.Rows.{slice_get-append_left, distinct-append, extends-trans}
 
@@ -155,7 +157,7 @@ module _ (program : List (List Instr)) where
       (s end : State) (next : List ℕ) (parent : ℕ) (run : List (ℕ × Bool)) (extended : Extends old new)
       (invariant : SearchInvariant program start old visited found closed) (stood : slice_get found at ≡ Some s)
       (stands : Represents new next end) (size : length end.processors ≡ length program) (parent_is : parent ≡ at)
-      (ran : MachineRan flat program (events_of run) s end) where
+      (ran : MachineRunsTo flat_memory program (events_of run) s end) where
     known_key : (i : ℕ) → slice_get visited.keys i ≡ Some next → now ≡ visited → Inserted start new now found closed end
     known_key i key unchanged =
         let lt : i < length found = subst (λ n. i < n) invariant.key_count (slice_get_within visited.keys i next key) in
@@ -205,7 +207,7 @@ module _ (program : List (List Instr)) where
         covered = served;
       };
       index = length found;
-      there = get_seam found end [] (length found) refl;
+      there = get-append_middle found end [] (length found) refl;
     }
       where
         -- the state is new, since its key is
@@ -296,7 +298,8 @@ module _ (program : List (List Instr)) where
       → ((u : ℕ) → slice_index next (u + 1) ≡ slice_index all (u + 1))
       → parent ≡ at
       → InsertsKey visited next parent run now
-      → ExpandsState program old visited new now at key (λ s. EventDone flat program (event_of e) s (Ok tt) (set_thread s t p m))
+      → ExpandsState program old visited new now at key
+      (λ s. MachineTransition flat_memory program (event_of e) s (Ok tt) (set_thread s t p m))
       (λ s more. IsCovered program more s (event_of e))
   successor_covered {old} {settled_tables} {new} {visited} {now} at t e key all next p m n parent run cpu settles extended size memory threads parent_is adds start found closed s invariant stood keyed done =
       record {
@@ -307,8 +310,8 @@ module _ (program : List (List Instr)) where
         holds = served;
       }
     where
-      d : Did program (event_of e) s (set_thread s t p m)
-      d = leads_to program (event_of e) s (set_thread s t p m) done
+      d : EventOccurrence program (event_of e) s (set_thread s t p m)
+      d = effect_of_event program (event_of e) s (set_thread s t p m) done
 
       was : slice_get s.processors t ≡ Some d.from
       was = ap (slice_get s.processors) (sym (cpu_of-event e ∙ cpu)) ∙ d.was
@@ -320,12 +323,12 @@ module _ (program : List (List Instr)) where
       taken = settles.settled mid (record {
         represented = represents-others program old key t s p m (invariant.represents at key s keyed stood);
         thread_count = length-set s.processors t p ∙ invariant.thread_count at s stood;
-        thread = got_set_same s.processors t p d.from was;
+        thread = get-set_same s.processors t p d.from was;
         words = refl;
       })
 
-      ran : MachineRan flat program (events_of run) s taken.end
-      ran = subst (λ r. MachineRan flat program (events_of r) s taken.end) (sym settles.appended) (mid, done, taken.ran)
+      ran : MachineRunsTo flat_memory program (events_of run) s taken.end
+      ran = subst (λ r. MachineRunsTo flat_memory program (events_of r) s taken.end) (sym settles.appended) (mid, done, taken.ran)
 
       stands : Represents new next taken.end
       stands = represents-working program all next n taken.end taken.working extended size memory threads
@@ -337,7 +340,7 @@ module _ (program : List (List Instr)) where
 
       served : IsCovered program a.more s (event_of e)
       served after f =
-          let once = event_once program (event_of e) s mid after (Ok tt) (Ok tt) done f in
+          let once = MachineTransition-deterministic program (event_of e) s mid after (Ok tt) (Ok tt) done f in
           (taken.end, a.index, a.there, subst (λ z. Covers program taken.end z) once.1 taken.covers)
 
   -- ---- events that are not possible
@@ -348,7 +351,7 @@ module _ (program : List (List Instr)) where
       → (found : List State)
       → Represents tables key s
       → length s.processors ≡ length program
-      → EventDone flat program e s (Ok tt) next
+      → MachineTransition flat_memory program e s (Ok tt) next
       → ⊥)
       → ExpandsState program tables visited tables visited at key Is (λ s more. IsCovered program more s e)
   covered-impossible at key e Is never start found closed s invariant stood keyed so = record {
@@ -364,10 +367,10 @@ module _ (program : List (List Instr)) where
   pub no_event-without_thread : (e : Event) (s next : State)
       → length s.processors ≡ length program
       → slice_get program (cpu_of e) ≡ None
-      → EventDone flat program e s (Ok tt) next
+      → MachineTransition flat_memory program e s (Ok tt) next
       → ⊥
   no_event-without_thread e s next as_many none done =
-      let d : Did program e s next = leads_to program e s next done in
+      let d : EventOccurrence program e s next = effect_of_event program e s next done in
       let lt : cpu_of e < length program =
       subst (λ n. cpu_of e < n) as_many (slice_get_within s.processors (cpu_of e) d.from d.was) in
       let there = get_some program (cpu_of e) lt in
@@ -376,14 +379,14 @@ module _ (program : List (List Instr)) where
   -- an event whose act is refused
   pub no_event-refused : (e : Event) (s next : State) (p : Processor) (stop : Stop)
       → slice_get s.processors (cpu_of e) ≡ Some p
-      → event_act program (length s.memory) e p ≡ Refused stop
-      → EventDone flat program e s (Ok tt) next
+      → event_effect program (length s.memory) e p ≡ Refused stop
+      → MachineTransition flat_memory program e s (Ok tt) next
       → ⊥
   no_event-refused e s next p stop at act done =
-      let d : Did program e s next = leads_to program e s next done in
+      let d : EventOccurrence program e s next = effect_of_event program e s next done in
       let same : d.from ≡ p = same_Some d.from p (sym d.was ∙ at) in
-      subst (λ a. Does s.memory a d.to d.words) act
-      (subst (λ (r : Processor). Does s.memory (event_act program (length s.memory) e r) d.to d.words) same d.does)
+      subst (λ a. EffectLeadsTo s.memory a d.to d.words) act
+      (subst (λ (r : Processor). EffectLeadsTo s.memory (event_effect program (length s.memory) e r) d.to d.words) same d.does)
 
   -- the place that is at hand is the thread's, if it has one
   pub loaded_thread : {tables : Components} (key : List ℕ) (s : State) (t : ℕ) (code : List Instr) (p : Processor)
@@ -399,27 +402,29 @@ module _ (program : List (List Instr)) where
 
   -- an event that is done with what is at hand is one of each state with the key
   pub expands-done : {old new : Components} {visited now : Visited} (at t : ℕ) (e : Event) (key : List ℕ) (code : List Instr)
-      (p q : Processor) (m n : List ℕ) (act : Act) (Served : State → List State → Type 0)
+      (p q : Processor) (m n : List ℕ) (act : EventEffect) (Served : State → List State → Type 0)
       → cpu_of e ≡ t
       → slice_get program t ≡ Some code
       → ((r : Processor) → slice_get old.threads (slice_index key (t + 1)) ≡ Some r → p ≡ r)
       → ((r : List ℕ) → slice_get old.memories (slice_index key 0) ≡ Some r → m ≡ r)
-      → ((locs : ℕ) → event_act program locs e p ≡ act)
-      → ((u : ℕ) → ActDone flat u act p m (Ok tt) q n)
-      → ExpandsState program old visited new now at key (λ s. EventDone flat program e s (Ok tt) (set_thread s t q n)) Served
+      → ((locs : ℕ) → event_effect program locs e p ≡ act)
+      → ((u : ℕ) → EffectTransition flat_memory u act p m (Ok tt) q n)
+      → ExpandsState program old visited new now at key
+      (λ s. MachineTransition flat_memory program e s (Ok tt) (set_thread s t q n)) Served
       → ExpandsState program old visited new now at key (λ s. Unit {0}) Served
   expands-done at t e key code p q m n act Served cpu coded thread memory is done add_successor start found closed s invariant stood keyed u =
       let stands = invariant.represents at key s keyed stood in
       let there : slice_get s.processors t ≡ Some p =
       loaded_thread key s t code p stands (invariant.thread_count at s stood) coded thread in
       let same : s.memory ≡ m = sym (memory s.memory stands.memory) in
-      let does : Does m act q n = done_does t act p q m n (done t) in
-      let does_too : Does s.memory (event_act program (length s.memory) e p) q n =
-      subst (λ a. Does s.memory a q n) (sym (is (length s.memory))) (subst (λ l. Does l act q n) (sym same) does) in
-      let led : EventDone flat program e s (Ok tt) (state (slice_set s.processors (cpu_of e) q) n) =
-      leads_from program e s.processors p q s.memory n (ap (slice_get s.processors) cpu ∙ there) does_too in
+      let does : EffectLeadsTo m act q n = done_does t act p q m n (done t) in
+      let does_too : EffectLeadsTo s.memory (event_effect program (length s.memory) e p) q n =
+      subst (λ a. EffectLeadsTo s.memory a q n) (sym (is (length s.memory)))
+      (subst (λ l. EffectLeadsTo l act q n) (sym same) does) in
+      let led : MachineTransition flat_memory program e s (Ok tt) (state (slice_set s.processors (cpu_of e) q) n) =
+      event_of_effect program e s.processors p q s.memory n (ap (slice_get s.processors) cpu ∙ there) does_too in
       add_successor start found closed s invariant stood keyed
-      (subst (λ v. EventDone flat program e s (Ok tt) (state (slice_set s.processors v q) n)) cpu led)
+      (subst (λ v. MachineTransition flat_memory program e s (Ok tt) (state (slice_set s.processors v q) n)) cpu led)
 
   -- an event that is refused with what is at hand is refused in each state with the key
   pub expands-refused : {tables : Components} {visited : Visited} (at t : ℕ) (e : Event) (key : List ℕ) (code : List Instr)
@@ -427,7 +432,7 @@ module _ (program : List (List Instr)) where
       → cpu_of e ≡ t
       → slice_get program t ≡ Some code
       → ((r : Processor) → slice_get tables.threads (slice_index key (t + 1)) ≡ Some r → p ≡ r)
-      → ((locs : ℕ) → event_act program locs e p ≡ Refused stop)
+      → ((locs : ℕ) → event_effect program locs e p ≡ Refused stop)
       → ExpandsState program tables visited tables visited at key (λ s. Unit {0}) (λ s more. IsCovered program more s e)
   expands-refused at t e key code p stop cpu coded thread is =
       covered-impossible at key e (λ s. Unit {0}) (λ s next found stands as_many done.
@@ -501,7 +506,7 @@ module _ (program : List (List Instr)) where
         absurd (no_event-without_thread (Drain t) s next as_many (slice_get_past program t (omega (arith, few, ge))) done)
   ]
   covered-all n s more few as_many of (Evict t x) = λ next done.
-      let d : Did program (Evict t x) s next = leads_to program (Evict t x) s next done in
+      let d : EventOccurrence program (Evict t x) s next = effect_of_event program (Evict t x) s next done in
       absurd (no_eviction program (length s.memory) t x d.from d.to s.memory d.words d.does)
 
   -- a state is looked at
@@ -547,33 +552,34 @@ module _ (program : List (List Instr)) where
               (covered-all n there.0 a.more few (invariant.thread_count at there.0 there.1) a.holds e)
 
 -- what a step comes to, by the code of its thread
-pub step_act-is : (program : List (List Instr)) (t : ℕ) (code : List Instr) (p : Processor) (i : Instr) (o : Operation)
+pub step_effect-is : (program : List (List Instr)) (t : ℕ) (code : List Instr) (p : Processor) (i : Instr) (o : Operation)
     → slice_get program t ≡ Some code
     → slice_get code p.position ≡ Some i
     → o ≡ x86_operation i
     → (locs : ℕ)
-    → event_act program locs (Step t) p ≡ operation_act o p
-step_act-is program t code p i o coded next is locs =
-    ap (λ c. step_act (slice_get c p.position) p) (get_or_from_slice_get program t code [] coded)
-    ∙ ap (λ x. step_act x p) next
-    ∙ ap (λ x. operation_act x p) (sym is)
+    → event_effect program locs (Step t) p ≡ operation_effect o p
+step_effect-is program t code p i o coded next is locs =
+    ap (λ c. step_effect (slice_get c p.position) p) (get_or_from_slice_get program t code [] coded)
+    ∙ ap (λ x. step_effect x p) next
+    ∙ ap (λ x. operation_effect x p) (sym is)
 
-pub step_act-ended : (program : List (List Instr)) (t : ℕ) (code : List Instr) (p : Processor)
+pub step_effect-ended : (program : List (List Instr)) (t : ℕ) (code : List Instr) (p : Processor)
     → slice_get program t ≡ Some code
     → slice_get code p.position ≡ None
     → (locs : ℕ)
-    → event_act program locs (Step t) p ≡ Refused Ended
-step_act-ended program t code p coded end locs =
-    ap (λ c. step_act (slice_get c p.position) p) (get_or_from_slice_get program t code [] coded) ∙ ap (λ x. step_act x p) end
+    → event_effect program locs (Step t) p ≡ Refused Ended
+step_effect-ended program t code p coded end locs =
+    ap (λ c. step_effect (slice_get c p.position) p) (get_or_from_slice_get program t code [] coded)
+    ∙ ap (λ x. step_effect x p) end
 
-pub act_result-true : (act : Act) (p q : Processor) (m n : List ℕ) (b : Bool)
+pub act_result-true : (act : EventEffect) (p q : Processor) (m n : List ℕ) (b : Bool)
     → ActResult act p m b q n
     → b ≡ true
     → (t : ℕ)
-    → ActDone flat t act p m (Ok tt) q n
+    → EffectTransition flat_memory t act p m (Ok tt) q n
 act_result-true act p q m n b done is = subst (λ c. ActResult act p m c q n) is done
 
-pub act_result-false : (act : Act) (p q : Processor) (m n : List ℕ) (b : Bool)
+pub act_result-false : (act : EventEffect) (p q : Processor) (m n : List ℕ) (b : Bool)
     → ActResult act p m b q n
     → b ≡ false
     → (stop : Stop) × (act ≡ Refused stop)

@@ -1,22 +1,23 @@
 -- What operations come to at a place.
 use Rattle.lw_search.proofs.Common.{◌≡◌, ℕ, zero, suc, ◌+◌, ◌<◌, false, true≢false, List, [], ◌∷◌, ◌++◌}
-use Rattle.lw_search.proofs.Common.{length, take, drop, ◌==◌, refl, sym, ap, ◌∙◌, Stop, Processor, Act}
-use Rattle.lw_search.proofs.Common.{Refused, once_empty, drain_act, Option, Some, None, newest, option_or}
-use Rattle.lw_search.proofs.Common.{if◌then◌else◌, slice_get, slice_index, get_or, take_more, BufferEmpty}
+use Rattle.lw_search.proofs.Common.{length, take, drop, ◌==◌, refl, sym, ap, ◌∙◌, Stop, Processor}
+use Rattle.lw_search.proofs.Common.{EventEffect, Refused, if_buffer_empty, drain_effect, Option, Some, None}
+use Rattle.lw_search.proofs.Common.{newest_buffered, option_or, if◌then◌else◌, slice_get, slice_index, get_or}
+use Rattle.lw_search.proofs.Common.{take_more, BufferEmpty}
 
 -- what waits for an empty buffer is refused while it has an entry
-pub once_empty-refused : (buffer : List (ℕ × ℕ)) (stop : Stop) (act : Act)
+pub if_buffer_empty-refused : (buffer : List (ℕ × ℕ)) (stop : Stop) (act : EventEffect)
     → (length buffer == 0) ≡ false
-    → once_empty buffer stop act ≡ Refused stop
-once_empty-refused [] stop act full = absurd (true≢false full)
-once_empty-refused (entry ∷ newer) stop act full = refl
+    → if_buffer_empty buffer stop act ≡ Refused stop
+if_buffer_empty-refused [] stop act full = absurd (true≢false full)
+if_buffer_empty-refused (entry ∷ newer) stop act full = refl
 
 -- a drain is refused where there is no entry
-pub drain_act-refused : (buffer : List (ℕ × ℕ)) (p : Processor)
+pub drain_effect-refused : (buffer : List (ℕ × ℕ)) (p : Processor)
     → slice_get buffer 0 ≡ None
-    → (stop : Stop) × (drain_act buffer p ≡ Refused stop)
-drain_act-refused [] p none = (BufferEmpty, refl)
-drain_act-refused (entry ∷ newer) p none = absurd cc
+    → (stop : Stop) × (drain_effect buffer p ≡ Refused stop)
+drain_effect-refused [] p none = (BufferEmpty, refl)
+drain_effect-refused (entry ∷ newer) p none = absurd cc
 
 -- Without the first item, a list that has none is the same.
 pub drop_one-none : {X : Type 0} (xs : List X) → slice_get xs 0 ≡ None → drop 1 xs ≡ xs
@@ -44,19 +45,21 @@ or_assoc None b c = refl
 or_assoc (Some w) b c = refl
 
 -- the newest word of entries with one more behind them is that of this one, if it is for the location
-pub newest-append : (x : ℕ) (es : List (ℕ × ℕ)) (e : ℕ × ℕ) → newest (es ++ e ∷ []) x ≡ option_or (entry_word e x) (newest es x)
-newest-append x [] e = sym (or_none (entry_word e x))
-newest-append x (d ∷ es) e =
-    ap (λ q. option_or q (entry_word d x)) (newest-append x es e) ∙ or_assoc (entry_word e x) (newest es x) (entry_word d x)
+pub newest_buffered-append : (x : ℕ) (es : List (ℕ × ℕ)) (e : ℕ × ℕ)
+    → newest_buffered (es ++ e ∷ []) x ≡ option_or (entry_word e x) (newest_buffered es x)
+newest_buffered-append x [] e = sym (or_none (entry_word e x))
+newest_buffered-append x (d ∷ es) e =
+    ap (λ q. option_or q (entry_word d x)) (newest_buffered-append x es e)
+    ∙ or_assoc (entry_word e x) (newest_buffered es x) (entry_word d x)
 
 -- the newest word of one entry more, counted from the oldest
-pub newest-take : (x i : ℕ) (es : List (ℕ × ℕ)) (found now : Option ℕ)
+pub newest_buffered-take : (x i : ℕ) (es : List (ℕ × ℕ)) (found now : Option ℕ)
     → i < length es
-    → found ≡ newest (take i es) x
+    → found ≡ newest_buffered (take i es) x
     → now ≡ option_or (entry_word (get_or es i (0, 0)) x) found
-    → now ≡ newest (take (i + 1) es) x
-newest-take x i es found now lt before is =
+    → now ≡ newest_buffered (take (i + 1) es) x
+newest_buffered-take x i es found now lt before is =
     is
     ∙ ap (option_or (entry_word (get_or es i (0, 0)) x)) before
-    ∙ sym (newest-append x (take i es) (get_or es i (0, 0)))
-    ∙ ap (λ l. newest l x) (sym (take_more es i (0, 0) lt))
+    ∙ sym (newest_buffered-append x (take i es) (get_or es i (0, 0)))
+    ∙ ap (λ l. newest_buffered l x) (sym (take_more es i (0, 0) lt))

@@ -133,7 +133,7 @@ impl<T: Hash, A: Allocator> Hash for Queue<T, A> {
 
 /// Returns the newest word that the entries have for a location, or `None` if they have none.
 pub(crate) fn newest_in(entries: &[(u8, Word)], loc: u8) -> Option<Word>
-    ensures { result ≡ table.newest entries.now loc }
+    ensures { result ≡ table.newest_buffered entries.now loc }
 {
     let mut found = None;
     for index in 0..entries.len() {

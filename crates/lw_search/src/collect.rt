@@ -1,11 +1,11 @@
 //! The outcomes of the final states that a search has found, each with a schedule.
 ghost use Rattle.std.specs.Prelude.{◌≡◌, ◌++◌, ◌<◌, ℕ, true, false, Some, List, length, slice_get, slice_index, ◌+◌, IsTrue, IfOk, OnOk};
 ghost use Rattle.lw_base.specs.declared.event.Event.{Event};
-ghost use Rattle.lw_memory.specs.Flat.{flat};
+ghost use Rattle.lw_memory.specs.Flat.{flat_memory};
 ghost use Rattle.lw_tso.specs.Processors.{Processor};
 ghost use Rattle.lw_tso.specs.Runs as runs;
 ghost use Rattle.lw_tso.specs.Runs.{machine_outcome};
-ghost use Rattle.lw_listing.specs.Listings.{IsStrictlySorted};
+ghost use Rattle.lw_outcome_map.specs.Listings.{IsStrictlySorted};
 ghost use Rattle.lw_search.specs.inner.StateKeys.{State, Represents, events_of};
 ghost use Rattle.lw_search.specs.inner.Invariant.{ReportsThreadEnd, ReachesIndex, CollectsState, CollectsAll, events_at};
 
@@ -14,8 +14,8 @@ use crate::search::{Search, cpu_at};
 use crate::states::{StateKey, StateTable};
 use crate::tables::Tables;
 use lw_base::{Cpu, Event, Outcome, REGISTERS, Sequence, Word};
-use lw_listing::{Findings, Listing};
 use lw_litmus::Program;
+use lw_outcome_map::{Listing, OutcomeMap};
 use std::alloc::{AllocError, Allocator};
 
 /// Returns whether a state is final: all threads are at their ends, and their store buffers are empty.
@@ -75,7 +75,7 @@ fn outcome_of<A: Allocator + Copy>(
     key: &StateKey,
 ) -> Result<Outcome<A>, AllocError>
     ensures { IfOk result (λ o. (s : State) → Represents tables.now key.now s → length s.processors ≡ length program.now.threads
-        → o ≡ machine_outcome flat s) }
+        → o ≡ machine_outcome flat_memory s) }
 {
     let mut regs = Sequence::new(alloc);
     for thread in 0..program.threads.len() {
@@ -147,7 +147,7 @@ fn collect_state<A: Allocator + Copy>(
     alloc: A,
     search: &Search<'_, A>,
     at: usize,
-    found: &mut Findings<A>,
+    found: &mut OutcomeMap<A>,
 ) -> Result<(), AllocError>
     requires { at < length search.now.states.keys }
     ensures { OnOk result (CollectsState search.now.program.now.threads search.now.tables search.now.states at found.old found.new) }
@@ -161,7 +161,7 @@ fn collect_state<A: Allocator + Copy>(
         return Ok(());
     }
     let schedule = schedule_to(alloc, &search.states, at)?;
-    found.add_new(outcome, schedule)
+    found.insert_new(outcome, schedule)
 }
 
 /// Returns the list of the outcomes of all final states that a search has found.
@@ -172,7 +172,7 @@ pub(crate) fn collect_outcomes<A: Allocator + Copy>(
     ensures sorted { IfOk result (λ l. IsStrictlySorted l) }
     ensures collected { IfOk result (CollectsAll search.now.program.now.threads search.now.tables search.now.states) }
 {
-    let mut found = Findings::new(alloc);
+    let mut found = OutcomeMap::new(alloc);
     for at in 0..search.states.len() {
         collect_state(alloc, search, at, &mut found)?;
     }

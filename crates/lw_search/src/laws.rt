@@ -3,10 +3,10 @@
 ghost use Rattle.std.specs.Prelude.{◌≡◌, ◌<◌, ℕ, Ok, Some, List, length, slice_get, IsTrue};
 ghost use Rattle.lw_base.specs.declared.event.Event.{Event};
 ghost use Rattle.lw_litmus.specs.declared.instr.Instr.{Instr};
-ghost use Rattle.lw_memory.specs.Flat.{flat};
-ghost use Rattle.lw_tso.specs.Runs.{MachineRan, is_final};
-ghost use Rattle.lw_tso.specs.Acts.{cpu_of};
-ghost use Rattle.lw_tso.specs.Machines.{EventDone};
+ghost use Rattle.lw_memory.specs.Flat.{flat_memory};
+ghost use Rattle.lw_tso.specs.Runs.{MachineRunsTo, is_final};
+ghost use Rattle.lw_tso.specs.EventEffects.{cpu_of};
+ghost use Rattle.lw_tso.specs.Machines.{MachineTransition};
 ghost use Rattle.lw_search.specs.inner.InvisibleEvents.{IsInvisible, IsForward};
 ghost use Rattle.lw_search.specs.inner.StateKeys.{State, Components, Visited};
 ghost use Rattle.lw_search.specs.inner.Invariant.{Covers, SearchInvariant};
@@ -15,13 +15,13 @@ ghost use Rattle.lw_search.specs.inner.Invariant.{Covers, SearchInvariant};
 /// reached from the state after it, by a run that is no longer.
 pub(crate) fn invisible_events_can_be_taken_first()
     ensures { (program : List (List Instr)) (e : Event) (s next : State) → IsForward program
-        → EventDone flat program e s (Ok tt) next → IsInvisible program e s → cpu_of e < length program → Covers program next s }
+        → MachineTransition flat_memory program e s (Ok tt) next → IsInvisible program e s → cpu_of e < length program → Covers program next s }
 {}
 
 /// A search that has visited each state that it found has found all final states that are reachable.
 pub(crate) fn all_final_states_are_found()
     ensures { (program : List (List Instr)) (start : State) (tables : Components) (visited : Visited) (found : List State)
         → SearchInvariant program start tables visited found (length found)
-        → (events : List Event) (end : State) → MachineRan flat program events start end → IsTrue (is_final program end)
+        → (events : List Event) (end : State) → MachineRunsTo flat_memory program events start end → IsTrue (is_final program end)
         → (i : ℕ) × (slice_get found i ≡ Some end) }
 {}

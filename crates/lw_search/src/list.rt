@@ -2,15 +2,15 @@
 ghost use Rattle.std.specs.Prelude.{◌≡◌, ◌↔◌, ◌≤◌, All, Contains, IfOk, IfErr};
 ghost use Rattle.lw_base.specs.Heads.{head_of};
 ghost use Rattle.lw_base.specs.ListedOutcomes.{IsListedOutcome};
-ghost use Rattle.lw_base.specs.Outcomes.{Final};
+ghost use Rattle.lw_base.specs.Outcomes.{FinalState};
 ghost use Rattle.lw_interleaving.specs.Runs.{SourceOutcome};
 ghost use Rattle.lw_litmus.specs.Views.{source_of, program_of};
-ghost use Rattle.lw_listing.specs.Listings.{outcomes_of, IsStrictlySorted};
-ghost use Rattle.lw_memory.specs.Flat.{flat};
+ghost use Rattle.lw_outcome_map.specs.Listings.{outcomes_of, IsStrictlySorted};
+ghost use Rattle.lw_memory.specs.Flat.{flat_memory};
 ghost use Rattle.lw_mesi.specs.declared.protocol.Protocol.{Protocol};
-ghost use Rattle.lw_tso.specs.Runs.{MachineOutcome};
-ghost use Rattle.lw_whole.specs.CompleteLists.{ListsMachine, IsComplete};
-ghost use Rattle.lw_whole.specs.OverCaches.{ReplaysOverCaches, OutcomeOverCaches};
+ghost use Rattle.lw_tso.specs.Runs.{IsMachineOutcome};
+ghost use Rattle.lw_tso_caches.specs.CompleteLists.{ListsMachine, IsComplete};
+ghost use Rattle.lw_tso_caches.specs.OverCaches.{ReplaysToOverCaches, OutcomeOverCaches};
 ghost use Rattle.lw_search.specs.Reachability.{Visits, ExceedsBudget, HoldsOfCompiled};
 ghost use Rattle.lw_search.specs.declared.fault.SearchFault.TheVariants as fault;
 ghost use Rattle.lw_search.specs.inner.Invariant.{IsStarted};
@@ -19,9 +19,9 @@ use crate::collect::collect_outcomes;
 use crate::fault::SearchFault;
 use crate::search::Search;
 use lw_fence::compile;
-use lw_listing::Listing;
 use lw_litmus::{Program, Source};
-use lw_whole::{outcomes_over_caches_are_flat, replays_over_caches_are_flat};
+use lw_outcome_map::Listing;
+use lw_tso_caches::{outcomes_over_caches_are_flat, replays_over_caches_are_flat};
 use std::alloc::Allocator;
 
 /// The result of a search that visited each state that it found.
@@ -41,7 +41,7 @@ fn list_found<A: Allocator + Copy>(
 ) -> Result<Searched<A>, SearchFault>
     requires { IsStarted (program_of search.old.program.now) search.old.tables search.old.states }
     ensures sorted { IfOk result (λ s. IsStrictlySorted s.listing) }
-    ensures complete { IfOk result (λ s. let test = program_of search.old.program.now in IsComplete (MachineOutcome flat test test.head.init_words) test s.listing) }
+    ensures complete { IfOk result (λ s. let test = program_of search.old.program.now in IsComplete (IsMachineOutcome flat_memory test test.head.init_words) test s.listing) }
     ensures visited { IfOk result (λ s. Visits (program_of search.old.program.now) s.states) }
     ensures within { IfOk result (λ s. s.states ≤ budget) }
     ensures budget { IfErr result (λ f. f ≡ fault.Budget → ExceedsBudget (program_of search.old.program.now) budget) }
@@ -65,7 +65,7 @@ fn search_states<A: Allocator + Copy>(
     budget: usize,
 ) -> Result<Searched<A>, SearchFault>
     ensures sorted { IfOk result (λ s. IsStrictlySorted s.listing) }
-    ensures complete { IfOk result (λ s. let test = program_of program.now in IsComplete (MachineOutcome flat test test.head.init_words) test s.listing) }
+    ensures complete { IfOk result (λ s. let test = program_of program.now in IsComplete (IsMachineOutcome flat_memory test test.head.init_words) test s.listing) }
     ensures visited { IfOk result (λ s. Visits (program_of program.now) s.states) }
     ensures within { IfOk result (λ s. s.states ≤ budget) }
     ensures budget { IfErr result (λ f. f ≡ fault.Budget → ExceedsBudget (program_of program.now) budget) }
@@ -85,10 +85,10 @@ pub fn reach_program<A: Allocator + Copy>(
     ensures sorted { IfOk result (λ s. IsStrictlySorted s.listing) }
     // They are exactly those that the machine reaches over caches of either protocol, over all schedules of steps, drains and
     // evictions.
-    ensures exactly { IfOk result (λ s. (protocol : Protocol) (o : Final)
+    ensures exactly { IfOk result (λ s. (protocol : Protocol) (o : FinalState)
         → Contains (outcomes_of s.listing) o ↔ OutcomeOverCaches protocol (program_of program.now) o) }
     // Each entry's schedule replays there to its outcome.
-    ensures replays { IfOk result (λ s. (protocol : Protocol) → All (λ e. ReplaysOverCaches protocol (program_of program.now) e.1 e.0) s.listing) }
+    ensures replays { IfOk result (λ s. (protocol : Protocol) → All (λ e. ReplaysToOverCaches protocol (program_of program.now) e.1 e.0) s.listing) }
     // Each entry is of the test's threads and locations.
     ensures of_test { IfOk result (λ s. All (IsListedOutcome (head_of program.now.head)) s.listing) }
     // So many different reachable states were visited, all final ones among them, and no more than the budget allows.
@@ -110,7 +110,7 @@ pub fn reach_source<A: Allocator + Copy>(
     // The outcomes are without duplicates and in ascending order.
     ensures sorted { IfOk result (λ s. IsStrictlySorted s.listing) }
     // They are exactly those that interleaving on one memory reaches.
-    ensures exactly { IfOk result (λ s. (o : Final) → Contains (outcomes_of s.listing) o ↔ SourceOutcome (source_of source.now) o) }
+    ensures exactly { IfOk result (λ s. (o : FinalState) → Contains (outcomes_of s.listing) o ↔ SourceOutcome (source_of source.now) o) }
     // They are exactly those of the compiled program on the whole machine, and each entry's schedule replays to its outcome there.
     ensures machine { IfOk result (λ s. ListsMachine (source_of source.now) s.listing) }
     // Each entry is of the test's threads and locations.

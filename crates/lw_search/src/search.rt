@@ -3,10 +3,10 @@ ghost use Rattle.std.specs.Prelude.{◌≡◌, ◌≢◌, [], ℕ, ◌+◌, ◌�
 ghost use Rattle.lw_base.specs.Limits.{most_threads};
 ghost use Rattle.lw_base.specs.declared.event.Event.TheVariants as of;
 ghost use Rattle.lw_litmus.specs.Views.{program_of};
-ghost use Rattle.lw_memory.specs.Flat.{flat};
-ghost use Rattle.lw_tso.specs.Machines.{EventDone};
+ghost use Rattle.lw_memory.specs.Flat.{flat_memory};
+ghost use Rattle.lw_tso.specs.Machines.{MachineTransition};
 ghost use Rattle.lw_tso.specs.Processors.{Processor};
-ghost use Rattle.lw_tso.specs.Runs.{machine_start};
+ghost use Rattle.lw_tso.specs.Runs.{initial_machine_state};
 ghost use Rattle.lw_search.specs.inner.StateKeys.{State, Represents, Extends, event_of, set_thread};
 ghost use Rattle.lw_search.specs.inner.Invariant.{IsCovered, CoversThread, ExpandsState, ExpandsUpTo, IsProgress, IsStarted, IsLoaded, IsWorking, SettlesFrom};
 
@@ -237,7 +237,7 @@ impl<'a, A: Allocator + Copy> Search<'a, A> {
         ensures program { self.new.program ≡ self.old.program }
         ensures covered { let program = self.old.program.now.threads in
             OnOk result (ExpandsState program self.old.tables self.old.states self.new.tables self.new.states at key.now
-            (λ s. EventDone flat program (event_of event) s (Ok tt) (set_thread s cpu self.old.thread self.old.words))
+            (λ s. MachineTransition flat_memory program (event_of event) s (Ok tt) (set_thread s cpu self.old.thread self.old.words))
             (λ s more. IsCovered program more s (event_of event))) }
     {
         self.run.restart(event)?;
@@ -357,7 +357,7 @@ fn start_key<A: Allocator + Copy>(
     program: &Program<A>,
     tables: &mut Tables<A>,
 ) -> Result<StateKey, AllocError>
-    ensures key { IfOk result (λ key. Represents tables.new key (machine_start (program_of program.now) program.now.head.init_words)) }
+    ensures key { IfOk result (λ key. Represents tables.new key (initial_machine_state (program_of program.now) program.now.head.init_words)) }
     ensures extended { OnOk result (Extends tables.old tables.new) }
 {
     let memory = tables.memory_number(&program.head.init_words)?;

@@ -1,13 +1,13 @@
 //! The state of one thread, and what its events do to it and to memory.
 ghost use Rattle.std.specs.Prelude.{◌≡◌, ◌+◌, ◌<◌, ◌^◌, ◌==◌, ◌&&◌, ℕ, List, nat_le, true, false, Ok, [], length, slice_index, slice_set, IfOk, OnOk};
-ghost use Rattle.lw_base.specs.Changes.{sum_of};
-ghost use Rattle.lw_base.specs.Threads.{value_of};
+ghost use Rattle.lw_base.specs.Changes.{wrapping_sum};
+ghost use Rattle.lw_base.specs.Threads.{operand_value};
 ghost use Rattle.lw_base.specs.declared.stop.Stop.{Stop};
-ghost use Rattle.lw_litmus.specs.Operations.{holds};
-ghost use Rattle.lw_memory.specs.Flat.{flat};
-ghost use Rattle.lw_tso.specs.Processors.{starting, going_on, getting, flagging, buffering, jumping};
-ghost use Rattle.lw_tso.specs.Acts.{Goes, Refused, operation_act, drain_act};
-ghost use Rattle.lw_tso.specs.Machines.{ActDone};
+ghost use Rattle.lw_litmus.specs.Operations.{guard_holds};
+ghost use Rattle.lw_memory.specs.Flat.{flat_memory};
+ghost use Rattle.lw_tso.specs.Processors.{initial_processor, advance_processor, set_register, set_zero_flag, enqueue_store, jump_or_advance_processor};
+ghost use Rattle.lw_tso.specs.EventEffects.{LocalStep, Refused, operation_effect, drain_effect};
+ghost use Rattle.lw_tso.specs.Machines.{EffectTransition};
 ghost use Rattle.lw_litmus.specs.declared.operation.Operation.TheVariants as Operation;
 ghost use Rattle.lw_search.specs.inner.ThreadStates.{ActResult};
 
@@ -68,7 +68,7 @@ fn byte_of(loc: Loc) -> u8
 impl<A: Allocator> ThreadState<A> {
     /// Creates the state of a thread at its first instruction, with an empty store buffer.
     pub(crate) fn new(alloc: A, regs: [Word; REGISTERS]) -> Self
-        ensures { result ≡ starting regs }
+        ensures { result ≡ initial_processor regs }
     {
         ThreadState {
             position: 0,
@@ -133,14 +133,14 @@ impl<A: Allocator> ThreadState<A> {
 
     /// Returns the word of an operand.
     fn value(&self, operand: Operand) -> Word
-        ensures { result ≡ value_of operand self.now.regs }
+        ensures { result ≡ operand_value operand self.now.regs }
     {
         operand.value(&self.regs)
     }
 
     /// Moves the oldest entry of the store buffer to memory. Returns whether there was one.
     pub(crate) fn drain(&mut self, words: &mut Sequence<Word, A>) -> bool
-        ensures { ActResult (drain_act self.old.buffer self.old) self.old words.old result self.new words.new }
+        ensures { ActResult (drain_effect self.old.buffer self.old) self.old words.old result self.new words.new }
     {
         let Some((loc, word)) = self.buffer.pop() else {
             return false;
@@ -156,7 +156,7 @@ impl<A: Allocator> ThreadState<A> {
         words: &mut Sequence<Word, A>,
     ) -> Result<bool, AllocError>
         requires { self.old.position + 1 < 2 ^ 64 }
-        ensures { IfOk result (λ r. ActResult (operation_act operation self.old) self.old words.old r self.new words.new) }
+        ensures { IfOk result (λ r. ActResult (operation_effect operation self.old) self.old words.old r self.new words.new) }
     {
         match operation {
             Operation::Set { dst, val } => {
@@ -197,7 +197,7 @@ impl<A: Allocator> ThreadState<A> {
     /// Appends an entry to the store buffer, and advances.
     fn store(&mut self, loc: u8, word: Word) -> Result<(), AllocError>
         requires { self.old.position + 1 < 2 ^ 64 }
-        ensures { OnOk result (self.new ≡ going_on (buffering self.old loc word)) }
+        ensures { OnOk result (self.new ≡ advance_processor (enqueue_store self.old loc word)) }
     {
         self.buffer.push((loc, word))?;
         self.position += 1;
@@ -207,7 +207,7 @@ impl<A: Allocator> ThreadState<A> {
     /// Advances if the store buffer is empty. Returns whether it is.
     fn fence(&mut self) -> bool
         requires { self.old.position + 1 < 2 ^ 64 }
-        ensures { (m : List ℕ) → ActResult (operation_act Operation.Fence self.old) self.old m result self.new m }
+        ensures { (m : List ℕ) → ActResult (operation_effect Operation.Fence self.old) self.old m result self.new m }
     {
         if !self.buffer.is_empty() {
             return false;
@@ -219,7 +219,7 @@ impl<A: Allocator> ThreadState<A> {
     /// Loads the newest word that the store buffer has for a location, or the memory's if it has none, and advances.
     fn load(&mut self, dst: Reg, loc: Loc, words: &Sequence<Word, A>)
         requires { self.old.position + 1 < 2 ^ 64 }
-        ensures { ActResult (operation_act (Operation.Load dst loc) self.old) self.old words.now true self.new words.now }
+        ensures { ActResult (operation_effect (Operation.Load dst loc) self.old) self.old words.now true self.new words.now }
     {
         let word = match newest_in(self.buffer.as_slice(), byte_of(loc)) {
             Some(word) => word,
@@ -231,7 +231,7 @@ impl<A: Allocator> ThreadState<A> {
     /// Exchanges a location's word for a register's, and advances, if the store buffer is empty. Returns whether it is.
     fn swap(&mut self, dst: Reg, loc: Loc, src: Reg, words: &mut Sequence<Word, A>) -> bool
         requires { self.old.position + 1 < 2 ^ 64 }
-        ensures { ActResult (operation_act (Operation.Swap dst loc src) self.old) self.old words.old result self.new words.new }
+        ensures { ActResult (operation_effect (Operation.Swap dst loc src) self.old) self.old words.old result self.new words.new }
     {
         if !self.buffer.is_empty() {
             return false;
@@ -253,7 +253,7 @@ impl<A: Allocator> ThreadState<A> {
         words: &mut Sequence<Word, A>,
     ) -> bool
         requires { self.old.position + 1 < 2 ^ 64 }
-        ensures { ActResult (operation_act (Operation.FetchAdd dst loc val) self.old) self.old words.old result self.new words.new }
+        ensures { ActResult (operation_effect (Operation.FetchAdd dst loc val) self.old) self.old words.old result self.new words.new }
     {
         if !self.buffer.is_empty() {
             return false;
@@ -273,8 +273,8 @@ impl<A: Allocator> ThreadState<A> {
     /// Adds a word to a register's, sets the zero flag if the sum is 0, and advances.
     fn add(&mut self, dst: Reg, left: Reg, word: Word)
         requires { self.old.position + 1 < 2 ^ 64 }
-        ensures { let sum = sum_of (slice_index self.old.regs left) word in
-            self.new ≡ going_on (flagging (getting self.old dst sum) (sum == 0)) }
+        ensures { let sum = wrapping_sum (slice_index self.old.regs left) word in
+            self.new ≡ advance_processor (set_zero_flag (set_register self.old dst sum) (sum == 0)) }
     {
         let sum = self.regs[left.index()].wrapping_add(word);
         self.zero_flag = sum == 0;
@@ -284,7 +284,7 @@ impl<A: Allocator> ThreadState<A> {
     /// Sets the zero flag if a register has this word, and advances.
     fn compare(&mut self, reg: Reg, word: Word)
         requires { self.old.position + 1 < 2 ^ 64 }
-        ensures { self.new ≡ going_on (flagging self.old (slice_index self.old.regs reg == word)) }
+        ensures { self.new ≡ advance_processor (set_zero_flag self.old (slice_index self.old.regs reg == word)) }
     {
         self.zero_flag = self.regs[reg.index()] == word;
         self.position += 1;
@@ -293,7 +293,7 @@ impl<A: Allocator> ThreadState<A> {
     /// Goes to the target if the guard holds, and advances otherwise.
     fn jump(&mut self, holds: bool, to: usize)
         requires { self.old.position + 1 < 2 ^ 64 }
-        ensures { self.new ≡ jumping self.old holds to }
+        ensures { self.new ≡ jump_or_advance_processor self.old holds to }
     {
         self.position = if holds { to } else { self.position + 1 };
     }
@@ -301,7 +301,7 @@ impl<A: Allocator> ThreadState<A> {
     /// Writes a word to a register, and advances.
     fn advance_with(&mut self, reg: Reg, word: Word)
         requires { self.old.position + 1 < 2 ^ 64 }
-        ensures { self.new ≡ going_on (getting self.old reg word) }
+        ensures { self.new ≡ advance_processor (set_register self.old reg word) }
     {
         self.regs[reg.index()] = word;
         self.position += 1;

@@ -1,20 +1,21 @@
 -- The spelling of the source language is one that the rule of cells can rest on.
 use Rattle.std.proofs.Common.{ℕ, refl, arith}
 use Rattle.lw_base.specs.declared.operand.Operand.TheVariants.{Register, Number}
-use Rattle.lw_cells.specs.Grammars.{IsGrammar}
-use Rattle.lw_cells.specs.Spellings.{Filling}
-use Rattle.lw_cells.specs.Found.{IsMade, IsSpelling}
-use Rattle.lw_cells.proofs.api.Forms.{is_grammar}
+use Rattle.lw_statements.specs.Grammars.{IsGrammar}
+use Rattle.lw_statements.specs.Spellings.{Filling}
+use Rattle.lw_statements.specs.Bindings.{IsMade, IsSpelling}
+use Rattle.lw_statements.proofs.api.Forms.{is_grammar}
 use Rattle.lw_source.specs.declared.language.SourceForm.{SourceForm}
 use Rattle.lw_source.specs.declared.language.SourceForm.TheVariants.{Store, Load, Swap, FetchAdd, Set, Sum}
 use Rattle.lw_source.specs.declared.language.SourceForm.TheVariants.{IfEqual, IfNotEqual, Goto}
 use Rattle.lw_source.specs.Spelling.{source_slots, source_spelling}
 use Rattle.lw_source.specs.Grammar.{source_grammar}
-use Rattle.lw_source.specs.inner.Operands.{made}
+use Rattle.lw_source.specs.inner.Operands.{statement_of_operands}
 
--- for each form, `made` makes of the operands that its tokens give the statement that the spelling has for them, x being the
+-- for each form, `statement_of_operands` makes of the operands that its tokens give the statement that the spelling has for them, x being the
 -- index of its location, and to its target
-making : (x to : ℕ) (form : SourceForm) (f : Filling (source_slots form)) → IsMade source_spelling made x to form f
+making : (x to : ℕ) (form : SourceForm) (f : Filling (source_slots form))
+    → IsMade source_spelling statement_of_operands x to form f
 making x to Store (n, (_, (Register r, _))) = record { is = refl; located = refl; led = refl; given = λ p q. (p, q) }
 making x to Store (n, (_, (Number m, _))) = record { is = refl; located = refl; led = refl; given = λ p q. (p, q) }
 making x to Load (d, (_, (n, _))) = record { is = refl; located = refl; led = refl; given = λ p q. (p, q) }
@@ -29,9 +30,9 @@ making x to IfNotEqual (_, (a, (_, (n, (_, (l, _)))))) = record { is = refl; loc
 making x to Goto (_, (l, _)) = record { is = refl; located = refl; led = refl; given = λ p q. (p, q) }
 
 -- the spelling of the source language is one: its forms are told apart, and made of their operands
-pub source_spelled : IsSpelling source_spelling made
+pub source_spelled : IsSpelling source_spelling statement_of_operands
 source_spelled = record { countable = omega arith; apart = refl; statements = refl; names = refl; making = making }
 
 -- the grammar of the source language keeps the rule of cells
 pub source_lawful : IsGrammar source_grammar
-source_lawful = is_grammar source_spelling made source_spelled
+source_lawful = is_grammar source_spelling statement_of_operands source_spelled

@@ -2,13 +2,13 @@
 use Rattle.lw_litmus.specs.declared.stmt.Stmt.{Stmt}
 use Rattle.lw_litmus.specs.Tests.{SourceTest}
 use Rattle.lw_text.specs.Frames.{TestFrame}
-use Rattle.lw_cells.specs.Grammars.{Grammar}
-use Rattle.lw_cells.specs.Spellings.{Said, grammar_of}
-use Rattle.lw_cells.specs.Cells.{FrameHasTest}
+use Rattle.lw_statements.specs.Grammars.{Grammar}
+use Rattle.lw_statements.specs.Spellings.{ParsesStatement, grammar_of}
+use Rattle.lw_statements.specs.Cells.{FrameHasTest}
 use Rattle.lw_source.specs.Spelling.{source_spelling}
 
 -- the grammar of the source language
-abbrev pub source_grammar : Grammar (Said source_spelling) Stmt
+abbrev pub source_grammar : Grammar (ParsesStatement source_spelling) Stmt
 source_grammar = grammar_of source_spelling
 
 -- The cells of the frame say the statements of the test, on at most eight locations.

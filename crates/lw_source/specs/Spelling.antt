@@ -4,10 +4,10 @@ use Rattle.std.specs.Prelude.{ℕ, List, [], ◌∷◌, codes}
 use Rattle.lw_base.specs.Types.{Bytes}
 use Rattle.lw_litmus.specs.declared.stmt.Stmt.{Stmt}
 use Rattle.lw_litmus.specs.declared.stmt.Stmt.TheVariants as stmt
-use Rattle.lw_litmus.specs.Sources.{source}
-use Rattle.lw_cells.specs.declared.slot.Slot.{Slot}
-use Rattle.lw_cells.specs.declared.slot.Slot.TheVariants.{Keyword, Register, Location, Value, Number, Label}
-use Rattle.lw_cells.specs.Spellings.{Spelling, Filling}
+use Rattle.lw_litmus.specs.Sources.{source_language}
+use Rattle.lw_statements.specs.declared.slot.Slot.{Slot}
+use Rattle.lw_statements.specs.declared.slot.Slot.TheVariants.{Keyword, Register, Location, Value, Number, Label}
+use Rattle.lw_statements.specs.Spellings.{Spelling, Filling}
 use Rattle.lw_source.specs.declared.language.SourceKeyword.{SourceKeyword}
 use Rattle.lw_source.specs.declared.language.SourceKeyword.TheVariants as keyword
 use Rattle.lw_source.specs.declared.language.SourceForm.{SourceForm}
@@ -57,7 +57,7 @@ statement x target Goto (goto, (label, end)) = stmt.Goto target
 -- the spelling of the source language: its keywords, forms, slots and statements
 abbrev pub source_spelling : Spelling SourceKeyword SourceForm Stmt
 source_spelling = record {
-  language = source;
+  language = source_language;
   text_of = source_keyword_text;
   forms = source_forms;
   slots_of = source_slots;

@@ -1,10 +1,10 @@
 //! How the statements of a source test are spelled.
 ghost use Rattle.lw_source.specs.Spelling.{source_spelling};
-ghost use Rattle.lw_source.specs.inner.Operands.{made};
+ghost use Rattle.lw_source.specs.inner.Operands.{statement_of_operands};
 
 use lw_base::Arch;
-use lw_cells::{Operands, Slot, StatementReader};
 use lw_litmus::{MAX_STATEMENTS, Stmt};
+use lw_statements::{Operands, Slot, StatementReader};
 
 /// The source language.
 pub(crate) enum SourceLanguage {}
@@ -54,7 +54,7 @@ impl StatementReader for SourceLanguage {
 
     ghost spelling = { source_spelling };
 
-    ghost made = { made };
+    ghost made = { statement_of_operands };
 
     /// The language is the source language.
     fn arch() -> Arch {

@@ -1,20 +1,20 @@
 //! Reads a source test from its frame.
 ghost use Rattle.std.specs.Prelude.{◌≡◌, ◌≤◌, IfOk, IfErr};
-ghost use Rattle.lw_base.specs.Refusals.{NotFound};
+ghost use Rattle.lw_base.specs.NoParse.{HoldsOfNothingOrOutOfMemory};
 ghost use Rattle.lw_base.specs.declared.head.Arch.TheVariants as arch;
 ghost use Rattle.lw_base.specs.declared.fault.CellCause.TheVariants.{Memory};
 ghost use Rattle.lw_text.specs.Frames.{TestFrame};
 ghost use Rattle.lw_text.specs.Views.{frame_of};
 ghost use Rattle.lw_text.specs.Places.{placed_cells};
-ghost use Rattle.lw_cells.specs.Faults.{Tells};
+ghost use Rattle.lw_statements.specs.Faults.{CellFaultIsTrue};
 ghost use Rattle.lw_litmus.specs.Tests.{SourceTest};
 ghost use Rattle.lw_litmus.specs.Views.{source_of};
 ghost use Rattle.lw_source.specs.Grammar.{HasSource, source_grammar};
 
 use crate::language::SourceLanguage;
 use lw_base::CellFault;
-use lw_cells::read_test;
 use lw_litmus::Source;
+use lw_statements::read_test;
 use lw_text::Frame;
 use std::alloc::Allocator;
 
@@ -28,11 +28,11 @@ pub fn read_source<A: Allocator + Copy>(
     requires { frame.head.arch ≡ arch.Source }
     // What is answered is the frame's test, and where it is refused it has none, unless memory ran out.
     ensures found { IfOk result (λ s. HasSource (frame_of frame.entry) (source_of s)) }
-    ensures fault { IfErr result (λ f. NotFound Memory f.cause (HasSource (frame_of frame.entry))) }
+    ensures fault { IfErr result (λ f. HoldsOfNothingOrOutOfMemory Memory f.cause (HasSource (frame_of frame.entry))) }
     ensures place { IfErr result (λ f. f.at ≤ frame.entry.len) }
     ensures memory { IfErr result (λ f. f.cause ≡ Memory → f.at ≡ 0) }
     // What the cause says of the place is so.
-    ensures cause { IfErr result (Tells source_grammar frame.entry.head.locs (placed_cells frame.entry.cells)) }
+    ensures cause { IfErr result (CellFaultIsTrue source_grammar frame.entry.head.locs (placed_cells frame.entry.cells)) }
 {
     let parts = read_test::<SourceLanguage, A>(alloc, frame)?;
     Ok(Source {

@@ -1,12 +1,12 @@
 -- Numbers, values, sites and initializers are read in one way; and the tokens that close and separate lists of them.
 use Rattle.lw_text.proofs.Common.{◌≡◌, ℕ, ◌<◌, ◌⊎◌, inl, inr, Bool, true, false, not, [], ◌∷◌, length, ap}
 use Rattle.lw_text.proofs.Common.{subst, arith, codes, ◌&&◌, ◌||◌, ◌==◌, sym, ◌∙◌, is_ascii_digit, and_parts}
-use Rattle.lw_text.proofs.Common.{or_cases, not-true, NoSuch, NoneRead, is_name_byte, begins, Bytes}
-use Rattle.lw_text.proofs.Common.{TokenList, Arch, IsName, IsLocation, is_reserved, IsRegister}
-use Rattle.lw_text.proofs.Common.{register_unique, IsNumber, SiteSyntax, InMemory, InThread, IsSite, Value}
-use Rattle.lw_text.proofs.Common.{IsInitializer}
+use Rattle.lw_text.proofs.Common.{or_cases, not-true, HoldsOfNothing, ParsesNothing, is_name_byte}
+use Rattle.lw_text.proofs.Common.{first_byte_is, Bytes, TokenList, Arch, IsName, IsLocationName, is_reserved}
+use Rattle.lw_text.proofs.Common.{IsRegisterName, register_unique, IsNumber, SiteSyntax, InMemory, InThread}
+use Rattle.lw_text.proofs.Common.{IsSite, Value, IsInitializer}
 use Rattle.lw_text.proofs.api.Numbers.{number_first, bracket_no_number, number-unique}
-use Rattle.lw_text.proofs.Lists.{IsOne}
+use Rattle.lw_text.proofs.Lists.{IsDeterministic}
 
 -- no token is both a number and a name: a number begins with a digit
 pub number_no_name : (w : Bytes) (n : ℕ) → IsNumber w n → IsName w → ⊥
@@ -16,7 +16,11 @@ number_no_name w n p q =
     cc
 
 -- where what stands behind the `=` is no number, no value is read
-pub value_none : (ts l m : TokenList) (t : Bytes) → ts ≡ codes "=" ∷ l → l ≡ t ∷ m → NoSuch (IsNumber t) → NoneRead (Value ts)
+pub value_none : (ts l m : TokenList) (t : Bytes)
+    → ts ≡ codes "=" ∷ l
+    → l ≡ t ∷ m
+    → HoldsOfNothing (IsNumber t)
+    → ParsesNothing (Value ts)
 value_none ts l m t e f none v rest (w, g, number) = let same : w ≡ t = cc in none v (subst (λ w. IsNumber w v) same number)
 
 -- `= n` is read in one way
@@ -48,7 +52,7 @@ number_or_bracket {w = w} {n = n} number e f =
     let k : w ≡ codes "[" = cc in bracket_no_number n (subst (λ w. IsNumber w n) k number)
 
 -- a site is read in one way: `x`, `[x]` and `t : r` begin with tokens of three kinds
-pub IsSite-unique : (arch : Arch) → IsOne (IsSite arch)
+pub IsSite-unique : (arch : Arch) → IsDeterministic (IsSite arch)
 IsSite-unique arch ts (InMemory x) (InMemory y) r s (p, inl e) (q, inl f) = let k : x ≡ y = cc in (ap InMemory k, cc)
 IsSite-unique arch ts (InMemory x) (InMemory y) r s (p, inl e) (q, inr f) = absurd (name_or_bracket p.0 e f)
 IsSite-unique arch ts (InMemory x) (InMemory y) r s (p, inr e) (q, inl f) = absurd (name_or_bracket q.0 f e)
@@ -65,7 +69,7 @@ IsSite-unique arch ts (InThread t n) (InThread u m) r s (w, v, e, is_t, is_n) (w
     let words : w' ≡ w = cc in
     let names : v' ≡ v = cc in
     let threads : t ≡ u = number-unique w t u is_t (subst (λ x. IsNumber x u) words is_u) in
-    let registers : n ≡ m = register_unique arch v n m is_n (subst (λ x. IsRegister arch x m) names is_m) in
+    let registers : n ≡ m = register_unique arch v n m is_n (subst (λ x. IsRegisterName arch x m) names is_m) in
     (cc, cc)
 
 -- a site takes at least one token
@@ -79,8 +83,8 @@ site_front : (arch : Arch) (ts rest : TokenList) (s : SiteSyntax)
     → IsSite arch ts s rest
     → (t : Bytes) (l : TokenList)
     → ts ≡ t ∷ l
-    → IsLocation t ⊎ (((n : ℕ) × IsNumber t n) ⊎ (t ≡ codes "["))
-site_front arch ts rest (InMemory x) (p, inl e) t l f = let k : x ≡ t = cc in inl (subst IsLocation k p)
+    → IsLocationName t ⊎ (((n : ℕ) × IsNumber t n) ⊎ (t ≡ codes "["))
+site_front arch ts rest (InMemory x) (p, inl e) t l f = let k : x ≡ t = cc in inl (subst IsLocationName k p)
 site_front arch ts rest (InMemory x) (p, inr e) t l f = inr (inr cc)
 site_front arch ts rest (InThread u r) (w, v, e, number, register) t l f =
     let k : w ≡ t = cc in inr (inl (u, subst (λ w. IsNumber w u) k number))
@@ -114,7 +118,7 @@ no_site (b ∷ w) h arch ts rest mid site e p =
           let i = not-true (is_ascii_digit b) first.0 in
           cc
       | inr (inr k) ↦
-          let g = ap (begins (λ x. x == 91)) k in
+          let g = ap (first_byte_is (λ x. x == 91)) k in
           let i = not-true (b == 91) more.0 in
           cc
     ]
@@ -128,7 +132,7 @@ site_none arch ts rest (InThread t r) e p = let f = p.2 in cc
 -- ---- initializers
 
 -- an initializer is read in one way: its site, and then its word
-pub IsInitializer-unique : (arch : Arch) → IsOne (IsInitializer arch)
+pub IsInitializer-unique : (arch : Arch) → IsDeterministic (IsInitializer arch)
 IsInitializer-unique arch ts a b r s p q =
     let e = IsSite-unique arch ts a.site b.site p.0 q.0 p.1 q.1 in
     let f = Value-unique p.0 r s a.word b.word p.2 (subst (λ l. Value l b.word s) (sym e.1) q.2) in
@@ -137,8 +141,8 @@ IsInitializer-unique arch ts a b r s p q =
 -- a site without a value behind it is no initializer
 pub value_missing : (arch : Arch) (ts mid : TokenList) (site : SiteSyntax)
     → IsSite arch ts site mid
-    → NoneRead (Value mid)
-    → NoneRead (IsInitializer arch ts)
+    → ParsesNothing (Value mid)
+    → ParsesNothing (IsInitializer arch ts)
 value_missing arch ts mid site s never e rest p =
     never e.word rest (subst (λ l. Value l e.word rest) (IsSite-unique arch ts e.site site p.0 mid p.1 s).1 p.2)
 

@@ -1,13 +1,14 @@
 -- Cells and rows are read in one way; when rows have been read up to their end, and when there are none.
 use Rattle.lw_text.proofs.Common.{◌≡◌, ℕ, ◌<◌, ◌≤◌, inl, inr, true, false, [], ◌∷◌, ◌++◌, length, refl, sym}
-use Rattle.lw_text.proofs.Common.{ap, ◌∙◌, subst, arith, length-append, codes, bytes_eq, or_cases, NoneRead}
-use Rattle.lw_text.proofs.Common.{Bytes, TokenList, Cells, CellGrid, Separated, Until, ends_cell, Row}
-use Rattle.lw_text.proofs.Common.{begins_stop, Rows}
+use Rattle.lw_text.proofs.Common.{ap, ◌∙◌, subst, arith, length-append, codes, bytes_eq, or_cases}
+use Rattle.lw_text.proofs.Common.{ParsesNothing, Bytes, TokenList, Cells, CellGrid, ParsesSepBy}
+use Rattle.lw_text.proofs.Common.{ParsesManyTill, ends_cell, Row, begins_stop, Rows}
 use Rattle.lw_text.specs.Rows.{Cell}
 use Rattle.lw_text.proofs.Texts.{is_text, marks_apart}
 use Rattle.lw_text.proofs.api.CellTokens.{EndsNoCell}
-use Rattle.lw_text.proofs.Lists.{Chain-push, Passed, Passed-stop, Passed-peel, Until-unique, Before, IsOne}
-use Rattle.lw_text.proofs.Lists.{Before-fault, IsMark, IsExact, Separated-front, Separated-unique}
+use Rattle.lw_text.proofs.Lists.{ParsesMany-push, Passed, Passed-stop, Passed-peel, ParsesManyTill-unique}
+use Rattle.lw_text.proofs.Lists.{Before, IsDeterministic, Before-fault, IsMark, IsExact, ParsesSepBy-front}
+use Rattle.lw_text.proofs.Lists.{ParsesSepBy-unique}
 
 -- The tokens up to the first that ends a cell, this one, and the rest.
 record IsCut (ts w : TokenList) (a : Bytes) (rest : TokenList) : Type 0 where
@@ -52,8 +53,8 @@ Cell-exact ts x y a b r s m n p q =
     (record { parts = q.0; plain = q.1; ends = mark_ends b n })
 
 -- a row with a cell for each thread is read in one way
-pub Row-one : (threads : ℕ) → IsOne (Row threads)
-Row-one threads ts x y r s p q = Separated-unique Cell _ (codes ";") Cell-exact marks_apart x y ts r s p.0 q.0
+pub Row-one : (threads : ℕ) → IsDeterministic (Row threads)
+Row-one threads ts x y r s p q = ParsesSepBy-unique Cell _ (codes ";") Cell-exact marks_apart x y ts r s p.0 q.0
 
 -- a token that ends a cell and is no `;` is a `|`
 pub is_bar : (m : Bytes) → ends_cell m ≡ true → bytes_eq m (codes ";") ≡ false → m ≡ codes "|"
@@ -67,20 +68,20 @@ plain_mark (t ∷ x) m l p e = plain_mark x m l p.1 e
 
 module _ (ts here : TokenList) (cells : Cells) (before : Before Cell (codes "|") (codes ";") ts cells here) where
   -- where no token that ends a cell is left behind the cells that have been read, no row is
-  pub Cells-open : EndsNoCell here → NoneRead (Separated Cell (codes "|") (codes ";") ts)
+  pub Cells-open : EndsNoCell here → ParsesNothing (ParsesSepBy Cell (codes "|") (codes ";") ts)
   Cells-open plain all rest row =
       Before-fault Cell _ _ Cell-exact marks_apart _ all ts _ rest before (λ zs l s.
-      let f = Separated-front Cell _ _ zs here l s in plain_mark f.0 f.1 f.2 (subst EndsNoCell f.4.0 plain) (mark_ends f.1 f.3))
+      let f = ParsesSepBy-front Cell _ _ zs here l s in plain_mark f.0 f.1 f.2 (subst EndsNoCell f.4.0 plain) (mark_ends f.1 f.3))
       row
 
 -- where a row has another number of cells than there are threads, no row of the test is read
 pub Row-ragged : (ts next : TokenList) (cells : Cells)
-    → Separated Cell (codes "|") (codes ";") ts cells next
+    → ParsesSepBy Cell (codes "|") (codes ";") ts cells next
     → (threads : ℕ)
     → (length cells ≡ threads → ⊥)
-    → NoneRead (Row threads ts)
+    → ParsesNothing (Row threads ts)
 Row-ragged ts next cells row threads ne all rest line =
-    ne (ap length (Separated-unique Cell (codes "|") (codes ";") Cell-exact marks_apart cells all ts next rest row line.0).0
+    ne (ap length (ParsesSepBy-unique Cell (codes "|") (codes ";") Cell-exact marks_apart cells all ts next rest row line.0).0
     ∙ line.1)
 
 -- ---- rows
@@ -91,7 +92,7 @@ cell_shorter ts c m rest p = omega (arith, ap length p.0, length-append c (m ∷
 
 -- a row of cells takes at least one token
 cells_shorter : (cells : Cells) (ts rest : TokenList)
-    → Separated Cell (codes "|") (codes ";") ts cells rest
+    → ParsesSepBy Cell (codes "|") (codes ";") ts cells rest
     → length rest < length ts
 cells_shorter [] ts rest s = absurd s
 cells_shorter (c ∷ []) ts rest s = cell_shorter ts c (codes ";") rest s
@@ -112,7 +113,7 @@ module _ (threads : ℕ) (ts here : TokenList) (rows : CellGrid) (passed : Passe
       → begins_stop here ≡ false
       → Row threads here row next
       → Passed begins_stop (Row threads) ts (rows ++ row ∷ []) next
-  Rows-more next row go line = Chain-push _ rows ts here next row passed (go, line)
+  Rows-more next row go line = ParsesMany-push _ rows ts here next row passed (go, line)
 
   -- the rows go on with one that stands here
   next_row : begins_stop here ≡ false
@@ -125,17 +126,17 @@ module _ (threads : ℕ) (ts here : TokenList) (rows : CellGrid) (passed : Passe
     where
       at : (more : CellGrid)
           → all ≡ rows ++ more
-          → Until begins_stop (Row threads) here more rest
+          → ParsesManyTill begins_stop (Row threads) here more rest
           → (row : Cells) × (more : CellGrid) × (mid : TokenList) × (all ≡ rows ++ row ∷ more) × Row threads here row mid
       at [] e u = absurd (let h = u.1 in cc)
       at (row ∷ more) e u = (row, more, u.1.0, e, u.1.1)
 
   -- where neither a token stands that ends the rows nor a row, the tokens have no rows
-  pub Rows-fault : begins_stop here ≡ false → NoneRead (Row threads here) → NoneRead (Rows threads ts)
+  pub Rows-fault : begins_stop here ≡ false → ParsesNothing (Row threads here) → ParsesNothing (Rows threads ts)
   Rows-fault go never all rest r = let k = next_row go all rest r in never k.0 k.2 k.4
 
   -- where as many rows have been read as may be, and no token stands that ends them, the tokens have no rows
-  pub Rows-many : begins_stop here ≡ false → length rows ≡ 64 → NoneRead (Rows threads ts)
+  pub Rows-many : begins_stop here ≡ false → length rows ≡ 64 → ParsesNothing (Rows threads ts)
   Rows-many go full all rest r =
       let k = next_row go all rest r in omega (arith, ap length k.3, length-append rows (k.0 ∷ k.1), r.1)
 
@@ -144,4 +145,4 @@ pub Rows-unique : (threads : ℕ) (ts a b : TokenList) (x y : CellGrid)
     → Rows threads ts x a
     → Rows threads ts y b
     → (x ≡ y) × (a ≡ b)
-Rows-unique threads ts a b x y p q = Until-unique begins_stop _ (Row-one threads) x y ts a b p.0 q.0
+Rows-unique threads ts a b x y p q = ParsesManyTill-unique begins_stop _ (Row-one threads) x y ts a b p.0 q.0

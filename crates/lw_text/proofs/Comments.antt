@@ -1,8 +1,8 @@
 -- A comment ends at one place, and a loop finds it that counts the inner comments that are open.
 use Rattle.lw_text.proofs.Common.{◌≡◌, ℕ, zero, suc, ◌+◌, ◌-◌, ◌<◌, ◌≤◌, true, false, [], ◌∷◌, length, refl}
-use Rattle.lw_text.proofs.Common.{sym, ap, subst, arith, add-one, sub-one, Bytes, Leaves, begins_pair}
+use Rattle.lw_text.proofs.Common.{sym, ap, subst, arith, add-one, sub-one, Bytes, IsSuffix, begins_pair}
 use Rattle.lw_text.proofs.Common.{begins_mark, Comment, closed, nested, other}
-use Rattle.lw_text.proofs.Lists.{Leaves-join}
+use Rattle.lw_text.proofs.Lists.{IsSuffix-join}
 
 -- the text closes n open comments, one behind another, and then comes rest
 abbrev pub Closes : ℕ → Bytes → Bytes → Type 0
@@ -113,7 +113,7 @@ Progress_other {bytes} {rest} {next} {depth} {b} p e m n =
     }
 
 -- what stands behind a comment is the end of the text
-pub Comment-suffix : {text rest : Bytes} → Comment text rest → Leaves text rest
+pub Comment-suffix : {text rest : Bytes} → Comment text rest → IsSuffix text rest
 Comment-suffix closed = (42 ∷ 41 ∷ [], refl)
-Comment-suffix (nested c d) = Leaves-join (40 ∷ 42 ∷ [], refl) (Leaves-join (Comment-suffix c) (Comment-suffix d))
-Comment-suffix (other {b} m c) = Leaves-join (b ∷ [], refl) (Comment-suffix c)
+Comment-suffix (nested c d) = IsSuffix-join (40 ∷ 42 ∷ [], refl) (IsSuffix-join (Comment-suffix c) (Comment-suffix d))
+Comment-suffix (other {b} m c) = IsSuffix-join (b ∷ [], refl) (Comment-suffix c)

@@ -33,26 +33,28 @@ pub use Rattle.std.proofs.lemmas.Str.Parse.{digit_from_value}
 pub use Rattle.std.specs.Char.{digit_value, is_ascii_digit, is_ascii_graphic}
 pub use Rattle.std.specs.List.{AllByRecursion, cons_option, list_all, list_any, range_with_len}
 pub use Rattle.std.specs.Str.Parse.{AllDigits, digits_value_after}
-pub use Rattle.lw_base.proofs.Common.{And, Bytes, CellGrid, Cells, EachOnce, Formula, IsLocation, IsName}
-pub use Rattle.lw_base.proofs.Common.{IsRegister, IsSeen, IsTestName, IsWellFormedHead, IsWordNumber}
-pub use Rattle.lw_base.proofs.Common.{NameTable, No, NoSuch, NoneRead, Not, Or, Reg_is, SpeaksOf, TestHead}
-pub use Rattle.lw_base.proofs.Common.{TokenList, Word_is, Yes, all_registers, arch_keyword, assignment}
-pub use Rattle.lw_base.proofs.Common.{begins, contains_name, formula_of, head_of, in_parentheses, index_of}
-pub use Rattle.lw_base.proofs.Common.{is_blank, is_joined, is_key_byte, is_name_byte, is_or, is_reserved}
-pub use Rattle.lw_base.proofs.Common.{is_space, locations, most_threads, nodes, parenthesized_if}
-pub use Rattle.lw_base.proofs.Common.{proposition_text, quantifier_text, register_name, registers, same_seen}
-pub use Rattle.lw_base.proofs.Common.{site_text, thread_registers, with_name, with_names}
+pub use Rattle.lw_base.proofs.Common.{And, Bytes, CellGrid, Cells, Formula, HoldsOfNothing, IsDuplicateFree}
+pub use Rattle.lw_base.proofs.Common.{IsLocationName, IsName, IsRegisterName, IsSeenInRange, IsTestName}
+pub use Rattle.lw_base.proofs.Common.{IsWellFormedHead, IsWordNumber, MentionsOnly, NameTable, No, Not, Or}
+pub use Rattle.lw_base.proofs.Common.{ParsesNothing, Reg_is, TestHead, TokenList, Word_is, Yes, all_registers}
+pub use Rattle.lw_base.proofs.Common.{arch_keyword, assignment, contains_name, first_byte_is, formula_of}
+pub use Rattle.lw_base.proofs.Common.{head_of, insert_name, insert_names, is_binary, is_blank, is_key_byte}
+pub use Rattle.lw_base.proofs.Common.{is_name_byte, is_or, is_reserved, is_space, locations, most_threads}
+pub use Rattle.lw_base.proofs.Common.{nodes, parenthesized, parenthesized_if, position_of_name}
+pub use Rattle.lw_base.proofs.Common.{proposition_text, quantifier_text, register_name, registers, seen_eq}
+pub use Rattle.lw_base.proofs.Common.{site_text, thread_registers}
 pub use Rattle.lw_base.proofs.api.Blanks.{all_ascii, any_all, blank_all, name_ascii, name_bytes_ascii}
 pub use Rattle.lw_base.proofs.api.Blanks.{same_byte}
-pub use Rattle.lw_base.proofs.api.Elements.{all_append, all_filter, all_map, all_mapped, all_of_range}
-pub use Rattle.lw_base.proofs.api.Elements.{all_parts, all_unmap, all_weaker, each_of}
-pub use Rattle.lw_base.proofs.api.GrowingTables.{contains_name-with_name, contains_name-with_names}
-pub use Rattle.lw_base.proofs.api.GrowingTables.{index_of-with_names, index_of-within, once-along}
-pub use Rattle.lw_base.proofs.api.GrowingTables.{with_name-grows, with_names-append, with_names-longer}
+pub use Rattle.lw_base.proofs.api.Elements.{All-append_inv, All-map_inv, All-mono, all_append, all_filter}
+pub use Rattle.lw_base.proofs.api.Elements.{all_map, all_mapped, all_of_range, each_of}
+pub use Rattle.lw_base.proofs.api.GrowingTables.{contains_name-insert_name, contains_name-insert_names}
+pub use Rattle.lw_base.proofs.api.GrowingTables.{insert_name-grows, insert_names-append, insert_names-longer}
+pub use Rattle.lw_base.proofs.api.GrowingTables.{once-along, position_of_name-insert_names}
+pub use Rattle.lw_base.proofs.api.GrowingTables.{position_of_name-within}
 pub use Rattle.lw_base.proofs.api.Lists.{get_some}
 pub use Rattle.lw_base.proofs.api.Registers.{register_unique}
 pub use Rattle.lw_base.proofs.api.SeenLists.{all_ascending, all_seen, ascending_filter}
-pub use Rattle.lw_base.proofs.api.Tables.{IsInTable, index_of-again, index_of-at}
+pub use Rattle.lw_base.proofs.api.Tables.{IsInTable, position_of_name-again, position_of_name-at}
 pub use Rattle.lw_base.specs.declared.head.Arch.{Arch}
 pub use Rattle.lw_base.specs.declared.head.Arch.TheVariants.{Source, X86}
 pub use Rattle.lw_base.specs.declared.head.Quant.{Quant}
@@ -61,19 +63,19 @@ pub use Rattle.lw_base.specs.declared.head.Seen.{Seen}
 pub use Rattle.lw_base.specs.declared.head.Seen.TheVariants.{Location, Register}
 pub use Rattle.lw_base.specs.declared.proposition.Prop.{Prop}
 pub use Rattle.lw_text.specs.Causes.{IsOfReader}
+pub use Rattle.lw_text.specs.Combinators.{ParsesMany, ParsesManyTill, ParsesSepBy, ParsesSepEndBy}
 pub use Rattle.lw_text.specs.Conditions.{Always, AtomSyntax, Condition, Holds, IsAtom, IsTerminal, Listed}
 pub use Rattle.lw_text.specs.Conditions.{Never, Quantified, Terminals, begins_token, resolved, site_of}
 pub use Rattle.lw_text.specs.Conditions.{sites_in}
-pub use Rattle.lw_text.specs.Frames.{Block, HasFrame, InitializerSyntax, IsInitializer, IsNoTest, Parts}
-pub use Rattle.lw_text.specs.Frames.{TestFrame, TestSyntax, head_of_syntax, listed_in, made_of, sites_of}
-pub use Rattle.lw_text.specs.Frames.{table, word_of}
-pub use Rattle.lw_text.specs.Lists.{Chain, Ended, Separated, Until}
+pub use Rattle.lw_text.specs.Frames.{Block, HasFrame, InitializerSyntax, IsInitializer, ParsesNoTest}
+pub use Rattle.lw_text.specs.Frames.{ParsesTest, TestFrame, TestSyntax, frame_of_syntax, head_of_syntax}
+pub use Rattle.lw_text.specs.Frames.{initial_word_of, listed_in, location_table, sites_of}
 pub use Rattle.lw_text.specs.PlacedCells.{CellsFrom, HasCells, HasRows, PlacedCell, RowsFrom, texts_of_cells}
 pub use Rattle.lw_text.specs.PlacedCells.{texts_of_grid}
 pub use Rattle.lw_text.specs.PlacedTokens.{PlacedToken, PlacedTokens, texts_of_tokens}
-pub use Rattle.lw_text.specs.Places.{IsWithin, all_texts, cell_texts, cells_texts, height, placed}
-pub use Rattle.lw_text.specs.Places.{placed_cell, placed_cells, placed_row, placed_tokens}
-pub use Rattle.lw_text.specs.Preambles.{KeyLine, Named, Note, Notes, Preamble, Quoted, note}
+pub use Rattle.lw_text.specs.Places.{EndsBefore, all_texts, cell_texts, cells_texts, height, placed_cell}
+pub use Rattle.lw_text.specs.Places.{placed_cells, placed_row, with_span, with_spans}
+pub use Rattle.lw_text.specs.Preambles.{KeyLine, Note, Notes, ParsesTestName, Preamble, Quoted, note}
 pub use Rattle.lw_text.specs.Propositions.{Atom, Close, Conjunction, ConjunctionLevel, Derives, Disjunction}
 pub use Rattle.lw_text.specs.Propositions.{DisjunctionLevel, HasFewNodes, IsProposition, Level, Negation}
 pub use Rattle.lw_text.specs.Propositions.{Open, PartLevel, Terminal, and, atom, conjunction, is_node}
@@ -83,13 +85,14 @@ pub use Rattle.lw_text.specs.Rows.{ends_cell, thread_name}
 pub use Rattle.lw_text.specs.Sites.{HasRoomFor, HasRoomForName, InMemory, InThread, IsSite, SiteSyntax}
 pub use Rattle.lw_text.specs.Sites.{ThreadAllowed, ThreadExists, Value, seen_in, site_name, site_names}
 pub use Rattle.lw_text.specs.Sites.{with_sites}
-pub use Rattle.lw_text.specs.Spans.{Leaves, Spans, texts}
+pub use Rattle.lw_text.specs.Spans.{IsSuffix, Spans, token_texts}
 pub use Rattle.lw_text.specs.TokenKinds.{IsOfKind}
-pub use Rattle.lw_text.specs.Tokens.{Comment, Digits, First, IsKind, IsNameRun, IsNumber, IsSymbol, IsToken}
-pub use Rattle.lw_text.specs.Tokens.{Tokens, Trivia, begins_mark, begins_pair, begins_trivia, blank, closed}
-pub use Rattle.lw_text.specs.Tokens.{comment, is_pair, is_single, nested, none, opens_comment, other, pairs}
-pub use Rattle.lw_text.specs.Tokens.{singles}
-pub use Rattle.lw_text.specs.Views.{MovesOn, frame_of, left, remaining}
+pub use Rattle.lw_text.specs.Tokens.{Comment, Digits, IsFirstToken, IsNameOrNumber, IsNameRun, IsNumber}
+pub use Rattle.lw_text.specs.Tokens.{IsSymbol, IsToken, Tokens, Trivia, begins_mark, begins_pair}
+pub use Rattle.lw_text.specs.Tokens.{begins_trivia, blank, closed, comment, is_one_byte_symbol}
+pub use Rattle.lw_text.specs.Tokens.{is_two_byte_symbol, nested, none, one_byte_symbols, opens_comment, other}
+pub use Rattle.lw_text.specs.Tokens.{two_byte_symbols}
+pub use Rattle.lw_text.specs.Views.{AdvancesTo, frame_of, remaining, remaining_texts}
 pub use Rattle.lw_text.specs.declared.block.Initializer.{Initializer}
 pub use Rattle.lw_text.specs.declared.cell.Cell.{Cell}
 pub use Rattle.lw_text.specs.declared.cursor.Cursor.{Cursor}
@@ -97,19 +100,20 @@ pub use Rattle.lw_text.specs.declared.fault.Fault.{Fault}
 pub use Rattle.lw_text.specs.declared.fault.Refusal.{Refusal}
 pub use Rattle.lw_text.specs.declared.fault.TextCause.TheVariants.{Memory, NotUtf8, TooLong, Unexpected}
 pub use Rattle.lw_text.specs.declared.fault.TextCause.TheVariants.{Unterminated}
-pub use Rattle.lw_text.specs.declared.parts.Body.{Body}
+pub use Rattle.lw_text.specs.declared.parts.ParsedBody.{ParsedBody}
 pub use Rattle.lw_text.specs.declared.proposition_reader.PropositionReader.{PropositionReader}
 pub use Rattle.lw_text.specs.declared.site.Site.{Site}
 pub use Rattle.lw_text.specs.declared.token.Token.{Token}
 pub use Rattle.lw_text.specs.declared.token_kind.TokenKind.TheVariants.{Symbol}
-pub use Rattle.lw_text.specs.inner.Pending.{BeforePart, BehindPart, Pending, ReaderState, after_and, after_or}
-pub use Rattle.lw_text.specs.inner.Pending.{ands_of, begins_part, begun, group_of, negations, opened, ors_of}
-pub use Rattle.lw_text.specs.inner.Pending.{said, standing, state_behind, state_of, with_not}
-pub use Rattle.lw_text.specs.inner.Resolved.{HasSyntax, IsIn, TerminalIn, is_allowed, is_listed, named}
+pub use Rattle.lw_text.specs.inner.Parsed.{Fits, NoCondition, NoProposition, ParsedBlock, ParsedCell}
+pub use Rattle.lw_text.specs.inner.Parsed.{ParsedCondition, ParsedNameList, ParsedProposition, ParsedSite}
+pub use Rattle.lw_text.specs.inner.Parsed.{ParsedTerminal}
+pub use Rattle.lw_text.specs.inner.ReaderStates.{BeforePart, BehindPart, Pending, ReaderState, after_and}
+pub use Rattle.lw_text.specs.inner.ReaderStates.{after_or, ands_of, begins_part, group_of}
+pub use Rattle.lw_text.specs.inner.ReaderStates.{initial_reader_state, negations, next_state, opened, ors_of}
+pub use Rattle.lw_text.specs.inner.ReaderStates.{reader_state_in, state_of, state_result, with_not}
+pub use Rattle.lw_text.specs.inner.Resolved.{HasSyntax, IsIn, TerminalIn, is_allowed, is_listed}
 pub use Rattle.lw_text.specs.inner.Resolved.{named_initializer, named_terminal, resolved_head, seen_of}
-pub use Rattle.lw_text.specs.inner.Resolved.{syntax_of, thread_exists, word_at}
-pub use Rattle.lw_text.specs.inner.Taken.{Fits, NoCondition, NoProposition, TakenBlock, TakenCell}
-pub use Rattle.lw_text.specs.inner.Taken.{TakenCondition, TakenList, TakenProposition, TakenSite}
-pub use Rattle.lw_text.specs.inner.Taken.{TakenTerminal}
+pub use Rattle.lw_text.specs.inner.Resolved.{site_by_name, syntax_of, thread_exists, word_at}
 pub use Rattle.lw_text.specs.inner.Terminals.{terminal_of}
 pub use Rattle.lw_text.specs.laws.TokenKindProps.{no_both}

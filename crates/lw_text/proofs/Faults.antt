@@ -2,7 +2,7 @@
 use Rattle.lw_text.proofs.Common.{◌≡◌, ◌≢◌, Result, Ok, Err, IsErrAnd, MatchResult, Memory, Refusal}
 use Rattle.lw_text.proofs.Common.{IsOfReader, Unexpected}
 -- the callee's error is returned as it is
-pub use Rattle.lw_base.proofs.api.Returns.{refused}
+pub use Rattle.lw_base.proofs.api.Returns.{Err-clause_known}
 
 -- where a call has failed with an error that is a K, and each K is a Q, its result keeps a clause that asks Q of errors
 pub exits : {T E : Type 0} {K : E → Type 0} (P : T → Type 0) (Q : E → Type 0) (r : Result T E)

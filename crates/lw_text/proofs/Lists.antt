@@ -1,15 +1,15 @@
 -- Lists that are written out are read in one way.
 use Rattle.lw_text.proofs.Common.{◌≡◌, ◌⊎◌, inl, inr, Bool, true, false, List, [], ◌∷◌, ◌++◌, refl, sym, ap}
-use Rattle.lw_text.proofs.Common.{◌∙◌, subst, append_assoc, NoneRead, Chain, Separated, Until, Ended, Leaves}
-use Rattle.lw_text.proofs.Common.{◌<◌, arith, length}
+use Rattle.lw_text.proofs.Common.{◌∙◌, subst, append_assoc, ParsesNothing, ParsesMany, ParsesSepBy}
+use Rattle.lw_text.proofs.Common.{ParsesManyTill, ParsesSepEndBy, IsSuffix, ◌<◌, arith, length}
 
 -- P reads what stands first in one way: there is one x, with one rest behind it
-abbrev pub IsOne : {T X : Type 0} → (List T → X → List T → Type 0) → Type 0
-IsOne {T} {X} P = (ts : List T) (x y : X) (r s : List T) → P ts x r → P ts y s → (x ≡ y) × (r ≡ s)
+abbrev pub IsDeterministic : {T X : Type 0} → (List T → X → List T → Type 0) → Type 0
+IsDeterministic {T} {X} P = (ts : List T) (x y : X) (r s : List T) → P ts x r → P ts y s → (x ≡ y) × (r ≡ s)
 
 -- where c is left behind some elements of b, and b behind some of a, c is left behind some of a
-pub Leaves-join : {X : Type 0} {a b c : List X} → Leaves a b → Leaves b c → Leaves a c
-Leaves-join {c = c} p q = (p.0 ++ q.0, p.1 ∙ ap (λ x. p.0 ++ x) q.1 ∙ sym (append_assoc p.0 q.0 c))
+pub IsSuffix-join : {X : Type 0} {a b c : List X} → IsSuffix a b → IsSuffix b c → IsSuffix a c
+IsSuffix-join {c = c} p q = (p.0 ++ q.0, p.1 ∙ ap (λ x. p.0 ++ x) q.1 ∙ sym (append_assoc p.0 q.0 c))
 
 -- what stands behind the first element of a list is one list
 pub same_behind : {X : Type 0} {ts a b : List X} (x : X) → ts ≡ x ∷ a → ts ≡ x ∷ b → a ≡ b
@@ -23,24 +23,24 @@ pub shorter_behind : {X : Type 0} (ts here next : List X) (x : X)
 shorter_behind ts here next x shorter e = omega (arith, shorter, ap length e)
 
 -- where xs stand one behind another, and x behind them, all of these do
-pub Chain-push : {T X : Type 0} (P : List T → X → List T → Type 0) (xs : List X) (ts here next : List T) (x : X)
-    → Chain P ts xs here
+pub ParsesMany-push : {T X : Type 0} (P : List T → X → List T → Type 0) (xs : List X) (ts here next : List T) (x : X)
+    → ParsesMany P ts xs here
     → P here x next
-    → Chain P ts (xs ++ x ∷ []) next
-Chain-push P [] ts here next x b p = (next, subst (λ l. P l x next) (sym b) p, refl)
-Chain-push P (y ∷ xs) ts here next x b p = (b.0, b.1, Chain-push P xs b.0 here next x b.2 p)
+    → ParsesMany P ts (xs ++ x ∷ []) next
+ParsesMany-push P [] ts here next x b p = (next, subst (λ l. P l x next) (sym b) p, refl)
+ParsesMany-push P (y ∷ xs) ts here next x b p = (b.0, b.1, ParsesMany-push P xs b.0 here next x b.2 p)
 
 -- Where a whole W is a whole W again behind one element, it is so behind all elements xs that stand at its front.
-pub Chain-peel : {T X : Type 0} {P : List T → X → List T → Type 0} {W : List T → List X → Type 0}
+pub ParsesMany-peel : {T X : Type 0} {P : List T → X → List T → Type 0} {W : List T → List X → Type 0}
     → ((ts mid : List T) (x : X) (ys : List X) → P ts x mid → W ts ys → (more : List X) × (ys ≡ x ∷ more) × W mid more)
     → (xs ys : List X) (ts here : List T)
-    → Chain P ts xs here
+    → ParsesMany P ts xs here
     → W ts ys
     → (more : List X) × (ys ≡ xs ++ more) × W here more
-Chain-peel {W = W} step [] ys ts here b w = (ys, refl, subst (λ l. W l ys) b w)
-Chain-peel {P = P} {W = W} step (x ∷ xs) ys ts here b w =
+ParsesMany-peel {W = W} step [] ys ts here b w = (ys, refl, subst (λ l. W l ys) b w)
+ParsesMany-peel {P = P} {W = W} step (x ∷ xs) ys ts here b w =
     let k = step ts b.0 x ys b.1 w in
-    let h = Chain-peel {P = P} {W = W} step xs k.0 b.0 here b.2 k.2 in
+    let h = ParsesMany-peel {P = P} {W = W} step xs k.0 b.0 here b.2 k.2 in
     (h.0, k.1 ∙ ap (λ l. x ∷ l) h.1, h.2)
 
 -- ---- with separators
@@ -48,13 +48,13 @@ Chain-peel {P = P} {W = W} step (x ∷ xs) ys ts here b w =
 module _ {T X : Type 0} (P : List T → X → List T → Type 0) (sep close : T) where
   -- xs have been read, each with a separator behind it, and then comes rest, where one more is to stand before the close
   abbrev pub Before : List T → List X → List T → Type 0
-  Before ts xs rest = Chain (λ ts x mid. P ts x (sep ∷ mid)) ts xs rest
+  Before ts xs rest = ParsesMany (λ ts x mid. P ts x (sep ∷ mid)) ts xs rest
 
   -- where xs have been read, each with a separator behind it, and then comes a last element and the close, the list is whole
   pub Before-close : (xs : List X) (ts here rest : List T) (x : X)
       → Before ts xs here
       → P here x (close ∷ rest)
-      → Separated P sep close ts (xs ++ x ∷ []) rest
+      → ParsesSepBy P sep close ts (xs ++ x ∷ []) rest
   Before-close [] ts here rest x b p = subst (λ l. P l x (close ∷ rest)) (sym b) p
   Before-close (y ∷ []) ts here rest x b p = (b.0, b.1, subst (λ l. P l x (close ∷ rest)) (sym b.2) p)
   Before-close (y ∷ z ∷ xs) ts here rest x b p = (b.0, b.1, Before-close (z ∷ xs) b.0 here rest x b.2 p)
@@ -64,12 +64,12 @@ module _ {T X : Type 0} (P : List T → X → List T → Type 0) (sep close : T)
   IsMark t = (t ≡ sep) ⊎ (t ≡ close)
 
   -- what stands at the front of a list that is written out, and the mark behind it
-  pub Separated-front : (xs : List X) (ts rest : List T)
-      → Separated P sep close ts xs rest
+  pub ParsesSepBy-front : (xs : List X) (ts rest : List T)
+      → ParsesSepBy P sep close ts xs rest
       → (x : X) × (m : T) × (l : List T) × IsMark m × P ts x (m ∷ l)
-  Separated-front [] ts rest s = absurd s
-  Separated-front (x ∷ []) ts rest s = (x, close, rest, inr refl, s)
-  Separated-front (x ∷ y ∷ xs) ts rest s = (x, sep, s.0, inl refl, s.1)
+  ParsesSepBy-front [] ts rest s = absurd s
+  ParsesSepBy-front (x ∷ []) ts rest s = (x, close, rest, inr refl, s)
+  ParsesSepBy-front (x ∷ y ∷ xs) ts rest s = (x, sep, s.0, inl refl, s.1)
 
   -- an element and the mark behind it are read in one way
   abbrev pub IsExact : Type 0
@@ -83,84 +83,88 @@ module _ {T X : Type 0} (P : List T → X → List T → Type 0) (sep close : T)
 
   module _ (exact : IsExact) (apart : sep ≡ close → ⊥) where
     -- the list behind one of its elements and a separator
-    Separated-behind : (rest ts mid : List T) (x : X) (ys : List X)
+    ParsesSepBy-behind : (rest ts mid : List T) (x : X) (ys : List X)
         → P ts x (sep ∷ mid)
-        → Separated P sep close ts ys rest
-        → (more : List X) × (ys ≡ x ∷ more) × Separated P sep close mid more rest
-    Separated-behind rest ts mid x [] p s = absurd s
-    Separated-behind rest ts mid x (y ∷ []) p s = absurd (apart (exact ts x y sep close mid rest (inl refl) (inr refl) p s).1)
-    Separated-behind rest ts mid x (y ∷ v ∷ ys) p s =
+        → ParsesSepBy P sep close ts ys rest
+        → (more : List X) × (ys ≡ x ∷ more) × ParsesSepBy P sep close mid more rest
+    ParsesSepBy-behind rest ts mid x [] p s = absurd s
+    ParsesSepBy-behind rest ts mid x (y ∷ []) p s = absurd (apart (exact ts x y sep close mid rest (inl refl) (inr refl) p s).1)
+    ParsesSepBy-behind rest ts mid x (y ∷ v ∷ ys) p s =
         let e = exact ts x y sep sep mid s.0 (inl refl) (inl refl) p s.1 in
-        (v ∷ ys, cc, subst (λ l. Separated P sep close l (v ∷ ys) rest) (sym e.2) s.2)
+        (v ∷ ys, cc, subst (λ l. ParsesSepBy P sep close l (v ∷ ys) rest) (sym e.2) s.2)
 
     -- a list with separators between its elements is read in one way
-    pub Separated-unique : (xs ys : List X) (ts r s : List T)
-        → Separated P sep close ts xs r
-        → Separated P sep close ts ys s
+    pub ParsesSepBy-unique : (xs ys : List X) (ts r s : List T)
+        → ParsesSepBy P sep close ts xs r
+        → ParsesSepBy P sep close ts ys s
         → (xs ≡ ys) × (r ≡ s)
-    Separated-unique [] ys ts r s p q = absurd p
-    Separated-unique (x ∷ []) [] ts r s p q = absurd q
-    Separated-unique (x ∷ []) (y ∷ []) ts r s p q =
+    ParsesSepBy-unique [] ys ts r s p q = absurd p
+    ParsesSepBy-unique (x ∷ []) [] ts r s p q = absurd q
+    ParsesSepBy-unique (x ∷ []) (y ∷ []) ts r s p q =
         let e = exact ts x y close close r s (inr refl) (inr refl) p q in (ap (λ z. z ∷ []) e.0, e.2)
-    Separated-unique (x ∷ []) (y ∷ v ∷ ys) ts r s p q =
+    ParsesSepBy-unique (x ∷ []) (y ∷ v ∷ ys) ts r s p q =
         absurd (apart (sym (exact ts x y close sep r q.0 (inr refl) (inl refl) p q.1).1))
-    Separated-unique (x ∷ u ∷ xs) ys ts r s p q =
-        let k = Separated-behind s ts p.0 x ys p.1 q in
-        let h = Separated-unique (u ∷ xs) k.0 p.0 r s p.2 k.2 in
+    ParsesSepBy-unique (x ∷ u ∷ xs) ys ts r s p q =
+        let k = ParsesSepBy-behind s ts p.0 x ys p.1 q in
+        let h = ParsesSepBy-unique (u ∷ xs) k.0 p.0 r s p.2 k.2 in
         (ap (λ l. x ∷ l) h.0 ∙ sym k.1, h.1)
 
     -- where the rest is no list, the whole is none
     pub Before-fault : (xs ys : List X) (ts here rest : List T)
         → Before ts xs here
-        → NoneRead (Separated P sep close here)
-        → Separated P sep close ts ys rest
+        → ParsesNothing (ParsesSepBy P sep close here)
+        → ParsesSepBy P sep close ts ys rest
         → ⊥
     Before-fault xs ys ts here rest b never s =
-        let p = Chain-peel {P = λ ts x mid. P ts x (sep ∷ mid)} (Separated-behind rest) xs ys ts here b s in never p.0 rest p.2
+        let p = ParsesMany-peel {P = λ ts x mid. P ts x (sep ∷ mid)} (ParsesSepBy-behind rest) xs ys ts here b s in
+        never p.0 rest p.2
 
 -- ---- up to a stop
 
 module _ {T X : Type 0} (stop : List T → Bool) (P : List T → X → List T → Type 0) where
   -- xs have been read, none of them where it is to stop, and then comes rest
   abbrev pub Passed : List T → List X → List T → Type 0
-  Passed ts xs rest = Chain (λ ts x mid. (stop ts ≡ false) × P ts x mid) ts xs rest
+  Passed ts xs rest = ParsesMany (λ ts x mid. (stop ts ≡ false) × P ts x mid) ts xs rest
 
   -- at a stop, what has been read is all that stands up to it
-  pub Passed-stop : (xs : List X) (ts here : List T) → Passed ts xs here → stop here ≡ true → Until stop P ts xs here
+  pub Passed-stop : (xs : List X) (ts here : List T) → Passed ts xs here → stop here ≡ true → ParsesManyTill stop P ts xs here
   Passed-stop [] ts here b h = (b, ap stop b ∙ h)
   Passed-stop (y ∷ xs) ts here b h = (b.1.0, (b.0, b.1.1, Passed-stop xs b.0 here b.2 h))
 
-  module _ (one : IsOne P) where
+  module _ (one : IsDeterministic P) where
     -- the lines behind one of them
-    Until-behind : (rest ts mid : List T) (x : X) (ys : List X)
+    ParsesManyTill-behind : (rest ts mid : List T) (x : X) (ys : List X)
         → (stop ts ≡ false) × P ts x mid
-        → Until stop P ts ys rest
-        → (more : List X) × (ys ≡ x ∷ more) × Until stop P mid more rest
-    Until-behind rest ts mid x [] p s =
+        → ParsesManyTill stop P ts ys rest
+        → (more : List X) × (ys ≡ x ∷ more) × ParsesManyTill stop P mid more rest
+    ParsesManyTill-behind rest ts mid x [] p s =
         let h = s.1 in
         let k = p.0 in
         absurd cc
-    Until-behind rest ts mid x (y ∷ ys) p s =
-        let e = one ts x y mid s.1.0 p.1 s.1.1 in (ys, cc, subst (λ l. Until stop P l ys rest) (sym e.1) s.1.2)
+    ParsesManyTill-behind rest ts mid x (y ∷ ys) p s =
+        let e = one ts x y mid s.1.0 p.1 s.1.1 in (ys, cc, subst (λ l. ParsesManyTill stop P l ys rest) (sym e.1) s.1.2)
 
     -- a list that goes on up to a stop is read in one way
-    pub Until-unique : (xs ys : List X) (ts r s : List T) → Until stop P ts xs r → Until stop P ts ys s → (xs ≡ ys) × (r ≡ s)
-    Until-unique [] [] ts r s p q = (refl, sym p.0 ∙ q.0)
-    Until-unique [] (y ∷ ys) ts r s p q =
+    pub ParsesManyTill-unique : (xs ys : List X) (ts r s : List T)
+        → ParsesManyTill stop P ts xs r
+        → ParsesManyTill stop P ts ys s
+        → (xs ≡ ys) × (r ≡ s)
+    ParsesManyTill-unique [] [] ts r s p q = (refl, sym p.0 ∙ q.0)
+    ParsesManyTill-unique [] (y ∷ ys) ts r s p q =
         let h = p.1 in
         let k = q.0 in
         absurd cc
-    Until-unique (x ∷ xs) ys ts r s p q =
-        let k = Until-behind s ts p.1.0 x ys (p.0, p.1.1) q in
-        let h = Until-unique xs k.0 p.1.0 r s p.1.2 k.2 in
+    ParsesManyTill-unique (x ∷ xs) ys ts r s p q =
+        let k = ParsesManyTill-behind s ts p.1.0 x ys (p.0, p.1.1) q in
+        let h = ParsesManyTill-unique xs k.0 p.1.0 r s p.1.2 k.2 in
         (ap (λ l. x ∷ l) h.0 ∙ sym k.1, h.1)
 
     -- where xs have been read, all elements up to the stop are xs and those that stand behind
     pub Passed-peel : (xs ys : List X) (ts here rest : List T)
         → Passed ts xs here
-        → Until stop P ts ys rest
-        → (more : List X) × (ys ≡ xs ++ more) × Until stop P here more rest
-    Passed-peel xs ys ts here rest b s = Chain-peel (Until-behind rest) xs ys ts here b s
+        → ParsesManyTill stop P ts ys rest
+        → (more : List X) × (ys ≡ xs ++ more) × ParsesManyTill stop P here more rest
+    Passed-peel xs ys ts here rest b s = ParsesMany-peel (ParsesManyTill-behind rest) xs ys ts here b s
 
 -- ---- with an end behind each
 
@@ -171,13 +175,13 @@ module _ {T X : Type 0} (P : List T → X → List T → Type 0) (sep close : T)
 
   -- xs have been read, each with a separator behind it, and then comes rest, where the close may stand, too
   abbrev pub Listing : List T → List X → List T → Type 0
-  Listing ts xs rest = Chain Listed ts xs rest
+  Listing ts xs rest = ParsesMany Listed ts xs rest
 
   -- where xs have been read, and then comes the close, the list is whole: it may end behind a separator
   pub Listing-end : (xs : List X) (ts here rest : List T)
       → Listing ts xs here
       → here ≡ close ∷ rest
-      → Ended P sep close ts xs rest
+      → ParsesSepEndBy P sep close ts xs rest
   Listing-end [] ts here rest b e = b ∙ e
   Listing-end (y ∷ xs) ts here rest b e = (b.1.0, b.1.1, inr (b.0, b.1.2, Listing-end xs b.0 here rest b.2 e))
 
@@ -186,18 +190,19 @@ module _ {T X : Type 0} (P : List T → X → List T → Type 0) (sep close : T)
       → Listing ts xs here
       → P here x mid
       → mid ≡ close ∷ rest
-      → Ended P sep close ts (xs ++ x ∷ []) rest
+      → ParsesSepEndBy P sep close ts (xs ++ x ∷ []) rest
   Listing-last [] ts here mid rest x b p e = (mid, subst (λ l. P l x mid) (sym b) p, inl (refl, e))
   Listing-last (y ∷ xs) ts here mid rest x b p e = (b.1.0, b.1.1, inr (b.0, b.1.2, Listing-last xs b.0 here mid rest x b.2 p e))
 
-  module _ (one : IsOne P) (apart : sep ≡ close → ⊥) (unlike : (ts r l : List T) (x : X) → ts ≡ close ∷ l → P ts x r → ⊥) where
+  module _ (one : IsDeterministic P) (apart : sep ≡ close → ⊥)
+      (unlike : (ts r l : List T) (x : X) → ts ≡ close ∷ l → P ts x r → ⊥) where
     -- the list behind one of its elements and a separator
-    Ended-behind : (rest ts next : List T) (x : X) (ys : List X)
+    ParsesSepEndBy-behind : (rest ts next : List T) (x : X) (ys : List X)
         → Listed ts x next
-        → Ended P sep close ts ys rest
-        → (more : List X) × (ys ≡ x ∷ more) × Ended P sep close next more rest
-    Ended-behind rest ts next x [] p s = absurd (unlike ts p.0 rest x s p.1)
-    Ended-behind rest ts next x (y ∷ ys) p s =
+        → ParsesSepEndBy P sep close ts ys rest
+        → (more : List X) × (ys ≡ x ∷ more) × ParsesSepEndBy P sep close next more rest
+    ParsesSepEndBy-behind rest ts next x [] p s = absurd (unlike ts p.0 rest x s p.1)
+    ParsesSepEndBy-behind rest ts next x (y ∷ ys) p s =
         let e = one ts x y p.0 s.0 p.1 s.1 in
         elim s.2 [
           | inl f ↦ absurd (let d = f.1 in apart cc)
@@ -208,14 +213,14 @@ module _ {T X : Type 0} (P : List T → X → List T → Type 0) (sep close : T)
         ]
 
     -- a list with separators behind its elements, of which the last may lack, is read in one way
-    pub Ended-unique : (xs ys : List X) (ts r s : List T)
-        → Ended P sep close ts xs r
-        → Ended P sep close ts ys s
+    pub ParsesSepEndBy-unique : (xs ys : List X) (ts r s : List T)
+        → ParsesSepEndBy P sep close ts xs r
+        → ParsesSepEndBy P sep close ts ys s
         → (xs ≡ ys) × (r ≡ s)
-    Ended-unique [] [] ts r s p q = (refl, cc)
-    Ended-unique [] (y ∷ ys) ts r s p q = absurd (unlike ts q.0 r y p q.1)
-    Ended-unique (x ∷ xs) [] ts r s p q = absurd (unlike ts p.0 s x q p.1)
-    Ended-unique (x ∷ xs) (y ∷ ys) ts r s p q = elim p.2 [
+    ParsesSepEndBy-unique [] [] ts r s p q = (refl, cc)
+    ParsesSepEndBy-unique [] (y ∷ ys) ts r s p q = absurd (unlike ts q.0 r y p q.1)
+    ParsesSepEndBy-unique (x ∷ xs) [] ts r s p q = absurd (unlike ts p.0 s x q p.1)
+    ParsesSepEndBy-unique (x ∷ xs) (y ∷ ys) ts r s p q = elim p.2 [
       | inl f ↦
           let e = one ts x y p.0 q.0 p.1 q.1 in
           elim q.2 [
@@ -226,28 +231,28 @@ module _ {T X : Type 0} (P : List T → X → List T → Type 0) (sep close : T)
             | inr g ↦ absurd (let d = g.1 in apart cc)
           ]
       | inr f ↦
-          let k = Ended-behind s ts f.0 x (y ∷ ys) (p.0, p.1, f.1) q in
-          let h = Ended-unique xs k.0 f.0 r s f.2 k.2 in
+          let k = ParsesSepEndBy-behind s ts f.0 x (y ∷ ys) (p.0, p.1, f.1) q in
+          let h = ParsesSepEndBy-unique xs k.0 f.0 r s f.2 k.2 in
           (ap (λ l. x ∷ l) h.0 ∙ sym k.1, h.1)
     ]
 
     -- where xs have been read, the elements of the whole list are xs and those that stand behind
     Listing-peel : (xs ys : List X) (ts here rest : List T)
         → Listing ts xs here
-        → Ended P sep close ts ys rest
-        → (more : List X) × (ys ≡ xs ++ more) × Ended P sep close here more rest
-    Listing-peel xs ys ts here rest b s = Chain-peel {P = Listed} (Ended-behind rest) xs ys ts here b s
+        → ParsesSepEndBy P sep close ts ys rest
+        → (more : List X) × (ys ≡ xs ++ more) × ParsesSepEndBy P sep close here more rest
+    Listing-peel xs ys ts here rest b s = ParsesMany-peel {P = Listed} (ParsesSepEndBy-behind rest) xs ys ts here b s
 
     -- where neither the end nor an element stands, the whole is no list
     pub Listing-here : (xs ys : List X) (ts here rest : List T)
         → Listing ts xs here
         → (here ≡ close ∷ rest → ⊥)
         → ((y : X) (more : List X) (mid : List T) → ys ≡ xs ++ y ∷ more → P here y mid → ⊥)
-        → Ended P sep close ts ys rest
+        → ParsesSepEndBy P sep close ts ys rest
         → ⊥
     Listing-here xs ys ts here rest b no_end never s = let p = Listing-peel xs ys ts here rest b s in at p.0 p.1 p.2
       where
-        at : (more : List X) → ys ≡ xs ++ more → Ended P sep close here more rest → ⊥
+        at : (more : List X) → ys ≡ xs ++ more → ParsesSepEndBy P sep close here more rest → ⊥
         at [] e q = no_end q
         at (y ∷ more) e q = never y more q.0 e q.1
 
@@ -257,11 +262,11 @@ module _ {T X : Type 0} (P : List T → X → List T → Type 0) (sep close : T)
         → P here x mid
         → ((l : List T) → mid ≡ sep ∷ l → ⊥)
         → ((l : List T) → mid ≡ close ∷ l → ⊥)
-        → Ended P sep close ts ys rest
+        → ParsesSepEndBy P sep close ts ys rest
         → ⊥
     Listing-mark xs ys ts here mid rest x b p no_sep no_close s = let q = Listing-peel xs ys ts here rest b s in at q.0 q.2
       where
-        at : (more : List X) → Ended P sep close here more rest → ⊥
+        at : (more : List X) → ParsesSepEndBy P sep close here more rest → ⊥
         at [] q = unlike here mid rest x q p
         at (y ∷ more) q =
             let e = (one here x y mid q.0 p q.1).1 in elim q.2 [ inl f ↦ no_close rest (e ∙ f.1) | inr f ↦ no_sep f.0 (e ∙ f.1) ]

@@ -3,9 +3,10 @@ use Rattle.lw_text.proofs.Common.{IsOfKind, Symbol, is_ascii_digit, ◌≡◌, �
 use Rattle.lw_text.proofs.Common.{not, [], ◌∷◌, ◌++◌, length, take, drop, refl, sym, ap, ◌∙◌, subst, arith}
 use Rattle.lw_text.proofs.Common.{◌==◌, nat_lt, slice_index_or, bytes_eq, ltb-true, eqb-true, AllByRecursion}
 use Rattle.lw_text.proofs.Common.{list_all, bytes_eq-Decides, not-true, false_from_ne_true, Bytes, is_blank}
-use Rattle.lw_text.proofs.Common.{is_name_byte, begins, any_all, same_byte, blank_all, all_ascii}
-use Rattle.lw_text.proofs.Common.{begins_trivia, begins_pair, is_single, is_pair, pairs, singles, IsNumber}
-use Rattle.lw_text.proofs.Common.{IsKind, IsNameRun, IsSymbol, IsToken, NoSuch, ◌≤◌, IsName}
+use Rattle.lw_text.proofs.Common.{is_name_byte, first_byte_is, any_all, same_byte, blank_all, all_ascii}
+use Rattle.lw_text.proofs.Common.{begins_trivia, begins_pair, is_one_byte_symbol, is_two_byte_symbol}
+use Rattle.lw_text.proofs.Common.{two_byte_symbols, one_byte_symbols, IsNumber, IsNameOrNumber, IsNameRun}
+use Rattle.lw_text.proofs.Common.{IsSymbol, IsToken, HoldsOfNothing, ◌≤◌, IsName}
 use Rattle.lw_text.proofs.api.Numbers.{number_first}
 use Rattle.lw_text.proofs.api.Spelling.{all_pass}
 
@@ -15,17 +16,17 @@ use Rattle.lw_text.proofs.api.Spelling.{all_pass}
 pub record IsRun (p : ℕ → Bool) (text w rest : Bytes) : Type 0 where
   pub parts : text ≡ w ++ rest
   pub all : AllByRecursion (λ b. p b ≡ true) w
-  pub longest : begins p rest ≡ false
+  pub longest : first_byte_is p rest ≡ false
 
 -- Up to the first byte that fails a test, a text is read in one way.
 pub run-unique : (p : ℕ → Bool) (w v : Bytes) {text r s : Bytes} → IsRun p text w r → IsRun p text v s → (w ≡ v) × (r ≡ s)
 run-unique p [] [] a c = (refl, sym a.parts ∙ c.parts)
 run-unique p [] (b ∷ v) a c =
-    absurd (let h = ap (begins p) (sym a.parts ∙ c.parts) in
+    absurd (let h = ap (first_byte_is p) (sym a.parts ∙ c.parts) in
     let i = a.longest in
     cc (c.all.0))
 run-unique p (b ∷ w) [] a c =
-    absurd (let h = ap (begins p) (sym a.parts ∙ c.parts) in
+    absurd (let h = ap (first_byte_is p) (sym a.parts ∙ c.parts) in
     let i = c.longest in
     cc (a.all.0))
 run-unique p (b ∷ w) (d ∷ v) {text} {r} {s} a c =
@@ -40,29 +41,32 @@ abbrev pub NameBytes : Bytes → Type 0
 NameBytes w = AllByRecursion (λ b. is_name_byte b ≡ true) w
 
 -- a test that passes for all symbols of one byte, as a list, passes for each byte that is one
-single_all : (q : ℕ → Bool) (b : ℕ) → list_all q singles ≡ true → is_single b ≡ true → q b ≡ true
-single_all q b all h = any_all (λ x y. x == y) same_byte q singles b all h
+single_all : (q : ℕ → Bool) (b : ℕ) → list_all q one_byte_symbols ≡ true → is_one_byte_symbol b ≡ true → q b ≡ true
+single_all q b all h = any_all (λ x y. x == y) same_byte q one_byte_symbols b all h
 
 -- a test that passes for all symbols of two bytes, as a list, passes for any two bytes that are one
-pair_all : (q : Bytes → Bool) (b c : ℕ) → list_all q pairs ≡ true → is_pair b c ≡ true → q (b ∷ c ∷ []) ≡ true
-pair_all q b c all h = any_all bytes_eq (λ x y e. (bytes_eq-Decides x y).0 e) q pairs (b ∷ c ∷ []) all h
+pair_all : (q : Bytes → Bool) (b c : ℕ)
+    → list_all q two_byte_symbols ≡ true
+    → is_two_byte_symbol b c ≡ true
+    → q (b ∷ c ∷ []) ≡ true
+pair_all q b c all h = any_all bytes_eq (λ x y e. (bytes_eq-Decides x y).0 e) q two_byte_symbols (b ∷ c ∷ []) all h
 
 -- ---- what a token begins with
 
 -- a name or a number has a byte
-kind_nonempty : (w : Bytes) → IsKind w → 0 < length w
+kind_nonempty : (w : Bytes) → IsNameOrNumber w → 0 < length w
 kind_nonempty w (inl name) = name.0.some
 kind_nonempty w (inr (n, m)) = elim m.1 [ inl d ↦ d.0 | inr h ↦ omega (arith, ap length h.1) ]
 
 -- a name run begins with a name byte
-run_front : (w rest : Bytes) → IsNameRun w rest → begins is_name_byte (w ++ rest) ≡ true
+run_front : (w rest : Bytes) → IsNameRun w rest → first_byte_is is_name_byte (w ++ rest) ≡ true
 run_front [] rest h = absurd (let n = kind_nonempty [] h.kind in omega arith)
 run_front (b ∷ w) rest h = h.all.0
 
 -- a symbol begins with no name byte
-symbol_front : (t rest : Bytes) → IsSymbol t rest → begins is_name_byte (t ++ rest) ≡ false
+symbol_front : (t rest : Bytes) → IsSymbol t rest → first_byte_is is_name_byte (t ++ rest) ≡ false
 symbol_front (b ∷ []) rest h = not-true (is_name_byte b) (single_all (λ x. not (is_name_byte x)) b refl h.0)
-symbol_front (b ∷ c ∷ []) rest h = not-true (is_name_byte b) (pair_all (begins (λ x. not (is_name_byte x))) b c refl h)
+symbol_front (b ∷ c ∷ []) rest h = not-true (is_name_byte b) (pair_all (first_byte_is (λ x. not (is_name_byte x))) b c refl h)
 symbol_front _ rest h = absurd h
 
 -- no trivia begins with a byte that passes a test which no blank and no `(` passes
@@ -93,16 +97,20 @@ token_nonempty (b ∷ t) rest (inr s) = omega arith
 -- ---- one token begins at a place
 
 -- where what stands behind b makes no symbol of two bytes with it, b and the next byte d are none
-no_longer_there : (b d : ℕ) (r s : Bytes) → r ≡ d ∷ s → begins (is_pair b) r ≡ false → is_pair b d ≡ true → ⊥
-no_longer_there b d r s e shut pair = let h = ap (begins (is_pair b)) e in cc
+no_longer_there : (b d : ℕ) (r s : Bytes)
+    → r ≡ d ∷ s
+    → first_byte_is (is_two_byte_symbol b) r ≡ false
+    → is_two_byte_symbol b d ≡ true
+    → ⊥
+no_longer_there b d r s e shut pair = let h = ap (first_byte_is (is_two_byte_symbol b)) e in cc
 
 -- one symbol begins at a place
 symbol-unique : (t r u s : Bytes) → IsSymbol t r → IsSymbol u s → t ++ r ≡ u ++ s → (t ≡ u) × (r ≡ s)
 symbol-unique (b ∷ []) r (c ∷ []) s p q e = (cc, cc)
 symbol-unique (b ∷ []) r (c ∷ d ∷ []) s p q e =
-    absurd (no_longer_there b d r s (cc) p.1 (let k : c ≡ b = cc in subst (λ x. is_pair x d ≡ true) k q))
+    absurd (no_longer_there b d r s (cc) p.1 (let k : c ≡ b = cc in subst (λ x. is_two_byte_symbol x d ≡ true) k q))
 symbol-unique (a ∷ b ∷ []) r (c ∷ []) s p q e =
-    absurd (no_longer_there c b s r (cc) q.1 (let k : a ≡ c = cc in subst (λ x. is_pair x b ≡ true) k p))
+    absurd (no_longer_there c b s r (cc) q.1 (let k : a ≡ c = cc in subst (λ x. is_two_byte_symbol x b ≡ true) k p))
 symbol-unique (a ∷ b ∷ []) r (c ∷ d ∷ []) s p q e = (cc, cc)
 symbol-unique [] r u s p q e = absurd p
 symbol-unique (a ∷ b ∷ c ∷ t) r u s p q e = absurd p
@@ -116,12 +124,12 @@ token-unique t r u s (inl p) (inl q) e =
 token-unique t r u s (inl p) (inr q) e =
     absurd (let h = run_front t r p in
     let k = symbol_front u s q in
-    let i = ap (begins is_name_byte) e in
+    let i = ap (first_byte_is is_name_byte) e in
     cc)
 token-unique t r u s (inr p) (inl q) e =
     absurd (let h = symbol_front t r p in
     let k = run_front u s q in
-    let i = ap (begins is_name_byte) e in
+    let i = ap (first_byte_is is_name_byte) e in
     cc)
 token-unique t r u s (inr p) (inr q) e = symbol-unique t r u s p q e
 
@@ -130,32 +138,33 @@ token-unique t r u s (inr p) (inr q) e = symbol-unique t r u s p q e
 -- where the name bytes at the front, as many as there are, are neither a name nor a number, no token stands
 pub no_kind : {bytes w r : Bytes}
     → IsRun is_name_byte bytes w r
-    → begins is_name_byte bytes ≡ true
-    → (IsKind w → ⊥)
+    → first_byte_is is_name_byte bytes ≡ true
+    → (IsNameOrNumber w → ⊥)
     → (t rest : Bytes)
     → bytes ≡ t ++ rest
     → IsToken t rest
     → ⊥
 no_kind {w = w} run front never t rest f (inl p) =
-    never (subst IsKind (run-unique is_name_byte t w (record { parts = f; all = p.all; longest = p.longest }) run).0 p.kind)
+    never (subst IsNameOrNumber (run-unique is_name_byte t w (record { parts = f; all = p.all; longest = p.longest }) run).0
+    p.kind)
 no_kind run front never t rest f (inr p) =
     let h = symbol_front t rest p in
-    let i = ap (begins is_name_byte) f in
+    let i = ap (first_byte_is is_name_byte) f in
     cc
 
 -- where no name byte, no symbol of one byte and none of two stands, no token does
 pub no_token : {bytes rest : Bytes} {b : ℕ}
     → bytes ≡ b ∷ rest
     → is_name_byte b ≡ false
-    → ((is_single b ≡ true) × (begins_pair 40 42 bytes ≡ false) → ⊥)
-    → ((c d : ℕ) (more : Bytes) → bytes ≡ c ∷ d ∷ more → is_pair c d ≡ true → ⊥)
+    → ((is_one_byte_symbol b ≡ true) × (begins_pair 40 42 bytes ≡ false) → ⊥)
+    → ((c d : ℕ) (more : Bytes) → bytes ≡ c ∷ d ∷ more → is_two_byte_symbol c d ≡ true → ⊥)
     → (t more : Bytes)
     → bytes ≡ t ++ more
     → IsToken t more
     → ⊥
 no_token e no_word no_single short t more f (inl p) =
     let h = run_front t more p in
-    let i = ap (begins is_name_byte) (sym e ∙ f) in
+    let i = ap (first_byte_is is_name_byte) (sym e ∙ f) in
     cc
 no_token {b = b} e no_word no_single short (c ∷ []) more f (inr p) =
     let k : b ≡ c = let i = sym e ∙ f in cc in no_single (rw (← k) at p.0, subst (λ l. begins_pair 40 42 l ≡ false) (sym f) p.2)
@@ -164,7 +173,7 @@ no_token e no_word no_single short _ more f (inr p) = p
 
 -- two bytes at the front that are a symbol are the token there
 pub long_symbol : (bytes t rest : Bytes)
-    → ((b c : ℕ) × (more : Bytes) × (bytes ≡ b ∷ c ∷ more) × (is_pair b c ≡ true))
+    → ((b c : ℕ) × (more : Bytes) × (bytes ≡ b ∷ c ∷ more) × (is_two_byte_symbol b c ≡ true))
     → t ≡ take 2 bytes
     → rest ≡ drop 2 bytes
     → (bytes ≡ t ++ rest) × IsToken t rest × IsOfKind Symbol t
@@ -172,16 +181,16 @@ long_symbol bytes t rest (b, c, more, e, p) f g = rw (f, g, e) (refl, inr p, sym
 
 -- where b and the next byte are no symbol, whichever that byte is, what stands behind b makes no symbol of two bytes with it
 no_longer : (more : Bytes) (b : ℕ)
-    → ((d : ℕ) (l : Bytes) → more ≡ d ∷ l → is_pair b d ≡ true → ⊥)
-    → begins (is_pair b) more ≡ false
+    → ((d : ℕ) (l : Bytes) → more ≡ d ∷ l → is_two_byte_symbol b d ≡ true → ⊥)
+    → first_byte_is (is_two_byte_symbol b) more ≡ false
 no_longer [] b h = refl
-no_longer (d ∷ l) b h = false_from_ne_true (is_pair b d) (h d l refl)
+no_longer (d ∷ l) b h = false_from_ne_true (is_two_byte_symbol b d) (h d l refl)
 
 -- a symbol of one byte is the token there, where none of two bytes begins
 pub short_symbol : {bytes more t rest : Bytes} {b : ℕ}
     → bytes ≡ b ∷ more
-    → ((c d : ℕ) (l : Bytes) → bytes ≡ c ∷ d ∷ l → is_pair c d ≡ true → ⊥)
-    → (is_single b ≡ true) × (begins_pair 40 42 bytes ≡ false)
+    → ((c d : ℕ) (l : Bytes) → bytes ≡ c ∷ d ∷ l → is_two_byte_symbol c d ≡ true → ⊥)
+    → (is_one_byte_symbol b ≡ true) × (begins_pair 40 42 bytes ≡ false)
     → t ≡ take 1 bytes
     → rest ≡ drop 1 bytes
     → (bytes ≡ t ++ rest) × IsToken t rest × IsOfKind Symbol t
@@ -193,28 +202,33 @@ short_symbol {bytes} {more} {t} {rest} {b} e no_pair single f g =
 -- ---- what a word of such bytes is, by its first byte
 
 -- the empty text is neither a name nor a number
-pub empty_no_kind : {w : Bytes} → w ≡ [] → IsKind w → ⊥
+pub empty_no_kind : {w : Bytes} → w ≡ [] → IsNameOrNumber w → ⊥
 empty_no_kind {w} is kind = let some = kind_nonempty w kind in omega (arith, ap length is)
 
 -- a name run that begins with a digit and is no number is no name either
-pub digit_no_kind : {w r : Bytes} {b : ℕ} → w ≡ b ∷ r → is_ascii_digit b ≡ true → NoSuch (IsNumber w) → IsKind w → ⊥
+pub digit_no_kind : {w r : Bytes} {b : ℕ}
+    → w ≡ b ∷ r
+    → is_ascii_digit b ≡ true
+    → HoldsOfNothing (IsNumber w)
+    → IsNameOrNumber w
+    → ⊥
 digit_no_kind is digit never (inl name) =
     let front = name.0.front in
-    let begin = ap (begins is_ascii_digit) is in
+    let begin = ap (first_byte_is is_ascii_digit) is in
     cc
 digit_no_kind is digit never (inr (n, number)) = never n number
 
 -- a name run that begins with no digit is a name where it is short enough
 pub short_name : {w r : Bytes} {b : ℕ} → w ≡ b ∷ r → NameBytes w → is_ascii_digit b ≡ false → length w ≤ 32 → IsName w
 short_name is all other short =
-    (record { some = omega (arith, ap length is); all = all; front = ap (begins is_ascii_digit) is ∙ other }, short)
+    (record { some = omega (arith, ap length is); all = all; front = ap (first_byte_is is_ascii_digit) is ∙ other }, short)
 
 -- a name run that begins with no digit and is too long is neither a name nor a number
-pub long_no_kind : {w r : Bytes} {b : ℕ} → w ≡ b ∷ r → is_ascii_digit b ≡ false → (length w ≤ 32 → ⊥) → IsKind w → ⊥
+pub long_no_kind : {w r : Bytes} {b : ℕ} → w ≡ b ∷ r → is_ascii_digit b ≡ false → (length w ≤ 32 → ⊥) → IsNameOrNumber w → ⊥
 long_no_kind is other long (inl name) = long name.1
 long_no_kind {w} is other long (inr (n, number)) =
     let front = number_first w n number in
-    let begin = ap (begins is_ascii_digit) is in
+    let begin = ap (first_byte_is is_ascii_digit) is in
     cc
 
 -- ---- symbols have bytes below 128 alone
@@ -225,22 +239,23 @@ below_all w h = all_ascii (λ b. nat_lt b 128) (λ b k. ltb-true b 128 k) w (all
 
 -- the bytes of a symbol of two bytes are below 128
 pub long_ascii : (bytes t : Bytes)
-    → ((b c : ℕ) × (more : Bytes) × (bytes ≡ b ∷ c ∷ more) × (is_pair b c ≡ true))
+    → ((b c : ℕ) × (more : Bytes) × (bytes ≡ b ∷ c ∷ more) × (is_two_byte_symbol b c ≡ true))
     → t ≡ take 2 bytes
     → (i : ℕ)
     → slice_index_or t i 0 < 128
 long_ascii bytes t (b, c, more, e, p) f i =
     let low =
-    any_all bytes_eq (λ x y h. (bytes_eq-Decides x y).0 h) (λ w. list_all (λ d. nat_lt d 128) w) pairs (b ∷ c ∷ []) refl p in
+    any_all bytes_eq (λ x y h. (bytes_eq-Decides x y).0 h) (λ w. list_all (λ d. nat_lt d 128) w) two_byte_symbols (b ∷ c ∷ [])
+    refl p in
     subst (λ w. slice_index_or w i 0 < 128) (sym (f ∙ ap (take 2) e)) (below_all (b ∷ c ∷ []) low i)
 
 -- the byte of a symbol of one byte is below 128
 pub short_ascii : (bytes more t : Bytes) (b : ℕ)
     → bytes ≡ b ∷ more
-    → is_single b ≡ true
+    → is_one_byte_symbol b ≡ true
     → t ≡ take 1 bytes
     → (i : ℕ)
     → slice_index_or t i 0 < 128
 short_ascii bytes more t b e single f i =
-    let low = any_all _ same_byte (λ d. list_all (λ d. nat_lt d 128) (d ∷ [])) singles b refl single in
+    let low = any_all _ same_byte (λ d. list_all (λ d. nat_lt d 128) (d ∷ [])) one_byte_symbols b refl single in
     subst (λ w. slice_index_or w i 0 < 128) (sym (f ∙ ap (take 1) e)) (below_all (b ∷ []) low i)

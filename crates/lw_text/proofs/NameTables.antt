@@ -3,66 +3,71 @@ use Rattle.lw_text.proofs.Common.{◌≡◌, ℕ, suc, ◌+◌, inl, inr, true, 
 use Rattle.lw_text.proofs.Common.{Some, refl, sym, ap, ◌∙◌, subst, arith, ◌++◌, append_assoc, append-nil}
 use Rattle.lw_text.proofs.Common.{fold, if◌then◌else◌, bytes_eq, AllByRecursion, list_any, get_or-append}
 use Rattle.lw_text.proofs.Common.{cases_Bool, bytes_eq-Decides, slice_get-get_or, get_or_from_slice_get}
-use Rattle.lw_text.proofs.Common.{Bytes, NameTable, TokenList, EachOnce, contains_name, with_name, with_names}
-use Rattle.lw_text.proofs.Common.{index_of, Seen, index_of-at, with_name-grows, with_names-longer}
-use Rattle.lw_text.proofs.Common.{contains_name-with_name, Site, Initializer, InMemory, seen_in, same_seen}
-use Rattle.lw_text.proofs.Common.{word_of, named, named_initializer, seen_of, IsIn, word_at, is_listed}
+use Rattle.lw_text.proofs.Common.{Bytes, NameTable, TokenList, IsDuplicateFree, contains_name, insert_name}
+use Rattle.lw_text.proofs.Common.{insert_names, position_of_name, Seen, position_of_name-at}
+use Rattle.lw_text.proofs.Common.{insert_name-grows, insert_names-longer, contains_name-insert_name, Site}
+use Rattle.lw_text.proofs.Common.{Initializer, InMemory, seen_in, seen_eq, initial_word_of, site_by_name}
+use Rattle.lw_text.proofs.Common.{named_initializer, seen_of, IsIn, word_at, is_listed}
 use Rattle.lw_base.specs.declared.head.Seen.TheVariants as seen
 use Rattle.lw_text.specs.declared.site.Site.TheVariants as made
 
 -- ---- the index of a name
 
 -- a name of the table stands at its index
-name_at_index : (names : NameTable) (t : Bytes) → contains_name names t ≡ true → slice_get names (index_of names t) ≡ Some t
+name_at_index : (names : NameTable) (t : Bytes)
+    → contains_name names t ≡ true
+    → slice_get names (position_of_name names t) ≡ Some t
 name_at_index [] t h = absurd cc
 name_at_index (y ∷ names) t h = elim (cases_Bool (bytes_eq y t)) [
   | inl e ↦ rw e (ap Some ((bytes_eq-Decides y t).0 e))
   | inr e ↦
       let k = rw e at h in
       rw e
-      (subst (λ i. slice_get (y ∷ names) i ≡ Some t) (let j : suc (index_of names t) ≡ 1 + index_of names t = omega arith in j)
-      (name_at_index names t k))
+      (subst (λ i. slice_get (y ∷ names) i ≡ Some t)
+      (let j : suc (position_of_name names t) ≡ 1 + position_of_name names t = omega arith in j) (name_at_index names t k))
 ]
 
 -- a name that was entered into the table stands in it at its index
 pub appeared_at : (before after : NameTable) (loc : ℕ) (t : Bytes)
-    → after ≡ with_name before t
-    → loc ≡ index_of after t
+    → after ≡ insert_name before t
+    → loc ≡ position_of_name after t
     → slice_get after loc ≡ Some t
-appeared_at before after loc t e f = rw (f, e) (name_at_index _ t (contains_name-with_name before t))
+appeared_at before after loc t e f = rw (f, e) (name_at_index _ t (contains_name-insert_name before t))
 
 -- a location in memory is named by the name at its index
-pub named-at : (names : NameTable) (loc : ℕ) (t : Bytes)
+pub site_by_name-at : (names : NameTable) (loc : ℕ) (t : Bytes)
     → slice_get names loc ≡ Some t
-    → named names (made.Location loc) ≡ InMemory t
-named-at names loc t e = ap InMemory (get_or_from_slice_get names loc t [] e)
+    → site_by_name names (made.Location loc) ≡ InMemory t
+site_by_name-at names loc t e = ap InMemory (get_or_from_slice_get names loc t [] e)
 
 -- ---- in a table that grows
 
 -- names that are entered stand behind those that the table has
-with_names-grows : (names ns : NameTable) → (more : NameTable) × (with_names names ns ≡ names ++ more)
-with_names-grows names [] = ([], sym (append-nil names))
-with_names-grows names (n ∷ ns) =
-    let g = with_name-grows names n in
-    let h = with_names-grows (with_name names n) ns in
+insert_names-grows : (names ns : NameTable) → (more : NameTable) × (insert_names names ns ≡ names ++ more)
+insert_names-grows names [] = ([], sym (append-nil names))
+insert_names-grows names (n ∷ ns) =
+    let g = insert_name-grows names n in
+    let h = insert_names-grows (insert_name names n) ns in
     (g.0 ++ h.0, h.1 ∙ ap (λ l. l ++ h.0) g.1 ∙ append_assoc names g.0 h.0)
 
 -- a site of the table has the same name when more names have been entered
-pub named-along : (names ns : NameTable) (s : Site) → IsIn names s → named (with_names names ns) s ≡ named names s
-named-along names ns (made.Location loc) h =
-    let g = with_names-grows names ns in ap InMemory (ap (λ l. get_or l loc []) g.1 ∙ get_or-append names g.0 [] loc h)
-named-along names ns (made.Register t r) h = refl
+pub site_by_name-along : (names ns : NameTable) (s : Site)
+    → IsIn names s
+    → site_by_name (insert_names names ns) s ≡ site_by_name names s
+site_by_name-along names ns (made.Location loc) h =
+    let g = insert_names-grows names ns in ap InMemory (ap (λ l. get_or l loc []) g.1 ∙ get_or-append names g.0 [] loc h)
+site_by_name-along names ns (made.Register t r) h = refl
 
 -- a table with more names still has the site
-in-along : (names ns : NameTable) (s : Site) → IsIn names s → IsIn (with_names names ns) s
-in-along names ns s h = omega (arith, h, with_names-longer names ns)
+in-along : (names ns : NameTable) (s : Site) → IsIn names s → IsIn (insert_names names ns) s
+in-along names ns s h = omega (arith, h, insert_names-longer names ns)
 
 -- lists of what stands on sites
 module _ {X Y : Type 0} (site : X → Site) (at : TokenList → X → Y)
-    (stable : (names ns : NameTable) (x : X) → IsIn names (site x) → at (with_names names ns) x ≡ at names x) where
+    (stable : (names ns : NameTable) (x : X) → IsIn names (site x) → at (insert_names names ns) x ≡ at names x) where
   -- when more names have been entered, all on the list are named as before, and their sites are in the table
   pub all_along : (names after ns : NameTable) (xs : List X)
-      → after ≡ with_names names ns
+      → after ≡ insert_names names ns
       → AllByRecursion (λ x. IsIn names (site x)) xs
       → (map (at after) xs ≡ map (at names) xs) × AllByRecursion (λ x. IsIn after (site x)) xs
   all_along names after ns [] e h = (refl, tt)
@@ -75,40 +80,44 @@ module _ {X Y : Type 0} (site : X → Site) (at : TokenList → X → Y)
 -- an initializer whose site the table has is named as before when more names have been entered
 pub initializer-along : (names ns : NameTable) (e : Initializer)
     → IsIn names e.site
-    → named_initializer (with_names names ns) e ≡ named_initializer names e
-initializer-along names ns e h = rw (named-along names ns e.site h) refl
+    → named_initializer (insert_names names ns) e ≡ named_initializer names e
+initializer-along names ns e h = rw (site_by_name-along names ns e.site h) refl
 
 -- ---- by indices
 
 -- a site's name is resolved to the site, where each name stands once
-pub resolved-named : (names : NameTable) (s : Site) → EachOnce names → IsIn names s → seen_in names (named names s) ≡ seen_of s
-resolved-named names (made.Location loc) once h =
-    ap (λ (l : ℕ). seen.Location l) (index_of-at names (get_or names loc []) loc once (slice_get-get_or names loc [] h))
-resolved-named names (made.Register t r) once h = refl
+pub resolved-site_by_name : (names : NameTable) (s : Site)
+    → IsDuplicateFree names
+    → IsIn names s
+    → seen_in names (site_by_name names s) ≡ seen_of s
+resolved-site_by_name names (made.Location loc) once h =
+    ap (λ (l : ℕ). seen.Location l) (position_of_name-at names (get_or names loc []) loc once (slice_get-get_or names loc [] h))
+resolved-site_by_name names (made.Register t r) once h = refl
 
 -- the words of initializers by names and by indices are the same, one initializer after another
 words-step : (names : NameTable) (es : List Initializer) (s : Seen) (w : ℕ)
-    → EachOnce names
+    → IsDuplicateFree names
     → AllByRecursion (λ e. IsIn names e.site) es
-    → fold (λ w e. if same_seen (seen_in names e.site) s then e.word else w) w (map (named_initializer names) es)
-    ≡ fold (λ w e. if same_seen (seen_of e.site) s then e.word else w) w es
+    → fold (λ w e. if seen_eq (seen_in names e.site) s then e.word else w) w (map (named_initializer names) es)
+    ≡ fold (λ w e. if seen_eq (seen_of e.site) s then e.word else w) w es
 words-step names [] s w once h = refl
 words-step names (e ∷ es) s w once h =
     words-step names es s _ once h.1
-    ∙ ap (λ x. fold (λ w e. if same_seen (seen_of e.site) s then e.word else w) (if same_seen x s then e.word else w) es)
-    (resolved-named names e.site once h.0)
+    ∙ ap (λ x. fold (λ w e. if seen_eq (seen_of e.site) s then e.word else w) (if seen_eq x s then e.word else w) es)
+    (resolved-site_by_name names e.site once h.0)
 
 -- a site begins with the same word by names and by indices
-pub words-named : (names : NameTable) (es : List Initializer) (s : Seen)
-    → EachOnce names
+pub words-site_by_name : (names : NameTable) (es : List Initializer) (s : Seen)
+    → IsDuplicateFree names
     → AllByRecursion (λ e. IsIn names e.site) es
-    → word_of names (map (named_initializer names) es) s ≡ word_at es s
-words-named names es s once h = words-step names es s 0 once h
+    → initial_word_of names (map (named_initializer names) es) s ≡ word_at es s
+words-site_by_name names es s once h = words-step names es s 0 once h
 
 -- a site is listed by names if and only if it is by indices
-pub listed-named : (names : NameTable) (sites : List Site) (s : Seen)
-    → EachOnce names
+pub listed-site_by_name : (names : NameTable) (sites : List Site) (s : Seen)
+    → IsDuplicateFree names
     → AllByRecursion (IsIn names) sites
-    → list_any (λ site. same_seen (seen_in names site) s) (map (named names) sites) ≡ is_listed sites s
-listed-named names [] s once h = refl
-listed-named names (x ∷ sites) s once h = rw (resolved-named names x once h.0, listed-named names sites s once h.1) refl
+    → list_any (λ site. seen_eq (seen_in names site) s) (map (site_by_name names) sites) ≡ is_listed sites s
+listed-site_by_name names [] s once h = refl
+listed-site_by_name names (x ∷ sites) s once h =
+    rw (resolved-site_by_name names x once h.0, listed-site_by_name names sites s once h.1) refl

@@ -1,11 +1,11 @@
 -- Quoted texts and lines `Key=value` are read in one way, and so are rows of them, the notes; and a loop finds where these end.
 use Rattle.lw_text.proofs.Common.{◌≡◌, ℕ, ◌<◌, ◌≤◌, inl, inr, Bool, true, false, not, [], ◌∷◌, ◌++◌, length}
 use Rattle.lw_text.proofs.Common.{length-append, append_assoc, refl, sym, ap, ◌∙◌, subst, arith, ◌==◌}
-use Rattle.lw_text.proofs.Common.{eqb-true, AllByRecursion, list_all, not-true, not-false, NoSuch, Bytes}
-use Rattle.lw_text.proofs.Common.{begins, is_key_byte, is_space, begins_trivia, Trivia, Quoted, KeyLine, Note}
-use Rattle.lw_text.proofs.Common.{Notes, note, Leaves, any_all, same_byte, all_weaker}
+use Rattle.lw_text.proofs.Common.{eqb-true, AllByRecursion, list_all, not-true, not-false, HoldsOfNothing}
+use Rattle.lw_text.proofs.Common.{Bytes, first_byte_is, is_key_byte, is_space, begins_trivia, Trivia, Quoted}
+use Rattle.lw_text.proofs.Common.{KeyLine, Note, Notes, note, IsSuffix, any_all, same_byte, All-mono}
 use Rattle.lw_text.specs.Preambles.{none}
-use Rattle.lw_text.proofs.Lists.{Leaves-join}
+use Rattle.lw_text.proofs.Lists.{IsSuffix-join}
 use Rattle.lw_text.proofs.TriviaLemmas.{Trivia-unique, Trivia-suffix, Trivia-shorter}
 use Rattle.lw_text.proofs.NameRuns.{run-unique, no_trivia_at}
 
@@ -17,15 +17,15 @@ Without c bytes = AllByRecursion (λ b. not (b == c) ≡ true) bytes
 
 -- bytes that all differ from c are without it
 without : (c : ℕ) (bytes : Bytes) → AllByRecursion (λ b. (b == c) ≡ false) bytes → Without c bytes
-without c bytes all = all_weaker (λ b. (b == c) ≡ false) _ (λ b e. ap not e) bytes all
+without c bytes all = All-mono (λ b. (b == c) ≡ false) _ (λ b e. ap not e) bytes all
 
 -- bytes without c all differ from it
 with_none : (c : ℕ) (bytes : Bytes) → Without c bytes → AllByRecursion (λ b. (b == c) ≡ false) bytes
-with_none c bytes all = all_weaker _ (λ b. (b == c) ≡ false) (λ b e. not-true (b == c) e) bytes all
+with_none c bytes all = All-mono _ (λ b. (b == c) ≡ false) (λ b e. not-true (b == c) e) bytes all
 
 -- what a text's quote is, where it was taken apart at the quotes
 module _ (text inside quoted rest : Bytes) (e : text ≡ 34 ∷ inside) (f : inside ≡ quoted ++ rest) (all : Without 34 quoted)
-    (longest : begins (λ b. not (b == 34)) rest ≡ false) where
+    (longest : first_byte_is (λ b. not (b == 34)) rest ≡ false) where
   -- where a quote and bytes without one stand before the rest, the rest begins with the quote that ends the quoted text
   pub Quoted-rest : (end : Bytes) → Quoted text end → rest ≡ 34 ∷ end
   Quoted-rest end q =
@@ -36,20 +36,20 @@ module _ (text inside quoted rest : Bytes) (e : text ≡ 34 ∷ inside) (f : ins
       (record { parts = f; all = all; longest = longest })).1
 
   -- where no quote follows, there is no quoted text
-  pub Quoted-open : rest ≡ [] → NoSuch (Quoted text)
+  pub Quoted-open : rest ≡ [] → HoldsOfNothing (Quoted text)
   Quoted-open gone end q = let k = Quoted-rest end q in cc
 
   -- where a quote follows, there is a quoted text up to it
   pub Quoted-made : (b : ℕ) (after : Bytes) → rest ≡ b ∷ after → Quoted text after
   Quoted-made b after g =
-      let h : not (b == 34) ≡ false = subst (λ x. begins (λ c. not (c == 34)) x ≡ false) g longest in
+      let h : not (b == 34) ≡ false = subst (λ x. first_byte_is (λ c. not (c == 34)) x ≡ false) g longest in
       let i : b ≡ 34 = eqb-true b 34 (not-false (b == 34) h) in
       let j : rest ≡ 34 ∷ after = cc in
       record { inside = quoted; parts = e ∙ ap (λ x. 34 ∷ x) (f ∙ ap (λ x. quoted ++ x) j); plain = with_none 34 quoted all }
 
 -- a quoted text begins with a quote
-pub Quoted-front : (text end : Bytes) → Quoted text end → begins (λ b. b == 34) text ≡ true
-Quoted-front text end q = ap (begins (λ b. b == 34)) q.parts
+pub Quoted-front : (text end : Bytes) → Quoted text end → first_byte_is (λ b. b == 34) text ≡ true
+Quoted-front text end q = ap (first_byte_is (λ b. b == 34)) q.parts
 
 -- a quoted text ends at one place
 pub Quoted-unique : (text a b : Bytes) → Quoted text a → Quoted text b → a ≡ b
@@ -73,7 +73,7 @@ space_no_key : (b : ℕ) → is_space b ≡ true → is_key_byte b ≡ false
 space_no_key b h = not-true (is_key_byte b) (any_all (λ x y. x == y) same_byte (λ x. not (is_key_byte x)) (32 ∷ 9 ∷ []) b refl h)
 
 -- no key goes on behind a key
-behind_key : (spaces more : Bytes) → Spaces spaces → begins is_key_byte (spaces ++ 61 ∷ more) ≡ false
+behind_key : (spaces more : Bytes) → Spaces spaces → first_byte_is is_key_byte (spaces ++ 61 ∷ more) ≡ false
 behind_key [] more all = refl
 behind_key (b ∷ spaces) more all = space_no_key b all.0
 
@@ -82,8 +82,9 @@ line_parts : (key spaces value rest : Bytes) → key ++ spaces ++ 61 ∷ value +
 line_parts key spaces value rest = append_assoc (key ++ spaces) (61 ∷ value) rest ∙ append_assoc key spaces (61 ∷ (value ++ rest))
 
 -- what a text's key is, and what stands behind it, where it was taken apart behind its longest key
-module _ (text key rest spaces left : Bytes) (e : text ≡ key ++ rest) (all : Keys key) (longest : begins is_key_byte rest ≡ false)
-    (f : rest ≡ spaces ++ left) (spaced : Spaces spaces) (stop : begins is_space left ≡ false) where
+module _ (text key rest spaces left : Bytes) (e : text ≡ key ++ rest) (all : Keys key)
+    (longest : first_byte_is is_key_byte rest ≡ false) (f : rest ≡ spaces ++ left) (spaced : Spaces spaces)
+    (stop : first_byte_is is_space left ≡ false) where
   -- a line's key is the longest, and behind the spaces stand `=` and its value
   pub KeyLine-parts : (end : Bytes) → (p : KeyLine text end) → (p.key ≡ key) × (left ≡ 61 ∷ p.value ++ end)
   KeyLine-parts end p =
@@ -99,10 +100,10 @@ module _ (text key rest spaces left : Bytes) (e : text ≡ key ++ rest) (all : K
       (outer.0, sym inner.1)
 
   -- where no `=` stands behind the spaces, there is no line `Key=value`
-  pub no_equals : begins (λ b. b == 61) left ≡ false → NoSuch (KeyLine text)
+  pub no_equals : first_byte_is (λ b. b == 61) left ≡ false → HoldsOfNothing (KeyLine text)
   no_equals other end p =
       let k = KeyLine-parts end p in
-      let h = ap (begins (λ b. b == 61)) k.1 in
+      let h = ap (first_byte_is (λ b. b == 61)) k.1 in
       cc
 
   -- where an `=` stands behind the key, there is a line `Key=value`, up to the end of the line
@@ -111,7 +112,7 @@ module _ (text key rest spaces left : Bytes) (e : text ≡ key ++ rest) (all : K
       → left ≡ 61 ∷ more
       → more ≡ value ++ end
       → Without 10 value
-      → begins (λ b. not (b == 10)) end ≡ false
+      → first_byte_is (λ b. not (b == 10)) end ≡ false
       → KeyLine text end
   KeyLine-made more value end some g h one last = record {
     key = key;
@@ -137,32 +138,36 @@ KeyLine-unique text a b p q =
     (record { parts = ends; all = without 10 q.value q.one_line; longest = q.longest })).1
 
 -- what has a key at its front begins with a byte of a key
-key_front : (key more : Bytes) → 0 < length key → Keys key → begins is_key_byte (key ++ more) ≡ true
+key_front : (key more : Bytes) → 0 < length key → Keys key → first_byte_is is_key_byte (key ++ more) ≡ true
 key_front [] more some all = absurd (omega (arith, some))
 key_front (b ∷ key) more some all = all.0
 
 -- a line `Key=value` begins with a byte of a key
-pub KeyLine-front : (text end : Bytes) → KeyLine text end → begins is_key_byte text ≡ true
+pub KeyLine-front : (text end : Bytes) → KeyLine text end → first_byte_is is_key_byte text ≡ true
 KeyLine-front text end p =
     let e = p.parts ∙ line_parts p.key p.spaces p.value end in
-    ap (begins is_key_byte) e ∙ key_front p.key (p.spaces ++ 61 ∷ (p.value ++ end)) p.some p.all
+    ap (first_byte_is is_key_byte) e ∙ key_front p.key (p.spaces ++ 61 ∷ (p.value ++ end)) p.some p.all
 
 -- where no byte of a key stands at the front, there is no line `Key=value`
 pub no_key : (text key rest : Bytes)
     → text ≡ key ++ rest
-    → begins is_key_byte rest ≡ false
+    → first_byte_is is_key_byte rest ≡ false
     → length key ≡ 0
-    → NoSuch (KeyLine text)
+    → HoldsOfNothing (KeyLine text)
 no_key text [] rest e longest gone end p =
     let h = KeyLine-front text end p in
-    let k = ap (begins is_key_byte) e in
+    let k = ap (first_byte_is is_key_byte) e in
     cc
 no_key text (b ∷ key) rest e longest gone end p = omega (arith, gone)
 
 -- ---- one note
 
 -- no text begins with a byte that passes p and with one that passes q, where no byte passes both
-apart : (p q : ℕ → Bool) (text : Bytes) → begins p text ≡ true → begins q text ≡ true → ((b : ℕ) → p b ≡ true → q b ≡ false) → ⊥
+apart : (p q : ℕ → Bool) (text : Bytes)
+    → first_byte_is p text ≡ true
+    → first_byte_is q text ≡ true
+    → ((b : ℕ) → p b ≡ true → q b ≡ false)
+    → ⊥
 apart p q [] h k never = cc
 apart p q (b ∷ text) h k never = let n = never b h in cc
 
@@ -186,7 +191,7 @@ Note-unique text a b (inr p) (inr q) = KeyLine-unique text a b p q
 trivia_free : (p : ℕ → Bool) (text : Bytes)
     → list_all (λ x. not (p x)) (32 ∷ 9 ∷ 10 ∷ 13 ∷ []) ≡ true
     → p 40 ≡ false
-    → begins p text ≡ true
+    → first_byte_is p text ≡ true
     → begins_trivia text ≡ false
 trivia_free p [] blanks bracket h = refl
 trivia_free p (b ∷ text) blanks bracket h = no_trivia_at p b text blanks bracket h
@@ -197,22 +202,28 @@ note_no_trivia text end (inl q) = trivia_free (λ b. b == 34) text refl refl (Qu
 note_no_trivia text end (inr p) = trivia_free is_key_byte text refl refl (KeyLine-front text end p)
 
 -- no trivia begins with a `{`
-pub block_no_trivia : (text : Bytes) → begins (λ b. b == 123) text ≡ true → begins_trivia text ≡ false
+pub block_no_trivia : (text : Bytes) → first_byte_is (λ b. b == 123) text ≡ true → begins_trivia text ≡ false
 block_no_trivia text h = trivia_free (λ b. b == 123) text refl refl h
 
 -- no note begins with a `{`
-pub note_no_block : (text end : Bytes) → begins (λ b. b == 123) text ≡ true → Note text end → ⊥
+pub note_no_block : (text end : Bytes) → first_byte_is (λ b. b == 123) text ≡ true → Note text end → ⊥
 note_no_block text end h (inl q) =
     apart (λ b. b == 34) (λ b. b == 123) text (Quoted-front text end q) h (λ b k. ap (λ x. x == 123) (eqb-true b 34 k))
 note_no_block text end h (inr p) = apart _ _ text h (KeyLine-front _ end p) (λ b k. byte_no_key 123 b refl k)
 
 -- a text that begins with no quote and has no line `Key=value` in front has no note
-pub no_note : (text : Bytes) → begins (λ b. b == 34) text ≡ false → NoSuch (KeyLine text) → NoSuch (Note text)
+pub no_note : (text : Bytes)
+    → first_byte_is (λ b. b == 34) text ≡ false
+    → HoldsOfNothing (KeyLine text)
+    → HoldsOfNothing (Note text)
 no_note text other never end (inl q) = let h = Quoted-front text end q in cc
 no_note text other never end (inr p) = never end p
 
 -- a text that begins with a quote and has no quoted text in front has no note
-pub no_quote : (text : Bytes) → begins (λ b. b == 34) text ≡ true → NoSuch (Quoted text) → NoSuch (Note text)
+pub no_quote : (text : Bytes)
+    → first_byte_is (λ b. b == 34) text ≡ true
+    → HoldsOfNothing (Quoted text)
+    → HoldsOfNothing (Note text)
 no_quote text here never end (inl q) = never end q
 no_quote text here never end (inr p) =
     apart (λ b. b == 34) is_key_byte text here (KeyLine-front text end p) (λ b h. byte_no_key 34 b refl h)
@@ -230,17 +241,21 @@ Note-suffix text end (inr p) =
 at_note : {text mid after rest : Bytes} → Notes text rest → Trivia text mid → Note mid after → Notes after rest
 at_note {mid = mid} {after} (none {rest = rest} t h) g n =
     absurd (let e : mid ≡ rest = Trivia-unique g t (note_no_trivia mid after n) (block_no_trivia rest h) in
-    note_no_block mid after (subst (λ x. begins (λ b. b == 123) x ≡ true) (sym e) h) n)
+    note_no_block mid after (subst (λ x. first_byte_is (λ b. b == 123) x ≡ true) (sym e) h) n)
 at_note {mid = mid} {after} {rest} (note {mid = m} {after = a} t f more) g n =
     let e : m ≡ mid = Trivia-unique t g (note_no_trivia m a f) (note_no_trivia mid after n) in
     subst (λ x. Notes x rest) (Note-unique mid a after (subst (λ x. Note x a) e f) n) more
 
 -- where the `{` stands behind the trivia, the notes have ended
-at_block : {text start rest : Bytes} → Notes text rest → Trivia text start → begins (λ b. b == 123) start ≡ true → start ≡ rest
+at_block : {text start rest : Bytes}
+    → Notes text rest
+    → Trivia text start
+    → first_byte_is (λ b. b == 123) start ≡ true
+    → start ≡ rest
 at_block {start = start} (none {rest = rest} t k) g h = Trivia-unique g t (block_no_trivia start h) (block_no_trivia rest k)
 at_block {start = start} (note {mid = m} {after = a} t f more) g h =
     absurd (let e : start ≡ m = Trivia-unique g t (block_no_trivia start h) (note_no_trivia m a f) in
-    note_no_block m a (subst (λ x. begins (λ b. b == 123) x ≡ true) e h) f)
+    note_no_block m a (subst (λ x. first_byte_is (λ b. b == 123) x ≡ true) e h) f)
 
 -- a row of notes ends at one place
 pub Notes-unique : {text a b : Bytes} → Notes text a → Notes text b → a ≡ b
@@ -248,10 +263,10 @@ Notes-unique (none g h) q = at_block q g h
 Notes-unique (note g n m) q = Notes-unique m (at_note q g n)
 
 -- what stands behind a row of notes is the end of the text
-pub Notes-suffix : {text rest : Bytes} → Notes text rest → Leaves text rest
+pub Notes-suffix : {text rest : Bytes} → Notes text rest → IsSuffix text rest
 Notes-suffix (none g h) = Trivia-suffix g
 Notes-suffix (note {mid = mid} {after = after} g n m) =
-    let t = Note-suffix mid after n in Leaves-join (Trivia-suffix g) (Leaves-join (t.0, t.1) (Notes-suffix m))
+    let t = Note-suffix mid after n in IsSuffix-join (Trivia-suffix g) (IsSuffix-join (t.0, t.1) (Notes-suffix m))
 
 -- ---- what the reader of notes owes
 
@@ -280,7 +295,7 @@ Passed_shorter {rest} {start} {after} g n =
 pub Passed_done : {bytes rest start : Bytes}
     → Passed bytes rest
     → Trivia rest start
-    → begins (λ b. b == 123) start ≡ true
+    → first_byte_is (λ b. b == 123) start ≡ true
     → Notes bytes start
 Passed_done {start = start} p g h = p.given start (none g h)
 
@@ -293,7 +308,7 @@ first_start (note {mid = mid} {after = after} t n m) = (mid, t, note_no_trivia m
 pub Passed_open : {bytes rest : Bytes}
     → Passed bytes rest
     → ((start : Bytes) → begins_trivia start ≡ false → Trivia rest start → ⊥)
-    → NoSuch (Notes bytes)
+    → HoldsOfNothing (Notes bytes)
 Passed_open p never end m = let k = first_start (p.only end m) in never k.0 k.2 k.1
 
 -- where neither a `{` nor a note stands behind the trivia, the bytes have no row of notes
@@ -301,9 +316,9 @@ pub Passed_none : {bytes rest start : Bytes}
     → Passed bytes rest
     → Trivia rest start
     → begins_trivia start ≡ false
-    → begins (λ b. b == 123) start ≡ false
-    → NoSuch (Note start)
-    → NoSuch (Notes bytes)
+    → first_byte_is (λ b. b == 123) start ≡ false
+    → HoldsOfNothing (Note start)
+    → HoldsOfNothing (Notes bytes)
 Passed_none {bytes} {rest} {start} p g stop other never end m = at (p.only end m)
   where
     at : {text : Bytes} → Notes rest text → ⊥

@@ -3,9 +3,9 @@ use Rattle.lw_text.proofs.Common.{◌≡◌, ℕ, ◌+◌, ◌≤◌, List, [], 
 use Rattle.lw_text.proofs.Common.{◌∙◌, subst, arith, append_assoc, length-append, take_at, take-append_seam}
 use Rattle.lw_text.proofs.Common.{drop-append_seam, length-map, Bytes, Arch, arch_keyword, Preamble, columns}
 use Rattle.lw_text.proofs.Common.{PlacedToken, texts_of_tokens, PlacedTokens, PlacedCell, texts_of_cells}
-use Rattle.lw_text.proofs.Common.{texts_of_grid, CellsFrom, RowsFrom, HasRows, HasCells, Spans, Leaves}
+use Rattle.lw_text.proofs.Common.{texts_of_grid, CellsFrom, RowsFrom, HasRows, HasCells, Spans, IsSuffix}
 use Rattle.lw_text.proofs.TriviaLemmas.{Trivia-suffix, Trivia-shorter}
-use Rattle.lw_text.proofs.Lists.{Leaves-join}
+use Rattle.lw_text.proofs.Lists.{IsSuffix-join}
 use Rattle.lw_text.proofs.TokenRows.{PlacedTokens-unique}
 use Rattle.lw_text.proofs.NoteRows.{Notes-suffix}
 use Rattle.lw_text.proofs.Preambles.{Preamble-unique}
@@ -117,7 +117,7 @@ stream_spans : (text front rest : Bytes) (ts : List PlacedToken)
     → Spans text (length front) ts (length text)
 stream_spans text front rest [] e p = omega (arith, ap length e, length-append front rest)
 stream_spans text front rest (t ∷ ts) e p =
-    let here = Leaves-join (front, e) (Trivia-suffix p.1.0) in
+    let here = IsSuffix-join (front, e) (Trivia-suffix p.1.0) in
     let before = here.0 in
     let whole : text ≡ before ++ (t.text ++ p.0) = here.1 in
     let at : length before ≡ t.at =
@@ -132,10 +132,11 @@ stream_spans text front rest (t ∷ ts) e p =
     )
 
 -- what stands behind a preamble is the end of its text
-preamble_rest : (text : Bytes) (arch : Arch) (name rest : Bytes) → Preamble text arch name rest → Leaves text rest
+preamble_rest : (text : Bytes) (arch : Arch) (name rest : Bytes) → Preamble text arch name rest → IsSuffix text rest
 preamble_rest text arch name rest h =
-    Leaves-join (Trivia-suffix h.2.0)
-    (Leaves-join (arch_keyword arch, refl) (Leaves-join (h.3.blanks, h.3.parts) (Leaves-join (name, refl) (Notes-suffix h.4))))
+    IsSuffix-join (Trivia-suffix h.2.0)
+    (IsSuffix-join (arch_keyword arch, refl)
+    (IsSuffix-join (h.3.blanks, h.3.parts) (IsSuffix-join (name, refl) (Notes-suffix h.4))))
 
 -- the tokens that a text's cells are cut from lie in it one behind another
 pub tokens_spans : (text : Bytes) (cells : List (List PlacedCell)) (has : HasCells text cells)

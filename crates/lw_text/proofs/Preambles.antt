@@ -1,11 +1,12 @@
 -- The keyword of a language, blanks, a test's name and its notes are read in one way.
 use Rattle.lw_text.proofs.Common.{◌≡◌, ℕ, true, false, not, [], ◌∷◌, ◌++◌, refl, sym, ap, subst, arith, codes}
-use Rattle.lw_text.proofs.Common.{AllByRecursion, is_ascii_graphic, not-true, false_from_ne_true, NoSuch}
-use Rattle.lw_text.proofs.Common.{NoneRead, Bytes, Arch, Source, X86, arch_keyword, is_blank, begins, First}
-use Rattle.lw_text.proofs.Common.{IsTestName, Named, Notes, Preamble, blank_all}
+use Rattle.lw_text.proofs.Common.{AllByRecursion, is_ascii_graphic, not-true, false_from_ne_true}
+use Rattle.lw_text.proofs.Common.{HoldsOfNothing, ParsesNothing, Bytes, Arch, Source, X86, arch_keyword}
+use Rattle.lw_text.proofs.Common.{is_blank, first_byte_is, IsFirstToken, IsTestName, ParsesTestName, Notes}
+use Rattle.lw_text.proofs.Common.{Preamble, blank_all}
 use Rattle.lw_text.proofs.Texts.{is_no_text}
 use Rattle.lw_text.proofs.NameRuns.{run-unique}
-use Rattle.lw_text.proofs.TokenRows.{First-unique}
+use Rattle.lw_text.proofs.TokenRows.{IsFirstToken-unique}
 use Rattle.lw_text.proofs.NoteRows.{Notes-unique}
 
 -- bytes none of which is a blank
@@ -24,17 +25,17 @@ graphic_plain [] all = tt
 graphic_plain (b ∷ name) all = (ap not (graphic_no_blank b all.0), graphic_plain name all.1)
 
 -- a test's name begins with no blank
-name_front : (name rest : Bytes) → IsTestName name → begins is_blank (name ++ rest) ≡ false
+name_front : (name rest : Bytes) → IsTestName name → first_byte_is is_blank (name ++ rest) ≡ false
 name_front [] rest h = absurd (let k = h.some in omega arith)
 name_front (b ∷ name) rest h = graphic_no_blank b h.all.0
 
 -- what a text's name and its neighbours are, where it was taken apart at the blanks
 module _ (text space after name rest : Bytes) (e : text ≡ space ++ after) (blank : AllByRecursion (λ b. is_blank b ≡ true) space)
-    (stop : begins is_blank after ≡ false) (f : after ≡ name ++ rest) (plain : Plain name)
-    (longest : begins (λ b. not (is_blank b)) rest ≡ false) where
+    (stop : first_byte_is is_blank after ≡ false) (f : after ≡ name ++ rest) (plain : Plain name)
+    (longest : first_byte_is (λ b. not (is_blank b)) rest ≡ false) where
   -- where a text was taken apart into blanks, a name and the rest, it is read in no other way
-  pub Named-parts : (n r : Bytes) → (p : Named text n r) → (p.blanks ≡ space) × (n ≡ name) × (r ≡ rest)
-  Named-parts n r p =
+  pub ParsesTestName-parts : (n r : Bytes) → (p : ParsesTestName text n r) → (p.blanks ≡ space) × (n ≡ name) × (r ≡ rest)
+  ParsesTestName-parts n r p =
       let outer =
       run-unique is_blank p.blanks space (record { parts = p.parts; all = p.blank; longest = name_front n r p.is_name })
       (record { parts = e; all = blank; longest = stop }) in
@@ -45,11 +46,11 @@ module _ (text space after name rest : Bytes) (e : text ≡ space ++ after) (bla
       (outer.0, inner.0, inner.1)
 
 -- a text has one name behind its blanks, which ends at one place
-pub Named-unique : (text n r m s : Bytes) → Named text n r → Named text m s → (n ≡ m) × (r ≡ s)
-Named-unique text n r m s p q =
+pub ParsesTestName-unique : (text n r m s : Bytes) → ParsesTestName text n r → ParsesTestName text m s → (n ≡ m) × (r ≡ s)
+ParsesTestName-unique text n r m s p q =
     let k =
-    Named-parts text q.blanks (m ++ s) m s q.parts q.blank (name_front m s q.is_name) refl (graphic_plain m q.is_name.all)
-    q.longest n r p in
+    ParsesTestName-parts text q.blanks (m ++ s) m s q.parts q.blank (name_front m s q.is_name) refl
+    (graphic_plain m q.is_name.all) q.longest n r p in
     (k.1, k.2)
 
 -- languages with the same keyword are the same
@@ -60,23 +61,24 @@ arch_keyword-unique _ _ e = refl
 
 -- where no name stands behind a language's keyword there is no preamble
 pub no_named : (text mid : Bytes) (arch : Arch)
-    → First text (arch_keyword arch) mid
-    → NoneRead (Named mid)
+    → IsFirstToken text (arch_keyword arch) mid
+    → ParsesNothing (ParsesTestName mid)
     → (a : Arch)
-    → NoneRead (Preamble text a)
+    → ParsesNothing (Preamble text a)
 no_named text mid arch word never a n r p =
-    never n p.1 (subst (λ x. Named x n p.1) (First-unique text (arch_keyword a) p.0 (arch_keyword arch) mid p.2 word).1 p.3)
+    never n p.1
+    (subst (λ x. ParsesTestName x n p.1) (IsFirstToken-unique text (arch_keyword a) p.0 (arch_keyword arch) mid p.2 word).1 p.3)
 
 -- where the notes behind the name don't come to a `{` there is no preamble
 pub no_notes : (text mid name after : Bytes) (arch : Arch)
-    → First text (arch_keyword arch) mid
-    → Named mid name after
-    → NoSuch (Notes after)
+    → IsFirstToken text (arch_keyword arch) mid
+    → ParsesTestName mid name after
+    → HoldsOfNothing (Notes after)
     → (a : Arch)
-    → NoneRead (Preamble text a)
+    → ParsesNothing (Preamble text a)
 no_notes text mid name after arch word named never a n r p =
-    let e = (First-unique text (arch_keyword a) p.0 (arch_keyword arch) mid p.2 word).1 in
-    let f = (Named-unique mid n p.1 name after (subst (λ x. Named x n p.1) e p.3) named).1 in
+    let e = (IsFirstToken-unique text (arch_keyword a) p.0 (arch_keyword arch) mid p.2 word).1 in
+    let f = (ParsesTestName-unique mid n p.1 name after (subst (λ x. ParsesTestName x n p.1) e p.3) named).1 in
     never r (subst (λ x. Notes x r) f p.4)
 
 -- a text has one preamble: its language, its name and where it ends
@@ -85,6 +87,6 @@ pub Preamble-unique : (text : Bytes) (a : Arch) (n r : Bytes) (b : Arch) (m s : 
     → Preamble text b m s
     → (a ≡ b) × (n ≡ m) × (r ≡ s)
 Preamble-unique text a n r b m s p q =
-    let e = First-unique text (arch_keyword a) p.0 (arch_keyword b) q.0 p.2 q.2 in
-    let f = Named-unique q.0 n p.1 m q.1 (subst (λ x. Named x n p.1) e.1 p.3) q.3 in
+    let e = IsFirstToken-unique text (arch_keyword a) p.0 (arch_keyword b) q.0 p.2 q.2 in
+    let f = ParsesTestName-unique q.0 n p.1 m q.1 (subst (λ x. ParsesTestName x n p.1) e.1 p.3) q.3 in
     (arch_keyword-unique a b e.0, f.0, Notes-unique (subst (λ x. Notes x r) f.1 p.4) q.4)

@@ -5,20 +5,21 @@ use Rattle.lw_text.proofs.Common.{◌||◌, ◌==◌, ◌≢◌, Option, Some, N
 use Rattle.lw_text.proofs.Common.{AllByRecursion, eqb-false, not-true, not-false, or_cases, or_parts}
 use Rattle.lw_text.proofs.Common.{false_from_ne_true, map-append, filter_map-append, fold_stays, fold-append}
 use Rattle.lw_text.proofs.Common.{slice_get-get_or, Bytes, NameTable, TokenList, Arch, Prop, Formula, Word_is}
-use Rattle.lw_text.proofs.Common.{EachOnce, formula_of, contains_name, with_name, with_names, index_of-at}
-use Rattle.lw_text.proofs.Common.{with_names-longer, contains_name-with_name, contains_name-with_names}
-use Rattle.lw_text.proofs.Common.{index_of-with_names, once-along, Cursor, PropositionReader, Chain}
-use Rattle.lw_text.proofs.Common.{with_sites, HasRoomFor, SiteSyntax, InMemory, IsSite, site_names, Terminal}
-use Rattle.lw_text.proofs.Common.{Open, Close, Negation, Conjunction, Disjunction, Atom, is_node}
-use Rattle.lw_text.proofs.Common.{IsProposition, left, Pending, begins_part, begun, group_of, standing}
-use Rattle.lw_text.proofs.Common.{state_of, state_behind, said, terminal_of, AtomSyntax, Holds, IsTerminal}
+use Rattle.lw_text.proofs.Common.{IsDuplicateFree, formula_of, contains_name, insert_name, insert_names}
+use Rattle.lw_text.proofs.Common.{position_of_name-at, insert_names-longer, contains_name-insert_name}
+use Rattle.lw_text.proofs.Common.{contains_name-insert_names, position_of_name-insert_names, once-along}
+use Rattle.lw_text.proofs.Common.{Cursor, PropositionReader, ParsesMany, with_sites, HasRoomFor, SiteSyntax}
+use Rattle.lw_text.proofs.Common.{InMemory, IsSite, site_names, Terminal, Open, Close, Negation, Conjunction}
+use Rattle.lw_text.proofs.Common.{Disjunction, Atom, is_node, IsProposition, remaining_texts, Pending}
+use Rattle.lw_text.proofs.Common.{begins_part, initial_reader_state, group_of, reader_state_in, state_of}
+use Rattle.lw_text.proofs.Common.{next_state, state_result, terminal_of, AtomSyntax, Holds, IsTerminal}
 use Rattle.lw_text.proofs.Common.{Terminals, begins_token, site_of, sites_in, resolved, named_terminal}
-use Rattle.lw_text.proofs.Common.{TerminalIn, TakenTerminal, TakenProposition, NoProposition, Fits}
+use Rattle.lw_text.proofs.Common.{TerminalIn, ParsedTerminal, ParsedProposition, NoProposition, Fits}
 use Rattle.lw_text.specs.declared.terminal.Terminal.{Terminal as Made}
 use Rattle.lw_text.proofs.api.PropositionNodes.{count, count_append}
 use Rattle.lw_text.proofs.Atoms.{no_site, is_apart}
-use Rattle.lw_text.proofs.Lists.{Chain-push}
-use Rattle.lw_text.proofs.PropositionReadings.{lead, said_at, derived_said, said_derived}
+use Rattle.lw_text.proofs.Lists.{ParsesMany-push}
+use Rattle.lw_text.proofs.PropositionReadings.{state_after_terminals, said_at, derived_said, said_derived}
 use Rattle.lw_text.proofs.Readings.{with_sites-append}
 use Rattle.lw_text.proofs.Texts.{is_text}
 use Rattle.lw_text.proofs.TerminalLists.{Terminals-peel, Terminals-unique, IsTerminal-unique}
@@ -32,29 +33,32 @@ abbrev pub AllThere : NameTable → List (Terminal AtomSyntax) → Type 0
 AllThere names ss = AllByRecursion (λ x. contains_name names x ≡ true) (site_names (sites_in ss))
 
 -- names that were entered are in the table
-pub all_entered : (names ns : NameTable) → AllByRecursion (λ x. contains_name (with_names names ns) x ≡ true) ns
+pub all_entered : (names ns : NameTable) → AllByRecursion (λ x. contains_name (insert_names names ns) x ≡ true) ns
 all_entered names [] = tt
-all_entered names (n ∷ ns) =
-    (contains_name-with_names (with_name names n) ns n (contains_name-with_name names n), all_entered (with_name names n) ns)
+all_entered names (n ∷ ns) = (
+  contains_name-insert_names (insert_name names n) ns n (contains_name-insert_name names n),
+  all_entered (insert_name names n) ns,
+)
 
 -- terminals whose locations' names are in the table are resolved as before when more names have been entered
 map_resolved-along : (names ns : NameTable) (ss : List (Terminal AtomSyntax))
     → AllThere names ss
-    → map (resolved (with_names names ns)) ss ≡ map (resolved names) ss
+    → map (resolved (insert_names names ns)) ss ≡ map (resolved names) ss
 map_resolved-along names ns [] h = refl
 map_resolved-along names ns (Atom (Holds (InMemory x) n) ∷ ss) h =
-    let e = index_of-with_names names ns x h.0 in
+    let e = position_of_name-insert_names names ns x h.0 in
     let f = map_resolved-along names ns ss h.1 in
     cc
 map_resolved-along names ns (s ∷ ss) h = ap (λ l. resolved names s ∷ l) (map_resolved-along names ns ss h)
 
 -- a terminal in memory, put by the names of the table and resolved by it again, is the same terminal
 pub resolved_named : (names : NameTable) (s : Made)
-    → EachOnce names
+    → IsDuplicateFree names
     → TerminalIn names s
     → resolved names (named_terminal names s) ≡ terminal_of s
 resolved_named names (made.Atom (atoms.WordIs loc n)) once h =
-    ap (λ (k : ℕ). Atom (Word_is k n)) (index_of-at names (get_or names loc []) loc once (slice_get-get_or names loc [] h))
+    ap (λ (k : ℕ). Atom (Word_is k n))
+    (position_of_name-at names (get_or names loc []) loc once (slice_get-get_or names loc [] h))
 resolved_named names _ once h = refl
 
 -- a terminal in memory is a node if and only if it is one by its names
@@ -79,15 +83,15 @@ with_sites_in-append names a b =
 pub record TerminalsRead {A : Type 0} (arch : Arch) (threads : ℕ) (first names start here : TokenList) (nodes : ℕ)
     (reader : PropositionReader A) : Type 0 where
   pub terminals : List (Terminal AtomSyntax)
-  pub gone : Chain (IsTerminal arch threads) start terminals here
+  pub gone : ParsesMany (IsTerminal arch threads) start terminals here
   pub names_are : names ≡ with_sites first (sites_in terminals)
   pub count : nodes ≡ count terminals
   pub few : nodes ≤ 256
-  pub leads : lead (Some begun) (map (resolved names) terminals) ≡ Some (state_of reader)
+  pub leads : state_after_terminals (Some initial_reader_state) (map (resolved names) terminals) ≡ Some (state_of reader)
 
 -- a reader that stands where it begins has taken no terminal
 pub terminals_none : {A : Type 0} (arch : Arch) (threads : ℕ) (names start : TokenList) (reader : PropositionReader A)
-    → state_of reader ≡ begun
+    → state_of reader ≡ initial_reader_state
     → TerminalsRead arch threads names names start start 0 reader
 terminals_none arch threads names start reader e =
     record { terminals = []; gone = refl; names_are = refl; count = refl; few = omega arith; leads = ap Some (sym e) }
@@ -99,20 +103,21 @@ module _ {A : Type 0} {arch : Arch} {threads : ℕ} {first names start here : To
       → with_sites first (sites_in (read.terminals ++ more)) ≡ with_sites names (sites_in more)
   table_of more = with_sites_in-append first read.terminals more ∙ ap (λ ns. with_sites ns (sites_in more)) (sym read.names_are)
 
-  same_behind : (ns : NameTable) → map (resolved (with_names names ns)) read.terminals ≡ map (resolved names) read.terminals
+  same_behind : (ns : NameTable) → map (resolved (insert_names names ns)) read.terminals ≡ map (resolved names) read.terminals
   same_behind ns =
       map_resolved-along names ns read.terminals
       (subst (λ l. AllThere l read.terminals) (sym read.names_are) (all_entered first (site_names (sites_in read.terminals))))
 
   -- where more terminals lead
   lead_on : (ss : List (Terminal Formula))
-      → lead (Some begun) (map (resolved names) read.terminals ++ ss) ≡ lead (Some (state_of reader)) ss
-  lead_on ss = fold-append _ _ (map (resolved names) read.terminals) ss ∙ ap (λ o. lead o ss) read.leads
+      → state_after_terminals (Some initial_reader_state) (map (resolved names) read.terminals ++ ss)
+      ≡ state_after_terminals (Some (state_of reader)) ss
+  lead_on ss = fold-append _ _ (map (resolved names) read.terminals) ss ∙ ap (λ o. state_after_terminals o ss) read.leads
 
   -- what is left of a whole proposition says it
   whole_left : (more : List (Terminal AtomSyntax)) (p : Formula)
       → IsProposition (map (resolved (with_sites first (sites_in (read.terminals ++ more)))) (read.terminals ++ more)) p
-      → said_at (lead (Some (state_of reader)) (map (resolved (with_sites names (sites_in more))) more)) ≡ Some p
+      → said_at (state_after_terminals (Some (state_of reader)) (map (resolved (with_sites names (sites_in more))) more)) ≡ Some p
   whole_left more p whole =
       let after = with_sites names (sites_in more) in
       let e : map (resolved (with_sites first (sites_in (read.terminals ++ more)))) (read.terminals ++ more)
@@ -120,23 +125,24 @@ module _ {A : Type 0} {arch : Arch} {threads : ℕ} {first names start here : To
       ap (λ ns. map (resolved ns) (read.terminals ++ more)) (table_of more)
       ∙ map-append (resolved after) read.terminals more
       ∙ ap (λ l. l ++ map (resolved after) more) (same_behind (site_names (sites_in more))) in
-      sym (ap said_at (ap (lead (Some begun)) e ∙ lead_on (map (resolved after) more))) ∙ derived_said whole
+      sym (ap said_at (ap (state_after_terminals (Some initial_reader_state)) e ∙ lead_on (map (resolved after) more)))
+      ∙ derived_said whole
 
   -- at the end of the tokens a proposition has been taken, if the reader says its formula
   pub terminals_end : here ≡ []
       → (p : Prop A)
-      → said (state_of reader) ≡ Some (formula_of p)
-      → TakenProposition arch threads start first names p
+      → state_result (state_of reader) ≡ Some (formula_of p)
+      → ParsedProposition arch threads start first names p
   terminals_end e p is = record {
     terminals = read.terminals;
-    is = subst (Chain (IsTerminal arch threads) start read.terminals) e read.gone;
+    is = subst (ParsesMany (IsTerminal arch threads) start read.terminals) e read.gone;
     names_are = read.names_are;
     few = omega (arith, read.count, read.few);
     says = said_derived (ap said_at read.leads ∙ is);
   }
 
   -- where the tokens end and the reader says no formula, the tokens from the start on are no proposition
-  pub terminals_open : here ≡ [] → said (state_of reader) ≡ None → NoProposition arch threads start first
+  pub terminals_open : here ≡ [] → state_result (state_of reader) ≡ None → NoProposition arch threads start first
   terminals_open e none all p s fits =
       let k = Terminals-peel arch threads read.terminals all start here read.gone s in
       let same : [] ≡ k.0 = Terminals-unique arch threads [] k.0 here e k.2 in
@@ -147,7 +153,7 @@ module _ {A : Type 0} {arch : Arch} {threads : ℕ} {first names start here : To
   pub terminals_fault : (here ≡ [] → ⊥)
       → ((s : Terminal AtomSyntax) (rest : TokenList)
       → IsTerminal arch threads here s rest
-      → state_behind (state_of reader) (resolved (with_sites names (sites_in (s ∷ []))) s) ≢ None
+      → next_state (state_of reader) (resolved (with_sites names (sites_in (s ∷ []))) s) ≢ None
       → HasRoomFor names (sites_in (s ∷ []))
       → nodes + count (s ∷ []) ≤ 256
       → ⊥)
@@ -172,7 +178,7 @@ module _ {A : Type 0} {arch : Arch} {threads : ℕ} {first names start here : To
             fits.room,
             ap length (table_of (t ∷ back)),
             ap length after,
-            with_names-longer now (site_names (sites_in back)),
+            insert_names-longer now (site_names (sites_in back)),
           ) in
           let few : nodes + count (t ∷ []) ≤ 256 =
           omega (arith, fits.few, count_append read.terminals (t ∷ back), count_append (t ∷ []) back, read.count) in
@@ -180,12 +186,13 @@ module _ {A : Type 0} {arch : Arch} {threads : ℕ} {first names start here : To
           never t q.0 q.1 (λ none.
           let nowhere =
           ap said_at
-          (ap (λ o. lead o more) (ap (state_behind (state_of reader)) same ∙ none) ∙ fold_stays _ None (λ s. refl) more) in
+          (ap (λ o. state_after_terminals o more) (ap (next_state (state_of reader)) same ∙ none)
+          ∙ fold_stays _ None (λ s. refl) more) in
           cc) room few
 
   -- the table has each name once, if it did before
-  pub once_here : EachOnce first → EachOnce names
-  once_here once = subst EachOnce (sym read.names_are) (once-along first (site_names (sites_in read.terminals)) once)
+  pub once_here : IsDuplicateFree first → IsDuplicateFree names
+  once_here once = subst IsDuplicateFree (sym read.names_are) (once-along first (site_names (sites_in read.terminals)) once)
 
 -- a terminal counts as one node where it is one, and else as none
 one_node : (b : Bool) (t : Terminal AtomSyntax) → is_node t ≡ b → count (t ∷ []) ≡ (if b then 1 else 0)
@@ -194,23 +201,23 @@ one_node false t e = rw e refl
 
 -- a terminal that was taken
 module _ {arch : Arch} {threads : ℕ} {before behind : Cursor} {names after : NameTable} {s : Made}
-    (taken : TakenTerminal arch threads before behind names after s) where
+    (taken : ParsedTerminal arch threads before behind names after s) where
   -- a terminal that was taken, put by the names of the table and resolved by it again, is the same terminal
-  same_terminal : EachOnce names → resolved after (named_terminal after s) ≡ terminal_of s
+  same_terminal : IsDuplicateFree names → resolved after (named_terminal after s) ≡ terminal_of s
   same_terminal once =
       resolved_named after s
-      (subst EachOnce (sym taken.names_are) (once-along names (site_names (sites_in (named_terminal after s ∷ []))) once))
+      (subst IsDuplicateFree (sym taken.names_are) (once-along names (site_names (sites_in (named_terminal after s ∷ []))) once))
       taken.within
 
   -- where one more terminal was taken that can come next and has room, the reader has taken the terminals up to behind it
   pub terminals_more : {A : Type 0} {first start : TokenList} {nodes : ℕ} {reader reader_after : PropositionReader A}
-      → TerminalsRead arch threads first names start (left before) nodes reader
-      → EachOnce first
-      → state_behind (state_of reader) (terminal_of s) ≡ Some (state_of reader_after)
+      → TerminalsRead arch threads first names start (remaining_texts before) nodes reader
+      → IsDuplicateFree first
+      → next_state (state_of reader) (terminal_of s) ≡ Some (state_of reader_after)
       → (nodes_after : ℕ)
       → nodes_after ≡ nodes + (if is_node (terminal_of s) then 1 else 0)
       → nodes_after ≤ 256
-      → TerminalsRead arch threads first after start (left behind) nodes_after reader_after
+      → TerminalsRead arch threads first after start (remaining_texts behind) nodes_after reader_after
   terminals_more {start = start} read once step nodes_after counts few =
       let t = named_terminal after s in
       let ns = site_names (sites_in (t ∷ [])) in
@@ -221,7 +228,7 @@ module _ {arch : Arch} {threads : ℕ} {before behind : Cursor} {names after : N
       ∙ ap (λ x. map (resolved names) read.terminals ++ x ∷ []) (same_terminal (once_here read once)) in
       record {
         terminals = read.terminals ++ t ∷ [];
-        gone = Chain-push _ read.terminals start (left before) (left behind) t read.gone taken.is;
+        gone = ParsesMany-push _ read.terminals start (remaining_texts before) (remaining_texts behind) t read.gone taken.is;
         names_are = taken.names_are ∙ sym (table_of read (t ∷ []));
         count = omega (
           arith,
@@ -231,29 +238,30 @@ module _ {arch : Arch} {threads : ℕ} {before behind : Cursor} {names after : N
           one_node (is_node (terminal_of s)) t (node_named after s),
         );
         few = few;
-        leads = ap (lead (Some begun)) made_more ∙ lead_on read (terminal_of s ∷ []) ∙ step;
+        leads = ap (state_after_terminals (Some initial_reader_state)) made_more ∙ lead_on read (terminal_of s ∷ []) ∙ step;
       }
 
   -- where the terminal that was taken can't come next, no terminal that stands on the same tokens can
   pub terminal_refused : {A : Type 0} (reader : PropositionReader A)
-      → EachOnce names
-      → state_behind (state_of reader) (terminal_of s) ≡ None
+      → IsDuplicateFree names
+      → next_state (state_of reader) (terminal_of s) ≡ None
       → (t : Terminal AtomSyntax) (rest : TokenList)
-      → IsTerminal arch threads (left before) t rest
-      → state_behind (state_of reader) (resolved (with_sites names (sites_in (t ∷ []))) t) ≡ None
+      → IsTerminal arch threads (remaining_texts before) t rest
+      → next_state (state_of reader) (resolved (with_sites names (sites_in (t ∷ []))) t) ≡ None
   terminal_refused reader once step t rest is =
       let e : t ≡ named_terminal after s =
-      (IsTerminal-unique arch threads (left before) t (named_terminal after s) rest (left behind) is taken.is).0 in
+      (IsTerminal-unique arch threads (remaining_texts before) t (named_terminal after s) rest (remaining_texts behind) is
+      taken.is).0 in
       let f : resolved (with_sites names (sites_in (t ∷ []))) t ≡ terminal_of s =
       ap (λ (x : Terminal AtomSyntax). resolved (with_sites names (sites_in (x ∷ []))) x) e
       ∙ ap (λ ns. resolved ns (named_terminal after s)) (sym taken.names_are)
       ∙ same_terminal once in
-      ap (state_behind (state_of reader)) f ∙ step
+      ap (next_state (state_of reader)) f ∙ step
 
 -- where a part has to come, a terminal that can come next begins a part, and elsewhere it begins none
 next_begins : (o : Option Formula) (l : Pending) (os : List Pending) (s : Terminal Formula) (b : Bool)
     → is_some o ≡ not b
-    → state_behind (standing o l os) s ≢ None
+    → next_state (reader_state_in o l os) s ≢ None
     → begins_part s ≡ b
 next_begins None l os Open true e some = refl
 next_begins None l os Negation true e some = refl
@@ -269,7 +277,7 @@ next_begins _ l os _ _ e some = absurd (some refl)
 pub begins_right : {A : Type 0} (reader : PropositionReader A) (part : Bool)
     → is_some reader.part ≡ not part
     → (names : NameTable) (s : Terminal AtomSyntax)
-    → state_behind (state_of reader) (resolved names s) ≢ None
+    → next_state (state_of reader) (resolved names s) ≢ None
     → begins_part s ≡ part
 begins_right reader part next names s some =
     sym (begins_resolved names s)
@@ -308,14 +316,16 @@ node_here arch threads here rest _ is = sym (ap (λ l. not (at_parenthesis l)) i
 
 -- where there is room for it, the nodes with those of one more terminal are not too many
 pub room_left : {arch : Arch} {threads : ℕ} {before behind : Cursor} {names after : NameTable} {s : Made}
-    → TakenTerminal arch threads before behind names after s
+    → ParsedTerminal arch threads before behind names after s
     → (nodes : ℕ)
     → nodes ≤ 256
-    → (not (nodes == 256) || at_parenthesis (left before)) ≡ true
+    → (not (nodes == 256) || at_parenthesis (remaining_texts before)) ≡ true
     → nodes + (if is_node (terminal_of s) then 1 else 0) ≤ 256
 room_left {arch} {threads} {before} {behind} {after = after} {s = s} taken nodes few room =
-    rw (sym (node_named after s) ∙ node_here arch threads (left before) (left behind) (named_terminal after s) taken.is)
-    (at (at_parenthesis (left before)) room)
+    rw
+    (sym (node_named after s)
+    ∙ node_here arch threads (remaining_texts before) (remaining_texts behind) (named_terminal after s) taken.is)
+    (at (at_parenthesis (remaining_texts before)) room)
   where
     at : (b : Bool) → (not (nodes == 256) || b) ≡ true → nodes + (if not b then 1 else 0) ≤ 256
     at true room = omega (arith, few)

@@ -4,20 +4,20 @@ use Rattle.lw_text.proofs.Common.{fold, refl, sym, ap, ◌∙◌, subst, append_
 use Rattle.lw_text.proofs.Common.{Terminal, Open, Close, Negation, Conjunction, Disjunction, Atom, Level}
 use Rattle.lw_text.proofs.Common.{PartLevel, ConjunctionLevel, DisjunctionLevel, Derives, atom, negated}
 use Rattle.lw_text.proofs.Common.{parens, part, and, conjunction, or, IsProposition, Pending, ReaderState}
-use Rattle.lw_text.proofs.Common.{BeforePart, BehindPart, begun, negations, after_and, after_or, ands_of}
-use Rattle.lw_text.proofs.Common.{opened, with_not, state_behind, said}
+use Rattle.lw_text.proofs.Common.{BeforePart, BehindPart, initial_reader_state, negations, after_and}
+use Rattle.lw_text.proofs.Common.{after_or, ands_of, opened, with_not, next_state, state_result}
 
 -- the terminals of a proposition, whose atoms are formulas
 abbrev pub Terms : Type 0
 Terms = List (Terminal Formula)
 
 -- the state to which some terminals lead a reader from another, or `None` where one of them can't come next
-abbrev pub lead : Option ReaderState → Terms → Option ReaderState
-lead o ss = fold (λ o s. option_and_then (λ r. state_behind r s) o) o ss
+abbrev pub state_after_terminals : Option ReaderState → Terms → Option ReaderState
+state_after_terminals o ss = fold (λ o s. option_and_then (λ r. next_state r s) o) o ss
 
 -- the formula that is said in a state, or `None` where there is no state, or it says none
 abbrev pub said_at : Option ReaderState → Option Formula
-said_at o = option_and_then said o
+said_at o = option_and_then state_result o
 
 -- one more `~` inside of n others is the same as one outside of them
 negations-not : (n : ℕ) (p : Formula) → negations n (Not p) ≡ Not (negations n p)
@@ -35,33 +35,35 @@ abbrev row_begun : Option Formula → Pending
 row_begun e = record { either = e; both = None; nots = 0 }
 
 -- the terminals ss, of a level, lead a reader from each state before them to the one in which p has been read
-abbrev Leads : Level → Terms → Formula → Type 0
-Leads PartLevel ss p =
+abbrev Derives-level : Level → Terms → Formula → Type 0
+Derives-level PartLevel ss p =
     (l : Pending) (os : List Pending) (rest : Terms)
-    → lead (Some (BeforePart l os)) (ss ++ rest) ≡ lead (Some (BehindPart l.either (ands_of l p) os)) rest
-Leads ConjunctionLevel ss p =
+    → state_after_terminals (Some (BeforePart l os)) (ss ++ rest)
+    ≡ state_after_terminals (Some (BehindPart l.either (ands_of l p) os)) rest
+Derives-level ConjunctionLevel ss p =
     (e : Option Formula) (os : List Pending) (rest : Terms)
-    → lead (Some (BeforePart (row_begun e) os)) (ss ++ rest) ≡ lead (Some (BehindPart e p os)) rest
-Leads DisjunctionLevel ss p =
+    → state_after_terminals (Some (BeforePart (row_begun e) os)) (ss ++ rest)
+    ≡ state_after_terminals (Some (BehindPart e p os)) rest
+Derives-level DisjunctionLevel ss p =
     (os : List Pending) (rest : Terms)
     → (e : Option Formula)
     × (a : Formula)
     × (after_or e a ≡ p)
-    × (lead (Some (BeforePart opened os)) (ss ++ rest) ≡ lead (Some (BehindPart e a os)) rest)
+    × (state_after_terminals (Some (BeforePart opened os)) (ss ++ rest) ≡ state_after_terminals (Some (BehindPart e a os)) rest)
 
 -- terminals that derive p at a level lead a reader from each state before them to the one in which p has been read
-leads : {k : Level} {ss : Terms} {p : Formula} → Derives k ss p → Leads k ss p
+leads : {k : Level} {ss : Terms} {p : Formula} → Derives k ss p → Derives-level k ss p
 leads atom = λ l os rest. refl
-leads (negated {p = p} d) =
-    λ l os rest. leads d (with_not l) os rest ∙ ap (λ a. lead (Some (BehindPart l.either a os)) rest) (ands_of-not l p)
+leads (negated {p = p} d) = λ l os rest.
+    leads d (with_not l) os rest ∙ ap (λ a. state_after_terminals (Some (BehindPart l.either a os)) rest) (ands_of-not l p)
 leads (parens {ss} d) = λ l os rest.
     let k = leads d (l ∷ os) (Close ∷ rest) in
-    ap (lead (Some (BeforePart opened (l ∷ os)))) (append_assoc ss (Close ∷ []) rest)
+    ap (state_after_terminals (Some (BeforePart opened (l ∷ os)))) (append_assoc ss (Close ∷ []) rest)
     ∙ k.3
-    ∙ ap (λ a. lead (Some (BehindPart l.either (ands_of l a) os)) rest) k.2
+    ∙ ap (λ a. state_after_terminals (Some (BehindPart l.either (ands_of l a) os)) rest) k.2
 leads (part d) = λ e os rest. leads d (row_begun e) os rest
 leads (and {ss} {ts} {p} d e) = λ f os rest.
-    ap (lead (Some (BeforePart (row_begun f) os))) (append_assoc ss (Conjunction ∷ ts) rest)
+    ap (state_after_terminals (Some (BeforePart (row_begun f) os))) (append_assoc ss (Conjunction ∷ ts) rest)
     ∙ leads d f os (Conjunction ∷ (ts ++ rest))
     ∙ leads e (record { either = f; both = Some p; nots = 0 }) os rest
 leads (conjunction {p = p} d) = λ os rest. (None, p, refl, leads d None os rest)
@@ -70,16 +72,19 @@ leads (or {ss} {ts} {p} {q} d e) = λ os rest.
       Some p,
       q,
       refl,
-      ap (lead (Some (BeforePart opened os))) (append_assoc ss (Disjunction ∷ ts) rest)
+      ap (state_after_terminals (Some (BeforePart opened os))) (append_assoc ss (Disjunction ∷ ts) rest)
           ∙ k.3
-          ∙ ap (λ a. lead (Some (BeforePart (row_begun (Some a)) os)) (ts ++ rest)) k.2
+          ∙ ap (λ a. state_after_terminals (Some (BeforePart (row_begun (Some a)) os)) (ts ++ rest)) k.2
           ∙ leads e (Some p) os rest,
     )
 
 -- terminals that are a proposition lead the reader to where it says it
-pub derived_said : {ss : Terms} {p : Formula} → IsProposition ss p → said_at (lead (Some begun) ss) ≡ Some p
+pub derived_said : {ss : Terms} {p : Formula}
+    → IsProposition ss p
+    → said_at (state_after_terminals (Some initial_reader_state) ss) ≡ Some p
 derived_said {ss} d =
-    let k = leads d [] [] in ap (λ l. said_at (lead (Some begun) l)) (sym (append-nil ss)) ∙ ap said_at k.3 ∙ ap Some k.2
+    let k = leads d [] [] in
+    ap (λ l. said_at (state_after_terminals (Some initial_reader_state) l)) (sym (append-nil ss)) ∙ ap said_at k.3 ∙ ap Some k.2
 
 -- terminals are a proposition of one formula alone
 pub IsProposition-unique : (ss : Terms) (p q : Formula) → IsProposition ss p → IsProposition ss q → p ≡ q
@@ -137,7 +142,7 @@ group_says {e = Some a} {p = p} r =
 -- where a state stands for the terminals so far, the one behind one more terminal stands for them and that
 one_more : (o : Option ReaderState) (s : Terminal Formula) (ts : Terms)
     → Stands o ts
-    → Stands (option_and_then (λ r. state_behind r s) o) (ts ++ s ∷ [])
+    → Stands (option_and_then (λ r. next_state r s) o) (ts ++ s ∷ [])
 one_more (Some (BeforePart l os)) Open ts h = first_part (l ∷ os) (ts ++ Open ∷ []) (ts, refl, h)
 one_more (Some (BeforePart l os)) Negation ts h = λ ss p d.
     subst (λ x. Row (Outside os) x l.either (ands_of (with_not l) p)) (sym (append_assoc ts (Negation ∷ []) ss))
@@ -183,11 +188,11 @@ one_more (Some (BehindPart e p os)) Disjunction ts h = λ ss q d.
 one_more _ _ ts h = tt
 
 -- where a state stands for the terminals so far, the one behind some more stands for all of them
-all_more : (ss : Terms) (o : Option ReaderState) (ts : Terms) → Stands o ts → Stands (lead o ss) (ts ++ ss)
+all_more : (ss : Terms) (o : Option ReaderState) (ts : Terms) → Stands o ts → Stands (state_after_terminals o ss) (ts ++ ss)
 all_more [] o ts h = subst (Stands o) (sym (append-nil ts)) h
 all_more (s ∷ ss) o ts h =
-    let next = option_and_then (λ r. state_behind r s) o in
-    subst (Stands (lead next ss)) (append_assoc ts (s ∷ []) ss) (all_more ss next _ (one_more o s ts h))
+    let next = option_and_then (λ r. next_state r s) o in
+    subst (Stands (state_after_terminals next ss)) (append_assoc ts (s ∷ []) ss) (all_more ss next _ (one_more o s ts h))
 
 -- where the state that stands for the terminals says a formula, they are a proposition that says it
 whole_said : (o : Option ReaderState) (ts : Terms) (p : Formula) → Stands o ts → said_at o ≡ Some p → IsProposition ts p
@@ -197,5 +202,7 @@ whole_said (Some (BehindPart e a [])) ts p h is =
 whole_said _ ts p h is = absurd cc
 
 -- terminals that lead the reader to where it says a formula are a proposition that says it
-pub said_derived : {ss : Terms} {p : Formula} → said_at (lead (Some begun) ss) ≡ Some p → IsProposition ss p
-said_derived {ss} {p} is = whole_said _ ss p (all_more ss (Some begun) [] (first_part [] [] refl)) is
+pub said_derived : {ss : Terms} {p : Formula}
+    → said_at (state_after_terminals (Some initial_reader_state) ss) ≡ Some p
+    → IsProposition ss p
+said_derived {ss} {p} is = whole_said _ ss p (all_more ss (Some initial_reader_state) [] (first_part [] [] refl)) is

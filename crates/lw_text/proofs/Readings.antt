@@ -1,14 +1,14 @@
 -- Lists of initializers and of sites that are read one after another, with the table of their names.
 use Rattle.lw_text.proofs.Common.{◌≡◌, ◌≤◌, List, [], ◌∷◌, ◌++◌, length, map, refl, sym, ap, ◌∙◌, subst}
 use Rattle.lw_text.proofs.Common.{arith, All, AllByRecursion, append_cancel_left, map-append, map_push}
-use Rattle.lw_text.proofs.Common.{filter_map-append, All-from_recursion, NoneRead, Bytes, NameTable}
-use Rattle.lw_text.proofs.Common.{TokenList, with_names, all_append, all_parts, with_names-append}
-use Rattle.lw_text.proofs.Common.{with_names-longer, Ended, with_sites, HasRoomFor, SiteSyntax, site_name}
-use Rattle.lw_text.proofs.Common.{site_names, named, IsIn}
+use Rattle.lw_text.proofs.Common.{filter_map-append, All-from_recursion, ParsesNothing, Bytes, NameTable}
+use Rattle.lw_text.proofs.Common.{TokenList, insert_names, all_append, All-append_inv, insert_names-append}
+use Rattle.lw_text.proofs.Common.{insert_names-longer, ParsesSepEndBy, with_sites, HasRoomFor, SiteSyntax}
+use Rattle.lw_text.proofs.Common.{site_name, site_names, site_by_name, IsIn}
 use Rattle.lw_text.specs.declared.site.Site.{Site as Made}
 use Rattle.lw_text.proofs.Atoms.{semicolon}
-use Rattle.lw_text.proofs.Lists.{Chain-push, Ended-unique, Listing, Listing-end, Listing-last, IsOne}
-use Rattle.lw_text.proofs.Lists.{Listing-here, Listing-mark}
+use Rattle.lw_text.proofs.Lists.{ParsesMany-push, ParsesSepEndBy-unique, Listing, Listing-end, Listing-last}
+use Rattle.lw_text.proofs.Lists.{IsDeterministic, Listing-here, Listing-mark}
 use Rattle.lw_text.proofs.NameTables.{all_along}
 
 -- what holds of all on a list and of x holds of all on the list with x at its end
@@ -19,7 +19,7 @@ all_push P xs x all p = all_append P xs (x ∷ []) all (p, tt)
 pub with_sites-append : (names : NameTable) (a b : List SiteSyntax)
     → with_sites names (a ++ b) ≡ with_sites (with_sites names a) b
 with_sites-append names a b =
-    ap (with_names names) (filter_map-append site_name a b) ∙ with_names-append names (site_names a) (site_names b)
+    ap (insert_names names) (filter_map-append site_name a b) ∙ insert_names-append names (site_names a) (site_names b)
 
 -- the names of sites up to one of them need no more room in the table than those of all
 names_up_to : (names : NameTable) (front : List SiteSyntax) (s : SiteSyntax) (back : List SiteSyntax)
@@ -30,7 +30,7 @@ names_up_to names front s back =
       arith,
       ap length (with_sites-append names front (s ∷ back)),
       ap length (with_sites-append table (s ∷ []) back),
-      with_names-longer (with_sites table (s ∷ [])) (site_names back),
+      insert_names-longer (with_sites table (s ∷ [])) (site_names back),
     )
 
 -- What is listed: what opens and closes the list, how an element X in memory stands on the tokens as a Y, which has a site, and
@@ -43,20 +43,20 @@ pub record Kind (X Y : Type 0) : Type 1 where
   pub site : X → Made
   pub at : NameTable → X → Y
   pub syntax : Y → SiteSyntax
-  pub same : (names : NameTable) (x : X) → syntax (at names x) ≡ named names (site x)
-  pub stable : (names ns : NameTable) (x : X) → IsIn names (site x) → at (with_names names ns) x ≡ at names x
-  pub one : IsOne stands
+  pub same : (names : NameTable) (x : X) → syntax (at names x) ≡ site_by_name names (site x)
+  pub stable : (names ns : NameTable) (x : X) → IsIn names (site x) → at (insert_names names ns) x ≡ at names x
+  pub one : IsDeterministic stands
   pub apart : semicolon ≡ close → ⊥
   pub unlike : (ts r l : TokenList) (x : Y) → ts ≡ close ∷ l → stands ts x r → ⊥
 
 module _ {X Y : Type 0} (kind : Kind X Y) where
   -- the tokens are a whole list of these elements, from its opening to its close, and then comes rest
   abbrev pub Whole : TokenList → List Y → TokenList → Type 0
-  Whole ts ys rest = (l : TokenList) × (ts ≡ kind.opening ++ l) × Ended kind.stands semicolon kind.close l ys rest
+  Whole ts ys rest = (l : TokenList) × (ts ≡ kind.opening ++ l) × ParsesSepEndBy kind.stands semicolon kind.close l ys rest
 
   -- the sites that elements in memory speak of, by the names of a table
   abbrev pub sites_of : NameTable → List X → List SiteSyntax
-  sites_of names xs = map (λ x. named names (kind.site x)) xs
+  sites_of names xs = map (λ x. site_by_name names (kind.site x)) xs
 
   -- These elements have been read, and then comes what is here. The names of their sites went into the table.
   pub record Read (first names ts here : TokenList) (xs : List X) : Type 0 where
@@ -91,18 +91,18 @@ module _ {X Y : Type 0} (kind : Kind X Y) where
       → ts ≡ kind.opening ++ start
       → (ys : List Y) (rest : TokenList)
       → Whole ts ys rest
-      → Ended kind.stands semicolon kind.close start ys rest
+      → ParsesSepEndBy kind.stands semicolon kind.close start ys rest
   behind_opening ts start e ys rest w = rw (append_cancel_left kind.opening w.0 start (sym w.1 ∙ e)) at w.2
 
   -- a list is read in one way
-  pub Whole-unique : IsOne Whole
+  pub Whole-unique : IsDeterministic Whole
   Whole-unique ts a b r s p q =
-      Ended-unique kind.stands semicolon kind.close kind.one kind.apart kind.unlike a b p.0 r s p.2
+      ParsesSepEndBy-unique kind.stands semicolon kind.close kind.one kind.apart kind.unlike a b p.0 r s p.2
       (behind_opening ts p.0 p.1 b s q)
 
 -- One more element was read: x, whose name went into the table, stands here, up to mid.
 pub record More {X Y : Type 0} (kind : Kind X Y) (names after : NameTable) (here mid : TokenList) (x : X) : Type 0 where
-  pub grows : after ≡ with_sites names (named after (kind.site x) ∷ [])
+  pub grows : after ≡ with_sites names (site_by_name after (kind.site x) ∷ [])
   pub is_in : IsIn after (kind.site x)
   pub fits : kind.asks (kind.at after x)
   pub stands : kind.stands here (kind.at after x) mid
@@ -134,7 +134,7 @@ module _ {X Y : Type 0} {kind : Kind X Y} {first names ts here : TokenList} {xs 
       ap (map kind.syntax) e
       ∙ map-append kind.syntax before (y ∷ more)
       ∙ ap (λ l. l ++ kind.syntax y ∷ map kind.syntax more) (syntax_sites kind names xs) in
-      never y mid p (all_parts kind.asks before _ (subst (AllByRecursion kind.asks) e all)).1.0 (omega (
+      never y mid p (All-append_inv kind.asks before _ (subst (AllByRecursion kind.asks) e all)).1.0 (omega (
         arith,
         few,
         names_up_to first (sites_of kind names xs) (kind.syntax y) (map kind.syntax more),
@@ -147,7 +147,7 @@ module _ {X Y : Type 0} {kind : Kind X Y} {first names ts here : TokenList} {xs 
       → kind.stands here x mid
       → ((l : TokenList) → mid ≡ semicolon ∷ l → ⊥)
       → ((l : TokenList) → mid ≡ kind.close ∷ l → ⊥)
-      → NoneRead (Whole kind ts)
+      → ParsesNothing (Whole kind ts)
   read_no_mark x mid p no_sep no_close ys rest w =
       Listing-mark kind.stands semicolon kind.close kind.one kind.apart kind.unlike _ ys read.start here mid rest x read.listing p
       no_sep no_close (behind_opening kind ts read.start read.begun ys rest w)
@@ -155,16 +155,16 @@ module _ {X Y : Type 0} {kind : Kind X Y} {first names ts here : TokenList} {xs 
   -- one more
   module _ {after : NameTable} {x : X} {mid : TokenList} (more : More kind names after here mid x) where
     along : (map (kind.at after) xs ≡ map (kind.at names) xs) × AllByRecursion (λ x. IsIn after (kind.site x)) xs
-    along = all_along _ _ kind.stable _ _ (site_names (named after (kind.site x) ∷ [])) xs more.grows read.within
+    along = all_along _ _ kind.stable _ _ (site_names (site_by_name after (kind.site x) ∷ [])) xs more.grows read.within
 
     at_more : map (kind.at after) (xs ++ x ∷ []) ≡ map (kind.at names) xs ++ kind.at after x ∷ []
     at_more = map_push (kind.at after) xs x ∙ ap (λ l. l ++ kind.at after x ∷ []) along.0
 
     names_are_more : after ≡ with_sites first (sites_of kind after (xs ++ x ∷ []))
     names_are_more =
-        let s = named after (kind.site x) in
+        let s = site_by_name after (kind.site x) in
         let same = sym (syntax_sites kind _ xs) ∙ ap (map kind.syntax) along.0 ∙ syntax_sites kind names xs in
-        let e = map_push (λ x. named after (kind.site x)) xs x ∙ ap (λ l. l ++ s ∷ []) same in
+        let e = map_push (λ x. site_by_name after (kind.site x)) xs x ∙ ap (λ l. l ++ s ∷ []) same in
         more.grows
         ∙ ap (λ ns. with_sites ns (s ∷ [])) read.names_are
         ∙ sym (ap (λ l. with_sites first l) e ∙ with_sites-append first (sites_of kind names xs) (s ∷ []))
@@ -182,7 +182,7 @@ module _ {X Y : Type 0} {kind : Kind X Y} {first names ts here : TokenList} {xs 
       begun = read.begun;
       listing =
           subst (λ l. Listing kind.stands semicolon kind.close read.start l next) (sym at_more)
-          (Chain-push _ _ read.start here next (kind.at after x) read.listing (mid, more.stands, e));
+          (ParsesMany-push _ _ read.start here next (kind.at after x) read.listing (mid, more.stands, e));
       names_are = names_are_more;
       within = within_more;
       there = there_more;
@@ -194,7 +194,7 @@ module _ {X Y : Type 0} {kind : Kind X Y} {first names ts here : TokenList} {xs 
       whole = (
         read.start,
         read.begun,
-        subst (λ l. Ended kind.stands semicolon kind.close read.start l rest) (sym at_more)
+        subst (λ l. ParsesSepEndBy kind.stands semicolon kind.close read.start l rest) (sym at_more)
             (Listing-last kind.stands semicolon kind.close _ read.start here mid rest _ read.listing more.stands e),
       );
       names_are = names_are_more;

@@ -2,13 +2,13 @@
 use Rattle.lw_text.proofs.Common.{◌≡◌, false, List, [], ◌∷◌, refl, codes, ℕ, inl, inr, map, sym, ◌∙◌, subst}
 use Rattle.lw_text.proofs.Common.{map-id, AllByRecursion, TokenList, Arch, HasRoomFor, SiteSyntax, IsSite}
 use Rattle.lw_text.proofs.Common.{ThreadExists, begins_token, Listed, InitializerSyntax, IsInitializer, Block}
-use Rattle.lw_text.proofs.Common.{sites_of, named_initializer, named}
+use Rattle.lw_text.proofs.Common.{sites_of, named_initializer, site_by_name}
 use Rattle.lw_text.specs.declared.block.Initializer.{Initializer as MadeInitializer}
 use Rattle.lw_text.proofs.Atoms.{no_site, IsSite-unique, IsInitializer-unique, brace, semicolon, bracket}
-use Rattle.lw_text.proofs.NameTables.{initializer-along, named-along}
+use Rattle.lw_text.proofs.NameTables.{initializer-along, site_by_name-along}
 use Rattle.lw_text.proofs.Readings.{Kind, Read, read_none_here, Whole-unique, Whole}
 use Rattle.lw_text.proofs.Texts.{is_no_text, token_not_next}
-use Rattle.lw_text.proofs.Lists.{IsOne}
+use Rattle.lw_text.proofs.Lists.{IsDeterministic}
 use Rattle.lw_text.specs.declared.site.Site.{Site as MadeSite}
 
 -- ---- the initial block
@@ -49,7 +49,7 @@ initializers_fault arch {here = here} read h never all rest block few =
     (all_unit all) few
 
 -- an initial block is read in one way
-pub Block-unique : (arch : Arch) → IsOne (Block arch)
+pub Block-unique : (arch : Arch) → IsDeterministic (Block arch)
 Block-unique arch = Whole-unique (initializers arch)
 
 -- ---- the list of names
@@ -62,10 +62,10 @@ sites arch threads = record {
   stands = IsSite arch;
   asks = ThreadExists threads;
   site = λ s. s;
-  at = named;
+  at = site_by_name;
   syntax = λ s. s;
   same = λ names s. refl;
-  stable = named-along;
+  stable = site_by_name-along;
   one = IsSite-unique arch;
   apart = is_no_text semicolon bracket refl;
   unlike = λ ts r l s at p. no_site bracket refl arch ts l r s at p;
@@ -85,7 +85,7 @@ pub syntax_same : (names : TokenList) (all : List SiteSyntax) → HasRoomFor nam
 syntax_same names all few = subst (λ x. HasRoomFor names x) (sym (map-id all)) few
 
 -- a list of names, or none, is read in one way
-pub Listed-unique : (arch : Arch) → IsOne (Listed arch)
+pub Listed-unique : (arch : Arch) → IsDeterministic (Listed arch)
 Listed-unique arch ts a b r s (inl p) q =
     Whole-unique (sites arch 0) ts a b r s p (list_behind arch 0 ts (codes "[" ∷ p.0) p.1 b s q)
 Listed-unique arch ts a b r s (inr p) (inl q) = absurd (token_not_next _ ts (codes "[" ∷ q.0) p.0 q.1)

@@ -1,13 +1,14 @@
 -- Where a site stands, and where none does.
 use Rattle.lw_text.proofs.Common.{◌≡◌, ◌⊎◌, ℕ, ◌<◌, inl, inr, [], ◌∷◌, Option, None, Some, true, false}
 use Rattle.lw_text.proofs.Common.{slice_get, subst, sym, ap, ◌∙◌, arith, codes, true≢false, ltb-false}
-use Rattle.lw_text.proofs.Common.{ltb-true, slice_get_within, NoSuch, NoneRead, Bytes, NameTable, TokenList}
-use Rattle.lw_text.proofs.Common.{Arch, IsName, IsLocation, IsRegister, with_name, Cursor, IsNumber}
-use Rattle.lw_text.proofs.Common.{with_sites, HasRoomFor, HasRoomForName, SiteSyntax, InMemory, InThread}
-use Rattle.lw_text.proofs.Common.{IsSite, ThreadExists, ThreadAllowed, left, MovesOn, is_allowed, TakenSite}
+use Rattle.lw_text.proofs.Common.{ltb-true, slice_get_within, HoldsOfNothing, ParsesNothing, Bytes, NameTable}
+use Rattle.lw_text.proofs.Common.{TokenList, Arch, IsName, IsLocationName, IsRegisterName, insert_name}
+use Rattle.lw_text.proofs.Common.{Cursor, IsNumber, with_sites, HasRoomFor, HasRoomForName, SiteSyntax}
+use Rattle.lw_text.proofs.Common.{InMemory, InThread, IsSite, ThreadExists, ThreadAllowed, remaining_texts}
+use Rattle.lw_text.proofs.Common.{AdvancesTo, is_allowed, ParsedSite}
 use Rattle.lw_text.proofs.Atoms.{number_no_name, bracket_no_name}
 use Rattle.lw_text.proofs.api.Numbers.{bracket_no_number, number-unique}
-use Rattle.lw_text.proofs.NameTables.{named-at}
+use Rattle.lw_text.proofs.NameTables.{site_by_name-at}
 use Rattle.lw_text.specs.declared.site.Site.TheVariants as made
 
 -- a location is allowed, however many threads there are
@@ -22,14 +23,15 @@ allowed_thread (Some threads) t r e = ltb-true t threads e
 
 -- where a location's name was entered, and stands here as it is or in brackets, the site that it is was taken
 pub entered : {arch : Arch} {threads : Option ℕ} {before after : Cursor} {names table : NameTable} {loc : ℕ} {t : Bytes}
-    → IsLocation t × (slice_get table loc ≡ Some t) × (table ≡ with_name names t)
-    → MovesOn before after
-    → (left before ≡ t ∷ left after) ⊎ (left before ≡ codes "[" ∷ t ∷ codes "]" ∷ left after)
-    → TakenSite arch threads before after names table (made.Location loc)
+    → IsLocationName t × (slice_get table loc ≡ Some t) × (table ≡ insert_name names t)
+    → AdvancesTo before after
+    → (remaining_texts before ≡ t ∷ remaining_texts after)
+    ⊎ (remaining_texts before ≡ codes "[" ∷ t ∷ codes "]" ∷ remaining_texts after)
+    → ParsedSite arch threads before after names table (made.Location loc)
 entered {arch} {threads} {before} {after} {names} {table} {loc} {t} made leaves e =
-    let same = sym (named-at table loc t made.1) in
+    let same = sym (site_by_name-at table loc t made.1) in
     record {
-      is = subst (λ s. IsSite arch (left before) s (left after)) same (made.0, e);
+      is = subst (λ s. IsSite arch (remaining_texts before) s (remaining_texts after)) same (made.0, e);
       there = allowed_location threads _;
       names_are = made.2 ∙ ap (λ s. with_sites names (s ∷ [])) same;
       within = slice_get_within table loc t made.1;
@@ -39,7 +41,7 @@ entered {arch} {threads} {before} {after} {names} {table} {loc} {t} made leaves 
 module _ (arch : Arch) (names : NameTable) {ts l : TokenList} {t : Bytes} (e : ts ≡ t ∷ l) where
   -- at a `[`, where no location and `]` follow that have room, no site stands that fits
   pub brackets_none : t ≡ codes "["
-      → ((x : Bytes) (rest : TokenList) → l ≡ x ∷ codes "]" ∷ rest → IsLocation x → HasRoomForName names x → ⊥)
+      → ((x : Bytes) (rest : TokenList) → l ≡ x ∷ codes "]" ∷ rest → IsLocationName x → HasRoomForName names x → ⊥)
       → (s : SiteSyntax) (rest : TokenList)
       → IsSite arch ts s rest
       → HasRoomFor names (s ∷ [])
@@ -56,7 +58,7 @@ module _ (arch : Arch) (names : NameTable) {ts l : TokenList} {t : Bytes} (e : t
       → IsNumber t n
       → (s : SiteSyntax) (rest : TokenList)
       → IsSite arch ts s rest
-      → (q : Bytes) × (r : ℕ) × (s ≡ InThread n r) × (l ≡ codes ":" ∷ q ∷ rest) × IsRegister arch q r
+      → (q : Bytes) × (r : ℕ) × (s ≡ InThread n r) × (l ≡ codes ":" ∷ q ∷ rest) × IsRegisterName arch q r
   behind_number n number (InMemory x) rest (p, inl f) =
       absurd (let k : x ≡ t = cc in number_no_name t n number (subst IsName k p.0))
   behind_number n number (InMemory x) rest (p, inr f) =
@@ -84,20 +86,20 @@ module _ (arch : Arch) (names : NameTable) {ts l : TokenList} {t : Bytes} (e : t
   -- behind a number, where no `:` and register follow, no site stands
   pub register_none : (n : ℕ)
       → IsNumber t n
-      → ((q : Bytes) (r : ℕ) (rest : TokenList) → l ≡ codes ":" ∷ q ∷ rest → IsRegister arch q r → ⊥)
-      → NoneRead (IsSite arch ts)
+      → ((q : Bytes) (r : ℕ) (rest : TokenList) → l ≡ codes ":" ∷ q ∷ rest → IsRegisterName arch q r → ⊥)
+      → ParsesNothing (IsSite arch ts)
   register_none n number never s rest p = let k = behind_number n number s _ p in never k.0 k.1 rest k.3 k.4
 
   -- at a token that is no `[`, no number and no location that has room, no site stands that fits
   pub location_none : (t ≡ codes "[" → ⊥)
-      → NoSuch (IsNumber t)
-      → (IsLocation t → HasRoomForName names t → ⊥)
+      → HoldsOfNothing (IsNumber t)
+      → (IsLocationName t → HasRoomForName names t → ⊥)
       → (s : SiteSyntax) (rest : TokenList)
       → IsSite arch ts s rest
       → HasRoomFor names (s ∷ [])
       → ⊥
   location_none no_bracket no_number never (InMemory x) rest (p, inl f) few =
-      let k : x ≡ t = cc in never (subst IsLocation k p) (subst (λ y. HasRoomForName names y) k few)
+      let k : x ≡ t = cc in never (subst IsLocationName k p) (subst (λ y. HasRoomForName names y) k few)
   location_none no_bracket no_number never (InMemory x) rest (p, inr f) few = let k : t ≡ codes "[" = cc in no_bracket k
   location_none no_bracket no_number never (InThread u r) rest p few =
       let f = p.2 in

@@ -1,13 +1,13 @@
 -- The terminals of a proposition are read in one way.
 use Rattle.lw_text.proofs.Common.{◌≡◌, ℕ, ◌<◌, inl, inr, true, false, List, [], ◌∷◌, ◌++◌, length, refl, sym}
 use Rattle.lw_text.proofs.Common.{ap, ◌∙◌, subst, arith, codes, if◌then◌else◌, ◌⊎◌, Option, Some, None}
-use Rattle.lw_text.proofs.Common.{bytes_eq, append-nil, NoneRead, Bytes, TokenList, Arch, Chain, SiteSyntax}
-use Rattle.lw_text.proofs.Common.{IsSite, Value, Terminal, Open, Close, Negation, Conjunction, Disjunction}
-use Rattle.lw_text.proofs.Common.{Atom, AtomSyntax, Always, Never, Holds, IsTerminal, Terminals, begins_token}
-use Rattle.lw_text.proofs.Common.{begins_part}
+use Rattle.lw_text.proofs.Common.{bytes_eq, append-nil, ParsesNothing, Bytes, TokenList, Arch, ParsesMany}
+use Rattle.lw_text.proofs.Common.{SiteSyntax, IsSite, Value, Terminal, Open, Close, Negation, Conjunction}
+use Rattle.lw_text.proofs.Common.{Disjunction, Atom, AtomSyntax, Always, Never, Holds, IsTerminal, Terminals}
+use Rattle.lw_text.proofs.Common.{begins_token, begins_part}
 use Rattle.lw_text.proofs.Atoms.{IsSite-unique, IsSite-shorter, Value-unique, Value-shorter, is_apart}
 use Rattle.lw_text.proofs.Atoms.{no_site}
-use Rattle.lw_text.proofs.Lists.{Chain-peel, IsOne}
+use Rattle.lw_text.proofs.Lists.{ParsesMany-peel, IsDeterministic}
 use Rattle.lw_text.proofs.Texts.{token_not_next}
 
 -- ---- terminals are read in one way
@@ -63,15 +63,15 @@ terminal_front arch threads ts rest (Atom (Holds site n)) p =
 -- where a site stands and no value behind it, no terminal stands
 pub site_alone : (arch : Arch) (threads : ℕ) (ts mid : TokenList) (site : SiteSyntax)
     → IsSite arch ts site mid
-    → NoneRead (Value mid)
-    → NoneRead (IsTerminal arch threads ts)
+    → ParsesNothing (Value mid)
+    → ParsesNothing (IsTerminal arch threads ts)
 site_alone arch threads ts mid site p never s rest is = elim (terminal_front arch threads ts rest s is) [
   | inl w ↦ no_site w.word w.apart arch ts rest mid site w.stands p
   | inr w ↦ never w.n rest (subst (λ l. Value l w.n rest) (IsSite-unique arch ts w.site site w.mid mid w.site_is p).1 w.value)
 ]
 
 -- a terminal is read in one way
-pub IsTerminal-unique : (arch : Arch) (threads : ℕ) → IsOne (IsTerminal arch threads)
+pub IsTerminal-unique : (arch : Arch) (threads : ℕ) → IsDeterministic (IsTerminal arch threads)
 IsTerminal-unique arch threads ts a b r s p q = elim (terminal_front arch threads ts r a p) [
   | inl v ↦ elim (terminal_front arch threads ts s b q) [
     | inl w ↦
@@ -121,10 +121,10 @@ terminals_behind arch threads ts mid s (t ∷ all) p q =
 
 -- all terminals are those that have been read, and those that stand behind
 pub Terminals-peel : (arch : Arch) (threads : ℕ) (ss all : List (Terminal AtomSyntax)) (ts here : TokenList)
-    → Chain (IsTerminal arch threads) ts ss here
+    → ParsesMany (IsTerminal arch threads) ts ss here
     → Terminals arch threads ts all
     → (more : List (Terminal AtomSyntax)) × (all ≡ ss ++ more) × Terminals arch threads here more
-Terminals-peel arch threads = Chain-peel {W = Terminals arch threads} (terminals_behind arch threads)
+Terminals-peel arch threads = ParsesMany-peel {W = Terminals arch threads} (terminals_behind arch threads)
 
 -- the terminals of a proposition are read in one way
 pub Terminals-unique : (arch : Arch) (threads : ℕ) (a b : List (Terminal AtomSyntax)) (ts : TokenList)

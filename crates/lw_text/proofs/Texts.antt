@@ -2,7 +2,7 @@
 use Rattle.lw_text.proofs.Common.{◌≡◌, ℕ, zero, suc, ◌+◌, ◌<◌, ◌≤◌, true, false, List, [], ◌∷◌, drop, length}
 use Rattle.lw_text.proofs.Common.{length-drop, get_or, refl, sym, ap, ◌∙◌, subst, arith, add-one, drop-cons}
 use Rattle.lw_text.proofs.Common.{codes, bytes_eq, drop_all, length-map, bytes_eq-Decides, Bytes, TokenList}
-use Rattle.lw_text.proofs.Common.{Token, texts, Leaves, begins_token}
+use Rattle.lw_text.proofs.Common.{Token, token_texts, IsSuffix, begins_token}
 
 -- texts that `bytes_eq` says are the same are the same
 pub is_text : (t u : Bytes) → bytes_eq t u ≡ true → t ≡ u
@@ -29,30 +29,30 @@ token_next tokens next t lt e = rw add-one (drop-cons tokens next t lt ∙ ap (�
 
 -- a token that is found to be next stands first in what is left, and behind it is left what is left from the next index on
 pub word_next : (tokens : List Token) (next : ℕ) (w : Bytes)
-    → begins_token w (texts (drop next tokens)) ≡ true
+    → begins_token w (token_texts (drop next tokens)) ≡ true
     → (next < length tokens)
-    × (texts (drop next tokens) ≡ w ∷ texts (drop (next + 1) tokens))
-    × Leaves (drop next tokens) (drop (next + 1) tokens)
+    × (token_texts (drop next tokens) ≡ w ∷ token_texts (drop (next + 1) tokens))
+    × IsSuffix (drop next tokens) (drop (next + 1) tokens)
 word_next [] zero w h = absurd cc
 word_next [] (suc next) w h = absurd cc
-word_next (t ∷ tokens) zero w h = (omega arith, ap (λ x. x ∷ texts tokens) (is_text _ w h), (t ∷ [], refl))
+word_next (t ∷ tokens) zero w h = (omega arith, ap (λ x. x ∷ token_texts tokens) (is_text _ w h), (t ∷ [], refl))
 word_next (t ∷ tokens) (suc next) w h =
     let r = word_next tokens next w h in
     let k : suc (next + 1) ≡ suc next + 1 = omega arith in (
       omega (arith, r.0),
-      r.1 ∙ ap (λ (n : ℕ). w ∷ texts (drop n (t ∷ tokens))) k,
-      subst (λ (n : ℕ). Leaves (drop next tokens) (drop n (t ∷ tokens))) k r.2,
+      r.1 ∙ ap (λ (n : ℕ). w ∷ token_texts (drop n (t ∷ tokens))) k,
+      subst (λ (n : ℕ). IsSuffix (drop next tokens) (drop n (t ∷ tokens))) k r.2,
     )
 
 -- past the last token none is left
-pub nothing_left : (tokens : List Token) (next : ℕ) → length tokens ≤ next → texts (drop next tokens) ≡ []
-nothing_left tokens next le = ap texts (drop_all next tokens le)
+pub nothing_left : (tokens : List Token) (next : ℕ) → length tokens ≤ next → token_texts (drop next tokens) ≡ []
+nothing_left tokens next le = ap token_texts (drop_all next tokens le)
 
 -- before the end of the tokens some are left
 pub some_left : (tokens : List Token) (next : ℕ)
     → next ≤ length tokens
     → (next ≡ length tokens → ⊥)
-    → texts (drop next tokens) ≡ []
+    → token_texts (drop next tokens) ≡ []
     → ⊥
 some_left tokens next le ne e =
     ne (omega (arith, le, length-map (drop next tokens) (λ (t : Token). t.text.now), length-drop next tokens, ap length e))

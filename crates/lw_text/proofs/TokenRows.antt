@@ -1,19 +1,19 @@
 -- A text has one list of tokens, each at one place.
 use Rattle.lw_text.proofs.Common.{◌≡◌, ℕ, ◌+◌, ◌<◌, false, List, [], ◌∷◌, ◌++◌, length, refl, sym, ap, ◌∙◌}
-use Rattle.lw_text.proofs.Common.{subst, arith, length-append, NoSuch, NoneRead, Bytes, TokenList, Token}
-use Rattle.lw_text.proofs.Common.{Chain, begins_trivia, Trivia, IsToken, First, Tokens, PlacedToken}
-use Rattle.lw_text.proofs.Common.{texts_of_tokens, PlacedTokens, texts, placed_tokens}
+use Rattle.lw_text.proofs.Common.{subst, arith, length-append, HoldsOfNothing, ParsesNothing, Bytes}
+use Rattle.lw_text.proofs.Common.{TokenList, Token, ParsesMany, begins_trivia, Trivia, IsToken, IsFirstToken}
+use Rattle.lw_text.proofs.Common.{Tokens, PlacedToken, texts_of_tokens, PlacedTokens, token_texts, with_spans}
 use Rattle.lw_text.proofs.api.Places.{texts_placed}
 use Rattle.lw_text.proofs.TriviaLemmas.{Trivia-unique, Trivia-shorter}
 use Rattle.lw_text.proofs.NameRuns.{token-unique, token_no_trivia, token_nonempty}
 
 -- a text has one first token, which ends at one place
-pub First-unique : (text t r u s : Bytes) → First text t r → First text u s → (t ≡ u) × (r ≡ s)
-First-unique text t r u s p q =
+pub IsFirstToken-unique : (text t r u s : Bytes) → IsFirstToken text t r → IsFirstToken text u s → (t ≡ u) × (r ≡ s)
+IsFirstToken-unique text t r u s p q =
     token-unique t r u s p.1 q.1 (Trivia-unique p.0 q.0 (token_no_trivia t r p.1) (token_no_trivia u s q.1))
 
 -- where only trivia is left there is no first token
-pub no_first : (text t r : Bytes) → Trivia text [] → First text t r → ⊥
+pub no_first : (text t r : Bytes) → Trivia text [] → IsFirstToken text t r → ⊥
 no_first text t r g p =
     let e = Trivia-unique g p.0 refl (token_no_trivia t r p.1) in
     let n = token_nonempty t r p.1 in
@@ -25,7 +25,7 @@ Tokens-unique [] [] text p q = refl
 Tokens-unique [] (u ∷ us) text p q = absurd (no_first text u q.0 p q.1)
 Tokens-unique (t ∷ ts) [] text p q = absurd (no_first text t p.0 q p.1)
 Tokens-unique (t ∷ ts) (u ∷ us) text p q =
-    let e = First-unique text t p.0 u q.0 p.1 q.1 in
+    let e = IsFirstToken-unique text t p.0 u q.0 p.1 q.1 in
     let i : t ≡ u = e.0 in
     let h : ts ≡ us = Tokens-unique ts us p.0 p.2 (subst (λ r. Tokens r us) (sym e.1) q.2) in
     cc
@@ -34,11 +34,11 @@ Tokens-unique (t ∷ ts) (u ∷ us) text p q =
 
 -- a token at its place in a text of this length
 abbrev pub Placed : ℕ → Bytes → PlacedToken → Bytes → Type 0
-Placed len text t mid = First text t.text mid × (t.at + length t.text + length mid ≡ len)
+Placed len text t mid = IsFirstToken text t.text mid × (t.at + length t.text + length mid ≡ len)
 
 -- these tokens have been read, each at its place, and then comes rest
 abbrev pub Read : ℕ → Bytes → List PlacedToken → Bytes → Type 0
-Read len text ts rest = Chain (Placed len) text ts rest
+Read len text ts rest = ParsesMany (Placed len) text ts rest
 
 -- where only trivia is left, the tokens that have been read are all of the text
 pub Read-done : (len : ℕ) (ts : List PlacedToken) (text rest : Bytes)
@@ -51,12 +51,12 @@ Read-done len (u ∷ ts) text rest p g = (p.0, p.1.0, p.1.1, Read-done len ts p.
 -- where the rest, behind the tokens that have been read, is no list of tokens, the text is none
 pub Read-fault : (len : ℕ) (ts : List PlacedToken) (text rest : Bytes)
     → Read len text ts rest
-    → NoSuch (Tokens rest)
-    → NoSuch (Tokens text)
+    → HoldsOfNothing (Tokens rest)
+    → HoldsOfNothing (Tokens text)
 Read-fault len [] text rest p never us q = never us (subst (λ x. Tokens x us) p q)
 Read-fault len (t ∷ ts) text rest p never [] q = no_first text t.text p.0 q p.1.0
 Read-fault len (t ∷ ts) text rest p never (u ∷ us) q =
-    Read-fault _ ts _ _ p.2 never us (subst (λ x. Tokens x us) (sym (First-unique _ _ _ u _ p.1.0 q.1).1) q.2)
+    Read-fault _ ts _ _ p.2 never us (subst (λ x. Tokens x us) (sym (IsFirstToken-unique _ _ _ u _ p.1.0 q.1).1) q.2)
 
 -- ---- what the reader of the next token owes
 
@@ -66,23 +66,23 @@ module _ (text start : Bytes) (g : Trivia text start) (stop : begins_trivia star
   not_ended pos q = omega (arith, ap length (Trivia-unique g q stop refl))
 
   -- where no token stands behind the trivia, the text has no first token
-  pub no_first_from : ((t rest : Bytes) → start ≡ t ++ rest → IsToken t rest → ⊥) → NoneRead (First text)
+  pub no_first_from : ((t rest : Bytes) → start ≡ t ++ rest → IsToken t rest → ⊥) → ParsesNothing (IsFirstToken text)
   no_first_from never t rest q = never t rest (Trivia-unique g q.0 stop (token_no_trivia t rest q.1)) q.1
 
 -- where a comment isn't closed the text has no first token
 pub no_first_open : (text : Bytes)
     → ((start : Bytes) → begins_trivia start ≡ false → Trivia text start → ⊥)
-    → NoneRead (First text)
+    → ParsesNothing (IsFirstToken text)
 no_first_open text never t rest q = never (t ++ rest) (token_no_trivia t rest q.1) q.0
 
 -- a text that is neither trivia alone nor has a token first is no list of tokens
-pub Tokens-none : (text : Bytes) → (Trivia text [] → ⊥) → NoneRead (First text) → NoSuch (Tokens text)
+pub Tokens-none : (text : Bytes) → (Trivia text [] → ⊥) → ParsesNothing (IsFirstToken text) → HoldsOfNothing (Tokens text)
 Tokens-none text no_end no_token [] q = no_end q
 Tokens-none text no_end no_token (t ∷ ts) q = no_token t q.0 q.1
 
 -- a token with the trivia before it takes at least one byte
-pub First-shorter : (text t rest : Bytes) → First text t rest → length rest < length text
-First-shorter text t rest f = let n = token_nonempty t rest f.1 in omega (arith, Trivia-shorter f.0, length-append t rest)
+pub IsFirstToken-shorter : (text t rest : Bytes) → IsFirstToken text t rest → length rest < length text
+IsFirstToken-shorter text t rest f = let n = token_nonempty t rest f.1 in omega (arith, Trivia-shorter f.0, length-append t rest)
 
 -- ---- tokens with and without places
 
@@ -92,8 +92,8 @@ Tokens-of len text [] p = p
 Tokens-of len text (t ∷ ts) p = (p.0, p.1, Tokens-of len p.0 ts p.3)
 
 -- where a text is tokens in memory with their places, it is the same tokens without them
-pub read_whole : (len : ℕ) (rest : Bytes) (ts : List Token) → PlacedTokens len rest (placed_tokens ts) → Tokens rest (texts ts)
-read_whole len rest ts p = subst (Tokens rest) (texts_placed ts) (Tokens-of len rest (placed_tokens ts) p)
+pub read_whole : (len : ℕ) (rest : Bytes) (ts : List Token) → PlacedTokens len rest (with_spans ts) → Tokens rest (token_texts ts)
+read_whole len rest ts p = subst (Tokens rest) (texts_placed ts) (Tokens-of len rest (with_spans ts) p)
 
 -- tokens with the same place and the same bytes are the same
 pub same_token : (a b : PlacedToken) → a.at ≡ b.at → a.text ≡ b.text → a ≡ b
@@ -110,7 +110,7 @@ PlacedTokens-unique len [] [] text p q = refl
 PlacedTokens-unique len [] (u ∷ us) text p q = absurd (no_first text u.text q.0 p q.1)
 PlacedTokens-unique len (t ∷ ts) [] text p q = absurd (no_first text t.text p.0 q p.1)
 PlacedTokens-unique len (t ∷ ts) (u ∷ us) text p q =
-    let e = First-unique text t.text p.0 u.text q.0 p.1 q.1 in
+    let e = IsFirstToken-unique text t.text p.0 u.text q.0 p.1 q.1 in
     let at : t.at ≡ u.at = omega (arith, p.2, q.2, ap length e.0, ap length e.1) in
     let i : t ≡ u = same_token t u at e.0 in
     let h = PlacedTokens-unique len ts us p.0 p.3 (subst (λ r. PlacedTokens len r us) (sym e.1) q.3) in

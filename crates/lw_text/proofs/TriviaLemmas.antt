@@ -1,9 +1,10 @@
 -- Blanks and comments end at one place, and a loop finds what stands behind them.
 use Rattle.lw_text.proofs.Common.{◌≡◌, ℕ, true, false, ◌||◌, [], ◌∷◌, ◌++◌, ◌≤◌, length, length-append, arith}
-use Rattle.lw_text.proofs.Common.{refl, sym, ap, ◌∙◌, subst, AllByRecursion, NoSuch, Bytes, is_blank, begins}
-use Rattle.lw_text.proofs.Common.{begins_pair, begins_trivia, Comment, Trivia, none, blank, comment, Leaves}
+use Rattle.lw_text.proofs.Common.{refl, sym, ap, ◌∙◌, subst, AllByRecursion, HoldsOfNothing, Bytes, is_blank}
+use Rattle.lw_text.proofs.Common.{first_byte_is, begins_pair, begins_trivia, Comment, Trivia, none, blank}
+use Rattle.lw_text.proofs.Common.{comment, IsSuffix}
 use Rattle.lw_text.proofs.Comments.{Comment-unique, Comment-suffix}
-use Rattle.lw_text.proofs.Lists.{Leaves-join}
+use Rattle.lw_text.proofs.Lists.{IsSuffix-join}
 
 -- a trivia that begins with a comment goes on behind it
 at_comment : {ts rest : Bytes}
@@ -13,11 +14,11 @@ at_comment : {ts rest : Bytes}
     → begins_trivia rest ≡ false
     → (after : Bytes) × Comment text after × Trivia after rest
 at_comment (none {rest}) text e stop = absurd (let h : begins_trivia rest ≡ true = ap begins_trivia e in cc)
-at_comment (blank {b} t g) text e stop = absurd (let h : is_blank b ≡ false = ap (begins is_blank) e in cc)
+at_comment (blank {b} t g) text e stop = absurd (let h : is_blank b ≡ false = ap (first_byte_is is_blank) e in cc)
 at_comment (comment {text = t} {after} c g) text e stop = (after, rw (let k : t ≡ text = cc in k) at c, g)
 
 -- what passes as a blank begins a trivia
-blank_begins : (l : Bytes) → begins is_blank l ≡ true → begins_trivia l ≡ false → ⊥
+blank_begins : (l : Bytes) → first_byte_is is_blank l ≡ true → begins_trivia l ≡ false → ⊥
 blank_begins l p q = let h : true || begins_pair 40 42 l ≡ false = rw p at q in cc
 
 -- a trivia that begins with a blank goes on behind it
@@ -28,9 +29,9 @@ at_blank : {ts rest : Bytes}
     → is_blank b ≡ true
     → begins_trivia rest ≡ false
     → Trivia text rest
-at_blank (none {rest}) b text e test stop = absurd (blank_begins rest (ap (begins is_blank) e ∙ test) stop)
+at_blank (none {rest}) b text e test stop = absurd (blank_begins rest (ap (first_byte_is is_blank) e ∙ test) stop)
 at_blank {rest = rest} (blank {text = t} h g) b text e test stop = rw (let k : t ≡ text = cc in k) at g
-at_blank (comment c g) b text e test stop = absurd (let h : false ≡ is_blank b = ap (begins is_blank) e in cc)
+at_blank (comment c g) b text e test stop = absurd (let h : false ≡ is_blank b = ap (first_byte_is is_blank) e in cc)
 
 -- where no trivia begins, there is none
 at_none : {text rest : Bytes} → Trivia text rest → begins_trivia text ≡ false → text ≡ rest
@@ -46,10 +47,10 @@ Trivia-unique {b = end} (comment {text} {after} c f) g p q =
     let o = at_comment g text refl q in Trivia-unique f (subst (λ x. Trivia x end) (sym (Comment-unique c o.1)) o.2) p q
 
 -- what stands behind a trivia is the end of the text
-pub Trivia-suffix : {text rest : Bytes} → Trivia text rest → Leaves text rest
+pub Trivia-suffix : {text rest : Bytes} → Trivia text rest → IsSuffix text rest
 Trivia-suffix none = ([], refl)
-Trivia-suffix (blank {b} h g) = Leaves-join (b ∷ [], refl) (Trivia-suffix g)
-Trivia-suffix (comment c g) = Leaves-join (40 ∷ 42 ∷ [], refl) (Leaves-join (Comment-suffix c) (Trivia-suffix g))
+Trivia-suffix (blank {b} h g) = IsSuffix-join (b ∷ [], refl) (Trivia-suffix g)
+Trivia-suffix (comment c g) = IsSuffix-join (40 ∷ 42 ∷ [], refl) (IsSuffix-join (Comment-suffix c) (Trivia-suffix g))
 
 -- a trivia makes what is left no longer
 pub Trivia-shorter : {text rest : Bytes} → Trivia text rest → length rest ≤ length text
@@ -95,7 +96,7 @@ Skipped-comment {bytes} {rest} {inner} {after} s e c = record {
 pub Skipped-open : {bytes rest inner : Bytes}
     → Skipped bytes rest
     → rest ≡ 40 ∷ 42 ∷ inner
-    → NoSuch (Comment inner)
+    → HoldsOfNothing (Comment inner)
     → (end : Bytes)
     → begins_trivia end ≡ false
     → Trivia bytes end

@@ -2,29 +2,30 @@
 use Rattle.lw_text.proofs.Common.{◌≡◌, ℕ, ◌<◌, inl, inr, Bool, true, false, List, [], ◌∷◌, ◌++◌, length, map}
 use Rattle.lw_text.proofs.Common.{refl, sym, ◌∙◌, subst, arith, fold, if◌then◌else◌, codes, ap, filter}
 use Rattle.lw_text.proofs.Common.{AllByRecursion, range_with_len, length-map, length-map-range_with_len, Seen}
-use Rattle.lw_text.proofs.Common.{Location, Formula, formula_of, IsWordNumber, SpeaksOf, IsWellFormedHead}
-use Rattle.lw_text.proofs.Common.{IsLocation, IsTestName, contains_name, with_name, with_names, once-along}
-use Rattle.lw_text.proofs.Common.{index_of-within, Arch, Ended, with_sites, SiteSyntax, InMemory, InThread}
-use Rattle.lw_text.proofs.Common.{IsSite, ThreadExists, site_names, seen_in, Terminal, Close, Atom, Level}
-use Rattle.lw_text.proofs.Common.{Derives, atom, negated, parens, part, and, conjunction, or, IsProposition}
-use Rattle.lw_text.proofs.Common.{AtomSyntax, Holds, IsTerminal, Terminals, Listed, sites_in, resolved}
-use Rattle.lw_text.proofs.Common.{InitializerSyntax, IsInitializer, Block, word_of, table, TestSyntax, Parts}
-use Rattle.lw_text.proofs.Common.{TestFrame, HasFrame, head_of_syntax, sites_of, same_seen, thread_registers}
-use Rattle.lw_text.proofs.Common.{all_registers, locations, Body, syntax_of, HasSyntax, resolved_head, IsIn}
-use Rattle.lw_text.proofs.Common.{all_append, all_map, all_parts, all_filter, all_of_range, all_mapped}
-use Rattle.lw_text.proofs.Common.{each_of, ascending_filter, all_seen, all_ascending, fun_ext, Bytes}
-use Rattle.lw_text.proofs.Common.{TokenList, EachOnce}
+use Rattle.lw_text.proofs.Common.{Location, Formula, formula_of, IsWordNumber, MentionsOnly, IsWellFormedHead}
+use Rattle.lw_text.proofs.Common.{IsLocationName, IsTestName, contains_name, insert_name, insert_names}
+use Rattle.lw_text.proofs.Common.{once-along, position_of_name-within, Arch, ParsesSepEndBy, with_sites}
+use Rattle.lw_text.proofs.Common.{SiteSyntax, InMemory, InThread, IsSite, ThreadExists, site_names, seen_in}
+use Rattle.lw_text.proofs.Common.{Terminal, Close, Atom, Level, Derives, atom, negated, parens, part, and}
+use Rattle.lw_text.proofs.Common.{conjunction, or, IsProposition, AtomSyntax, Holds, IsTerminal, Terminals}
+use Rattle.lw_text.proofs.Common.{Listed, sites_in, resolved, InitializerSyntax, IsInitializer, Block}
+use Rattle.lw_text.proofs.Common.{initial_word_of, location_table, TestSyntax, ParsesTest, TestFrame}
+use Rattle.lw_text.proofs.Common.{HasFrame, head_of_syntax, sites_of, seen_eq, thread_registers}
+use Rattle.lw_text.proofs.Common.{all_registers, locations, ParsedBody, syntax_of, HasSyntax, resolved_head}
+use Rattle.lw_text.proofs.Common.{IsIn, all_append, all_map, All-append_inv, all_filter, all_of_range}
+use Rattle.lw_text.proofs.Common.{all_mapped, each_of, ascending_filter, all_seen, all_ascending, fun_ext}
+use Rattle.lw_text.proofs.Common.{Bytes, TokenList, IsDuplicateFree}
 use Rattle.lw_text.proofs.api.ConditionTokens.{all_names, all_sites}
 use Rattle.lw_text.proofs.api.PropositionNodes.{proposition_nodes, resolved_single, resolved_count}
 use Rattle.lw_text.proofs.PropositionCases.{AllThere, all_entered}
 use Rattle.lw_text.proofs.Whole.{header_some, table_parts}
-use Rattle.lw_text.proofs.NameTables.{words-named, listed-named}
+use Rattle.lw_text.proofs.NameTables.{words-site_by_name, listed-site_by_name}
 
 -- ---- names
 
 -- a site is a location with an allowed name, or one of six registers of a thread
 abbrev IsRight : SiteSyntax → Type 0
-IsRight (InMemory x) = IsLocation x
+IsRight (InMemory x) = IsLocationName x
 IsRight (InThread t r) = r < 6
 
 -- a site that is read is a location with an allowed name, or one of six registers of a thread
@@ -36,7 +37,7 @@ site_right arch ts rest (InThread t r) p = p.4.0
 ended_right : {X : Type 0} {P : List (List ℕ) → X → List (List ℕ) → Type 0} {Q : X → Type 0}
     → ((ts rest : List (List ℕ)) (x : X) → P ts x rest → Q x)
     → (sep close : List ℕ) (xs : List X) (ts rest : List (List ℕ))
-    → Ended P sep close ts xs rest
+    → ParsesSepEndBy P sep close ts xs rest
     → AllByRecursion Q xs
 ended_right f sep close [] ts rest e = tt
 ended_right {P = P} {Q = Q} f sep close (x ∷ xs) ts rest e = (
@@ -76,17 +77,17 @@ either_word false v w h k = k
 last_word : (names : List (List ℕ)) (s : Seen) (es : List InitializerSyntax) (w : ℕ)
     → AllByRecursion (λ e. IsWordNumber e.word) es
     → IsWordNumber w
-    → IsWordNumber (fold (λ w e. if same_seen (seen_in names e.site) s then e.word else w) w es)
+    → IsWordNumber (fold (λ w e. if seen_eq (seen_in names e.site) s then e.word else w) w es)
 last_word names s [] w h k = k
 last_word names s (e ∷ es) w h k =
-    let now = same_seen (seen_in names e.site) s in
+    let now = seen_eq (seen_in names e.site) s in
     last_word names s es (if now then e.word else w) h.1 (either_word now e.word w h.0 k)
 
 -- what a register or a location begins with is a word
 first_word : (names : List (List ℕ)) (es : List InitializerSyntax)
     → AllByRecursion (λ e. IsWordNumber e.word) es
     → (s : Seen)
-    → IsWordNumber (word_of names es s)
+    → IsWordNumber (initial_word_of names es s)
 first_word names es h s = last_word names s es 0 h (omega arith)
 
 -- ---- terminals
@@ -112,35 +113,35 @@ terminals_fit arch threads ts (s ∷ ss) p = (terminal_fit arch _ ts p.0 s p.1, 
 
 -- a table of allowed names, with more of them entered, has allowed names alone
 table_right : (names ns : List (List ℕ))
-    → AllByRecursion IsLocation names
-    → AllByRecursion IsLocation ns
-    → AllByRecursion IsLocation (with_names names ns)
+    → AllByRecursion IsLocationName names
+    → AllByRecursion IsLocationName ns
+    → AllByRecursion IsLocationName (insert_names names ns)
 table_right names [] h k = h
-table_right names (n ∷ ns) h k = table_right (with_name names n) ns (one (contains_name names n) refl) k.1
+table_right names (n ∷ ns) h k = table_right (insert_name names n) ns (one (contains_name names n) refl) k.1
   where
-    one : (b : Bool) → contains_name names n ≡ b → AllByRecursion IsLocation (with_name names n)
+    one : (b : Bool) → contains_name names n ≡ b → AllByRecursion IsLocationName (insert_name names n)
     one true e = rw e h
-    one false e = rw e (all_append IsLocation names (n ∷ []) h (k.0, tt))
+    one false e = rw e (all_append IsLocationName names (n ∷ []) h (k.0, tt))
 
 -- ---- the proposition
 
 -- a terminal's atom, if it is one, speaks of registers of so many threads and of so many locations, and its numbers are words
 abbrev IsSpoken : ℕ → ℕ → Terminal Formula → Type 0
-IsSpoken threads locs (Atom p) = SpeaksOf threads locs p
+IsSpoken threads locs (Atom p) = MentionsOnly threads locs p
 IsSpoken threads locs _ = Unit {0}
 
 module _ (threads locs : ℕ) where
   says_speaks : {k : Level} {ss : List (Terminal Formula)} {p : Formula}
       → Derives k ss p
       → AllByRecursion (IsSpoken threads locs) ss
-      → SpeaksOf threads locs p
+      → MentionsOnly threads locs p
   says_speaks atom h = h.0
   says_speaks (negated d) h = says_speaks d h.1
-  says_speaks (parens {ss} d) h = says_speaks d (all_parts (IsSpoken threads locs) ss (Close ∷ []) h.1).0
+  says_speaks (parens {ss} d) h = says_speaks d (All-append_inv (IsSpoken threads locs) ss (Close ∷ []) h.1).0
   says_speaks (part d) h = says_speaks d h
-  says_speaks (and {ss} {ts} d e) h = let k = all_parts _ ss _ h in (says_speaks d k.0, says_speaks e k.1.1)
+  says_speaks (and {ss} {ts} d e) h = let k = All-append_inv _ ss _ h in (says_speaks d k.0, says_speaks e k.1.1)
   says_speaks (conjunction d) h = says_speaks d h
-  says_speaks (or {ss} {ts} d e) h = let k = all_parts _ ss _ h in (says_speaks d k.0, says_speaks e k.1.1)
+  says_speaks (or {ss} {ts} d e) h = let k = All-append_inv _ ss _ h in (says_speaks d k.0, says_speaks e k.1.1)
 
 -- where terminals are fit and their names in the table, they speak, resolved by it, of threads and locations that there are
 terminals_spoken : (threads : ℕ) (names : List (List ℕ)) (ss : List (Terminal AtomSyntax))
@@ -149,7 +150,7 @@ terminals_spoken : (threads : ℕ) (names : List (List ℕ)) (ss : List (Termina
     → AllByRecursion (IsSpoken threads (length names)) (map (resolved names) ss)
 terminals_spoken threads names [] f n = tt
 terminals_spoken threads names (Atom (Holds (InMemory x) w) ∷ ss) f n =
-    ((index_of-within names x n.0, f.0.2), terminals_spoken threads names ss f.1 n.1)
+    ((position_of_name-within names x n.0, f.0.2), terminals_spoken threads names ss f.1 n.1)
 terminals_spoken threads names (Atom (Holds (InThread t r) w) ∷ ss) f n =
     ((f.0.1, f.0.0, f.0.2), terminals_spoken threads names ss f.1 n)
 terminals_spoken threads names (_ ∷ ss) f n = (tt, terminals_spoken threads names ss f.1 n)
@@ -159,8 +160,8 @@ terminals_spoken threads names (_ ∷ ss) f n = (tt, terminals_spoken threads na
 -- the head that the parts of a test say is well-formed
 head_well_formed : (arch : Arch) (ts : List (List ℕ)) (name : List ℕ) (s : TestSyntax) (p : Formula)
     → IsTestName name
-    → Parts arch ts s
-    → IsProposition (map (resolved (table s)) s.terminals) p
+    → ParsesTest arch ts s
+    → IsProposition (map (resolved (location_table s)) s.terminals) p
     → IsWellFormedHead (head_of_syntax arch name s p)
 head_well_formed arch ts name s p allowed parts whole =
     let c = parts.condition in
@@ -185,28 +186,31 @@ head_well_formed arch ts name s p allowed parts whole =
             (all_names IsRight _ (λ x h. h) (sites_of s.initializers ++ s.listed ++ sites_in s.terminals) right);
         once = once-along [] (site_names (sites_of s.initializers ++ s.listed ++ sites_in s.terminals)) tt;
       };
-      regs = length-map-range_with_len (λ t. map (word_of (table s) s.initializers) (thread_registers t)) 0 _;
+      regs = length-map-range_with_len (λ t. map (initial_word_of (location_table s) s.initializers) (thread_registers t)) 0 _;
       six =
-          all_of_range (λ row. length row ≡ 6) (λ t. map (word_of (table s) s.initializers) (thread_registers t)) 0 s.threads
-          (λ t le lt. refl);
+          all_of_range (λ row. length row ≡ 6) (λ t. map (initial_word_of (location_table s) s.initializers) (thread_registers t))
+          0 s.threads (λ t le lt. refl);
       register_words =
-          all_of_range (AllByRecursion IsWordNumber) (λ t. map (word_of (table s) s.initializers) (thread_registers t)) 0
-          s.threads (λ t le lt. all_mapped IsWordNumber (word_of (table s) s.initializers) begins (thread_registers t));
+          all_of_range (AllByRecursion IsWordNumber)
+          (λ t. map (initial_word_of (location_table s) s.initializers) (thread_registers t)) 0 s.threads
+          (λ t le lt. all_mapped IsWordNumber (initial_word_of (location_table s) s.initializers) begins (thread_registers t));
       words =
-          length-map (locations (length (table s))) (word_of (table s) s.initializers)
-          ∙ length-map-range_with_len (λ x. Location x) 0 (length (table s));
-      location_words = all_mapped IsWordNumber _ begins (locations (length (table s)));
-      there = all_filter _ _ (all_registers s.threads ++ locations (length (table s))) (all_seen s.threads _);
+          length-map (locations (length (location_table s))) (initial_word_of (location_table s) s.initializers)
+          ∙ length-map-range_with_len (λ x. Location x) 0 (length (location_table s));
+      location_words = all_mapped IsWordNumber _ begins (locations (length (location_table s)));
+      there = all_filter _ _ (all_registers s.threads ++ locations (length (location_table s))) (all_seen s.threads _);
       ascending =
-          ascending_filter _ (all_registers s.threads ++ locations (length (table s)))
-          (all_ascending s.threads (length (table s)));
+          ascending_filter _ (all_registers s.threads ++ locations (length (location_table s)))
+          (all_ascending s.threads (length (location_table s)));
       nodes_few = omega (
         arith,
-        proposition_nodes whole (resolved_single (table s) s.terminals),
-        resolved_count (table s) s.terminals,
+        proposition_nodes whole (resolved_single (location_table s) s.terminals),
+        resolved_count (location_table s) s.terminals,
         parts.few_nodes,
       );
-      condition = says_speaks s.threads (length (table s)) whole (terminals_spoken s.threads (table s) s.terminals fit named);
+      condition =
+          says_speaks s.threads (length (location_table s)) whole
+          (terminals_spoken s.threads (location_table s) s.terminals fit named);
     }
 
 -- the head of a text's frame is well-formed
@@ -218,29 +222,29 @@ frame_well_formed text f h =
 -- ---- bodies in memory
 
 -- the head of a body in memory, made by its locations' indices, is the head that its text says, made by their names
-pub head_made : {A : Type 0} (arch : Arch) (name : Bytes) (ts : TokenList) (b : Body A) (says : HasSyntax arch ts b)
+pub head_made : {A : Type 0} (arch : Arch) (name : Bytes) (ts : TokenList) (b : ParsedBody A) (says : HasSyntax arch ts b)
     → resolved_head arch name b.parts ≡ head_of_syntax arch name (syntax_of b says.terminals) (formula_of b.parts.prop)
 head_made arch name ts b says =
     let s = b.parts in
     let syntax = syntax_of b says.terminals in
     let es_in = each_of s.initializers (λ e. IsIn s.locs e.site) says.initializers_in in
     let ss_in = each_of s.listed (IsIn s.locs) says.listed_in in
-    let once : EachOnce s.locs =
-    subst EachOnce (sym says.names)
+    let once : IsDuplicateFree s.locs =
+    subst IsDuplicateFree (sym says.names)
     (once-along [] (site_names (map (λ e. e.site) syntax.initializers ++ syntax.listed ++ sites_in says.terminals)) tt) in
-    let word = fun_ext (λ (x : Seen). sym (words-named s.locs s.initializers x once es_in)) in
-    let is_seen = fun_ext (λ (x : Seen). sym (listed-named s.locs s.listed x once ss_in)) in
+    let word = fun_ext (λ (x : Seen). sym (words-site_by_name s.locs s.initializers x once es_in)) in
+    let is_seen = fun_ext (λ (x : Seen). sym (listed-site_by_name s.locs s.listed x once ss_in)) in
     let regs = ap (λ f. map (λ t. map f (thread_registers t)) (range_with_len 0 s.threads)) word in
     let listed = ap (λ p. filter p (all_registers s.threads ++ locations (length s.locs))) is_seen in
     rw (regs, (ap (λ (f : Seen → ℕ). map f (locations (length s.locs))) word), listed, ← says.names) refl
 
 -- The terminals that a body's text has, resolved by the table that the text gives, are the body's proposition.
-pub body_proposition : {A : Type 0} (arch : Arch) (ts : List (List ℕ)) (b : Body A) (says : HasSyntax arch ts b)
-    → IsProposition (map (resolved (table (syntax_of b says.terminals))) says.terminals) (formula_of b.parts.prop)
+pub body_proposition : {A : Type 0} (arch : Arch) (ts : List (List ℕ)) (b : ParsedBody A) (says : HasSyntax arch ts b)
+    → IsProposition (map (resolved (location_table (syntax_of b says.terminals))) says.terminals) (formula_of b.parts.prop)
 body_proposition arch ts b says = rw says.names at says.proposition
 
 -- the head that a body in memory is resolved to is well-formed
-pub resolved_well_formed : {A : Type 0} (arch : Arch) (ts : List (List ℕ)) (name : List ℕ) (b : Body A)
+pub resolved_well_formed : {A : Type 0} (arch : Arch) (ts : List (List ℕ)) (name : List ℕ) (b : ParsedBody A)
     → IsTestName name
     → HasSyntax arch ts b
     → IsWellFormedHead (resolved_head arch name b.parts)

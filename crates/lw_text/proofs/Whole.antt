@@ -1,15 +1,17 @@
 -- The parts of a test are read in one way; where one of them doesn't stand, the tokens are no test's, and the text has no frame.
 use Rattle.lw_text.proofs.Common.{◌≡◌, ℕ, zero, suc, ◌≤◌, true, false, List, [], ◌∷◌, ◌++◌, length, map, refl}
 use Rattle.lw_text.proofs.Common.{sym, ap, ◌∙◌, subst, arith, Option, Some, None, MatchOption, IfNone, codes}
-use Rattle.lw_text.proofs.Common.{All, AllByRecursion, list_all, length-map, All-from_recursion, NoSuch}
-use Rattle.lw_text.proofs.Common.{NoneRead, Bytes, NameTable, TokenList, CellGrid, Arch, Quant, Exists}
-use Rattle.lw_text.proofs.Common.{NotExists, Forall, all_map, all_weaker, with_names-longer, Cell, Cursor}
-use Rattle.lw_text.proofs.Common.{Token, Tokens, PlacedTokens, texts, Preamble, Until, Header, Row, Rows}
-use Rattle.lw_text.proofs.Common.{begins_stop, with_sites, HasRoomFor, SiteSyntax, ThreadExists, site_names}
-use Rattle.lw_text.proofs.Common.{Terminal, IsProposition, AtomSyntax, Quantified, Condition, begins_token}
-use Rattle.lw_text.proofs.Common.{sites_in, resolved, InitializerSyntax, sites_of, Block, TestSyntax, table}
-use Rattle.lw_text.proofs.Common.{Parts, IsNoTest, HasFrame, all_texts, placed_tokens, left, named}
-use Rattle.lw_text.proofs.Common.{named_initializer, thread_exists, TakenList, NoProposition, NoCondition}
+use Rattle.lw_text.proofs.Common.{All, AllByRecursion, list_all, length-map, All-from_recursion}
+use Rattle.lw_text.proofs.Common.{HoldsOfNothing, ParsesNothing, Bytes, NameTable, TokenList, CellGrid, Arch}
+use Rattle.lw_text.proofs.Common.{Quant, Exists, NotExists, Forall, all_map, All-mono, insert_names-longer}
+use Rattle.lw_text.proofs.Common.{Cell, Cursor, Token, Tokens, PlacedTokens, token_texts, Preamble}
+use Rattle.lw_text.proofs.Common.{ParsesManyTill, Header, Row, Rows, begins_stop, with_sites, HasRoomFor}
+use Rattle.lw_text.proofs.Common.{SiteSyntax, ThreadExists, site_names, Terminal, IsProposition, AtomSyntax}
+use Rattle.lw_text.proofs.Common.{Quantified, Condition, begins_token, sites_in, resolved, InitializerSyntax}
+use Rattle.lw_text.proofs.Common.{sites_of, Block, TestSyntax, location_table, ParsesTest, ParsesNoTest}
+use Rattle.lw_text.proofs.Common.{HasFrame, all_texts, with_spans, remaining_texts, site_by_name}
+use Rattle.lw_text.proofs.Common.{named_initializer, thread_exists, ParsedNameList, NoProposition}
+use Rattle.lw_text.proofs.Common.{NoCondition}
 use Rattle.lw_text.proofs.api.Spelling.{all_pass}
 use Rattle.lw_text.specs.declared.site.Site.{Site as MadeSite}
 use Rattle.lw_text.specs.declared.block.Initializer.{Initializer as MadeInitializer}
@@ -21,36 +23,36 @@ use Rattle.lw_text.proofs.Readings.{with_sites-append}
 use Rattle.lw_text.proofs.TerminalLists.{Terminals-unique}
 use Rattle.lw_text.proofs.Texts.{is_no_text, token_not_next}
 use Rattle.lw_text.proofs.TokenRows.{Tokens-unique, read_whole}
-use Rattle.lw_text.proofs.Lists.{IsOne}
+use Rattle.lw_text.proofs.Lists.{IsDeterministic}
 use Rattle.lw_text.specs.declared.site.Site.TheVariants as made
 
 -- ---- the table of names
 
 -- the table is made of the sites of the block, then of those listed, then of those in the proposition
 pub table_parts : (s : TestSyntax)
-    → table s ≡ with_sites (with_sites (with_sites [] (sites_of s.initializers)) s.listed) (sites_in s.terminals)
+    → location_table s ≡ with_sites (with_sites (with_sites [] (sites_of s.initializers)) s.listed) (sites_in s.terminals)
 table_parts s =
     with_sites-append [] (sites_of s.initializers ++ s.listed) (sites_in s.terminals)
     ∙ ap (λ ns. with_sites ns (sites_in s.terminals)) (with_sites-append [] (sites_of s.initializers) s.listed)
 
 -- the sites of the syntax of initializers in memory are the syntax of their sites
 sites_of_block : (names : NameTable) (es : List MadeInitializer)
-    → sites_of (map (named_initializer names) es) ≡ map (λ e. named names e.site) es
+    → sites_of (map (named_initializer names) es) ≡ map (λ e. site_by_name names e.site) es
 sites_of_block names [] = refl
-sites_of_block names (e ∷ es) = ap (λ l. named names e.site ∷ l) (sites_of_block names es)
+sites_of_block names (e ∷ es) = ap (λ l. site_by_name names e.site ∷ l) (sites_of_block names es)
 
 -- ---- threads that are there
 
 -- where the thread of a site in memory exists, that of the site's syntax does
 there_one : (threads : ℕ) (names : NameTable) (s : MadeSite)
     → thread_exists threads s ≡ true
-    → ThreadExists threads (named names s)
+    → ThreadExists threads (site_by_name names s)
 there_one threads names (made.Location loc) h = tt
 there_one threads names (made.Register t r) h = grind arith
 
 -- where the thread of a site's syntax exists, that of the site in memory does
 one_there : (threads : ℕ) (names : NameTable) (s : MadeSite)
-    → ThreadExists threads (named names s)
+    → ThreadExists threads (site_by_name names s)
     → thread_exists threads s ≡ true
 one_there threads names (made.Location loc) h = refl
 one_there threads names (made.Register t r) h = grind arith
@@ -59,7 +61,7 @@ one_there threads names (made.Register t r) h = grind arith
 pub all_there : (threads : ℕ) (names : NameTable) (es : List MadeInitializer)
     → list_all (λ e. thread_exists threads e.site) es ≡ true
     → AllByRecursion (λ e. ThreadExists threads e.site) (map (named_initializer names) es)
-all_there threads names es h = all_map _ _ es (all_weaker _ _ (λ e. there_one _ names _) es (all_pass _ es h))
+all_there threads names es h = all_map _ _ es (All-mono _ _ (λ e. there_one _ names _) es (all_pass _ es h))
 
 -- where the threads of the syntax of all initializers exist, those of the initializers in memory do
 pub there_all : (threads : ℕ) (names : NameTable) (es : List MadeInitializer)
@@ -71,7 +73,7 @@ there_all threads names (e ∷ es) h = rw (one_there threads names e.site h.0, t
 -- ---- the quantifier
 
 -- a quantifier is read in one way
-pub Quantified-unique : IsOne Quantified
+pub Quantified-unique : IsDeterministic Quantified
 Quantified-unique ts Exists NotExists r s e f = absurd (is_no_text (codes "exists") (codes "~") refl (cc))
 Quantified-unique ts Exists Forall r s e f = absurd (is_no_text (codes "exists") (codes "forall") refl (cc))
 Quantified-unique ts NotExists Exists r s e f = absurd (is_no_text (codes "exists") (codes "~") refl (cc))
@@ -83,43 +85,45 @@ Quantified-unique ts _ _ r s e f = (refl, cc)
 -- ---- where the block ends early
 
 -- where tokens are the parts of a test, the empty table has room for the names of the initial block
-pub few_first : (arch : Arch) (ts : TokenList) (s : TestSyntax) → Parts arch ts s → HasRoomFor [] (sites_of s.initializers)
+pub few_first : (arch : Arch) (ts : TokenList) (s : TestSyntax) → ParsesTest arch ts s → HasRoomFor [] (sites_of s.initializers)
 few_first arch ts s p = omega (
   arith,
   p.few_names,
   ap length (table_parts s),
-  with_names-longer (with_sites [] (sites_of s.initializers)) (site_names s.listed),
-  with_names-longer (with_sites (with_sites [] (sites_of s.initializers)) s.listed) (site_names (sites_in s.terminals)),
+  insert_names-longer (with_sites [] (sites_of s.initializers)) (site_names s.listed),
+  insert_names-longer (with_sites (with_sites [] (sites_of s.initializers)) s.listed) (site_names (sites_in s.terminals)),
 )
 
 -- ---- where the condition ends early
 
 -- where no proposition stands behind the list and the quantifier, no condition stands
 pub no_terminals : {arch : Arch} {threads : ℕ} {before behind : Cursor} {first names : NameTable} {made : List MadeSite}
-    → TakenList arch threads before behind first names made
+    → ParsedNameList arch threads before behind first names made
     → (quant : Quant) (end : TokenList)
-    → Quantified (left behind) quant end
+    → Quantified (remaining_texts behind) quant end
     → NoProposition arch threads end names
-    → NoCondition arch threads (left before) first
+    → NoCondition arch threads (remaining_texts before) first
 no_terminals {arch} {threads} {before} {behind} {first} {names} {made} taken quant end quantifies never all q ss p c fits =
-    let u = Listed-unique arch (left before) all (map (named names) made) c.behind_list (left behind) c.lists taken.is in
-    let v = Quantified-unique (left behind) q quant c.behind_quant end (rw u.1 at c.quantifies) quantifies in
+    let u =
+    Listed-unique arch (remaining_texts before) all (map (site_by_name names) made) c.behind_list (remaining_texts behind) c.lists
+    taken.is in
+    let v = Quantified-unique (remaining_texts behind) q quant c.behind_quant end (rw u.1 at c.quantifies) quantifies in
     never ss p (rw v.1 at c.says) (rw (ap (with_sites first) u.0 ∙ sym taken.names_are) at fits)
 
 -- ---- where the parts end early
 
 module _ (arch : Arch) (ts a : TokenList) (initializers : List InitializerSyntax) (block : Block arch ts initializers a) where
-  at_header : (s : TestSyntax) (p : Parts arch ts s) → (s.initializers ≡ initializers) × Header a s.threads p.behind_header
+  at_header : (s : TestSyntax) (p : ParsesTest arch ts s) → (s.initializers ≡ initializers) × Header a s.threads p.behind_header
   at_header s p =
       let e = Block-unique arch ts s.initializers initializers p.behind_block a p.block block in
       (e.0, subst (λ l. Header l s.threads p.behind_header) e.1 p.header)
 
   -- where no header stands behind the block, the tokens are no test's
-  pub no_header : NoneRead (Header a) → NoSuch (Parts arch ts)
+  pub no_header : ParsesNothing (Header a) → HoldsOfNothing (ParsesTest arch ts)
   no_header never s p = never s.threads p.behind_header (at_header s p).1
 
   module _ (n : ℕ) (b : TokenList) (header : Header a n b) where
-    at_rows : (s : TestSyntax) (p : Parts arch ts s)
+    at_rows : (s : TestSyntax) (p : ParsesTest arch ts s)
         → (s.initializers ≡ initializers)
         × (s.threads ≡ n)
         × Rows n b s.rows p.behind_rows
@@ -133,7 +137,7 @@ module _ (arch : Arch) (ts a : TokenList) (initializers : List InitializerSyntax
     pub no_thread : (names : NameTable) (made : List MadeInitializer)
         → initializers ≡ map (named_initializer names) made
         → list_all (λ e. thread_exists n e.site) made ≡ false
-        → NoSuch (Parts arch ts)
+        → HoldsOfNothing (ParsesTest arch ts)
     no_thread names made is none s p =
         let h = at_rows s p in
         let all =
@@ -143,24 +147,24 @@ module _ (arch : Arch) (ts a : TokenList) (initializers : List InitializerSyntax
         cc
 
     -- where no rows stand behind the header, the tokens are no test's
-    pub no_rows : NoneRead (Rows n b) → NoSuch (Parts arch ts)
+    pub no_rows : ParsesNothing (Rows n b) → HoldsOfNothing (ParsesTest arch ts)
     no_rows never s p = never s.rows p.behind_rows (at_rows s p).2
 
     module _ (rows : CellGrid) (c : TokenList) (are_rows : Rows n b rows c) (first : TokenList)
         (is_first : first ≡ with_sites [] (sites_of initializers)) where
       at_condition : (s : TestSyntax)
-          → Parts arch ts s
+          → ParsesTest arch ts s
           → (s.initializers ≡ initializers) × (s.threads ≡ n) × (s.rows ≡ rows) × Condition arch n c s.listed s.quant s.terminals
       at_condition s p =
           let h = at_rows s p in
           let u = Rows-unique n b p.behind_rows c s.rows rows h.2 are_rows in
           (h.0, h.1, u.0, subst (λ l. Condition arch n l s.listed s.quant s.terminals) u.1 h.3)
 
-      pub no_condition : NoCondition arch n c first → IsNoTest arch ts
+      pub no_condition : NoCondition arch n c first → ParsesNoTest arch ts
       no_condition never s f p whole =
           let h = at_condition s p in
           let names = ap (λ es. with_sites [] (sites_of es)) h.0 ∙ sym is_first in
-          let all : table s ≡ with_sites (with_sites first s.listed) (sites_in s.terminals) =
+          let all : location_table s ≡ with_sites (with_sites first s.listed) (sites_in s.terminals) =
           table_parts s ∙ ap (λ ns. with_sites (with_sites ns s.listed) (sites_in s.terminals)) names in
           never s.listed s.quant s.terminals f h.3 (record {
             room = omega (arith, p.few_names, ap length all);
@@ -169,8 +173,8 @@ module _ (arch : Arch) (ts a : TokenList) (initializers : List InitializerSyntax
           })
 
 -- the parts of a test are read in one way
-pub Parts-unique : (arch : Arch) (ts : TokenList) (s t : TestSyntax) → Parts arch ts s → Parts arch ts t → s ≡ t
-Parts-unique arch ts s t p q =
+pub ParsesTest-unique : (arch : Arch) (ts : TokenList) (s t : TestSyntax) → ParsesTest arch ts s → ParsesTest arch ts t → s ≡ t
+ParsesTest-unique arch ts s t p q =
     let h = at_condition arch ts _ t.initializers q.block t.threads _ q.header t.rows _ q.rows _ refl s p in
     let u =
     Listed-unique arch q.behind_rows s.listed t.listed h.3.behind_list q.condition.behind_list h.3.lists q.condition.lists in
@@ -190,7 +194,7 @@ Parts-unique arch ts s t p q =
 
 -- a table that has the names of the initializers' sites in memory has those of the sites of their syntax
 pub first_names : (names : NameTable) (es : List MadeInitializer)
-    → names ≡ with_sites [] (map (λ e. named names e.site) es)
+    → names ≡ with_sites [] (map (λ e. site_by_name names e.site) es)
     → names ≡ with_sites [] (sites_of (map (named_initializer names) es))
 first_names names es e = e ∙ ap (λ l. with_sites [] l) (sym (sites_of_block names es))
 
@@ -203,7 +207,7 @@ header_some ts rest (suc n) h = omega arith
 
 -- each of the rows up to a token that ends them has a cell for each thread
 lines_even : {A : Type 0} (n : ℕ) (rows : List (List (Cell A))) (ts rest : TokenList)
-    → Until begins_stop (Row n) ts (all_texts rows) rest
+    → ParsesManyTill begins_stop (Row n) ts (all_texts rows) rest
     → AllByRecursion (λ row. length row ≡ n) rows
 lines_even n [] ts rest u = tt
 lines_even n (row ∷ rows) ts rest u = (sym (length-map row _) ∙ u.1.1.1, lines_even n rows u.1.0 rest u.1.2)
@@ -218,25 +222,26 @@ Rows-even n rows ts rest r = All-from_recursion (λ row. length row ≡ n) rows 
 
 -- a text's tokens, if it has some, are no test's
 abbrev HasNoTest : Arch → Bytes → Type 0
-HasNoTest arch text = (ts : TokenList) → Tokens text ts → IsNoTest arch ts
+HasNoTest arch text = (ts : TokenList) → Tokens text ts → ParsesNoTest arch ts
 
 -- where the tokens behind a text's preamble are no test's, it has no frame
 pub no_frame : (text : Bytes) (arch : Arch) (name rest : Bytes)
     → Preamble text arch name rest
     → HasNoTest arch rest
-    → NoSuch (HasFrame text)
+    → HoldsOfNothing (HasFrame text)
 no_frame text arch name rest preamble never frame h =
     let e = Preamble-unique text h.arch h.name h.rest arch name rest h.preamble preamble in
     never h.tokens (subst (λ x. Tokens x h.tokens) e.2 h.stream) h.syntax h.condition
-    (subst (λ a. Parts a h.tokens h.syntax) e.0 h.parts) h.proposition
+    (subst (λ a. ParsesTest a h.tokens h.syntax) e.0 h.parts) h.proposition
 
 -- where a lexical fault ends the token stream, or it has none and is no test's, the tokens of the text are no test's
 pub no_test : {F : Type 0} (arch : Arch) (o : Option F) (Q : F → Type 0) (len : ℕ) (rest : Bytes) (ts : List Token)
-    → MatchOption o (PlacedTokens len rest (placed_tokens ts)) (λ f. NoSuch (Tokens rest) × Q f)
-    → IfNone o (IsNoTest arch (texts ts))
+    → MatchOption o (PlacedTokens len rest (with_spans ts)) (λ f. HoldsOfNothing (Tokens rest) × Q f)
+    → IfNone o (ParsesNoTest arch (token_texts ts))
     → HasNoTest arch rest
 no_test arch None Q len rest ts stream never us other s p parts whole =
-    never s p (subst (λ x. Parts arch x s) (Tokens-unique us (texts ts) rest other (read_whole len rest ts stream)) parts) whole
+    never s p
+    (subst (λ x. ParsesTest arch x s) (Tokens-unique us (token_texts ts) rest other (read_whole len rest ts stream)) parts) whole
 no_test arch (Some f) Q len rest ts stream never us other s p parts whole = stream.0 us other
 
 -- where none of the three quantifiers begins, none is read
@@ -244,7 +249,7 @@ pub no_quantifier : (ts : TokenList)
     → begins_token (codes "~") ts ≡ false
     → ((rest : TokenList) → ts ≡ codes "exists" ∷ rest → ⊥)
     → ((rest : TokenList) → ts ≡ codes "forall" ∷ rest → ⊥)
-    → NoneRead (Quantified ts)
+    → ParsesNothing (Quantified ts)
 no_quantifier ts no_tilde no_first no_second Exists rest f = no_first rest f
 no_quantifier ts no_tilde no_first no_second NotExists rest f = token_not_next (codes "~") ts _ no_tilde f
 no_quantifier ts no_tilde no_first no_second Forall rest f = no_second rest f

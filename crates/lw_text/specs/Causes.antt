@@ -5,19 +5,19 @@ use Rattle.lw_text.specs.declared.fault.TextCause.{TextCause}
 use Rattle.lw_text.specs.declared.fault.TextCause.TheVariants as text
 
 -- the number under which people are told of a cause
-abbrev pub text_cause_number : TextCause → ℕ
-text_cause_number text.NotUtf8 = 1
-text_cause_number text.TooLong = 2
-text_cause_number text.Unterminated = 3
-text_cause_number text.Unexpected = 4
-text_cause_number text.Number = 5
-text_cause_number text.Name = 6
-text_cause_number text.Ragged = 7
-text_cause_number text.TooManyThreads = 8
-text_cause_number text.TooManyRows = 9
-text_cause_number text.TooManyLocations = 10
-text_cause_number text.Condition = 11
-text_cause_number text.Memory = 12
+abbrev pub text_cause_code : TextCause → ℕ
+text_cause_code text.NotUtf8 = 1
+text_cause_code text.TooLong = 2
+text_cause_code text.Unterminated = 3
+text_cause_code text.Unexpected = 4
+text_cause_code text.Number = 5
+text_cause_code text.Name = 6
+text_cause_code text.Ragged = 7
+text_cause_code text.TooManyThreads = 8
+text_cause_code text.TooManyRows = 9
+text_cause_code text.TooManyLocations = 10
+text_cause_code text.Condition = 11
+text_cause_code text.Memory = 12
 
 -- the name under which people are told of a cause
 abbrev pub text_cause_name : TextCause → Bytes

@@ -6,9 +6,9 @@ use Rattle.lw_base.specs.Types.{NameTable, Bytes, TokenList}
 use Rattle.lw_base.specs.declared.head.Arch.{Arch}
 use Rattle.lw_base.specs.declared.head.Quant.{Quant}
 use Rattle.lw_base.specs.declared.head.Quant.TheVariants.{Exists, NotExists, Forall}
-use Rattle.lw_base.specs.Tables.{index_of}
+use Rattle.lw_base.specs.Tables.{position_of_name}
 use Rattle.lw_base.specs.Formula.{Formula, Yes, No, Reg_is, Word_is}
-use Rattle.lw_text.specs.Lists.{Chain, Ended}
+use Rattle.lw_text.specs.Combinators.{ParsesMany, ParsesSepEndBy}
 use Rattle.lw_text.specs.Sites.{SiteSyntax, InMemory, InThread, IsSite, ThreadExists, Value}
 use Rattle.lw_text.specs.Propositions.{Terminal, Open, Close, Negation, Conjunction, Disjunction, Atom}
 
@@ -36,7 +36,7 @@ IsTerminal arch threads ts (Atom claim) rest = IsAtom arch threads ts claim rest
 
 -- The tokens are these terminals, to the end of the text.
 abbrev pub Terminals : Arch → ℕ → TokenList → List (Terminal AtomSyntax) → Type 0
-Terminals arch threads ts ss = Chain (IsTerminal arch threads) ts ss []
+Terminals arch threads ts ss = ParsesMany (IsTerminal arch threads) ts ss []
 
 -- the site that a terminal's atom speaks of, if it speaks of one
 abbrev pub site_of : Terminal AtomSyntax → Option SiteSyntax
@@ -57,7 +57,7 @@ sites_in ss = filter_map site_of ss
 abbrev pub formula_in : NameTable → AtomSyntax → Formula
 formula_in names Always = Yes
 formula_in names Never = No
-formula_in names (Holds (InMemory x) n) = Word_is (index_of names x) n
+formula_in names (Holds (InMemory x) n) = Word_is (position_of_name names x) n
 formula_in names (Holds (InThread t r) n) = Reg_is t r n
 
 -- a terminal whose atom says a formula, each location by its index in the table
@@ -76,7 +76,7 @@ begins_token w (t ∷ ts) = bytes_eq t w
 
 -- sites, each with a `;` behind it, which the last may lack, and `]`
 abbrev pub Sites : Arch → TokenList → List SiteSyntax → TokenList → Type 0
-Sites arch ts sites rest = Ended (IsSite arch) (codes ";") (codes "]") ts sites rest
+Sites arch ts sites rest = ParsesSepEndBy (IsSite arch) (codes ";") (codes "]") ts sites rest
 
 -- `locations [`, sites, `]`; or nothing
 abbrev pub Listed : Arch → TokenList → List SiteSyntax → TokenList → Type 0

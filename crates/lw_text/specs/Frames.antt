@@ -9,11 +9,11 @@ use Rattle.lw_base.specs.declared.head.Quant.{Quant}
 use Rattle.lw_base.specs.declared.head.Seen.{Seen}
 use Rattle.lw_base.specs.Formula.{Formula}
 use Rattle.lw_base.specs.Heads.{TestHead}
-use Rattle.lw_base.specs.SeenLists.{same_seen, thread_registers, all_registers, locations}
-use Rattle.lw_base.specs.Tables.{with_names}
+use Rattle.lw_base.specs.SeenLists.{seen_eq, thread_registers, all_registers, locations}
+use Rattle.lw_base.specs.Tables.{insert_names}
 use Rattle.lw_text.specs.Tokens.{Tokens}
 use Rattle.lw_text.specs.Preambles.{Preamble}
-use Rattle.lw_text.specs.Lists.{Ended}
+use Rattle.lw_text.specs.Combinators.{ParsesSepEndBy}
 use Rattle.lw_text.specs.Rows.{Header, Rows, columns}
 use Rattle.lw_text.specs.Sites.{SiteSyntax, IsSite, ThreadExists, Value, site_names, seen_in}
 use Rattle.lw_text.specs.Propositions.{Terminal, HasFewNodes, IsProposition}
@@ -30,7 +30,7 @@ IsInitializer arch ts e rest = (mid : TokenList) × IsSite arch ts e.site mid ×
 
 -- initializers, each with a `;` behind it, which the last may lack, and `}`
 abbrev pub Initializers : Arch → TokenList → List InitializerSyntax → TokenList → Type 0
-Initializers arch ts initializers rest = Ended (IsInitializer arch) (codes ";") (codes "}") ts initializers rest
+Initializers arch ts initializers rest = ParsesSepEndBy (IsInitializer arch) (codes ";") (codes "}") ts initializers rest
 
 -- the sites of initializers
 abbrev pub sites_of : List InitializerSyntax → List SiteSyntax
@@ -50,13 +50,13 @@ pub record TestSyntax : Type 0 where
   pub terminals : List (Terminal AtomSyntax)
 
 -- the names of the locations, each once, in the order of first appearance
-abbrev pub table : TestSyntax → NameTable
-table s =
-    with_names [] (site_names (map (λ e. e.site) s.initializers ++ s.listed ++ sites_in s.terminals))
+abbrev pub location_table : TestSyntax → NameTable
+location_table s =
+    insert_names [] (site_names (map (λ e. e.site) s.initializers ++ s.listed ++ sites_in s.terminals))
 
 -- The initial block, whose threads exist, the header, the rows and the condition, with the registers of the language, and
 -- with no more locations and nodes than a test may have.
-pub record Parts (arch : Arch) (ts : TokenList) (s : TestSyntax) : Type 0 where
+pub record ParsesTest (arch : Arch) (ts : TokenList) (s : TestSyntax) : Type 0 where
   pub behind_block : TokenList
   pub behind_header : TokenList
   pub behind_rows : TokenList
@@ -65,14 +65,14 @@ pub record Parts (arch : Arch) (ts : TokenList) (s : TestSyntax) : Type 0 where
   pub there : AllByRecursion (λ e. ThreadExists s.threads e.site) s.initializers
   pub rows : Rows s.threads behind_header s.rows behind_rows
   pub condition : Condition arch s.threads behind_rows s.listed s.quant s.terminals
-  pub few_names : length (table s) ≤ most_locations
+  pub few_names : length (location_table s) ≤ most_locations
   pub few_nodes : HasFewNodes s.terminals
 
 -- The tokens are no test's of the language.
-abbrev pub IsNoTest : Arch → TokenList → Type 0
-IsNoTest arch ts =
-    (s : TestSyntax) (p : Formula) → Parts arch ts s
-    → IsProposition (map (resolved (table s)) s.terminals) p → ⊥
+abbrev pub ParsesNoTest : Arch → TokenList → Type 0
+ParsesNoTest arch ts =
+    (s : TestSyntax) (p : Formula) → ParsesTest arch ts s
+    → IsProposition (map (resolved (location_table s)) s.terminals) p → ⊥
 
 -- What a test says: its head, and for each thread and each row the tokens of the cell.
 pub record TestFrame : Type 0 where
@@ -80,14 +80,14 @@ pub record TestFrame : Type 0 where
   pub cells : CellGrid
 
 -- the word of a register or location at the start: that of the last initializer for it, or 0
-abbrev pub word_of : NameTable → List InitializerSyntax → Seen → ℕ
-word_of names initializers s =
-    fold (λ w e. if same_seen (seen_in names e.site) s then e.word else w) 0 initializers
+abbrev pub initial_word_of : NameTable → List InitializerSyntax → Seen → ℕ
+initial_word_of names initializers s =
+    fold (λ w e. if seen_eq (seen_in names e.site) s then e.word else w) 0 initializers
 
 -- what is listed, each once: registers by thread and index, then locations by index
 abbrev pub listed_in : ℕ → NameTable → List SiteSyntax → List Seen
 listed_in threads names sites =
-    filter (λ s. list_any (λ site. same_seen (seen_in names site) s) sites) (all_registers threads ++ locations (length names))
+    filter (λ s. list_any (λ site. seen_eq (seen_in names site) s) sites) (all_registers threads ++ locations (length names))
 
 -- the head of a test of this language and this name, which its syntax says, and whose proposition says the formula
 abbrev pub head_of_syntax : Arch → Bytes → TestSyntax → Formula → TestHead
@@ -96,18 +96,18 @@ head_of_syntax arch name s condition =
       name = name;
       arch = arch;
       threads = s.threads;
-      locs = table s;
+      locs = location_table s;
       init_regs =
-          map (λ t. map (word_of (table s) s.initializers) (thread_registers t)) (range_with_len 0 s.threads);
-      init_words = map (word_of (table s) s.initializers) (locations (length (table s)));
-      listed = listed_in s.threads (table s) s.listed;
+          map (λ t. map (initial_word_of (location_table s) s.initializers) (thread_registers t)) (range_with_len 0 s.threads);
+      init_words = map (initial_word_of (location_table s) s.initializers) (locations (length (location_table s)));
+      listed = listed_in s.threads (location_table s) s.listed;
       quant = s.quant;
       condition = condition;
     }
 
 -- the frame of a test of this language and this name, which its syntax says: its head, and its cells by columns
-abbrev pub made_of : Arch → Bytes → TestSyntax → Formula → TestFrame
-made_of arch name s condition =
+abbrev pub frame_of_syntax : Arch → Bytes → TestSyntax → Formula → TestFrame
+frame_of_syntax arch name s condition =
     record { head = head_of_syntax arch name s condition; cells = columns s.threads s.rows }
 
 -- The text, UTF-8 and not too long, is a preamble and a list of tokens, and this is what they say.
@@ -122,6 +122,6 @@ pub record HasFrame (text : Bytes) (frame : TestFrame) : Type 0 where
   pub condition : Formula
   pub preamble : Preamble text arch name rest
   pub stream : Tokens rest tokens
-  pub parts : Parts arch tokens syntax
-  pub proposition : IsProposition (map (resolved (table syntax)) syntax.terminals) condition
-  pub made : frame ≡ made_of arch name syntax condition
+  pub parts : ParsesTest arch tokens syntax
+  pub proposition : IsProposition (map (resolved (location_table syntax)) syntax.terminals) condition
+  pub made : frame ≡ frame_of_syntax arch name syntax condition

@@ -1,7 +1,7 @@
 pub mod Tokens
 pub mod TokenKinds
 pub mod Preambles
-pub mod Lists
+pub mod Combinators
 pub mod Rows
 pub mod Sites
 pub mod Propositions

@@ -3,7 +3,7 @@ use Rattle.std.specs.Prelude.{◌≡◌, ℕ, true, List, [], ◌∷◌, ◌++�
 use Rattle.lw_base.specs.Types.{Bytes, TokenList, Cells, CellGrid}
 use Rattle.lw_base.specs.declared.head.Arch.{Arch}
 use Rattle.lw_text.specs.Preambles.{Preamble}
-use Rattle.lw_text.specs.Lists.{Chain}
+use Rattle.lw_text.specs.Combinators.{ParsesMany}
 use Rattle.lw_text.specs.Rows.{Header, Rows, ends_cell, columns}
 use Rattle.lw_text.specs.Frames.{InitializerSyntax, Block}
 use Rattle.lw_text.specs.PlacedTokens.{PlacedToken, texts_of_tokens, PlacedTokens}
@@ -30,7 +30,7 @@ CellsFrom ts (cell ∷ cells) rest =
 
 -- The tokens are those of the rows' cells, and then rest.
 abbrev pub RowsFrom : List PlacedToken → List (List PlacedCell) → List PlacedToken → Type 0
-RowsFrom ts rows rest = Chain CellsFrom ts rows rest
+RowsFrom ts rows rest = ParsesMany CellsFrom ts rows rest
 
 -- The tokens are a block, the header of so many threads, and behind it these rows, whose cells are cut from them.
 pub record HasRows (arch : Arch) (tokens : List PlacedToken) (threads : ℕ) (rows : List (List PlacedCell)) : Type 0 where

@@ -1,7 +1,7 @@
 -- The token stream of a text with the places of its tokens: a plain list that knows no memory.
 use Rattle.std.specs.Prelude.{◌≡◌, ℕ, ◌+◌, List, [], ◌∷◌, length, map}
 use Rattle.lw_base.specs.Types.{Bytes, TokenList}
-use Rattle.lw_text.specs.Tokens.{Trivia, First}
+use Rattle.lw_text.specs.Tokens.{Trivia, IsFirstToken}
 
 -- a token: the place of its first byte in the text, and its bytes
 pub record PlacedToken : Type 0 where
@@ -17,4 +17,4 @@ texts_of_tokens ts = map (λ t. t.text) ts
 abbrev pub PlacedTokens : ℕ → Bytes → List PlacedToken → Type 0
 PlacedTokens len text [] = Trivia text []
 PlacedTokens len text (t ∷ ts) =
-    (rest : Bytes) × First text t.text rest × (t.at + length t.text + length rest ≡ len) × PlacedTokens len rest ts
+    (rest : Bytes) × IsFirstToken text t.text rest × (t.at + length t.text + length rest ≡ len) × PlacedTokens len rest ts

@@ -3,21 +3,21 @@ use Rattle.std.specs.Prelude.{ℕ, ◌≤◌, List, [], length, map, slice_index
 use Rattle.lw_base.specs.Types.{TokenList, Cells, CellGrid}
 use Rattle.lw_text.specs.declared.token.Token.{Token}
 use Rattle.lw_text.specs.declared.cell.Cell.{Cell}
-use Rattle.lw_text.specs.Spans.{texts}
+use Rattle.lw_text.specs.Spans.{token_texts}
 use Rattle.lw_text.specs.PlacedTokens.{PlacedToken}
 use Rattle.lw_text.specs.PlacedCells.{PlacedCell}
 
 -- the token that a `Token` in memory is
-abbrev pub placed : Token → PlacedToken
-placed t = record { at = t.at; text = t.text.now }
+abbrev pub with_span : Token → PlacedToken
+with_span t = record { at = t.at; text = t.text.now }
 
 -- tokens in memory, with their places
-abbrev pub placed_tokens : List Token → List PlacedToken
-placed_tokens ts = map placed ts
+abbrev pub with_spans : List Token → List PlacedToken
+with_spans ts = map with_span ts
 
 -- the cell that a `Cell` in memory is
 abbrev pub placed_cell : {A : Type 0} → Cell A → PlacedCell
-placed_cell cell = record { tokens = placed_tokens cell.tokens; end = cell.end }
+placed_cell cell = record { tokens = with_spans cell.tokens; end = cell.end }
 
 -- some cells in memory, with the places of their tokens
 abbrev pub placed_row : {A : Type 0} → List (Cell A) → List PlacedCell
@@ -29,7 +29,7 @@ placed_cells rows = map placed_row rows
 
 -- the tokens of a cell in memory, without their places
 abbrev pub cell_texts : {A : Type 0} → Cell A → TokenList
-cell_texts cell = texts cell.tokens
+cell_texts cell = token_texts cell.tokens
 
 -- some cells in memory, without places
 abbrev pub cells_texts : {A : Type 0} → List (Cell A) → Cells
@@ -40,8 +40,8 @@ abbrev pub all_texts : {A : Type 0} → List (List (Cell A)) → CellGrid
 all_texts rows = map cells_texts rows
 
 -- no token of the cell, and not its end, lies past this place
-abbrev pub IsWithin : {A : Type 0} → ℕ → Cell A → Type 0
-IsWithin len cell = All (λ t. t.at ≤ len) cell.tokens × (cell.end ≤ len)
+abbrev pub EndsBefore : {A : Type 0} → ℕ → Cell A → Type 0
+EndsBefore len cell = All (λ t. t.at ≤ len) cell.tokens × (cell.end ≤ len)
 
 -- the number of rows of some columns
 abbrev pub height : {X : Type 0} → List (List X) → ℕ

@@ -4,18 +4,18 @@ use Rattle.std.specs.List.{AllByRecursion}
 use Rattle.lw_base.specs.Types.{Bytes}
 use Rattle.lw_base.specs.declared.head.Arch.{Arch}
 use Rattle.lw_base.specs.Languages.{arch_keyword}
-use Rattle.lw_base.specs.Characters.{byte, is_blank, is_key_byte, is_space, begins}
+use Rattle.lw_base.specs.Characters.{byte, is_blank, is_key_byte, is_space, first_byte_is}
 use Rattle.lw_base.specs.Names.{IsTestName}
-use Rattle.lw_text.specs.Tokens.{Trivia, First}
+use Rattle.lw_text.specs.Tokens.{Trivia, IsFirstToken}
 
 -- One or more blanks, the name, and then rest, which is empty or begins with a blank.
-pub record Named (text name rest : Bytes) : Type 0 where
+pub record ParsesTestName (text name rest : Bytes) : Type 0 where
   pub blanks : Bytes
   pub parts : text ≡ blanks ++ (name ++ rest)
   pub apart : 0 < length blanks
   pub blank : AllByRecursion (λ b. is_blank b ≡ true) blanks
   pub is_name : IsTestName name
-  pub longest : begins (λ b. not (is_blank b)) rest ≡ false
+  pub longest : first_byte_is (λ b. not (is_blank b)) rest ≡ false
 
 -- A quote, any bytes but quotes, a quote, and then rest.
 pub record Quoted (text rest : Bytes) : Type 0 where
@@ -34,7 +34,7 @@ pub record KeyLine (text rest : Bytes) : Type 0 where
   pub all : AllByRecursion (λ b. is_key_byte b ≡ true) key
   pub spaced : AllByRecursion (λ b. is_space b ≡ true) spaces
   pub one_line : AllByRecursion (λ b. (b == byte "\n") ≡ false) value
-  pub longest : begins (λ b. not (b == byte "\n")) rest ≡ false
+  pub longest : first_byte_is (λ b. not (b == byte "\n")) rest ≡ false
 
 -- a quoted text or a `Key=value` line, and then rest
 abbrev pub Note : Bytes → Bytes → Type 0
@@ -42,7 +42,7 @@ Note text rest = Quoted text rest ⊎ KeyLine text rest
 
 -- Any number of notes, with trivia around them, up to a `{`.
 pub data Notes : Bytes → Bytes → Type 0 where
-  none : {text rest : Bytes} → Trivia text rest → begins (λ b. b == byte "{") rest ≡ true
+  none : {text rest : Bytes} → Trivia text rest → first_byte_is (λ b. b == byte "{") rest ≡ true
       → Notes text rest
   note : {text mid after rest : Bytes} → Trivia text mid → Note mid after → Notes after rest
       → Notes text rest
@@ -50,4 +50,4 @@ pub data Notes : Bytes → Bytes → Type 0 where
 -- The text is the keyword of a language, blanks and the name, notes, and then rest.
 abbrev pub Preamble : Bytes → Arch → Bytes → Bytes → Type 0
 Preamble text arch name rest =
-    (mid after : Bytes) × First text (arch_keyword arch) mid × Named mid name after × Notes after rest
+    (mid after : Bytes) × IsFirstToken text (arch_keyword arch) mid × ParsesTestName mid name after × Notes after rest

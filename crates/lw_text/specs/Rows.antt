@@ -5,7 +5,7 @@ use Rattle.std.specs.Str.{bytes_eq}
 use Rattle.lw_base.specs.Limits.{most_rows, most_threads}
 use Rattle.lw_base.specs.Characters.{byte, digit}
 use Rattle.lw_base.specs.Types.{Bytes, TokenList, Cells, CellGrid}
-use Rattle.lw_text.specs.Lists.{Separated, Until}
+use Rattle.lw_text.specs.Combinators.{ParsesSepBy, ParsesManyTill}
 
 -- the name of a thread, `P0`, `P1` and so on
 abbrev pub thread_name : ℕ → Bytes
@@ -32,7 +32,7 @@ Cell ts cell rest = (ts ≡ cell ++ rest) × AllByRecursion (λ t. ends_cell t �
 
 -- cells, separated by `|`, ended by `;`
 abbrev pub RowCells : TokenList → Cells → TokenList → Type 0
-RowCells ts cells rest = Separated Cell (codes "|") (codes ";") ts cells rest
+RowCells ts cells rest = ParsesSepBy Cell (codes "|") (codes ";") ts cells rest
 
 -- a cell for each thread, separated by `|`, ended by `;`
 abbrev pub Row : ℕ → TokenList → Cells → TokenList → Type 0
@@ -51,7 +51,7 @@ begins_stop (t ∷ ts) = is_stop t
 
 -- rows, not too many, up to a token that ends them
 abbrev pub Rows : ℕ → TokenList → CellGrid → TokenList → Type 0
-Rows threads ts rows rest = Until begins_stop (Row threads) ts rows rest × (length rows ≤ most_rows)
+Rows threads ts rows rest = ParsesManyTill begins_stop (Row threads) ts rows rest × (length rows ≤ most_rows)
 
 -- what stands in each row at this index, from top to bottom
 abbrev pub column : {X : Type 0} → List (List X) → ℕ → List X

@@ -6,9 +6,9 @@ use Rattle.lw_base.specs.Limits.{most_locations}
 use Rattle.lw_base.specs.declared.head.Arch.{Arch}
 use Rattle.lw_base.specs.declared.head.Seen.{Seen}
 use Rattle.lw_base.specs.declared.head.Seen.TheVariants.{Register, Location}
-use Rattle.lw_base.specs.Names.{IsLocation}
-use Rattle.lw_base.specs.Tables.{with_name, with_names, index_of}
-use Rattle.lw_base.specs.Registers.{IsRegister}
+use Rattle.lw_base.specs.Names.{IsLocationName}
+use Rattle.lw_base.specs.Tables.{insert_name, insert_names, position_of_name}
+use Rattle.lw_base.specs.Registers.{IsRegisterName}
 use Rattle.lw_text.specs.Tokens.{IsNumber}
 
 -- a site as it is written: a location by its name, or a register of a thread, by its index
@@ -19,9 +19,9 @@ pub data SiteSyntax : Type 0 where
 -- `x` or `[x]`; `t : r`, where r names a register of the language
 abbrev pub IsSite : Arch → TokenList → SiteSyntax → TokenList → Type 0
 IsSite arch ts (InMemory x) rest =
-    IsLocation x × ((ts ≡ x ∷ rest) ⊎ (ts ≡ codes "[" ∷ x ∷ codes "]" ∷ rest))
+    IsLocationName x × ((ts ≡ x ∷ rest) ⊎ (ts ≡ codes "[" ∷ x ∷ codes "]" ∷ rest))
 IsSite arch ts (InThread t r) rest =
-    (p q : Bytes) × (ts ≡ p ∷ codes ":" ∷ q ∷ rest) × IsNumber p t × IsRegister arch q r
+    (p q : Bytes) × (ts ≡ p ∷ codes ":" ∷ q ∷ rest) × IsNumber p t × IsRegisterName arch q r
 
 -- the site's thread is one of so many
 abbrev pub ThreadExists : ℕ → SiteSyntax → Type 0
@@ -48,7 +48,7 @@ site_names sites = filter_map site_name sites
 
 -- the table, after the names of these sites appeared
 abbrev pub with_sites : NameTable → List SiteSyntax → NameTable
-with_sites names sites = with_names names (site_names sites)
+with_sites names sites = insert_names names (site_names sites)
 
 -- the table has room for the names of these sites
 abbrev pub HasRoomFor : NameTable → List SiteSyntax → Type 0
@@ -56,9 +56,9 @@ HasRoomFor names sites = length (with_sites names sites) ≤ most_locations
 
 -- the table has room for this name
 abbrev pub HasRoomForName : NameTable → Bytes → Type 0
-HasRoomForName names x = length (with_name names x) ≤ most_locations
+HasRoomForName names x = length (insert_name names x) ≤ most_locations
 
 -- the register or location that a site is, a location by its index in the table
 abbrev pub seen_in : NameTable → SiteSyntax → Seen
-seen_in names (InMemory x) = Location (index_of names x)
+seen_in names (InMemory x) = Location (position_of_name names x)
 seen_in names (InThread t r) = Register t r

@@ -5,12 +5,12 @@ use Rattle.lw_text.specs.declared.token.Token.{Token}
 use Rattle.lw_text.specs.PlacedTokens.{PlacedToken}
 
 -- the tokens without their places
-abbrev pub texts : List Token → TokenList
-texts ts = map (λ t. t.text.now) ts
+abbrev pub token_texts : List Token → TokenList
+token_texts ts = map (λ t. t.text.now) ts
 
 -- The second list is what is left of the first behind some of its elements.
-abbrev pub Leaves : {X : Type 0} → List X → List X → Type 0
-Leaves {X} before after = (front : List X) × (before ≡ front ++ after)
+abbrev pub IsSuffix : {X : Type 0} → List X → List X → Type 0
+IsSuffix {X} before after = (front : List X) × (before ≡ front ++ after)
 
 -- Each token is the slice of its span, and the spans lie one behind another between two places.
 abbrev pub Spans : Bytes → ℕ → List PlacedToken → ℕ → Type 0

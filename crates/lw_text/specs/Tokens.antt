@@ -7,13 +7,13 @@ use Rattle.std.specs.List.{list_any, AllByRecursion}
 use Rattle.std.specs.Str.{bytes_eq}
 use Rattle.std.specs.Char.{digit_value}
 use Rattle.lw_base.specs.Types.{Bytes, TokenList}
-use Rattle.lw_base.specs.Characters.{byte, is_blank, is_name_byte, begins}
+use Rattle.lw_base.specs.Characters.{byte, is_blank, is_name_byte, first_byte_is}
 use Rattle.lw_base.specs.Names.{IsName}
 
 -- whether these two bytes stand at the front
 abbrev pub begins_pair : ℕ → ℕ → Bytes → Bool
 begins_pair a b [] = false
-begins_pair a b (c ∷ text) = c == a && begins (λ d. d == b) text
+begins_pair a b (c ∷ text) = c == a && first_byte_is (λ d. d == b) text
 
 -- whether a `(*` stands at the front
 abbrev pub opens_comment : Bytes → Bool
@@ -42,7 +42,7 @@ pub data Trivia : Bytes → Bytes → Type 0 where
 
 -- whether something begins here that may stand between tokens
 abbrev pub begins_trivia : Bytes → Bool
-begins_trivia text = begins is_blank text || opens_comment text
+begins_trivia text = first_byte_is is_blank text || opens_comment text
 
 -- digits of this base, behind a front that stands for n, stand for v
 abbrev pub Digits : ℕ → ℕ → Bytes → ℕ → Type 0
@@ -56,37 +56,37 @@ IsNumber w n =
     ⊎ ((ds : Bytes) × (w ≡ codes "0x" ++ ds) × (0 < length ds) × Digits 16 0 ds n))
 
 -- the bytes of a name run are a name, or a number
-abbrev pub IsKind : Bytes → Type 0
-IsKind w = IsName w ⊎ ((n : ℕ) × IsNumber w n)
+abbrev pub IsNameOrNumber : Bytes → Type 0
+IsNameOrNumber w = IsName w ⊎ ((n : ℕ) × IsNumber w n)
 
 -- A name run is all letters, digits and `_` that stand side by side, and it is a name or a number.
 pub record IsNameRun (w rest : Bytes) : Type 0 where
   pub all : AllByRecursion (λ b. is_name_byte b ≡ true) w
-  pub longest : begins is_name_byte rest ≡ false
-  pub kind : IsKind w
+  pub longest : first_byte_is is_name_byte rest ≡ false
+  pub kind : IsNameOrNumber w
 
 -- the symbols of two bytes
-abbrev pub pairs : TokenList
-pairs = codes ":=" ∷ codes "!=" ∷ codes "/\\" ∷ codes "\\/" ∷ []
+abbrev pub two_byte_symbols : TokenList
+two_byte_symbols = codes ":=" ∷ codes "!=" ∷ codes "/\\" ∷ codes "\\/" ∷ []
 
 -- whether two bytes are a symbol
-abbrev pub is_pair : ℕ → ℕ → Bool
-is_pair b c = list_any (λ s. bytes_eq s (b ∷ c ∷ [])) pairs
+abbrev pub is_two_byte_symbol : ℕ → ℕ → Bool
+is_two_byte_symbol b c = list_any (λ s. bytes_eq s (b ∷ c ∷ [])) two_byte_symbols
 
 -- the symbols of one byte
-abbrev pub singles : Bytes
-singles = codes "{}[]()|;:,$=+~"
+abbrev pub one_byte_symbols : Bytes
+one_byte_symbols = codes "{}[]()|;:,$=+~"
 
 -- whether a byte is a symbol
-abbrev pub is_single : ℕ → Bool
-is_single b = list_any (λ s. s == b) singles
+abbrev pub is_one_byte_symbol : ℕ → Bool
+is_one_byte_symbol b = list_any (λ s. s == b) one_byte_symbols
 
 -- A symbol: the longest that begins there. The `(` of a `(*` is none.
 abbrev pub IsSymbol : Bytes → Bytes → Type 0
 IsSymbol [] rest = ⊥
 IsSymbol (b ∷ []) rest =
-    (is_single b ≡ true) × (begins (is_pair b) rest ≡ false) × (opens_comment (b ∷ rest) ≡ false)
-IsSymbol (b ∷ c ∷ []) rest = is_pair b c ≡ true
+    (is_one_byte_symbol b ≡ true) × (first_byte_is (is_two_byte_symbol b) rest ≡ false) × (opens_comment (b ∷ rest) ≡ false)
+IsSymbol (b ∷ c ∷ []) rest = is_two_byte_symbol b c ≡ true
 IsSymbol (b ∷ c ∷ d ∷ more) rest = ⊥
 
 -- t is a token before rest
@@ -94,10 +94,10 @@ abbrev pub IsToken : Bytes → Bytes → Type 0
 IsToken t rest = IsNameRun t rest ⊎ IsSymbol t rest
 
 -- The text is a trivia, the token t, and then rest.
-abbrev pub First : Bytes → Bytes → Bytes → Type 0
-First text t rest = Trivia text (t ++ rest) × IsToken t rest
+abbrev pub IsFirstToken : Bytes → Bytes → Bytes → Type 0
+IsFirstToken text t rest = Trivia text (t ++ rest) × IsToken t rest
 
 -- The text is these tokens, with trivia between and around them.
 abbrev pub Tokens : Bytes → TokenList → Type 0
 Tokens text [] = Trivia text []
-Tokens text (t ∷ ts) = (rest : Bytes) × First text t rest × Tokens rest ts
+Tokens text (t ∷ ts) = (rest : Bytes) × IsFirstToken text t rest × Tokens rest ts

@@ -1,5 +1,5 @@
 -- What only the readers within the crate speak of: no public call cites it.
 pub mod Terminals
-pub mod Pending
+pub mod ReaderStates
 pub mod Resolved
-pub mod Taken
+pub mod Parsed

@@ -1,12 +1,12 @@
 //! The initial block of a test: its initializers, each a site and the word that it begins with.
 ghost use Rattle.std.specs.Prelude.{◌≡◌, true, false, MatchResult, OnOk, OnErr};
 ghost use Rattle.std.specs.List.{list_all};
-ghost use Rattle.lw_base.specs.Refusals.{NotReadWhere};
+ghost use Rattle.lw_base.specs.NoParse.{ParsesNothingWithOrOutOfMemory};
 ghost use Rattle.lw_text.specs.Frames.{sites_of, Block};
 ghost use Rattle.lw_text.specs.Sites.{HasRoomFor};
 ghost use Rattle.lw_text.specs.declared.fault.TextCause.TheVariants.{Memory};
 ghost use Rattle.lw_text.specs.inner.Resolved.{thread_exists};
-ghost use Rattle.lw_text.specs.inner.Taken.{TakenBlock};
+ghost use Rattle.lw_text.specs.inner.Parsed.{ParsedBlock};
 
 use crate::cursor::Cursor;
 use crate::fault::{Refusal, TextCause};
@@ -23,7 +23,7 @@ pub(crate) struct Initializer {
 }
 
 impl<'t, 'a> Cursor<'t, 'a> {
-    ghost use Rattle.lw_text.specs.Views.{left};
+    ghost use Rattle.lw_text.specs.Views.{remaining_texts};
 
     /// Takes the block. The names of its locations go into the table. The threads of its initializers are looked at
     /// behind the header, which says how many there are.
@@ -33,8 +33,8 @@ impl<'t, 'a> Cursor<'t, 'a> {
         arch: Arch,
         locs: &mut LocNames<A>,
     ) -> Result<Sequence<Initializer, A>, Refusal>
-        ensures { MatchResult result (λ es. TakenBlock arch self.old self.new locs.old locs.new es)
-            (λ f. NotReadWhere Memory f.cause (Block arch (left self.old)) (λ es. HasRoomFor locs.old (sites_of es))) }
+        ensures { MatchResult result (λ es. ParsedBlock arch self.old self.new locs.old locs.new es)
+            (λ f. ParsesNothingWithOrOutOfMemory Memory f.cause (Block arch (remaining_texts self.old)) (λ es. HasRoomFor locs.old (sites_of es))) }
     {
         self.expect("{", TextCause::Unexpected)?;
         let mut initializers = Sequence::new(alloc);

@@ -1,32 +1,32 @@
 //! The reader of all that stands behind a test's preamble.
 ghost use Rattle.std.specs.Prelude.{◌≡◌, ◌≢◌, ◌≤◌, All, MatchResult, IfSome, IfNone, None};
-ghost use Rattle.lw_text.specs.Frames.{IsNoTest};
+ghost use Rattle.lw_text.specs.Frames.{ParsesNoTest};
 ghost use Rattle.lw_text.specs.declared.fault.TextCause.TheVariants.{Memory};
-ghost use Rattle.lw_text.specs.Spans.{texts};
-ghost use Rattle.lw_text.specs.Places.{placed_tokens, placed_cells};
+ghost use Rattle.lw_text.specs.Spans.{token_texts};
+ghost use Rattle.lw_text.specs.Places.{with_spans, placed_cells};
 ghost use Rattle.lw_text.specs.PlacedCells.{HasRows};
 ghost use Rattle.lw_text.specs.inner.Resolved.{HasSyntax};
 
 use crate::block::check_threads;
 use crate::cursor::Cursor;
 use crate::fault::{Fault, Refusal};
-use crate::parts::{Body, HeadParts};
+use crate::parts::{ParsedBody, ParsedHead};
 use crate::token_stream::TokenStream;
 use lw_base::{Arch, LocNames};
 use std::alloc::Allocator;
 
 impl<'t, 'a> Cursor<'t, 'a> {
-    ghost use Rattle.lw_text.specs.Views.{remaining, left};
+    ghost use Rattle.lw_text.specs.Views.{remaining, remaining_texts};
 
     /// Takes all tokens of a test of the language, behind its preamble.
     pub(crate) fn take_body<A: Allocator + Copy>(
         &mut self,
         alloc: A,
         arch: Arch,
-    ) -> Result<Body<'a, A>, Refusal>
-        ensures { MatchResult result (λ b. HasSyntax arch (left self.old) b
-            × HasRows arch (placed_tokens (remaining self.old)) b.parts.threads (placed_cells b.rows))
-            (λ f. f.cause ≢ Memory → IsNoTest arch (left self.old)) }
+    ) -> Result<ParsedBody<'a, A>, Refusal>
+        ensures { MatchResult result (λ b. HasSyntax arch (remaining_texts self.old) b
+            × HasRows arch (with_spans (remaining self.old)) b.parts.threads (placed_cells b.rows))
+            (λ f. f.cause ≢ Memory → ParsesNoTest arch (remaining_texts self.old)) }
     {
         let mut locs = LocNames::new(alloc);
         let initializers = self.take_block(alloc, arch, &mut locs)?;
@@ -36,7 +36,7 @@ impl<'t, 'a> Cursor<'t, 'a> {
         match self.take_condition(alloc, arch, threads, &mut locs) {
             Ok((listed, quant, prop)) => {
                 let _len = locs.len();
-                let parts = HeadParts {
+                let parts = ParsedHead {
                     initializers,
                     threads,
                     locs,
@@ -44,7 +44,7 @@ impl<'t, 'a> Cursor<'t, 'a> {
                     quant,
                     prop,
                 };
-                Ok(Body { parts, rows })
+                Ok(ParsedBody { parts, rows })
             }
             Err(refusal) => Err(refusal),
         }
@@ -54,12 +54,12 @@ impl<'t, 'a> Cursor<'t, 'a> {
 impl<'a, A: Allocator + Copy> TokenStream<'a, A> {
     /// What the tokens say, in a text of the language and of this length. Where a fault ends them they
     /// say nothing.
-    pub(crate) fn body(&self, alloc: A, arch: Arch, len: usize) -> Result<Body<'a, A>, Fault>
+    pub(crate) fn body(&self, alloc: A, arch: Arch, len: usize) -> Result<ParsedBody<'a, A>, Fault>
         requires places { All (λ t. t.at ≤ len) self.now.tokens }
         requires fault { IfSome self.now.fault (λ f. f.at ≤ len) }
-        ensures { MatchResult result (λ b. (self.now.fault ≡ None) × HasSyntax arch (texts self.now.tokens) b
-            × HasRows arch (placed_tokens self.now.tokens) b.parts.threads (placed_cells b.rows))
-            (λ f. (f.cause ≢ Memory → IfNone self.now.fault (IsNoTest arch (texts self.now.tokens))) × (f.at ≤ len)) }
+        ensures { MatchResult result (λ b. (self.now.fault ≡ None) × HasSyntax arch (token_texts self.now.tokens) b
+            × HasRows arch (with_spans self.now.tokens) b.parts.threads (placed_cells b.rows))
+            (λ f. (f.cause ≢ Memory → IfNone self.now.fault (ParsesNoTest arch (token_texts self.now.tokens))) × (f.at ≤ len)) }
     {
         let mut cursor = Cursor::new(self.tokens.as_slice());
         match cursor.take_body(alloc, arch) {

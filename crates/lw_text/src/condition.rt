@@ -1,14 +1,14 @@
 //! The condition of a test: the list of names, the quantifier and the proposition.
 ghost use Rattle.std.specs.Prelude.{◌≡◌, ◌≢◌, ◌+◌, ◌≤◌, List, MatchResult};
-ghost use Rattle.lw_base.specs.Refusals.{NoneRead};
+ghost use Rattle.lw_base.specs.NoParse.{ParsesNothing};
 ghost use Rattle.lw_base.specs.Formula.{Formula};
-ghost use Rattle.lw_base.specs.Lists.{EachOnce};
+ghost use Rattle.lw_base.specs.Lists.{IsDuplicateFree};
 ghost use Rattle.lw_base.specs.declared.head.Quant.{Quant as QuantSyntax};
 ghost use Rattle.lw_text.specs.Propositions.{Terminal as TerminalSyntax};
 ghost use Rattle.lw_text.specs.Sites.{with_sites, SiteSyntax};
 ghost use Rattle.lw_text.specs.declared.fault.TextCause.TheVariants.{Memory};
 ghost use Rattle.lw_text.specs.Conditions.{AtomSyntax, Condition, Quantified};
-ghost use Rattle.lw_text.specs.inner.Taken.{TakenCondition, NoCondition};
+ghost use Rattle.lw_text.specs.inner.Parsed.{ParsedCondition, NoCondition};
 
 use crate::cursor::Cursor;
 use crate::fault::{Refusal, TextCause};
@@ -17,7 +17,7 @@ use lw_base::{Arch, LocNames, MAX_THREADS, Prop, Quant, Sequence};
 use std::alloc::Allocator;
 
 impl<'t, 'a> Cursor<'t, 'a> {
-    ghost use Rattle.lw_text.specs.Views.{left};
+    ghost use Rattle.lw_text.specs.Views.{remaining_texts};
 
     /// Takes the list of names, the quantifier and the proposition, which ends the text. The names of
     /// their locations go into the table.
@@ -29,10 +29,10 @@ impl<'t, 'a> Cursor<'t, 'a> {
         locs: &mut LocNames<A>,
     ) -> Result<(Sequence<Site, A>, Quant, Prop<A>), Refusal>
         requires threads { threads ≤ MAX_THREADS }
-        requires once { EachOnce locs.old }
+        requires once { IsDuplicateFree locs.old }
         ensures { MatchResult result
-            (λ x. TakenCondition arch threads (left self.old) locs.old locs.new x.0 x.1 x.2)
-            (λ f. f.cause ≢ Memory → NoCondition arch threads (left self.old) locs.old) }
+            (λ x. ParsedCondition arch threads (remaining_texts self.old) locs.old locs.new x.0 x.1 x.2)
+            (λ f. f.cause ≢ Memory → NoCondition arch threads (remaining_texts self.old) locs.old) }
     {
         let listed = self.take_listed(alloc, arch, threads, locs)?;
         let quant = self.take_quantifier()?;
@@ -44,8 +44,8 @@ impl<'t, 'a> Cursor<'t, 'a> {
 
     /// Takes the quantifier.
     fn take_quantifier(&mut self) -> Result<Quant, Refusal>
-        ensures { MatchResult result (λ q. Quantified (left self.old) q (left self.new))
-            (λ _. NoneRead (Quantified (left self.old))) }
+        ensures { MatchResult result (λ q. Quantified (remaining_texts self.old) q (remaining_texts self.new))
+            (λ _. ParsesNothing (Quantified (remaining_texts self.old))) }
     {
         if self.take_if("~") {
             self.expect("exists", TextCause::Condition)?;

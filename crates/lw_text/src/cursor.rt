@@ -3,7 +3,7 @@ ghost use Rattle.std.specs.Prelude.{◌≡◌, ◌≤◌, ◌<◌, ◌+◌, true
 ghost use Rattle.lw_base.specs.Types.{TokenList};
 ghost use Rattle.lw_text.specs.Causes.{IsOfReader};
 ghost use Rattle.lw_text.specs.Conditions.{begins_token};
-ghost use Rattle.lw_text.specs.Spans.{texts};
+ghost use Rattle.lw_text.specs.Spans.{token_texts};
 
 use crate::fault::{Refusal, TextCause};
 use crate::token::Token;
@@ -17,7 +17,7 @@ pub(crate) struct Cursor<'t, 'a> {
 }
 
 impl<'t, 'a> Cursor<'t, 'a> {
-    ghost use Rattle.lw_text.specs.Views.{remaining, left, MovesOn};
+    ghost use Rattle.lw_text.specs.Views.{remaining, remaining_texts, AdvancesTo};
 
     /// A cursor before all of these tokens.
     pub(crate) fn new(tokens: &'t [Token<'a>]) -> Cursor<'t, 'a>
@@ -38,9 +38,9 @@ impl<'t, 'a> Cursor<'t, 'a> {
 
     /// The next token.
     pub(crate) fn peek(&self) -> Option<Token<'a>>
-        ensures { MatchOption result (left self.now ≡ []) (λ t. (self.now.next < length self.now.tokens.now)
+        ensures { MatchOption result (remaining_texts self.now ≡ []) (λ t. (self.now.next < length self.now.tokens.now)
             × (remaining self.now ≡ t ∷ drop (self.now.next + 1) self.now.tokens.now)
-            × (left self.now ≡ t.text.now ∷ texts (drop (self.now.next + 1) self.now.tokens.now))) }
+            × (remaining_texts self.now ≡ t.text.now ∷ token_texts (drop (self.now.next + 1) self.now.tokens.now))) }
     {
         match self.tokens.get(self.next) {
             Some(token) => Some(*token),
@@ -51,8 +51,8 @@ impl<'t, 'a> Cursor<'t, 'a> {
     /// Takes the next token.
     pub(crate) fn take(&mut self) -> Result<Token<'a>, Refusal>
         ensures token { IfOk result (λ t. remaining self.old ≡ t ∷ remaining self.new) }
-        ensures ok { IfOk result (λ t. left self.old ≡ t.text.now ∷ left self.new) }
-        ensures err { OnErr result (left self.old ≡ []) }
+        ensures ok { IfOk result (λ t. remaining_texts self.old ≡ t.text.now ∷ remaining_texts self.new) }
+        ensures err { OnErr result (remaining_texts self.old ≡ []) }
     {
         match self.peek() {
             Some(token) => {
@@ -66,9 +66,9 @@ impl<'t, 'a> Cursor<'t, 'a> {
     /// Takes the next token, which is to be this text. Another is refused with the cause.
     pub(crate) fn expect(&mut self, text: &str, cause: TextCause) -> Result<(), Refusal>
         requires { IsOfReader cause }
-        ensures ok { OnOk result (left self.old ≡ text.now ∷ left self.new) }
-        ensures err { OnErr result ((rest : TokenList) → left self.old ≡ text.now ∷ rest → ⊥) }
-        ensures leaves { OnOk result (MovesOn self.old self.new) }
+        ensures ok { OnOk result (remaining_texts self.old ≡ text.now ∷ remaining_texts self.new) }
+        ensures err { OnErr result ((rest : TokenList) → remaining_texts self.old ≡ text.now ∷ rest → ⊥) }
+        ensures leaves { OnOk result (AdvancesTo self.old self.new) }
     {
         if self.take_if(text) {
             return Ok(());
@@ -78,7 +78,7 @@ impl<'t, 'a> Cursor<'t, 'a> {
 
     /// Whether this text is next.
     pub(crate) fn is_next(&self, text: &str) -> bool
-        ensures { result ≡ begins_token text.now (left self.now) }
+        ensures { result ≡ begins_token text.now (remaining_texts self.now) }
     {
         match self.peek() {
             Some(token) => token.text == text,
@@ -88,10 +88,10 @@ impl<'t, 'a> Cursor<'t, 'a> {
 
     /// Takes this text, if it is next, and says whether it was.
     pub(crate) fn take_if(&mut self, text: &str) -> bool
-        ensures taken { result ≡ true → left self.old ≡ text.now ∷ left self.new }
-        ensures other { result ≡ false → begins_token text.now (left self.old) ≡ false }
+        ensures taken { result ≡ true → remaining_texts self.old ≡ text.now ∷ remaining_texts self.new }
+        ensures other { result ≡ false → begins_token text.now (remaining_texts self.old) ≡ false }
         ensures kept { result ≡ false → self.new ≡ self.old }
-        ensures leaves { MovesOn self.old self.new }
+        ensures leaves { AdvancesTo self.old self.new }
     {
         if self.is_next(text) {
             self.next += 1;
@@ -110,9 +110,9 @@ impl<'t, 'a> Cursor<'t, 'a> {
     ) -> Result<bool, Refusal>
         requires { IsOfReader cause }
         ensures { MatchResult result
-            (λ b. (left self.old ≡ (if b then first.now else second.now) ∷ left self.new) × MovesOn self.old self.new)
-            (λ _. ((rest : TokenList) → left self.old ≡ first.now ∷ rest → ⊥)
-            × ((rest : TokenList) → left self.old ≡ second.now ∷ rest → ⊥)) }
+            (λ b. (remaining_texts self.old ≡ (if b then first.now else second.now) ∷ remaining_texts self.new) × AdvancesTo self.old self.new)
+            (λ _. ((rest : TokenList) → remaining_texts self.old ≡ first.now ∷ rest → ⊥)
+            × ((rest : TokenList) → remaining_texts self.old ≡ second.now ∷ rest → ⊥)) }
     {
         if self.take_if(first) {
             return Ok(true);

@@ -1,6 +1,6 @@
 //! The causes for which a text is refused, and the place of a fault.
 ghost use Rattle.std.specs.Prelude.{◌≡◌};
-ghost use Rattle.lw_text.specs.Causes.{text_cause_number, text_cause_name, IsOfReader};
+ghost use Rattle.lw_text.specs.Causes.{text_cause_code, text_cause_name, IsOfReader};
 ghost use Rattle.lw_text.specs.declared.fault.TextCause.TheVariants as text;
 
 use std::alloc::{AllocError, AllocFailed};
@@ -38,7 +38,7 @@ pub enum TextCause {
 impl TextCause {
     /// The number under which people are told of the cause: 1 to 12.
     pub fn number(self) -> u8
-        ensures { result ≡ text_cause_number self }
+        ensures { result ≡ text_cause_code self }
     {
         match self {
             TextCause::NotUtf8 => 1,

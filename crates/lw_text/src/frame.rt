@@ -4,7 +4,7 @@ ghost use Rattle.lw_base.specs.Heads.{head_of};
 ghost use Rattle.lw_base.specs.Limits.{most_rows};
 ghost use Rattle.lw_base.specs.WellFormed.{IsWellFormedHead};
 ghost use Rattle.lw_base.specs.WellFormedProps.{IsWellFormedHead-prop};
-ghost use Rattle.lw_text.specs.Places.{IsWithin, height};
+ghost use Rattle.lw_text.specs.Places.{EndsBefore, height};
 
 use crate::cell::Cell;
 use lw_base::{Cpu, Head, Sequence};
@@ -22,7 +22,7 @@ pub struct Frame<'a, A: Allocator = Global> {
     pub ghost columns: { length cells ≡ head.threads },
     pub ghost even: { All (λ column. length column ≡ height cells) cells },
     pub ghost low: { height cells ≤ most_rows },
-    pub ghost places: { All (λ column. All (IsWithin len) column) cells },
+    pub ghost places: { All (λ column. All (EndsBefore len) column) cells },
 }
 
 impl<'a, A: Allocator> Frame<'a, A> {

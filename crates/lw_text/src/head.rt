@@ -7,14 +7,14 @@ ghost use Rattle.lw_base.specs.Types.{TokenList};
 ghost use Rattle.lw_base.specs.SeenLists.{thread_registers, all_registers, locations};
 ghost use Rattle.lw_text.specs.inner.Resolved.{resolved_head, word_at, is_listed, HasSyntax};
 ghost use Rattle.lw_text.specs.Rows.{columns};
-ghost use Rattle.lw_text.specs.Places.{IsWithin};
+ghost use Rattle.lw_text.specs.Places.{EndsBefore};
 
 use crate::columns::columns;
 use crate::frame::Frame;
 use crate::initial::{initial_registers, initial_words};
-use crate::parts::{Body, HeadParts};
+use crate::parts::{ParsedBody, ParsedHead};
 use crate::preamble::Preamble;
-use crate::seen::seen_among;
+use crate::seen::restrict_seen;
 use lw_base::{Head, Seen, Sequence, Text, Word};
 use std::alloc::{AllocError, Allocator, Global};
 
@@ -27,7 +27,7 @@ struct OwnParts<A: Allocator = Global> {
     listed: Sequence<Seen, A>,
 }
 
-impl<A: Allocator + Copy> HeadParts<A> {
+impl<A: Allocator + Copy> ParsedHead<A> {
     /// The head of a test of this preamble.
     pub(crate) fn head(self, alloc: A, preamble: Preamble<'_>) -> Result<Head<A>, AllocError>
         ensures { IfOk result (λ h. head_of h
@@ -66,7 +66,7 @@ impl<A: Allocator + Copy> HeadParts<A> {
         let name = Text::from_str(alloc, name)?;
         let init_regs = initial_registers(alloc, initializers, self.threads)?;
         let init_words = initial_words(alloc, initializers, len)?;
-        match seen_among(alloc, self.listed.as_slice(), self.threads, len) {
+        match restrict_seen(alloc, self.listed.as_slice(), self.threads, len) {
             Ok(listed) => Ok(OwnParts {
                 name,
                 init_regs,
@@ -78,7 +78,7 @@ impl<A: Allocator + Copy> HeadParts<A> {
     }
 }
 
-impl<'a, A: Allocator + Copy> Body<'a, A> {
+impl<'a, A: Allocator + Copy> ParsedBody<'a, A> {
     /// The frame, in a text of this preamble and this length.
     pub(crate) fn finish(
         self,
@@ -86,7 +86,7 @@ impl<'a, A: Allocator + Copy> Body<'a, A> {
         preamble: Preamble<'_>,
         len: usize,
     ) -> Result<Frame<'a, A>, AllocError>
-        requires within { All (λ row. All (IsWithin len) row) self.rows }
+        requires within { All (λ row. All (EndsBefore len) row) self.rows }
         requires says { (ts : TokenList) × HasSyntax preamble.arch ts self }
         requires name { IsTestName preamble.name.now }
         ensures head { IfOk result (λ f. head_of f.head
@@ -95,7 +95,7 @@ impl<'a, A: Allocator + Copy> Body<'a, A> {
             ≡ columns self.entry.parts.threads self.entry.rows) }
         ensures len { IfOk result (λ f. f.len ≡ len) }
     {
-        let Body { parts, rows } = self;
+        let ParsedBody { parts, rows } = self;
         match columns(alloc, parts.threads, rows) {
             Ok(cells) => match parts.head(alloc, preamble) {
                 Ok(head) => Ok(Frame { head, cells, len }),

@@ -2,18 +2,18 @@
 ghost use Rattle.std.specs.Prelude.{◌≡◌, ◌≢◌, ℕ, ◌<◌, ◌≤◌, ◌^◌, [], ◌∷◌, ◌++◌, IfSome, IfNone, IfOk, IfErr, OnErr, MatchOption, true, false, IsTrue, ◌↔◌};
 ghost use Rattle.std.specs.List.{AllByRecursion};
 ghost use Rattle.lw_base.specs.Characters.{is_name_byte};
-ghost use Rattle.lw_base.specs.Refusals.{NoSuch};
+ghost use Rattle.lw_base.specs.NoParse.{HoldsOfNothing};
 ghost use Rattle.lw_base.specs.Types.{Bytes};
 ghost use Rattle.lw_text.specs.declared.fault.TextCause.TheVariants.{Memory};
 ghost use Rattle.lw_text.specs.Causes.{IsOfReader};
-ghost use Rattle.lw_text.specs.Tokens.{opens_comment, Digits, IsNumber, IsKind, IsToken};
+ghost use Rattle.lw_text.specs.Tokens.{opens_comment, Digits, IsNumber, IsNameOrNumber, IsToken};
 ghost use Rattle.lw_text.specs.TokenKinds.{IsOfKind};
 ghost use Rattle.lw_text.specs.Tokens as symbols;
 
+use crate::byte_prefix::{split, strip_two_bytes};
 use crate::fault::TextCause;
-use crate::scan::{behind, split};
 use crate::token_kind::TokenKind;
-use lw_base::{ByteKind, MAX_NAME_BYTES, Word, ascii_text, front, is_name_byte};
+use lw_base::{ByteKind, MAX_NAME_BYTES, Word, ascii_text, is_name_byte, prefix_of_kind};
 
 /// The number that the digits stand for, where it is a word.
 fn digits(base: u32, digits: &[u8]) -> Option<Word>
@@ -37,13 +37,13 @@ fn digits(base: u32, digits: &[u8]) -> Option<Word>
 
 /// The number that the token stands for, where it is one: decimal, or hexadecimal behind `0x`.
 fn number(text: &str) -> Option<Word>
-    ensures { MatchOption result (NoSuch (IsNumber text.now)) (IsNumber text.now) }
+    ensures { MatchOption result (HoldsOfNothing (IsNumber text.now)) (IsNumber text.now) }
 {
     let bytes = text.as_bytes();
     if bytes.is_empty() {
         return None;
     }
-    match behind(bytes, b'0', b'x') {
+    match strip_two_bytes(bytes, b'0', b'x') {
         Some([]) => None,
         Some(hex) => digits(16, hex),
         None => digits(10, bytes),
@@ -52,7 +52,7 @@ fn number(text: &str) -> Option<Word>
 
 /// Whether two bytes are a symbol.
 fn is_pair(first: u8, second: u8) -> bool
-    ensures { result ≡ symbols.is_pair first second }
+    ensures { result ≡ symbols.is_two_byte_symbol first second }
 {
     matches!(
         (first, second),
@@ -62,7 +62,7 @@ fn is_pair(first: u8, second: u8) -> bool
 
 /// Whether a byte is a symbol.
 fn is_single(byte: u8) -> bool
-    ensures { result ≡ symbols.is_single byte }
+    ensures { result ≡ symbols.is_one_byte_symbol byte }
 {
     b"{}[]()|;:,$=+~".contains(&byte)
 }
@@ -70,7 +70,7 @@ fn is_single(byte: u8) -> bool
 /// Whether the two bytes at the front are a symbol.
 fn begins_long(bytes: &[u8]) -> bool
     ensures { IsTrue result ↔ ((b c : ℕ) × (rest : Bytes) × (bytes.now ≡ b ∷ c ∷ rest)
-        × (symbols.is_pair b c ≡ true)) }
+        × (symbols.is_two_byte_symbol b c ≡ true)) }
 {
     match bytes {
         [first, second, ..] => is_pair(*first, *second),
@@ -80,16 +80,16 @@ fn begins_long(bytes: &[u8]) -> bool
 
 /// Whether the first byte is a symbol, where no longer one begins.
 fn begins_short(bytes: &[u8], first: u8) -> bool
-    ensures { IsTrue result ↔ ((symbols.is_single first ≡ true)
+    ensures { IsTrue result ↔ ((symbols.is_one_byte_symbol first ≡ true)
         × (opens_comment bytes.now ≡ false)) }
 {
-    is_single(first) && behind(bytes, b'(', b'*').is_none()
+    is_single(first) && strip_two_bytes(bytes, b'(', b'*').is_none()
 }
 
 /// What the name run is, all of whose bytes are letters, digits and `_`: a name or a number, or neither.
 fn kind_of_run(run: &str) -> Option<TokenKind>
     requires { AllByRecursion (λ b. is_name_byte b ≡ true) run.now }
-    ensures { MatchOption result (IsKind run.now → ⊥) (λ kind. IsKind run.now × IsOfKind kind run.now) }
+    ensures { MatchOption result (IsNameOrNumber run.now → ⊥) (λ kind. IsNameOrNumber run.now × IsOfKind kind run.now) }
 {
     let Some((first, _)) = split(run.as_bytes()) else {
         return None;
@@ -135,7 +135,7 @@ pub(crate) fn token(bytes: &[u8]) -> Result<Lexeme<'_>, TextCause>
         return Err(TextCause::Unterminated);
     };
     if is_name_byte(first) {
-        let (run, rest) = front(bytes, ByteKind::NameByte);
+        let (run, rest) = prefix_of_kind(bytes, ByteKind::NameByte);
         let text = ascii_text(run);
         let Some(kind) = kind_of_run(text) else {
             return Err(fault_of_run(first));

@@ -16,7 +16,7 @@ pub(crate) struct Lexer<'a> {
 }
 
 impl<'a> Lexer<'a> {
-    ghost use Rattle.lw_text.specs.Tokens.{Trivia, First};
+    ghost use Rattle.lw_text.specs.Tokens.{Trivia, IsFirstToken};
 
     /// A lexer before all of this text.
     pub(crate) fn new(text: &'a [u8]) -> Lexer<'a>
@@ -29,9 +29,9 @@ impl<'a> Lexer<'a> {
     /// The next token, or `None` where only blanks and comments are left.
     pub(crate) fn next(&mut self) -> Result<Option<Token<'a>>, Fault>
         ensures reads { MatchResult result
-            (λ o. MatchOption o (Trivia self.old.rest.now []) (λ t. First self.old.rest.now t.text.now self.new.rest.now
+            (λ o. MatchOption o (Trivia self.old.rest.now []) (λ t. IsFirstToken self.old.rest.now t.text.now self.new.rest.now
             × (t.at + length t.text.now + length self.new.rest.now ≡ length self.old.text.now)))
-            (λ f. (Trivia self.old.rest.now [] → ⊥) × ((t rest : Bytes) → First self.old.rest.now t rest → ⊥)
+            (λ f. (Trivia self.old.rest.now [] → ⊥) × ((t rest : Bytes) → IsFirstToken self.old.rest.now t rest → ⊥)
             × (f.at ≤ length self.old.text.now)) }
         ensures same { self.new.text.now ≡ self.old.text.now }
     {

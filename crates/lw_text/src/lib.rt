@@ -6,6 +6,7 @@
 
 mod block;
 mod body;
+mod byte_prefix;
 mod cell;
 mod columns;
 mod condition;
@@ -25,7 +26,6 @@ mod proposition;
 mod proposition_reader;
 mod read;
 mod rows;
-mod scan;
 mod seen;
 mod site;
 mod terminal;

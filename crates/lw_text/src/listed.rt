@@ -5,7 +5,7 @@ ghost use Rattle.lw_base.specs.Types.{TokenList};
 ghost use Rattle.lw_text.specs.Conditions.{Listed};
 ghost use Rattle.lw_text.specs.Sites.{HasRoomFor, SiteSyntax, ThreadExists};
 ghost use Rattle.lw_text.specs.declared.fault.TextCause.TheVariants.{Memory};
-ghost use Rattle.lw_text.specs.inner.Taken.{TakenList};
+ghost use Rattle.lw_text.specs.inner.Parsed.{ParsedNameList};
 
 use crate::cursor::Cursor;
 use crate::fault::{Refusal, TextCause};
@@ -14,7 +14,7 @@ use lw_base::{Arch, LocNames, Sequence};
 use std::alloc::Allocator;
 
 impl<'t, 'a> Cursor<'t, 'a> {
-    ghost use Rattle.lw_text.specs.Views.{left};
+    ghost use Rattle.lw_text.specs.Views.{remaining_texts};
 
     /// Takes the list of names, where one stands. The names of its locations go into the table.
     pub(crate) fn take_listed<A: Allocator + Copy>(
@@ -24,8 +24,8 @@ impl<'t, 'a> Cursor<'t, 'a> {
         threads: usize,
         locs: &mut LocNames<A>,
     ) -> Result<Sequence<Site, A>, Refusal>
-        ensures { MatchResult result (λ ss. TakenList arch threads self.old self.new locs.old locs.new ss)
-            (λ f. f.cause ≢ Memory → (ss : List SiteSyntax) (rest : TokenList) → Listed arch (left self.old) ss rest
+        ensures { MatchResult result (λ ss. ParsedNameList arch threads self.old self.new locs.old locs.new ss)
+            (λ f. f.cause ≢ Memory → (ss : List SiteSyntax) (rest : TokenList) → Listed arch (remaining_texts self.old) ss rest
             → AllByRecursion (ThreadExists threads) ss → HasRoomFor locs.old ss → ⊥) }
     {
         if !self.take_if("locations") {

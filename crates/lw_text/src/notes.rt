@@ -4,29 +4,29 @@
 //! A reader of a part answers what stands behind it, or else what stands from the fault on, which is
 //! empty where the text ends too early.
 ghost use Rattle.std.specs.Prelude.{◌≡◌, ◌≢◌, ◌≤◌, length, MatchResult};
-ghost use Rattle.lw_base.specs.Refusals.{NoSuch};
+ghost use Rattle.lw_base.specs.NoParse.{HoldsOfNothing};
 ghost use Rattle.lw_text.specs.declared.fault.TextCause.TheVariants.{Memory};
 ghost use Rattle.lw_text.specs.Causes.{IsOfReader};
 ghost use Rattle.lw_text.specs.Preambles.{KeyLine, Note, Notes};
 
+use crate::byte_prefix::{split, strip_byte};
 use crate::fault::{Fault, TextCause};
 use crate::lexer::Lexer;
-use crate::scan::{behind_byte, split};
 use crate::trivia::after_trivia;
-use lw_base::{ByteKind, front};
+use lw_base::{ByteKind, prefix_of_kind};
 
 /// What stands behind the line `Key=value` at the front.
 fn after_key_line(bytes: &[u8]) -> Result<&[u8], &[u8]>
     ensures { MatchResult result (λ rest. KeyLine bytes.now rest.now)
-        (λ left. NoSuch (KeyLine bytes.now) × (length left.now ≤ length bytes.now)) }
+        (λ left. HoldsOfNothing (KeyLine bytes.now) × (length left.now ≤ length bytes.now)) }
 {
-    let (key, rest) = front(bytes, ByteKind::Key);
+    let (key, rest) = prefix_of_kind(bytes, ByteKind::Key);
     if key.is_empty() {
         return Err(bytes);
     }
-    let (_, rest) = front(rest, ByteKind::Space);
-    match behind_byte(rest, b'=') {
-        Some(value) => Ok(front(value, ByteKind::Not(b'\n')).1),
+    let (_, rest) = prefix_of_kind(rest, ByteKind::Space);
+    match strip_byte(rest, b'=') {
+        Some(value) => Ok(prefix_of_kind(value, ByteKind::Not(b'\n')).1),
         None => Err(rest),
     }
 }
@@ -34,12 +34,12 @@ fn after_key_line(bytes: &[u8]) -> Result<&[u8], &[u8]>
 /// What stands behind the note at the front.
 fn after_note(bytes: &[u8]) -> Result<&[u8], &[u8]>
     ensures { MatchResult result (λ rest. Note bytes.now rest.now)
-        (λ left. NoSuch (Note bytes.now) × (length left.now ≤ length bytes.now)) }
+        (λ left. HoldsOfNothing (Note bytes.now) × (length left.now ≤ length bytes.now)) }
 {
-    let Some(inside) = behind_byte(bytes, b'"') else {
+    let Some(inside) = strip_byte(bytes, b'"') else {
         return after_key_line(bytes);
     };
-    let (_, rest) = front(inside, ByteKind::Not(b'"'));
+    let (_, rest) = prefix_of_kind(inside, ByteKind::Not(b'"'));
     match split(rest) {
         Some((_, after)) => Ok(after),
         None => Err(rest),
@@ -49,14 +49,14 @@ fn after_note(bytes: &[u8]) -> Result<&[u8], &[u8]>
 /// What stands behind the notes, from the `{` on.
 fn after_notes(bytes: &[u8]) -> Result<&[u8], &[u8]>
     ensures { MatchResult result (λ rest. Notes bytes.now rest.now)
-        (λ left. NoSuch (Notes bytes.now) × (length left.now ≤ length bytes.now)) }
+        (λ left. HoldsOfNothing (Notes bytes.now) × (length left.now ≤ length bytes.now)) }
 {
     let mut rest = bytes;
     'notes: loop {
         let Some(start) = after_trivia(rest) else {
             return Err(&[]);
         };
-        match behind_byte(start, b'{') {
+        match strip_byte(start, b'{') {
             Some(_) => return Ok(start),
             None => rest = after_note(start)?,
         }
@@ -67,7 +67,7 @@ impl<'a> Lexer<'a> {
     /// Passes the notes, up to a `{`.
     pub(crate) fn take_notes(&mut self) -> Result<(), Fault>
         ensures reads { MatchResult result (λ _. Notes self.old.rest.now self.new.rest.now)
-            (λ f. NoSuch (Notes self.old.rest.now) × (f.at ≤ length self.old.text.now)) }
+            (λ f. HoldsOfNothing (Notes self.old.rest.now) × (f.at ≤ length self.old.text.now)) }
         ensures same { self.new.text.now ≡ self.old.text.now }
     {
         match after_notes(self.rest) {

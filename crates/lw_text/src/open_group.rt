@@ -1,7 +1,7 @@
 //! The part of a proposition that stands open inside one pair of parentheses.
 ghost use Rattle.std.specs.Prelude.{◌≡◌, option_map, IfOk, OnOk};
 ghost use Rattle.lw_base.specs.Propositions.{formula_of};
-ghost use Rattle.lw_text.specs.inner.Pending.{group_of, opened, with_not, with_and, with_or, ors_of, after_and, negations};
+ghost use Rattle.lw_text.specs.inner.ReaderStates.{group_of, opened, with_not, with_and, with_or, ors_of, after_and, negations};
 
 use lw_base::Prop;
 use std::alloc::{AllocError, Allocator, Global};

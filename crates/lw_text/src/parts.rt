@@ -10,7 +10,7 @@ use std::alloc::{Allocator, Global};
 
 /// All but the cells.
 #[derive(Drop)]
-pub(crate) struct HeadParts<A: Allocator = Global> {
+pub(crate) struct ParsedHead<A: Allocator = Global> {
     pub(crate) initializers: Sequence<Initializer, A>,
     pub(crate) threads: usize,
     pub(crate) locs: LocNames<A>,
@@ -22,8 +22,8 @@ pub(crate) struct HeadParts<A: Allocator = Global> {
 
 /// All, with the rows' cells.
 #[derive(Drop)]
-pub(crate) struct Body<'a, A: Allocator = Global> {
-    pub(crate) parts: HeadParts<A>,
+pub(crate) struct ParsedBody<'a, A: Allocator = Global> {
+    pub(crate) parts: ParsedHead<A>,
     pub(crate) rows: Sequence<CellSequence<'a, A>, A>,
     ghost some: { 1 ≤ parts.threads },
     ghost even: { All (λ row. length row ≡ parts.threads) rows },

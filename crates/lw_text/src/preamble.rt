@@ -1,14 +1,14 @@
 //! The preamble of a test: the keyword of its language, its name, and notes up to the `{`.
 ghost use Rattle.std.specs.Prelude.{◌≡◌, ◌≤◌, ◌↔◌, length, IsTrue, MatchResult, MatchOption};
-ghost use Rattle.lw_base.specs.Refusals.{NoSuch, NoneRead};
+ghost use Rattle.lw_base.specs.NoParse.{HoldsOfNothing, ParsesNothing};
 ghost use Rattle.lw_base.specs.Names.{IsTestName};
 ghost use Rattle.lw_base.specs.Languages.{arch_keyword};
-ghost use Rattle.lw_text.specs.Preambles.{Named};
+ghost use Rattle.lw_text.specs.Preambles.{ParsesTestName};
 ghost use Rattle.lw_text.specs.Preambles as wanted;
 
 use crate::fault::{Fault, TextCause};
 use crate::lexer::Lexer;
-use lw_base::{Arch, ByteKind, MAX_TEST_NAME_BYTES, ascii_text, front};
+use lw_base::{Arch, ByteKind, MAX_TEST_NAME_BYTES, ascii_text, prefix_of_kind};
 
 /// What a preamble says of its test, besides the notes.
 #[derive(Clone, Copy)]
@@ -21,7 +21,7 @@ impl<'a> Lexer<'a> {
     /// Takes the keyword of a language, the blanks behind it, the test's name, and the notes up to a `{`.
     pub(crate) fn take_preamble(&mut self) -> Result<Preamble<'a>, Fault>
         ensures reads { MatchResult result (λ h. wanted.Preamble self.old.rest.now h.arch h.name.now self.new.rest.now)
-            (λ f. ((arch : Arch) → NoneRead (wanted.Preamble self.old.rest.now arch)) × (f.at ≤ length self.old.text.now)) }
+            (λ f. ((arch : Arch) → ParsesNothing (wanted.Preamble self.old.rest.now arch)) × (f.at ≤ length self.old.text.now)) }
         ensures same { self.new.text.now ≡ self.old.text.now }
     {
         let Some(token) = self.next()? else {
@@ -30,7 +30,7 @@ impl<'a> Lexer<'a> {
                 cause: TextCause::Unterminated,
             });
         };
-        let Some(arch) = arch_named(token.text) else {
+        let Some(arch) = arch_from_keyword(token.text) else {
             return Err(Fault {
                 at: token.at,
                 cause: TextCause::Unexpected,
@@ -45,12 +45,12 @@ impl<'a> Lexer<'a> {
 
     /// Takes the blanks behind the keyword, and the test's name.
     fn take_test_name(&mut self) -> Result<&'a str, Fault>
-        ensures reads { MatchResult result (λ name. Named self.old.rest.now name.now self.new.rest.now)
-            (λ f. NoneRead (Named self.old.rest.now) × (f.at ≤ length self.old.text.now)) }
+        ensures reads { MatchResult result (λ name. ParsesTestName self.old.rest.now name.now self.new.rest.now)
+            (λ f. ParsesNothing (ParsesTestName self.old.rest.now) × (f.at ≤ length self.old.text.now)) }
         ensures same { self.new.text.now ≡ self.old.text.now }
     {
-        let (space, after) = front(self.rest, ByteKind::Blank);
-        let (name, rest) = front(after, ByteKind::NotBlank);
+        let (space, after) = prefix_of_kind(self.rest, ByteKind::Blank);
+        let (name, rest) = prefix_of_kind(after, ByteKind::NotBlank);
         if name.is_empty() {
             return Err(Fault {
                 at: self.text.len(),
@@ -76,8 +76,8 @@ impl<'a> Lexer<'a> {
 }
 
 /// The language of this keyword.
-fn arch_named(keyword: &str) -> Option<Arch>
-    ensures { MatchOption result (NoSuch (λ arch. arch_keyword arch ≡ keyword.now))
+fn arch_from_keyword(keyword: &str) -> Option<Arch>
+    ensures { MatchOption result (HoldsOfNothing (λ arch. arch_keyword arch ≡ keyword.now))
         (λ arch. arch_keyword arch ≡ keyword.now) }
 {
     match keyword {

@@ -2,14 +2,14 @@
 ghost use Rattle.std.specs.Prelude.{◌≡◌, ◌≢◌, ◌+◌, ◌≤◌, ◌==◌, ◌||◌, not, true, codes, List, [], ◌∷◌, length, map, filter, Some, None, MatchResult};
 ghost use Rattle.lw_base.specs.Types.{TokenList};
 ghost use Rattle.lw_base.specs.Formula.{Formula};
-ghost use Rattle.lw_base.specs.Lists.{EachOnce};
+ghost use Rattle.lw_base.specs.Lists.{IsDuplicateFree};
 ghost use Rattle.lw_text.specs.Propositions.{Terminal as TerminalSyntax, is_node};
 ghost use Rattle.lw_text.specs.Sites.{HasRoomFor, with_sites};
 ghost use Rattle.lw_text.specs.declared.fault.TextCause.TheVariants.{Memory};
-ghost use Rattle.lw_text.specs.inner.Pending.{state_of, state_behind};
+ghost use Rattle.lw_text.specs.inner.ReaderStates.{state_of, next_state};
 ghost use Rattle.lw_text.specs.inner.Terminals.{terminal_of};
 ghost use Rattle.lw_text.specs.Conditions.{AtomSyntax, begins_token, IsTerminal, Terminals, sites_in, resolved};
-ghost use Rattle.lw_text.specs.inner.Taken.{TakenTerminal, TakenProposition, NoProposition};
+ghost use Rattle.lw_text.specs.inner.Parsed.{ParsedTerminal, ParsedProposition, NoProposition};
 
 use crate::cursor::Cursor;
 use crate::fault::{Refusal, TextCause};
@@ -19,7 +19,7 @@ use lw_base::{Arch, LocNames, MAX_NODES, MAX_THREADS, Prop};
 use std::alloc::Allocator;
 
 impl<'t, 'a> Cursor<'t, 'a> {
-    ghost use Rattle.lw_text.specs.Views.{left};
+    ghost use Rattle.lw_text.specs.Views.{remaining_texts};
 
     /// Takes the proposition, which ends the text. The names of its locations go into the table.
     pub(crate) fn take_proposition<A: Allocator + Copy>(
@@ -30,9 +30,9 @@ impl<'t, 'a> Cursor<'t, 'a> {
         locs: &mut LocNames<A>,
     ) -> Result<Prop<A>, Refusal>
         requires threads { threads ≤ MAX_THREADS }
-        requires once { EachOnce locs.old }
-        ensures { MatchResult result (λ p. TakenProposition arch threads (left self.old) locs.old locs.new p)
-            (λ f. f.cause ≢ Memory → NoProposition arch threads (left self.old) locs.old) }
+        requires once { IsDuplicateFree locs.old }
+        ensures { MatchResult result (λ p. ParsedProposition arch threads (remaining_texts self.old) locs.old locs.new p)
+            (λ f. f.cause ≢ Memory → NoProposition arch threads (remaining_texts self.old) locs.old) }
     {
         let mut reader = PropositionReader::new(alloc);
         let mut nodes = 0;
@@ -63,15 +63,15 @@ impl<'t, 'a> Cursor<'t, 'a> {
         locs: &mut LocNames<A>,
     ) -> Result<Terminal, Refusal>
         requires threads { threads ≤ MAX_THREADS }
-        requires once { EachOnce locs.old }
-        ensures { MatchResult result (λ s. TakenTerminal arch threads self.old self.new locs.old locs.new s
-            × (state_behind (state_of reader.old) (terminal_of s) ≡ Some (state_of reader.new))
+        requires once { IsDuplicateFree locs.old }
+        ensures { MatchResult result (λ s. ParsedTerminal arch threads self.old self.new locs.old locs.new s
+            × (next_state (state_of reader.old) (terminal_of s) ≡ Some (state_of reader.new))
             × ((not (nodes == MAX_NODES) ||
-            (begins_token (codes "(") (left self.old) || begins_token (codes ")") (left self.old))) ≡ true))
+            (begins_token (codes "(") (remaining_texts self.old) || begins_token (codes ")") (remaining_texts self.old))) ≡ true))
             (λ f. f.cause ≢ Memory
             → (s : TerminalSyntax AtomSyntax) (rest : TokenList)
-            → IsTerminal arch threads (left self.old) s rest
-            → state_behind (state_of reader.old) (resolved (with_sites locs.old (sites_in (s ∷ []))) s) ≢ None
+            → IsTerminal arch threads (remaining_texts self.old) s rest
+            → next_state (state_of reader.old) (resolved (with_sites locs.old (sites_in (s ∷ []))) s) ≢ None
             → HasRoomFor locs.old (sites_in (s ∷ []))
             → nodes + length (filter is_node (s ∷ [])) ≤ MAX_NODES → ⊥) }
     {
@@ -89,7 +89,7 @@ impl<'t, 'a> Cursor<'t, 'a> {
     /// Whether a terminal may come next behind so many nodes: a parenthesis makes none.
     fn has_room(&self, nodes: usize) -> bool
         ensures { result ≡ (not (nodes == MAX_NODES) ||
-            (begins_token (codes "(") (left self.now) || begins_token (codes ")") (left self.now))) }
+            (begins_token (codes "(") (remaining_texts self.now) || begins_token (codes ")") (remaining_texts self.now))) }
     {
         nodes != MAX_NODES || self.is_next("(") || self.is_next(")")
     }

@@ -3,7 +3,7 @@ ghost use Rattle.std.specs.Prelude.{◌≡◌, ◌≢◌, not, [], map, reverse,
 ghost use Rattle.lw_base.specs.Propositions.{formula_of};
 ghost use Rattle.lw_text.specs.declared.fault.TextCause.TheVariants.{Memory};
 ghost use Rattle.lw_text.specs.inner.Terminals.{terminal_of};
-ghost use Rattle.lw_text.specs.inner.Pending.{begun, group_of, standing, state_of, state_behind, said};
+ghost use Rattle.lw_text.specs.inner.ReaderStates.{initial_reader_state, group_of, reader_state_in, state_of, next_state, state_result};
 
 use crate::fault::Refusal;
 use crate::open_group::OpenGroup;
@@ -12,7 +12,7 @@ use lw_base::Prop;
 use std::alloc::{AllocError, Allocator, Global};
 use std::mem;
 
-/// What the terminals so far leave open. A clause sees it as a `ReaderState`, and says by `said` which proposition the
+/// What the terminals so far leave open. A clause sees it as a `ReaderState`, and says by `state_result` which proposition the
 /// terminals so far are.
 #[derive(Drop)]
 pub(crate) struct PropositionReader<A: Allocator + Copy = Global> {
@@ -25,7 +25,7 @@ pub(crate) struct PropositionReader<A: Allocator + Copy = Global> {
 impl<A: Allocator + Copy> PropositionReader<A> {
     /// A reader that has taken no terminal. It takes no memory.
     pub(crate) fn new(alloc: A) -> Self
-        ensures { state_of result ≡ begun }
+        ensures { state_of result ≡ initial_reader_state }
     {
         PropositionReader {
             alloc,
@@ -45,7 +45,7 @@ impl<A: Allocator + Copy> PropositionReader<A> {
     /// Takes the next terminal, or answers that it can't come next. In that case, and where there is no
     /// memory, the reader is of no more use.
     pub(crate) fn take(&mut self, terminal: Terminal) -> Result<bool, AllocError>
-        ensures { IfOk result (λ b. state_behind (state_of self.old) (terminal_of terminal)
+        ensures { IfOk result (λ b. next_state (state_of self.old) (terminal_of terminal)
             ≡ (if b then Some (state_of self.new) else None)) }
     {
         match self.part.take() {
@@ -57,7 +57,7 @@ impl<A: Allocator + Copy> PropositionReader<A> {
     /// Takes a terminal where a part has to come.
     fn before_part(&mut self, terminal: Terminal) -> Result<bool, AllocError>
         requires { self.old.part ≡ None }
-        ensures { IfOk result (λ b. state_behind (standing None (group_of self.old.group)
+        ensures { IfOk result (λ b. next_state (reader_state_in None (group_of self.old.group)
             (reverse (map group_of self.old.outer.items))) (terminal_of terminal)
             ≡ (if b then Some (state_of self.new) else None)) }
     {
@@ -82,7 +82,7 @@ impl<A: Allocator + Copy> PropositionReader<A> {
     /// Takes a terminal behind a part, which was taken out.
     fn behind_part(&mut self, part: Prop<A>, terminal: Terminal) -> Result<bool, AllocError>
         requires { self.old.part ≡ None }
-        ensures { IfOk result (λ b. state_behind (standing (Some (formula_of part)) (group_of self.old.group)
+        ensures { IfOk result (λ b. next_state (reader_state_in (Some (formula_of part)) (group_of self.old.group)
             (reverse (map group_of self.old.outer.items))) (terminal_of terminal)
             ≡ (if b then Some (state_of self.new) else None)) }
     {
@@ -115,8 +115,8 @@ impl<A: Allocator + Copy> PropositionReader<A> {
     /// The proposition, where the terminals so far are one. Otherwise it answers this refusal. The reader is of
     /// no more use then.
     pub(crate) fn finish(&mut self, open: Refusal) -> Result<Prop<A>, Refusal>
-        ensures { MatchResult result (λ prop. said (state_of self.old) ≡ Some (formula_of prop))
-            (λ f. f.cause ≢ Memory → said (state_of self.old) ≡ None) }
+        ensures { MatchResult result (λ prop. state_result (state_of self.old) ≡ Some (formula_of prop))
+            (λ f. f.cause ≢ Memory → state_result (state_of self.old) ≡ None) }
     {
         if !self.outer.is_empty() {
             return Err(open);

@@ -3,7 +3,7 @@ ghost use Rattle.std.specs.Prelude.{◌≡◌, ◌<◌, ◌≤◌, List, length,
 ghost use Rattle.std.specs.Str.{IsUtf8, IsValidUpTo};
 ghost use Rattle.std.specs.Str.Lossy.{utf8_valid_len};
 ghost use Rattle.lw_base.specs.Limits.{most_text_bytes};
-ghost use Rattle.lw_base.specs.Refusals.{NotFound};
+ghost use Rattle.lw_base.specs.NoParse.{HoldsOfNothingOrOutOfMemory};
 ghost use Rattle.lw_base.specs.Types.{Bytes};
 ghost use Rattle.lw_base.specs.WellFormed.{IsWellFormedHead};
 ghost use Rattle.lw_text.specs.Frames.{TestFrame, HasFrame};
@@ -27,7 +27,7 @@ pub fn read_frame<'a, A: Allocator + Copy>(
 ) -> Result<Frame<'a, A>, TextFault>
     // What is answered is the text's frame, and where it is refused it has none, unless memory ran out.
     ensures found { IfOk result (λ f. HasFrame text.now (frame_of f)) }
-    ensures fault { IfErr result (λ f. NotFound TextCause.Memory f.cause (HasFrame text.now)) }
+    ensures fault { IfErr result (λ f. HoldsOfNothingOrOutOfMemory TextCause.Memory f.cause (HasFrame text.now)) }
 
     // Its cells are cut from the text's token stream, each token at its place, and a fault's place lies in the text.
     ensures cells { IfOk result (λ f. HasCells text.now (placed_cells f.cells)) }
@@ -93,7 +93,7 @@ fn read_text<'a, A: Allocator + Copy>(alloc: A, text: &'a [u8]) -> Result<Frame<
     requires utf8 { IsUtf8 text.now }
     ensures { MatchResult result (λ f. HasFrame text.now (frame_of f)
         × HasCells text.now (placed_cells f.cells) × (f.len ≡ length text.now))
-        (λ f. NotFound TextCause.Memory f.cause (HasFrame text.now) × (f.at ≤ length text.now)) }
+        (λ f. HoldsOfNothingOrOutOfMemory TextCause.Memory f.cause (HasFrame text.now) × (f.at ≤ length text.now)) }
 {
     let mut lexer = Lexer::new(text);
     let preamble = lexer.take_preamble()?;

@@ -1,11 +1,11 @@
 //! The header and the rows of a test.
 ghost use Rattle.std.specs.Prelude.{◌≡◌, ◌≢◌, ◌+◌, ◌<◌, true, false, [], ◌∷◌, ◌++◌, MatchResult};
 ghost use Rattle.std.specs.List.{AllByRecursion};
-ghost use Rattle.lw_base.specs.Refusals.{NoneRead, NotRead};
+ghost use Rattle.lw_base.specs.NoParse.{ParsesNothing, ParsesNothingOrOutOfMemory};
 ghost use Rattle.lw_text.specs.Rows.{thread_name, Header, Row, Rows, begins_stop};
 ghost use Rattle.lw_text.specs.declared.fault.TextCause.TheVariants.{Memory};
-ghost use Rattle.lw_text.specs.inner.Taken.{TakenCell};
-ghost use Rattle.lw_text.specs.Places.{cells_texts, all_texts, placed_tokens, placed_row, placed_cells};
+ghost use Rattle.lw_text.specs.inner.Parsed.{ParsedCell};
+ghost use Rattle.lw_text.specs.Places.{cells_texts, all_texts, with_spans, placed_row, placed_cells};
 ghost use Rattle.lw_text.specs.PlacedCells.{CellsFrom, RowsFrom};
 ghost use Rattle.lw_text.specs.Rows as words;
 
@@ -20,12 +20,12 @@ use std::alloc::Allocator;
 pub(crate) type CellSequence<'a, A> = Sequence<Cell<'a, A>, A>;
 
 impl<'t, 'a> Cursor<'t, 'a> {
-    ghost use Rattle.lw_text.specs.Views.{remaining, left, MovesOn};
+    ghost use Rattle.lw_text.specs.Views.{remaining, remaining_texts, AdvancesTo};
 
     /// Takes the header, and counts the threads.
     pub(crate) fn take_header(&mut self) -> Result<usize, Refusal>
-        ensures { MatchResult result (λ n. Header (left self.old) n (left self.new) × MovesOn self.old self.new)
-            (λ _. NoneRead (Header (left self.old))) }
+        ensures { MatchResult result (λ n. Header (remaining_texts self.old) n (remaining_texts self.new) × AdvancesTo self.old self.new)
+            (λ _. ParsesNothing (Header (remaining_texts self.old))) }
     {
         for thread in 0..MAX_THREADS {
             self.expect(thread_name(thread), TextCause::Unexpected)?;
@@ -45,9 +45,9 @@ impl<'t, 'a> Cursor<'t, 'a> {
         alloc: A,
         threads: usize,
     ) -> Result<Sequence<CellSequence<'a, A>, A>, Refusal>
-        ensures { MatchResult result (λ v. Rows threads (left self.old) (all_texts v) (left self.new)
-            × RowsFrom (placed_tokens (remaining self.old)) (placed_cells v) (placed_tokens (remaining self.new)))
-            (λ f. NotRead Memory f.cause (Rows threads (left self.old))) }
+        ensures { MatchResult result (λ v. Rows threads (remaining_texts self.old) (all_texts v) (remaining_texts self.new)
+            × RowsFrom (with_spans (remaining self.old)) (placed_cells v) (with_spans (remaining self.new)))
+            (λ f. ParsesNothingOrOutOfMemory Memory f.cause (Rows threads (remaining_texts self.old))) }
     {
         let mut rows = Sequence::new(alloc);
         'rows: loop {
@@ -63,7 +63,7 @@ impl<'t, 'a> Cursor<'t, 'a> {
 
     /// Whether the next token is one that ends the rows.
     fn at_stop(&self) -> bool
-        ensures { result ≡ begins_stop (left self.now) }
+        ensures { result ≡ begins_stop (remaining_texts self.now) }
     {
         match self.peek() {
             Some(token) => is_stop(&token),
@@ -77,9 +77,9 @@ impl<'t, 'a> Cursor<'t, 'a> {
         alloc: A,
         threads: usize,
     ) -> Result<CellSequence<'a, A>, Refusal>
-        ensures { MatchResult result (λ v. Row threads (left self.old) (cells_texts v) (left self.new)
-            × CellsFrom (placed_tokens (remaining self.old)) (placed_row v) (placed_tokens (remaining self.new)))
-            (λ f. NotRead Memory f.cause (Row threads (left self.old))) }
+        ensures { MatchResult result (λ v. Row threads (remaining_texts self.old) (cells_texts v) (remaining_texts self.new)
+            × CellsFrom (with_spans (remaining self.old)) (placed_row v) (with_spans (remaining self.new)))
+            (λ f. ParsesNothingOrOutOfMemory Memory f.cause (Row threads (remaining_texts self.old))) }
     {
         let mut cells = Sequence::new(alloc);
         'cells: loop {
@@ -108,8 +108,8 @@ impl<'t, 'a> Cursor<'t, 'a> {
         cell: &mut Sequence<Token<'a>, A>,
     ) -> Result<(Token<'a>, usize), Refusal>
         requires { cell.old ≡ [] }
-        ensures { MatchResult result (λ x. TakenCell self.old self.new cell.new x.0)
-            (λ f. f.cause ≢ Memory → AllByRecursion (λ t. words.ends_cell t ≡ false) (left self.old)) }
+        ensures { MatchResult result (λ x. ParsedCell self.old self.new cell.new x.0)
+            (λ f. f.cause ≢ Memory → AllByRecursion (λ t. words.ends_cell t ≡ false) (remaining_texts self.old)) }
     {
         'cell: loop {
             let index = self.next;

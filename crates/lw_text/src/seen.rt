@@ -8,7 +8,7 @@ use lw_base::{Cpu, Loc, MAX_LOCATIONS, MAX_THREADS, Reg, Seen, Sequence, Word};
 use std::alloc::{AllocError, AllocFailed, Allocator};
 
 /// Which of the registers of so many threads and of so many locations are among the sites.
-pub(crate) fn seen_among<A: Allocator>(
+pub(crate) fn restrict_seen<A: Allocator>(
     alloc: A,
     sites: &[Site],
     threads: usize,

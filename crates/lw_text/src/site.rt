@@ -1,22 +1,22 @@
 //! A site: a location or a register of a thread, as the block, the list of names and atoms speak of.
 ghost use Rattle.std.specs.Prelude.{◌≡◌, ◌≢◌, ℕ, [], ◌∷◌, codes, nat_lt, Some, slice_get, MatchResult};
-ghost use Rattle.lw_base.specs.Refusals.{NoneRead};
+ghost use Rattle.lw_base.specs.NoParse.{ParsesNothing};
 ghost use Rattle.lw_base.specs.Types.{Bytes, TokenList};
-ghost use Rattle.lw_base.specs.Names.{IsLocation};
-ghost use Rattle.lw_base.specs.Registers.{IsRegister};
-ghost use Rattle.lw_base.specs.Tables.{with_name};
+ghost use Rattle.lw_base.specs.Names.{IsLocationName};
+ghost use Rattle.lw_base.specs.Registers.{IsRegisterName};
+ghost use Rattle.lw_base.specs.Tables.{insert_name};
 ghost use Rattle.lw_text.specs.Causes.{IsOfReader};
 ghost use Rattle.lw_text.specs.Sites.{HasRoomFor, HasRoomForName, SiteSyntax, IsSite, ThreadAllowed, Value};
 ghost use Rattle.lw_text.specs.declared.fault.TextCause.TheVariants.{Memory};
 ghost use Rattle.lw_text.specs.declared.site.Site.TheVariants.{Register};
-ghost use Rattle.lw_base.specs.SeenLists.{same_seen};
+ghost use Rattle.lw_base.specs.SeenLists.{seen_eq};
 ghost use Rattle.lw_text.specs.inner.Resolved.{seen_of};
-ghost use Rattle.lw_text.specs.inner.Taken.{TakenSite};
+ghost use Rattle.lw_text.specs.inner.Parsed.{ParsedSite};
 ghost use Rattle.lw_text.specs.inner.Resolved as resolved;
 
 use crate::cursor::Cursor;
 use crate::fault::{Refusal, TextCause};
-use lw_base::{Arch, Loc, LocNames, Reg, Word, is_location, is_name, reg_named};
+use lw_base::{Arch, Loc, LocNames, Reg, Word, is_location, is_name, reg_from_name};
 use std::alloc::Allocator;
 
 /// A location, by its number, or a register of a thread, which the test may lack.
@@ -29,7 +29,7 @@ pub(crate) enum Site {
 impl Site {
     /// Whether two sites are the same register or location.
     pub(crate) fn is_same(&self, other: &Site) -> bool
-        ensures { result ≡ same_seen (seen_of self.now) (seen_of other.now) }
+        ensures { result ≡ seen_eq (seen_of self.now) (seen_of other.now) }
     {
         match self {
             Site::Location(mine) => match other {
@@ -57,7 +57,7 @@ impl Site {
 }
 
 impl<'t, 'a> Cursor<'t, 'a> {
-    ghost use Rattle.lw_text.specs.Views.{left, MovesOn};
+    ghost use Rattle.lw_text.specs.Views.{remaining_texts, AdvancesTo};
 
     /// Takes a site: a location, whose name goes into the table, or a register, by its name in the
     /// language, of one of so many threads, or of any where their number is not known yet. Tokens that
@@ -70,8 +70,8 @@ impl<'t, 'a> Cursor<'t, 'a> {
         cause: TextCause,
     ) -> Result<Site, Refusal>
         requires { IsOfReader cause }
-        ensures { MatchResult result (λ s. TakenSite arch threads self.old self.new locs.old locs.new s)
-            (λ f. f.cause ≢ Memory → (s : SiteSyntax) (rest : TokenList) → IsSite arch (left self.old) s rest
+        ensures { MatchResult result (λ s. ParsedSite arch threads self.old self.new locs.old locs.new s)
+            (λ f. f.cause ≢ Memory → (s : SiteSyntax) (rest : TokenList) → IsSite arch (remaining_texts self.old) s rest
             → ThreadAllowed threads s → HasRoomFor locs.old (s ∷ []) → ⊥) }
     {
         let token = self.next;
@@ -103,11 +103,11 @@ impl<'t, 'a> Cursor<'t, 'a> {
     ) -> Result<Loc, Refusal>
         requires { IsOfReader cause }
         ensures { MatchResult result
-            (λ loc. (x : Bytes) × (left self.old ≡ x ∷ codes "]" ∷ left self.new)
-            × (IsLocation x × (slice_get locs.new loc ≡ Some x) × (locs.new ≡ with_name locs.old x))
-            × MovesOn self.old self.new)
-            (λ f. f.cause ≢ Memory → (x : Bytes) (rest : TokenList) → left self.old ≡ x ∷ codes "]" ∷ rest
-            → IsLocation x → HasRoomForName locs.old x → ⊥) }
+            (λ loc. (x : Bytes) × (remaining_texts self.old ≡ x ∷ codes "]" ∷ remaining_texts self.new)
+            × (IsLocationName x × (slice_get locs.new loc ≡ Some x) × (locs.new ≡ insert_name locs.old x))
+            × AdvancesTo self.old self.new)
+            (λ f. f.cause ≢ Memory → (x : Bytes) (rest : TokenList) → remaining_texts self.old ≡ x ∷ codes "]" ∷ rest
+            → IsLocationName x → HasRoomForName locs.old x → ⊥) }
     {
         let misfit = self.refusal(cause);
         let name = self.take()?;
@@ -120,15 +120,15 @@ impl<'t, 'a> Cursor<'t, 'a> {
     fn take_register(&mut self, arch: Arch, thread: Word, cause: TextCause) -> Result<Site, Refusal>
         requires { IsOfReader cause }
         ensures { MatchResult result
-            (λ s. (q : Bytes) × (r : ℕ) × (left self.old ≡ codes ":" ∷ q ∷ left self.new) × IsRegister arch q r
-            × (s ≡ Register thread r) × MovesOn self.old self.new)
-            (λ _. (q : Bytes) (r : ℕ) (rest : TokenList) → left self.old ≡ codes ":" ∷ q ∷ rest
-            → IsRegister arch q r → ⊥) }
+            (λ s. (q : Bytes) × (r : ℕ) × (remaining_texts self.old ≡ codes ":" ∷ q ∷ remaining_texts self.new) × IsRegisterName arch q r
+            × (s ≡ Register thread r) × AdvancesTo self.old self.new)
+            (λ _. (q : Bytes) (r : ℕ) (rest : TokenList) → remaining_texts self.old ≡ codes ":" ∷ q ∷ rest
+            → IsRegisterName arch q r → ⊥) }
     {
         self.expect(":", cause)?;
         let misfit = self.refusal(cause);
         let name = self.take()?;
-        match reg_named(arch, name.text) {
+        match reg_from_name(arch, name.text) {
             Some(reg) => Ok(Site::Register(thread, reg)),
             None => Err(no_name(name.text, misfit)),
         }
@@ -137,8 +137,8 @@ impl<'t, 'a> Cursor<'t, 'a> {
     /// Takes a `=` and a number.
     pub(crate) fn take_value(&mut self, cause: TextCause) -> Result<Word, Refusal>
         requires { IsOfReader cause }
-        ensures { MatchResult result (λ v. Value (left self.old) v (left self.new) × MovesOn self.old self.new)
-            (λ _. NoneRead (Value (left self.old))) }
+        ensures { MatchResult result (λ v. Value (remaining_texts self.old) v (remaining_texts self.new) × AdvancesTo self.old self.new)
+            (λ _. ParsesNothing (Value (remaining_texts self.old))) }
     {
         self.expect("=", cause)?;
         let misfit = self.refusal(cause);
@@ -175,8 +175,8 @@ fn enter<A: Allocator + Copy>(
     misfit: Refusal,
 ) -> Result<Loc, Refusal>
     ensures { MatchResult result
-        (λ loc. IsLocation name.now × (slice_get locs.new loc ≡ Some name.now) × (locs.new ≡ with_name locs.old name.now))
-        (λ f. f.cause ≢ Memory → IsLocation name.now → HasRoomForName locs.old name.now → ⊥) }
+        (λ loc. IsLocationName name.now × (slice_get locs.new loc ≡ Some name.now) × (locs.new ≡ insert_name locs.old name.now))
+        (λ f. f.cause ≢ Memory → IsLocationName name.now → HasRoomForName locs.old name.now → ⊥) }
 {
     if !is_location(name) {
         return Err(no_name(name, misfit));

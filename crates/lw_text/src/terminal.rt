@@ -6,10 +6,10 @@ ghost use Rattle.lw_text.specs.Sites.{HasRoomFor, SiteSyntax};
 ghost use Rattle.lw_text.specs.Propositions.{is_node, Terminal as TerminalSyntax, Atom as Claims};
 ghost use Rattle.lw_text.specs.inner.Terminals.{atom_formula, terminal_of};
 ghost use Rattle.lw_text.specs.declared.fault.TextCause.TheVariants.{Memory};
-ghost use Rattle.lw_text.specs.inner.Pending.{begins_part};
+ghost use Rattle.lw_text.specs.inner.ReaderStates.{begins_part};
 ghost use Rattle.lw_text.specs.Conditions.{AtomSyntax, Holds, IsTerminal, sites_in};
-ghost use Rattle.lw_text.specs.inner.Resolved.{named, named_atom, IsIn, AtomIn};
-ghost use Rattle.lw_text.specs.inner.Taken.{TakenTerminal};
+ghost use Rattle.lw_text.specs.inner.Resolved.{site_by_name, named_atom, IsIn, AtomIn};
+ghost use Rattle.lw_text.specs.inner.Parsed.{ParsedTerminal};
 ghost use Rattle.lw_text.specs.inner.Resolved as resolved_of;
 
 use crate::cursor::Cursor;
@@ -66,7 +66,7 @@ impl Terminal {
 }
 
 impl<'t, 'a> Cursor<'t, 'a> {
-    ghost use Rattle.lw_text.specs.Views.{left};
+    ghost use Rattle.lw_text.specs.Views.{remaining_texts};
 
     /// Takes a terminal: where `part` is true one with which a part begins, else one of the others. The names
     /// of its locations go into the table.
@@ -78,10 +78,10 @@ impl<'t, 'a> Cursor<'t, 'a> {
         locs: &mut LocNames<A>,
     ) -> Result<Terminal, Refusal>
         requires { threads ≤ MAX_THREADS }
-        ensures { MatchResult result (λ s. TakenTerminal arch threads self.old self.new locs.old locs.new s)
+        ensures { MatchResult result (λ s. ParsedTerminal arch threads self.old self.new locs.old locs.new s)
             (λ f. f.cause ≢ Memory
             → (s : TerminalSyntax AtomSyntax) (rest : TokenList)
-            → IsTerminal arch threads (left self.old) s rest → begins_part s ≡ part
+            → IsTerminal arch threads (remaining_texts self.old) s rest → begins_part s ≡ part
             → HasRoomFor locs.old (sites_in (s ∷ [])) → ⊥) }
     {
         if part {
@@ -99,10 +99,10 @@ impl<'t, 'a> Cursor<'t, 'a> {
         locs: &mut LocNames<A>,
     ) -> Result<Terminal, Refusal>
         requires { threads ≤ MAX_THREADS }
-        ensures { MatchResult result (λ s. TakenTerminal arch threads self.old self.new locs.old locs.new s)
+        ensures { MatchResult result (λ s. ParsedTerminal arch threads self.old self.new locs.old locs.new s)
             (λ f. f.cause ≢ Memory
             → (s : TerminalSyntax AtomSyntax) (rest : TokenList)
-            → IsTerminal arch threads (left self.old) s rest → begins_part s ≡ true
+            → IsTerminal arch threads (remaining_texts self.old) s rest → begins_part s ≡ true
             → HasRoomFor locs.old (sites_in (s ∷ [])) → ⊥) }
     {
         if let Some(terminal) = self.take_opening_keyword() {
@@ -116,9 +116,9 @@ impl<'t, 'a> Cursor<'t, 'a> {
     /// Takes a keyword or a sign with which a part begins, if one is next.
     fn take_opening_keyword(&mut self) -> Option<Terminal>
         ensures found { IfSome result (λ s. (arch : Arch) (threads : ℕ) (names : NameTable)
-            → TakenTerminal arch threads self.old self.new names names s) }
+            → ParsedTerminal arch threads self.old self.new names names s) }
         ensures none { IfNone result ((arch : Arch) (threads : ℕ) (s : TerminalSyntax AtomSyntax) (rest : TokenList)
-            → IsTerminal arch threads (left self.old) s rest → begins_part s ≡ true
+            → IsTerminal arch threads (remaining_texts self.old) s rest → begins_part s ≡ true
             → (site : SiteSyntax) × (n : ℕ) × (s ≡ Claims (Holds site n))) }
         ensures kept { result ≡ None → self.new ≡ self.old }
     {
@@ -143,9 +143,9 @@ impl<'t, 'a> Cursor<'t, 'a> {
     /// Takes a `)`, a `/\` or a `\/`.
     fn take_joint(&mut self) -> Result<Terminal, Refusal>
         ensures { MatchResult result (λ s. (arch : Arch) (threads : ℕ) (names : NameTable)
-            → TakenTerminal arch threads self.old self.new names names s)
+            → ParsedTerminal arch threads self.old self.new names names s)
             (λ _. (arch : Arch) (threads : ℕ) (s : TerminalSyntax AtomSyntax) (rest : TokenList)
-            → IsTerminal arch threads (left self.old) s rest → begins_part s ≡ false → ⊥) }
+            → IsTerminal arch threads (remaining_texts self.old) s rest → begins_part s ≡ false → ⊥) }
     {
         if self.take_if(")") {
             return Ok(Terminal::Close);
@@ -163,7 +163,7 @@ impl<'t, 'a> Cursor<'t, 'a> {
 /// The atom that says of a register or a location that it ends with this word.
 fn atom_at(site: Site, word: Word) -> Atom
     requires { resolved_of.thread_exists MAX_THREADS site ≡ true }
-    ensures syntax { (names : NameTable) → named_atom names result ≡ Holds (named names site) word }
+    ensures syntax { (names : NameTable) → named_atom names result ≡ Holds (site_by_name names site) word }
     ensures within { (names : NameTable) → IsIn names site → AtomIn names result }
 {
     match site {

@@ -1,6 +1,6 @@
 //! A token of a text: its place, its bytes, and what it is.
 ghost use Rattle.std.specs.Prelude.{MatchOption};
-ghost use Rattle.lw_base.specs.Refusals.{NoSuch};
+ghost use Rattle.lw_base.specs.NoParse.{HoldsOfNothing};
 ghost use Rattle.lw_text.specs.Tokens.{IsNumber};
 ghost use Rattle.lw_text.specs.TokenKinds.{IsOfKind};
 ghost use Rattle.lw_text.specs.laws.TokenKindProps.{IsOfKind-prop};
@@ -20,7 +20,7 @@ pub struct Token<'a> {
 impl<'a> Token<'a> {
     /// The number that the token stands for, where it is one: decimal, or hexadecimal behind `0x`.
     pub fn number(&self) -> Option<Word>
-        ensures { MatchOption result (NoSuch (IsNumber self.now.text.now)) (IsNumber self.now.text.now) }
+        ensures { MatchOption result (HoldsOfNothing (IsNumber self.now.text.now)) (IsNumber self.now.text.now) }
     {
         match self.kind {
             TokenKind::Name => None,

@@ -1,9 +1,9 @@
 //! The token stream of a text: all tokens behind its preamble, up to the first lexical fault.
 ghost use Rattle.std.specs.Prelude.{◌≡◌, ◌≤◌, length, None, All, IfOk, IfSome, MatchOption};
-ghost use Rattle.lw_base.specs.Refusals.{NoSuch};
+ghost use Rattle.lw_base.specs.NoParse.{HoldsOfNothing};
 ghost use Rattle.lw_text.specs.Tokens.{Tokens};
 ghost use Rattle.lw_text.specs.PlacedTokens.{PlacedTokens};
-ghost use Rattle.lw_text.specs.Places.{placed_tokens};
+ghost use Rattle.lw_text.specs.Places.{with_spans};
 ghost use Rattle.lw_text.specs.declared.fault.TextCause.TheVariants.{Memory};
 
 use crate::fault::{Fault, Refusal, TextCause};
@@ -49,8 +49,8 @@ impl<'a, A: Allocator> TokenStream<'a, A> {
     /// The tokens of what the lexer has still to read.
     pub(crate) fn read(alloc: A, mut lexer: Lexer<'a>) -> Result<Self, AllocError>
         ensures { IfOk result (λ r. MatchOption r.fault
-            (PlacedTokens (length lexer.entry.text.now) lexer.entry.rest.now (placed_tokens r.tokens))
-            (λ f. NoSuch (Tokens lexer.entry.rest.now) × (f.at ≤ length lexer.entry.text.now))
+            (PlacedTokens (length lexer.entry.text.now) lexer.entry.rest.now (with_spans r.tokens))
+            (λ f. HoldsOfNothing (Tokens lexer.entry.rest.now) × (f.at ≤ length lexer.entry.text.now))
             × All (λ t. t.at ≤ length lexer.entry.text.now) r.tokens) }
     {
         let mut tokens = Sequence::new(alloc);

@@ -1,7 +1,7 @@
 //! Names, registers and the table of locations.
 ghost use Rattle.std.specs.Prelude.{◌≡◌, []};
 
-use lw_base::{Arch, LocNames, Reg, is_location, is_name, reg_name, reg_named};
+use lw_base::{Arch, LocNames, Reg, is_location, is_name, reg_from_name, reg_name};
 use std::alloc::{AllocError, Allocator};
 
 /// Names of locations, of which the last has 32 bytes.
@@ -76,7 +76,7 @@ fn table_of_locations(rt: HostRuntime) {
 /// The names of an architecture's registers, in the order of their numbers.
 fn are_registers(arch: Arch, names: &str) -> bool {
     for (number, name) in names.split(' ').enumerate() {
-        if !matches!(reg_named(arch, name), Some(reg) if reg.index() == number) {
+        if !matches!(reg_from_name(arch, name), Some(reg) if reg.index() == number) {
             return false;
         }
     }
@@ -100,7 +100,7 @@ fn names_of_registers(rt: HostRuntime) {
 fn first_register(arch: Arch, words: &str) -> Option<&str> {
     words
         .split(',')
-        .find(|word| reg_named(arch, word).is_some())
+        .find(|word| reg_from_name(arch, word).is_some())
 }
 
 #[test]

@@ -2,9 +2,11 @@
 -- sizes.
 use Rattle.lw_tso.proofs.Common.{◌≡◌, ℕ, Bool, true, false, List, length, Ok, Err, Option, Some, None, refl}
 use Rattle.lw_tso.proofs.Common.{sym, ap, ◌∙◌, subst, slice_get, slice_set, length-set, OnErr, Event, Stop}
-use Rattle.lw_tso.proofs.Common.{Request, content_after, Memory, Lawful, Served, Invariant, set_own, Instr}
-use Rattle.lw_tso.proofs.Common.{Processor, Act, Refused, Goes, Asks, Evicts, cpu_of, MachineState, Answer}
-use Rattle.lw_tso.proofs.Common.{ActDone, EvictionDone, DoneBy, EventDone, Running, words_after, Access}
+use Rattle.lw_tso.proofs.Common.{Request, content_after_request, Memory, IsLawful, RequestEffect, Invariant}
+use Rattle.lw_tso.proofs.Common.{set-get_same, Instr, Processor, EventEffect, Refused, LocalStep}
+use Rattle.lw_tso.proofs.Common.{MemoryAccess, Eviction, cpu_of, MachineState, EventResult, EffectTransition}
+use Rattle.lw_tso.proofs.Common.{EvictionTransition, ProcessorTransition, MachineTransition, MachineRun}
+use Rattle.lw_tso.proofs.Common.{words_after, Access}
 use Rattle.lw_memory.specs.declared.request.Access.TheVariants as to
 use Rattle.lw_memory.specs.declared.request.Request.TheVariants as request
 
@@ -14,73 +16,76 @@ length-words_after words x to.Load = refl
 length-words_after words x _ = length-set words x _
 
 -- after a request there are as many words as before
-length-content_after : (words : List ℕ) (r : Request) → length (content_after words r) ≡ length words
-length-content_after words (request.Ask t x access) = length-words_after words x access
-length-content_after words _ = refl
+length-content_after_request : (words : List ℕ) (r : Request) → length (content_after_request words r) ≡ length words
+length-content_after_request words (request.Ask t x access) = length-words_after words x access
+length-content_after_request words _ = refl
 
 module _ {M : Type 0} (mem : Memory M) (inv : Invariant M) where
   -- what an act keeps of the memory m, which is n then: the numbers of processors and locations, and the memory's invariant
-  pub record IsKept (m n : M) : Type 0 where
+  pub record PreservesMemorySize (m n : M) : Type 0 where
     pub cpus : inv.cpus n ≡ inv.cpus m
     pub locations : length (mem.content n) ≡ length (mem.content m)
     pub sound : inv.sound n
 
-  unchanged : {m n : M} → inv.sound m → n ≡ m → IsKept m n
+  unchanged : {m n : M} → inv.sound m → n ≡ m → PreservesMemorySize m n
   unchanged sound same = record {
     cpus = ap inv.cpus same;
     locations = ap (λ (l : M). length (mem.content l)) same;
     sound = subst inv.sound (sym same) sound;
   }
 
-  served : Lawful mem inv → (m n : M) {r : Request} {a : Option ℕ} → inv.sound m → mem.serves m r a n → IsKept m n
+  served : IsLawful mem inv → (m n : M) {r : Request} {a : Option ℕ} → inv.sound m → mem.serves m r a n → PreservesMemorySize m n
   served laws m n {r = r} {a = a} sound serves =
-      let s : Served mem inv m r a n = laws.served m r a n sound serves in
-      record { cpus = s.cpus; locations = ap length s.content ∙ length-content_after (mem.content m) r; sound = s.sound }
+      let s : RequestEffect mem inv m r a n = laws.served m r a n sound serves in
+      record { cpus = s.cpus; locations = ap length s.content ∙ length-content_after_request (mem.content m) r; sound = s.sound }
 
-  evicted : Lawful mem inv
-      → (held : Bool) (t x : ℕ) (p q : Processor) (m n : M) (answer : Answer)
+  evicted : IsLawful mem inv
+      → (held : Bool) (t x : ℕ) (p q : Processor) (m n : M) (answer : EventResult)
       → inv.sound m
-      → EvictionDone mem held t x p m answer q n
-      → IsKept m n
+      → EvictionTransition mem held t x p m answer q n
+      → PreservesMemorySize m n
   evicted laws false t x p q m n answer sound done = unchanged sound done.2
   evicted laws true t x p q m n answer sound done = served laws m n sound done.2
 
   -- over a memory that keeps the laws, an act keeps the memory's size and its invariant
-  pub act_kept : Lawful mem inv
-      → (t : ℕ) (act : Act) (p q : Processor) (m n : M) (answer : Answer)
+  pub act_kept : IsLawful mem inv
+      → (t : ℕ) (act : EventEffect) (p q : Processor) (m n : M) (answer : EventResult)
       → inv.sound m
-      → ActDone mem t act p m answer q n
-      → IsKept m n
-  act_kept laws t (Asks x access next) p q m n answer sound done = served laws m n sound done.3
-  act_kept laws t (Evicts x) p q m n answer sound done = evicted laws _ t x p q m n answer sound done
+      → EffectTransition mem t act p m answer q n
+      → PreservesMemorySize m n
+  act_kept laws t (MemoryAccess x access next) p q m n answer sound done = served laws m n sound done.3
+  act_kept laws t (Eviction x) p q m n answer sound done = evicted laws _ t x p q m n answer sound done
   act_kept laws t _ p q m n answer sound done = unchanged sound done.2
 
   eviction_refused : (held : Bool) (t x : ℕ) (p q : Processor) (m n : M) (stop : Stop)
-      → EvictionDone mem held t x p m (Err stop) q n
+      → EvictionTransition mem held t x p m (Err stop) q n
       → (q ≡ p) × (n ≡ m)
   eviction_refused false t x p q m n stop done = (done.1, done.2)
   eviction_refused true t x p q m n stop done = absurd (let e = done.0 in cc)
 
   -- a refused act changes nothing
-  pub act_refused : (t : ℕ) (act : Act) (p q : Processor) (m n : M) (stop : Stop)
-      → ActDone mem t act p m (Err stop) q n
+  pub act_refused : (t : ℕ) (act : EventEffect) (p q : Processor) (m n : M) (stop : Stop)
+      → EffectTransition mem t act p m (Err stop) q n
       → (q ≡ p) × (n ≡ m)
   act_refused t (Refused stop') p q m n stop done = (done.1, done.2)
-  act_refused t (Goes next) p q m n stop done = absurd (let e = done.0 in cc)
-  act_refused t (Evicts x) p q m n stop done = eviction_refused _ t x p q m n stop done
-  act_refused t _ p q m n stop done = absurd (let e : ◌≡◌ {A = Answer} (Err stop) (Ok tt) = done.1 in cc)
+  act_refused t (LocalStep next) p q m n stop done = absurd (let e = done.0 in cc)
+  act_refused t (Eviction x) p q m n stop done = eviction_refused _ t x p q m n stop done
+  act_refused t _ p q m n stop done = absurd (let e : ◌≡◌ {A = EventResult} (Err stop) (Ok tt) = done.1 in cc)
 
   -- a refused event changes nothing
   pub event_refused : (program : List (List Instr)) (e : Event) (s after : MachineState M) (stop : Stop)
-      → EventDone mem program e s (Err stop) after
+      → MachineTransition mem program e s (Err stop) after
       → after ≡ s
   event_refused program e s after stop = go (slice_get s.processors (cpu_of e)) refl
     where
-      go : (o : Option Processor) → slice_get s.processors (cpu_of e) ≡ o → DoneBy mem o program e s (Err stop) after → after ≡ s
+      go : (o : Option Processor)
+          → slice_get s.processors (cpu_of e) ≡ o
+          → ProcessorTransition mem o program e s (Err stop) after
+          → after ≡ s
       go None at done = done.1
       go (Some p) at done =
           let same = act_refused (cpu_of e) _ p done.0 s.memory done.1 stop done.2 in
-          let processors = ap (slice_set s.processors (cpu_of e)) same.0 ∙ set_own _ (cpu_of e) p at in
+          let processors = ap (slice_set s.processors (cpu_of e)) same.0 ∙ set-get_same _ (cpu_of e) p at in
           done.3 ∙ rw (processors, same.1) refl
 
   -- what an event keeps of the whole machine: the numbers of processors and locations, and the memory's invariant
@@ -90,14 +95,14 @@ module _ {M : Type 0} (mem : Memory M) (inv : Invariant M) where
     pub sound : inv.sound end.memory
 
   -- over a memory that keeps the laws, an event keeps the numbers of processors and locations, and the memory's invariant
-  pub event_kept : Lawful mem inv
-      → (program : List (List Instr)) (e : Event) (s after : MachineState M) (answer : Answer)
+  pub event_kept : IsLawful mem inv
+      → (program : List (List Instr)) (e : Event) (s after : MachineState M) (answer : EventResult)
       → inv.sound s.memory
-      → EventDone mem program e s answer after
+      → MachineTransition mem program e s answer after
       → IsSameSize s after
   event_kept laws program e s after answer sound = go (slice_get s.processors (cpu_of e))
     where
-      go : (o : Option Processor) → DoneBy mem o program e s answer after → IsSameSize s after
+      go : (o : Option Processor) → ProcessorTransition mem o program e s answer after → IsSameSize s after
       go None done = subst (IsSameSize s) (sym done.1) (record { processors = refl; locations = refl; sound = sound })
       go (Some p) done =
           let kept = act_kept laws (cpu_of e) _ p done.0 s.memory done.1 answer sound done.2 in
@@ -105,27 +110,28 @@ module _ {M : Type 0} (mem : Memory M) (inv : Invariant M) where
           (record { processors = length-set s.processors (cpu_of e) done.0; locations = kept.locations; sound = kept.sound })
 
   -- what a running machine is after an event: as before if it was refused, and in any case of as many processors and words
-  pub record IsLeft (before : Running M) (answer : Answer) (after : Running M) : Type 0 where
+  pub record IsLeft (before : MachineRun M) (answer : EventResult) (after : MachineRun M) : Type 0 where
     pub err : OnErr answer (after ≡ before)
     pub processors : length after.state.processors ≡ length before.state.processors
     pub words : length (mem.content after.state.memory) ≡ length (mem.content before.state.memory)
 
   -- where a call has done an event on a running machine, and kept its program and start, it leaves what `IsLeft` says
-  pub left : Lawful mem inv
-      → (e : Event) (before after : Running M) (answer : Answer)
+  pub left : IsLawful mem inv
+      → (e : Event) (before after : MachineRun M) (answer : EventResult)
       → inv.sound before.state.memory
       → after.program ≡ before.program
       → after.initial ≡ before.initial
-      → EventDone mem before.program e before.state answer after.state
+      → MachineTransition mem before.program e before.state answer after.state
       → IsLeft before answer after
   left laws e before after answer sound program initial done =
       let kept = event_kept laws before.program e before.state after.state answer sound done in
       record { err = go answer done; processors = kept.processors; words = kept.locations }
     where
-      go : (a : Answer) → EventDone mem before.program e before.state a after.state → OnErr a (after ≡ before)
+      go : (a : EventResult) → MachineTransition mem before.program e before.state a after.state → OnErr a (after ≡ before)
       go (Ok u) done = tt
       go (Err stop) done =
-          let running : (let r : Running M = record { program = after.program; initial = after.initial; state = after.state } in
+          let running : (let r : MachineRun M =
+          record { program = after.program; initial = after.initial; state = after.state } in
           r)
           ≡ record { program = before.program; initial = before.initial; state = before.state } =
           rw (program, initial, (event_refused before.program e before.state after.state stop done)) refl in

@@ -23,22 +23,23 @@ pub use Rattle.std.proofs.lemmas.Option.{slice_get_past, slice_get_read, slice_g
 pub use Rattle.std.proofs.lemmas.Simd.{map-map}
 pub use Rattle.std.specs.List.{AllByRecursion, list_all, range_with_len}
 pub use Rattle.std.specs.Option.{ForSome, option_or}
-pub use Rattle.lw_base.proofs.Common.{Final, IsEvent, IsOutcomeOf, IsTestName, IsWellFormedHead, NameTable}
-pub use Rattle.lw_base.proofs.Common.{TestHead, code_of, most_threads, registers, sum_of, value_of}
-pub use Rattle.lw_base.proofs.Common.{word_after}
-pub use Rattle.lw_base.proofs.api.Lists.{at_index, each_after, fellows_after, get_some, got_set_other}
-pub use Rattle.lw_base.proofs.api.Lists.{got_set_same, length-with_word, set_own}
-pub use Rattle.lw_base.proofs.api.Replays.{Ran-append, Ran-more}
-pub use Rattle.lw_base.proofs.api.SideBySide.{got_map, same_maps, zip_pass, zip_passes}
+pub use Rattle.lw_base.proofs.Common.{FinalState, HasOutcomeShape, IsEvent, IsTestName, IsWellFormedHead}
+pub use Rattle.lw_base.proofs.Common.{NameTable, TestHead, changed_word, most_threads, operand_value}
+pub use Rattle.lw_base.proofs.Common.{registers, thread_code, wrapping_sum}
+pub use Rattle.lw_base.proofs.api.Lists.{at_index, each_after, fellows_after, get-set_other, get-set_same}
+pub use Rattle.lw_base.proofs.api.Lists.{get_some, length-set_word_if_some, set-get_same}
+pub use Rattle.lw_base.proofs.api.Replays.{RunsTo-append, RunsTo-more}
+pub use Rattle.lw_base.proofs.api.Zips.{get-map, same_maps, zip_pass, zip_passes}
 pub use Rattle.lw_base.specs.declared.change.Change.{Change}
 pub use Rattle.lw_base.specs.declared.event.Event.{Event}
 pub use Rattle.lw_base.specs.declared.event.Event.TheVariants.{Drain, Evict, Step}
 pub use Rattle.lw_base.specs.declared.stop.Stop.{Stop}
 pub use Rattle.lw_base.specs.declared.stop.Stop.TheVariants.{Ended, FenceWaits, NoCpu, NoLocation, NotHeld}
 pub use Rattle.lw_base.specs.declared.stop.Stop.TheVariants.{SwapWaits}
-pub use Rattle.lw_litmus.proofs.Common.{IsStatement, IsThread, IsWellFormedProgram, Leads, ProgramTest}
-pub use Rattle.lw_litmus.proofs.Common.{goes_on, holds, is_fence, is_locked, is_store, location_of, target_of}
-pub use Rattle.lw_litmus.proofs.Common.{waits, x86, x86_operation}
+pub use Rattle.lw_litmus.proofs.Common.{IsSuccessor, IsWellFormedProgram, IsWellFormedStatement}
+pub use Rattle.lw_litmus.proofs.Common.{IsWellFormedThread, X86Test, branch_target, falls_through}
+pub use Rattle.lw_litmus.proofs.Common.{guard_holds, is_fence, is_locked, is_store, location_of}
+pub use Rattle.lw_litmus.proofs.Common.{needs_empty_buffer, x86_language, x86_operation}
 pub use Rattle.lw_litmus.proofs.api.Kinds.{locked_no_store}
 pub use Rattle.lw_litmus.specs.declared.instr.Instr.{Instr}
 pub use Rattle.lw_litmus.specs.declared.instr.Instr.TheVariants.{Je, Jmp, Jne, Mfence}
@@ -47,29 +48,34 @@ pub use Rattle.lw_litmus.specs.declared.operation.Guard.TheVariants.{Always, Equ
 pub use Rattle.lw_litmus.specs.declared.operation.Operation.{Operation}
 pub use Rattle.lw_litmus.specs.declared.operation.Operation.TheVariants.{Branch, Compare, Fence, FetchAdd}
 pub use Rattle.lw_litmus.specs.declared.operation.Operation.TheVariants.{Load, Set, Store, Sum}
-pub use Rattle.lw_memory.proofs.Common.{Invariant, IsInRange, IsPossible, Lawful, Memory, Served, answer_at}
-pub use Rattle.lw_memory.proofs.Common.{answer_of, content_after, flat, invariant_of, is_held, is_write}
-pub use Rattle.lw_memory.proofs.Common.{memory_of, words_after}
+pub use Rattle.lw_memory.proofs.Common.{Invariant, IsEnabled, IsInRange, IsLawful, Memory, RequestEffect}
+pub use Rattle.lw_memory.proofs.Common.{content_after_request, flat_memory, invariant_of, is_held, is_write}
+pub use Rattle.lw_memory.proofs.Common.{memory_of, request_result, value_returned, words_after}
 pub use Rattle.lw_memory.specs.declared.request.Access.{Access}
 pub use Rattle.lw_memory.specs.declared.request.Request.{Request}
-pub use Rattle.lw_tso.specs.Acts.{Act, Asks, Evicts, Goes, Refused, cpu_of, drain_act, event_act, load_act}
-pub use Rattle.lw_tso.specs.Acts.{once_empty, operation_act, step_act}
-pub use Rattle.lw_tso.specs.Endings.{CanEnd, events_of}
+pub use Rattle.lw_tso.specs.Endings.{CanTerminate, events_of}
+pub use Rattle.lw_tso.specs.EventEffects.{EventEffect, Eviction, LocalStep, MemoryAccess, Refused, cpu_of}
+pub use Rattle.lw_tso.specs.EventEffects.{drain_effect, event_effect, if_buffer_empty, load_effect}
+pub use Rattle.lw_tso.specs.EventEffects.{operation_effect, step_effect}
 pub use Rattle.lw_tso.specs.Evictions.{without_evictions}
-pub use Rattle.lw_tso.specs.Exchange.{AreIndependent, ArePassing, DoNotConflict, DoneAt, IsExchangeable}
-pub use Rattle.lw_tso.specs.Exchange.{MayPass, MayPassOldest, StandsAt, accessed, event_writes}
-pub use Rattle.lw_tso.specs.Fencing.{AreFences, EndsBlock, IsFencedCode, IsFencedTest, IsInserted}
-pub use Rattle.lw_tso.specs.Fencing.{code_without, in_blocks, kept, kept_before}
+pub use Rattle.lw_tso.specs.Fencing.{EndsBlock, IsFencedCode, IsFencedTest, IsInserted, MarksAreFences}
+pub use Rattle.lw_tso.specs.Fencing.{code_without, kept, retarget_to_blocks, unmarked_count_before}
+pub use Rattle.lw_tso.specs.Independence.{AreDrainAndPassing, AreIndependent, CommutesWithDrain}
+pub use Rattle.lw_tso.specs.Independence.{DoNotConflict, EventsCommute, IsAtPosition, MayPassOldest}
+pub use Rattle.lw_tso.specs.Independence.{TransitionAt, accessed_location, event_writes}
 pub use Rattle.lw_tso.specs.LockPhases.{Begun, Drains, Free, HasRead, HasWritten, HeldBy, IsAtLocked}
-pub use Rattle.lw_tso.specs.LockPhases.{IsNotBlocked, Lock, Locked, Locks, Phase, PhasedDone, PhasedEvent}
-pub use Rattle.lw_tso.specs.LockPhases.{PhasedRan, PhasedState, Reads, Stepped, Steps, Unlocks, Writes}
-pub use Rattle.lw_tso.specs.LockPhases.{emptied, having_written, locked_by, locked_next, unlocked, word_seen}
-pub use Rattle.lw_tso.specs.Machines.{ActDone, Answer, DoneBy, EventDone, EvictionDone, MachineState}
-pub use Rattle.lw_tso.specs.Machines.{buffer_of, flatten, position_of}
-pub use Rattle.lw_tso.specs.Processors.{Processor, buffering, flagging, getting, going_on, jumping, newest}
-pub use Rattle.lw_tso.specs.Processors.{starting}
-pub use Rattle.lw_tso.specs.Runs.{Initial, MachineOutcome, MachineRan, Replays, Running, is_done, is_final}
-pub use Rattle.lw_tso.specs.Runs.{machine_outcome, machine_start}
-pub use Rattle.lw_tso.specs.Starts.{CanStart}
-pub use Rattle.lw_tso.specs.inner.Rooms.{HasRoom, IsMachine, makes_entry, stores_from}
+pub use Rattle.lw_tso.specs.LockPhases.{IsNotBlocked, Lock, Locked, Locks, Phase, PhasedEvent, PhasedRunsTo}
+pub use Rattle.lw_tso.specs.LockPhases.{PhasedState, PhasedStep, PhasedTransition, Reads, Steps, Unlocks}
+pub use Rattle.lw_tso.specs.LockPhases.{Writes, having_written, locked_by, locked_next, read_value, unlocked}
+pub use Rattle.lw_tso.specs.LockPhases.{with_empty_buffer}
+pub use Rattle.lw_tso.specs.Machines.{EffectTransition, EventResult, EvictionTransition, MachineState}
+pub use Rattle.lw_tso.specs.Machines.{MachineTransition, ProcessorTransition, buffer_of, over_flat_memory}
+pub use Rattle.lw_tso.specs.Machines.{position_of}
+pub use Rattle.lw_tso.specs.Processors.{Processor, advance_processor, enqueue_store, initial_processor}
+pub use Rattle.lw_tso.specs.Processors.{jump_or_advance_processor, newest_buffered, set_register}
+pub use Rattle.lw_tso.specs.Processors.{set_zero_flag}
+pub use Rattle.lw_tso.specs.Runs.{InitialWords, IsMachineOutcome, MachineRun, MachineRunsTo, ReplaysTo}
+pub use Rattle.lw_tso.specs.Runs.{has_terminated, initial_machine_state, is_final, machine_outcome}
+pub use Rattle.lw_tso.specs.Starts.{IsInitialMemory}
+pub use Rattle.lw_tso.specs.inner.BufferCapacity.{HasRoom, IsReachableMachine, makes_entry, stores_from}
 pub use Rattle.lw_tso.specs.inner.Views.{processor_of}

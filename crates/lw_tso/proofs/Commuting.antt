@@ -2,11 +2,11 @@
 use Rattle.lw_tso.proofs.Common.{◌≡◌, ◌≢◌, ℕ, Bool, true, false, if◌then◌else◌, List, ◌∷◌, Option, Some, None}
 use Rattle.lw_tso.proofs.Common.{refl, sym, ap, ◌∙◌, subst, slice_set, slice_index, ne_eqb, true≢false}
 use Rattle.lw_tso.proofs.Common.{get_or-set_other, option_or, set_comm, same_Some, unwrap_or, Operation, Load}
-use Rattle.lw_tso.proofs.Common.{Set, Sum, Compare, Store, Branch, word_after, is_write, answer_at}
-use Rattle.lw_tso.proofs.Common.{words_after, Processor, newest, Act, Refused, Goes, Asks, Evicts}
-use Rattle.lw_tso.proofs.Common.{operation_act, load_act, accessed, event_writes, Access, DoNotConflict}
-use Rattle.lw_tso.proofs.Common.{MayPass}
-use Rattle.lw_tso.proofs.api.Effects.{Does}
+use Rattle.lw_tso.proofs.Common.{Set, Sum, Compare, Store, Branch, changed_word, is_write, value_returned}
+use Rattle.lw_tso.proofs.Common.{words_after, Processor, newest_buffered, EventEffect, Refused, LocalStep}
+use Rattle.lw_tso.proofs.Common.{MemoryAccess, Eviction, operation_effect, load_effect, accessed_location}
+use Rattle.lw_tso.proofs.Common.{event_writes, Access, DoNotConflict, CommutesWithDrain}
+use Rattle.lw_tso.proofs.api.Effects.{EffectLeadsTo}
 use Rattle.lw_memory.specs.declared.request.Access.TheVariants as to
 
 -- ---- two acts
@@ -14,7 +14,7 @@ use Rattle.lw_memory.specs.declared.request.Access.TheVariants as to
 -- an access answers the same where its location has the same word
 answer_same : (m n : List ℕ) (x : ℕ) (access : Access)
     → slice_index m x ≡ slice_index n x
-    → answer_at m x access ≡ answer_at n x access
+    → value_returned m x access ≡ value_returned n x access
 answer_same m n x (to.Store w) same = refl
 answer_same m n x _ same = ap Some same
 
@@ -32,63 +32,65 @@ words_beside : (m : List ℕ) (y : ℕ) (access : Access) (x w : ℕ)
 words_beside m y to.Load x w ne = refl
 words_beside m y (to.Store v) x w ne = set_comm m y x v w ne
 words_beside m y (to.Update change) x w ne =
-    set_comm m y x _ w ne ∙ ap (λ k. slice_set (slice_set m x w) y (word_after change k)) (sym (get_or-set_other m x y w 0 ne))
+    set_comm m y x _ w ne ∙ ap (λ k. slice_set (slice_set m x w) y (changed_word change k)) (sym (get_or-set_other m x y w 0 ne))
 
 -- an act leaves the word at a location as it is, if it does not write there
-word_kept : (act : Act) (m n : List ℕ) (q : Processor) (x : ℕ)
-    → Does m act q n
-    → (accessed act ≡ Some x → event_writes act ≡ false)
+word_kept : (act : EventEffect) (m n : List ℕ) (q : Processor) (x : ℕ)
+    → EffectLeadsTo m act q n
+    → (accessed_location act ≡ Some x → event_writes act ≡ false)
     → slice_index n x ≡ slice_index m x
-word_kept (Goes next) m n q x d free = ap (λ k. slice_index k x) d.1
-word_kept (Asks y access next) m n q x d free = ap (λ k. slice_index k x) d.1 ∙ words_other m y access x (λ e. free (ap Some e))
+word_kept (LocalStep next) m n q x d free = ap (λ k. slice_index k x) d.1
+word_kept (MemoryAccess y access next) m n q x d free =
+    ap (λ k. slice_index k x) d.1 ∙ words_other m y access x (λ e. free (ap Some e))
 word_kept _ m n q x d free = absurd d
 
 -- an act does the same where the memory has another word at a location x that the act does not access
-does_beside : (act : Act) (m n : List ℕ) (q : Processor) (x w : ℕ)
-    → Does m act q n
-    → (accessed act ≡ Some x → ⊥)
-    → Does (slice_set m x w) act q (slice_set n x w)
-does_beside (Goes next) m n q x w d free = (d.0, ap (λ k. slice_set k x w) d.1)
-does_beside (Asks y access next) m n q x w d free =
+does_beside : (act : EventEffect) (m n : List ℕ) (q : Processor) (x w : ℕ)
+    → EffectLeadsTo m act q n
+    → (accessed_location act ≡ Some x → ⊥)
+    → EffectLeadsTo (slice_set m x w) act q (slice_set n x w)
+does_beside (LocalStep next) m n q x w d free = (d.0, ap (λ k. slice_set k x w) d.1)
+does_beside (MemoryAccess y access next) m n q x w d free =
     let ne : y ≢ x = λ e. free (ap Some e) in
     let answer = answer_same m (slice_set m x w) y access (sym (get_or-set_other m x y w 0 ne)) in
     (d.0 ∙ ap (λ a. next (unwrap_or a 0)) answer, ap (λ k. slice_set k x w) d.1 ∙ words_beside m y access x w ne)
 does_beside _ m n q x w d free = absurd d
 
 -- an act that leaves the word at x does the same behind an access of x, if that does not write or the act does not access x
-does_behind : (act : Act) (m n : List ℕ) (q : Processor) (x : ℕ) (access : Access)
-    → Does m act q n
-    → (is_write access ≡ true → accessed act ≡ Some x → ⊥)
+does_behind : (act : EventEffect) (m n : List ℕ) (q : Processor) (x : ℕ) (access : Access)
+    → EffectLeadsTo m act q n
+    → (is_write access ≡ true → accessed_location act ≡ Some x → ⊥)
     → slice_index n x ≡ slice_index m x
-    → Does (words_after m x access) act q (words_after n x access)
+    → EffectLeadsTo (words_after m x access) act q (words_after n x access)
 does_behind act m n q x to.Load d free same = d
 does_behind act m n q x (to.Store w) d free same = does_beside act m n q x w d (free refl)
 does_behind act m n q x (to.Update change) d free same =
-    let word = word_after change (slice_index m x) in
-    subst (λ w. Does (slice_set m x word) act q (slice_set n x (word_after change w))) (sym same)
+    let word = changed_word change (slice_index m x) in
+    subst (λ w. EffectLeadsTo (slice_set m x word) act q (slice_set n x (changed_word change w))) (sym same)
     (does_beside act m n q x word d (free refl))
 
 -- Two acts are done, one behind the other, which leads from the words m to the words n: a leaves processor p, and then b leaves q.
-pub record DoneInTurn (a b : Act) (p q : Processor) (m n : List ℕ) : Type 0 where
+pub record DoneInTurn (a b : EventEffect) (p q : Processor) (m n : List ℕ) : Type 0 where
   pub between : List ℕ
-  pub first : Does m a p between
-  pub second : Does between b q n
+  pub first : EffectLeadsTo m a p between
+  pub second : EffectLeadsTo between b q n
 
 -- acts that do not conflict lead to the same the other way round
-pub acts_exchange : (a b : Act) (p q : Processor) (m n : List ℕ)
+pub acts_exchange : (a b : EventEffect) (p q : Processor) (m n : List ℕ)
     → DoNotConflict a b
     → DoneInTurn a b p q m n
     → DoneInTurn b a q p m n
-acts_exchange a (Goes next) p q m n free done =
-    record { between = m; first = (done.second.0, refl); second = subst (Does m a p) (sym done.second.1) done.first }
-acts_exchange a (Asks x access next) p q m n free done =
+acts_exchange a (LocalStep next) p q m n free done =
+    record { between = m; first = (done.second.0, refl); second = subst (EffectLeadsTo m a p) (sym done.second.1) done.first }
+acts_exchange a (MemoryAccess x access next) p q m n free done =
     let same = word_kept a m done.between p x done.first (λ at. (free x at refl).0) in
-    let apart : is_write access ≡ true → accessed a ≡ Some x → ⊥ = λ writes at. true≢false (sym writes ∙ (free x at refl).1) in
+    let apart : is_write access ≡ true → accessed_location a ≡ Some x → ⊥ =
+    λ writes at. true≢false (sym writes ∙ (free x at refl).1) in
     record {
       between = words_after m x access;
       first = (done.second.0 ∙ ap (λ w. next (unwrap_or w 0)) (answer_same done.between m x access same), refl);
       second =
-          subst (Does (words_after m x access) a p) (sym done.second.1)
+          subst (EffectLeadsTo (words_after m x access) a p) (sym done.second.1)
           (does_behind a m done.between p x access done.first apart same);
     }
 acts_exchange a _ p q m n free done = absurd done.second
@@ -100,52 +102,52 @@ abbrev pub with_oldest : ℕ × ℕ → Processor → Processor
 with_oldest entry p = record p { buffer = entry ∷ p.buffer }
 
 -- the act, as a processor does it that has this entry too, as its oldest, which stays
-abbrev pub keeping : ℕ × ℕ → Act → Act
+abbrev pub keeping : ℕ × ℕ → EventEffect → EventEffect
 keeping entry (Refused stop) = Refused stop
-keeping entry (Goes next) = Goes (with_oldest entry next)
-keeping entry (Asks x access next) = Asks x access (λ w. with_oldest entry (next w))
-keeping entry (Evicts x) = Evicts x
+keeping entry (LocalStep next) = LocalStep (with_oldest entry next)
+keeping entry (MemoryAccess x access next) = MemoryAccess x access (λ w. with_oldest entry (next w))
+keeping entry (Eviction x) = Eviction x
 
 -- what an act does, it does as well with an entry more, which stays
-pub keeping_does : (entry : ℕ × ℕ) (act : Act) (m n : List ℕ) (q : Processor)
-    → Does m act q n
-    → Does m (keeping entry act) (with_oldest entry q) n
+pub keeping_does : (entry : ℕ × ℕ) (act : EventEffect) (m n : List ℕ) (q : Processor)
+    → EffectLeadsTo m act q n
+    → EffectLeadsTo m (keeping entry act) (with_oldest entry q) n
 keeping_does entry (Refused stop) m n q d = absurd d
-keeping_does entry (Evicts x) m n q d = absurd d
+keeping_does entry (Eviction x) m n q d = absurd d
 keeping_does entry _ m n q d = (ap (with_oldest entry) d.0, d.1)
 
 -- what an act does with an entry that stays, it does as well without it
-pub does_kept : (entry : ℕ × ℕ) (act : Act) (m n : List ℕ) (q : Processor)
-    → Does m (keeping entry act) q n
-    → (new : Processor) × (q ≡ with_oldest entry new) × Does m act new n
-does_kept entry (Goes next) m n q d = (next, d.0, (refl, d.1))
-does_kept entry (Asks x access next) m n q d = (next (unwrap_or (answer_at m x access) 0), d.0, (refl, d.1))
+pub does_kept : (entry : ℕ × ℕ) (act : EventEffect) (m n : List ℕ) (q : Processor)
+    → EffectLeadsTo m (keeping entry act) q n
+    → (new : Processor) × (q ≡ with_oldest entry new) × EffectLeadsTo m act new n
+does_kept entry (LocalStep next) m n q d = (next, d.0, (refl, d.1))
+does_kept entry (MemoryAccess x access next) m n q d = (next (unwrap_or (value_returned m x access) 0), d.0, (refl, d.1))
 does_kept entry _ m n q d = absurd d
 
 -- `with_entry`, the act of a processor with this entry as its oldest, is `act` with it kept, and does not access its location
-pub record LeavesAlone (entry : ℕ × ℕ) (act with_entry : Act) : Type 0 where
+pub record LeavesAlone (entry : ℕ × ℕ) (act with_entry : EventEffect) : Type 0 where
   pub same : with_entry ≡ keeping entry act
-  pub free : accessed act ≡ Some entry.0 → ⊥
+  pub free : accessed_location act ≡ Some entry.0 → ⊥
 
 -- an act that asks the memory nothing leaves the entry alone
-alone : (entry : ℕ × ℕ) (next : Processor) → LeavesAlone entry (Goes next) (Goes (with_oldest entry next))
+alone : (entry : ℕ × ℕ) (next : Processor) → LeavesAlone entry (LocalStep next) (LocalStep (with_oldest entry next))
 alone entry next = record { same = refl; free = λ e. cc }
 
 -- a load of another location leaves the entry alone, whether it is by store forwarding or from memory
 load_alone : (entry : ℕ × ℕ) (o : Option ℕ) (here : Bool) (y : ℕ) (next : ℕ → Processor)
     → here ≡ false
     → entry.0 ≢ y
-    → LeavesAlone entry (load_act o y next)
-    (load_act (option_or o (if here then Some entry.1 else None)) y (λ w. with_oldest entry (next w)))
+    → LeavesAlone entry (load_effect o y next)
+    (load_effect (option_or o (if here then Some entry.1 else None)) y (λ w. with_oldest entry (next w)))
 load_alone entry (Some w) here y next not ne = alone entry (next w)
 load_alone entry None true y next not ne = absurd (true≢false not)
 load_alone entry None _ y next not ne = record { same = refl; free = λ e. ne (sym (same_Some y entry.0 e)) }
 
 -- an operation that may pass the entry leaves it alone
 pub operation_alone : (entry : ℕ × ℕ) (o : Operation) (p : Processor)
-    → MayPass entry.0 o
-    → LeavesAlone entry (operation_act o p) (operation_act o (with_oldest entry p))
-operation_alone entry (Load d y) p may = load_alone entry (newest p.buffer y) _ y _ (ne_eqb entry.0 y may) may
+    → CommutesWithDrain entry.0 o
+    → LeavesAlone entry (operation_effect o p) (operation_effect o (with_oldest entry p))
+operation_alone entry (Load d y) p may = load_alone entry (newest_buffered p.buffer y) _ y _ (ne_eqb entry.0 y may) may
 operation_alone entry (Set d v) p may = alone entry _
 operation_alone entry (Sum d a v) p may = alone entry _
 operation_alone entry (Compare a v) p may = alone entry _

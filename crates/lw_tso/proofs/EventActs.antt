@@ -1,10 +1,11 @@
 -- What an event asks of the memory, and what it makes of its processor, over any memory.
 use Rattle.lw_tso.proofs.Common.{◌≡◌, ℕ, Bool, true, false, nat_lt, if◌then◌else◌, List, [], ◌∷◌, Option}
-use Rattle.lw_tso.proofs.Common.{Some, None, refl, inl, inr, ◌⊎◌, ⊎_elim, slice_get, code_of, Event, Step}
+use Rattle.lw_tso.proofs.Common.{Some, None, refl, inl, inr, ◌⊎◌, ⊎_elim, slice_get, thread_code, Event, Step}
 use Rattle.lw_tso.proofs.Common.{Drain, Evict, NoLocation, Memory, is_held, Instr, location_of, x86_operation}
-use Rattle.lw_tso.proofs.Common.{Processor, Act, Evicts, Refused, cpu_of, event_act, step_act, drain_act}
-use Rattle.lw_tso.proofs.Common.{without_evictions, Answer, ActDone, EvictionDone}
-use Rattle.lw_tso.proofs.api.Operations.{Comes, comes_made, Went, operation_comes}
+use Rattle.lw_tso.proofs.Common.{Processor, EventEffect, Eviction, Refused, cpu_of, event_effect, step_effect}
+use Rattle.lw_tso.proofs.Common.{drain_effect, without_evictions, EventResult, EffectTransition}
+use Rattle.lw_tso.proofs.Common.{EvictionTransition}
+use Rattle.lw_tso.proofs.api.Operations.{EffectSatisfies, comes_made, OperationTransition, operation_comes}
 
 -- an event is a step or a drain
 abbrev pub IsNoEviction : Event → Type 0
@@ -19,55 +20,60 @@ AsksFor code p x =
 -- What an event makes of its processor: nothing, the next instruction done, or the oldest entry gone to memory.
 pub data Becomes (code : List Instr) (p q : Processor) : Type 0 where
   Stays : q ≡ p → Becomes code p q
-  Steps : (i : Instr) → slice_get code p.position ≡ Some i → Went (x86_operation i) p q → Becomes code p q
+  Steps : (i : Instr) → slice_get code p.position ≡ Some i → OperationTransition (x86_operation i) p q → Becomes code p q
   Drains : (entry : ℕ × ℕ) (newer : List (ℕ × ℕ)) → p.buffer ≡ entry ∷ newer → q ≡ record p { buffer = newer } → Becomes code p q
 
 module _ (program : List (List Instr)) (locs : ℕ) where
   -- the claim on an event's act: it asks memory for a location by `AsksFor` alone, and makes of its processor what `Becomes` says
-  abbrev pub EventComes : Event → Processor → Act → Type 0
+  abbrev pub EventComes : Event → Processor → EventEffect → Type 0
   EventComes e p =
-      Comes (Unit {0}) (λ x written. AsksFor (code_of program (cpu_of e)) p x) (Becomes (code_of program (cpu_of e)) p)
+      EffectSatisfies (Unit {0}) (λ x written. AsksFor (thread_code program (cpu_of e)) p x)
+      (Becomes (thread_code program (cpu_of e)) p)
 
   step_comes : (t : ℕ) (p : Processor) (o : Option Instr)
-      → slice_get (code_of program t) p.position ≡ o
-      → EventComes (Step t) p (step_act o p)
+      → slice_get (thread_code program t) p.position ≡ o
+      → EventComes (Step t) p (step_effect o p)
   step_comes t p None at = tt
   step_comes t p (Some i) at =
-      operation_comes (Unit {0}) (λ x written. AsksFor (code_of program t) p x) (Becomes (code_of program t) p) (x86_operation i)
-      p (λ waits full. tt) (λ x is. inl (i, at, is)) (λ q went. Steps i at went)
+      operation_comes (Unit {0}) (λ x written. AsksFor (thread_code program t) p x) (Becomes (thread_code program t) p)
+      (x86_operation i) p (λ waits full. tt) (λ x is. inl (i, at, is)) (λ q went. Steps i at went)
 
-  drain_comes : (t : ℕ) (p : Processor) (buffer : List (ℕ × ℕ)) → p.buffer ≡ buffer → EventComes (Drain t) p (drain_act buffer p)
+  drain_comes : (t : ℕ) (p : Processor) (buffer : List (ℕ × ℕ))
+      → p.buffer ≡ buffer
+      → EventComes (Drain t) p (drain_effect buffer p)
   drain_comes t p [] is = tt
   drain_comes t p (entry ∷ newer) is = (inr (entry, newer, is, refl), λ none. Drains entry newer is refl)
 
   -- an event other than an eviction comes to an act that asks memory for no more, and makes no more, than `EventComes` says
-  pub event_comes : (e : Event) (p : Processor) → IsNoEviction e → EventComes e p (event_act program locs e p)
-  event_comes (Step t) p none = step_comes t p (slice_get (code_of program t) p.position) refl
+  pub event_comes : (e : Event) (p : Processor) → IsNoEviction e → EventComes e p (event_effect program locs e p)
+  event_comes (Step t) p none = step_comes t p (slice_get (thread_code program t) p.position) refl
   event_comes (Drain t) p none = drain_comes t p p.buffer refl
   event_comes (Evict t x) p none = absurd cc
 
-  module _ {M : Type 0} (mem : Memory M) (p q : Processor) (m n : M) (answer : Answer) where
-    evicted : (held : Bool) (t x : ℕ) → EvictionDone mem held t x p m answer q n → q ≡ p
+  module _ {M : Type 0} (mem : Memory M) (p q : Processor) (m n : M) (answer : EventResult) where
+    evicted : (held : Bool) (t x : ℕ) → EvictionTransition mem held t x p m answer q n → q ≡ p
     evicted false t x done = done.1
     evicted true t x done = done.1
 
-    given_up : (there : Bool) (t x : ℕ) → ActDone mem t (if there then Evicts x else Refused NoLocation) p m answer q n → q ≡ p
+    given_up : (there : Bool) (t x : ℕ)
+        → EffectTransition mem t (if there then Eviction x else Refused NoLocation) p m answer q n
+        → q ≡ p
     given_up true t x done = evicted (is_held (mem.state m t x)) t x done
     given_up false t x done = done.1
 
     made : (e : Event)
         → IsNoEviction e
-        → ActDone mem (cpu_of e) (event_act program locs e p) p m answer q n
-        → Becomes (code_of program (cpu_of e)) p q
+        → EffectTransition mem (cpu_of e) (event_effect program locs e p) p m answer q n
+        → Becomes (thread_code program (cpu_of e)) p q
     made e none done =
-        let code = code_of program (cpu_of e) in
+        let code = thread_code program (cpu_of e) in
         ⊎_elim (λ refused. Stays refused.2) (λ becomes. becomes)
         (comes_made (Unit {0}) (λ x w. AsksFor code p x) (Becomes code p) mem (cpu_of e) _ p q m n answer (event_comes e p none)
         done)
 
     pub event_becomes : (e : Event)
-        → ActDone mem (cpu_of e) (event_act program locs e p) p m answer q n
-        → Becomes (code_of program (cpu_of e)) p q
+        → EffectTransition mem (cpu_of e) (event_effect program locs e p) p m answer q n
+        → Becomes (thread_code program (cpu_of e)) p q
     event_becomes (Step t) done = made (Step t) refl done
     event_becomes (Drain t) done = made (Drain t) refl done
     event_becomes (Evict t x) done = Stays (given_up (nat_lt x locs) t x done)

@@ -3,13 +3,15 @@ use Rattle.lw_tso.proofs.Common.{◌≡◌, ℕ, [], ◌∷◌, get_or, ◌+◌,
 use Rattle.lw_tso.proofs.Common.{Ok, Err, Some, None, refl, sym, ap, ◌∙◌, subst, arith, slice_get, slice_set}
 use Rattle.lw_tso.proofs.Common.{◌⊎◌, inl, inr, All, ◌&&◌, zip, option_map, length-set, lt-ltb, le-ltb}
 use Rattle.lw_tso.proofs.Common.{list_all, ForSome, map-map, map-set, length-map, get_or_past, slice_get-map}
-use Rattle.lw_tso.proofs.Common.{slice_get_within, slice_get-some, slice_get_read, cases_lt, Final, Event}
-use Rattle.lw_tso.proofs.Common.{Step, Evict, NoLocation, Ended, NotHeld, Memory, is_held, Lawful, Invariant}
-use Rattle.lw_tso.proofs.Common.{each_after, set_own, IsThread, Instr, Operation, location_of, is_store}
-use Rattle.lw_tso.proofs.Common.{x86_operation, x86, Processor, code_of, cpu_of, operation_act, step_act}
-use Rattle.lw_tso.proofs.Common.{event_act, MachineState, Answer, buffer_of, ActDone, DoneBy, EventDone}
-use Rattle.lw_tso.proofs.Common.{Running, Initial, is_done, is_final, machine_outcome, stores_from, HasRoom}
-use Rattle.lw_tso.proofs.Common.{IsMachine, processor_of, Vec, vec_len, slice_get_past, NoCpu}
+use Rattle.lw_tso.proofs.Common.{slice_get_within, slice_get-some, slice_get_read, cases_lt, FinalState}
+use Rattle.lw_tso.proofs.Common.{Event, Step, Evict, NoLocation, Ended, NotHeld, Memory, is_held, IsLawful}
+use Rattle.lw_tso.proofs.Common.{Invariant, each_after, set-get_same, IsWellFormedThread, Instr, Operation}
+use Rattle.lw_tso.proofs.Common.{location_of, is_store, x86_operation, x86_language, Processor, thread_code}
+use Rattle.lw_tso.proofs.Common.{cpu_of, operation_effect, step_effect, event_effect, MachineState}
+use Rattle.lw_tso.proofs.Common.{EventResult, buffer_of, EffectTransition, ProcessorTransition}
+use Rattle.lw_tso.proofs.Common.{MachineTransition, MachineRun, InitialWords, has_terminated, is_final}
+use Rattle.lw_tso.proofs.Common.{machine_outcome, stores_from, HasRoom, IsReachableMachine, processor_of, Vec}
+use Rattle.lw_tso.proofs.Common.{vec_len, slice_get_past, NoCpu}
 use Rattle.lw_tso.specs.declared.processor.Processor.{Processor as ProcessorInMemory}
 use Rattle.lw_tso.proofs.Acts.{act_kept}
 use Rattle.lw_tso.proofs.EventActs.{event_becomes}
@@ -27,24 +29,24 @@ read xs ys i t x same index within is = slice_get_read xs _ t x refl within (rw 
 
 module _ {M : Type 0} (mem : Memory M) (program : List (List Instr)) where
   -- a step of a processor that has a next instruction is what that instruction comes to
-  pub step_done : (t : ℕ) (p q : Processor) (i : Instr) (o : Operation) (m n : M) (answer : Answer)
-      → slice_get (code_of program t) p.position ≡ Some i
+  pub step_done : (t : ℕ) (p q : Processor) (i : Instr) (o : Operation) (m n : M) (answer : EventResult)
+      → slice_get (thread_code program t) p.position ≡ Some i
       → o ≡ x86_operation i
-      → ActDone mem t (operation_act o p) p m answer q n
-      → ActDone mem t (event_act program (length (mem.content m)) (Step t) p) p m answer q n
+      → EffectTransition mem t (operation_effect o p) p m answer q n
+      → EffectTransition mem t (event_effect program (length (mem.content m)) (Step t) p) p m answer q n
   step_done t p q i o m n answer next is done =
-      subst (λ k. ActDone mem t (step_act k p) p m answer q n) (sym next) (rw is at done)
+      subst (λ k. EffectTransition mem t (step_effect k p) p m answer q n) (sym next) (rw is at done)
 
   -- a step of a processor at the end of its code is refused
   pub at_end : (t : ℕ) (p : Processor) (m : M)
-      → slice_get (code_of program t) p.position ≡ None
-      → ActDone mem t (event_act program (length (mem.content m)) (Step t) p) p m (Err Ended) p m
-  at_end t p m next = subst (λ o. ActDone mem t (step_act o p) p m (Err Ended) p m) (sym next) (refl, refl, refl)
+      → slice_get (thread_code program t) p.position ≡ None
+      → EffectTransition mem t (event_effect program (length (mem.content m)) (Step t) p) p m (Err Ended) p m
+  at_end t p m next = subst (λ o. EffectTransition mem t (step_effect o p) p m (Err Ended) p m) (sym next) (refl, refl, refl)
 
   -- What an eviction makes of the memory, whatever the processor, which stays as it is.
-  abbrev pub Evicts : ℕ → ℕ → M → Answer → M → Type 0
+  abbrev pub Evicts : ℕ → ℕ → M → EventResult → M → Type 0
   Evicts t x m answer n =
-      (p : Processor) → ActDone mem t (event_act program (length (mem.content m)) (Evict t x) p) p m answer p n
+      (p : Processor) → EffectTransition mem t (event_effect program (length (mem.content m)) (Evict t x) p) p m answer p n
 
   -- an eviction of a location that is not there is refused
   pub no_location : (t x : ℕ) (m : M) → length (mem.content m) ≤ x → Evicts t x m (Err NoLocation) m
@@ -85,18 +87,18 @@ module _ {M A : Type 0} where
   state_of processors m = record { processors = map processor_of processors; memory = m }
 
   -- the index of one of the running machine's processors is one of the processors in memory
-  pub index_within : {Z : Type 0} {run : Running M} {program : List (List Instr)} {initial : Initial}
+  pub index_within : {Z : Type 0} {run : MachineRun M} {program : List (List Instr)} {initial : InitialWords}
       (processors : Vec (ProcessorInMemory A) Z) {m : M} (i t : ℕ)
       → record { program = program; initial = initial; state = state_of processors.items m } ≡ run
       → i ≡ t
       → t < length run.state.processors
       → i < vec_len processors
   index_within processors i t same index within =
-      let many = ap (λ (r : Running M). length r.state.processors) same in
+      let many = ap (λ (r : MachineRun M). length r.state.processors) same in
       omega (arith, within, many, index, length-map processors.items processor_of)
 
   -- what is read of a processor in memory is what the running machine's processor has
-  pub shown : {Y : Type 0} (f : Processor → Y) {run : Running M} {program : List (List Instr)} {initial : Initial}
+  pub shown : {Y : Type 0} (f : Processor → Y) {run : MachineRun M} {program : List (List Instr)} {initial : InitialWords}
       (processors : List (ProcessorInMemory A)) {m : M} (i t : ℕ) {p : ProcessorInMemory A}
       → record { program = program; initial = initial; state = state_of processors m } ≡ run
       → i ≡ t
@@ -104,15 +106,15 @@ module _ {M A : Type 0} where
       → p ≡ get_or processors i p
       → slice_get (map f run.state.processors) t ≡ Some (f (processor_of p))
   shown {Y} f processors i t {p = p} same index within is =
-      let many = ap (λ (r : Running M). length r.state.processors) same in
+      let many = ap (λ (r : MachineRun M). length r.state.processors) same in
       let at = read processors processors i t p refl index (omega (arith, within, many, length-map processors processor_of)) is in
       let got =
       slice_get-map f (map processor_of processors) t
       ∙ ap (option_map f) (slice_get-map processor_of processors t ∙ ap (option_map processor_of) at) in
-      subst (λ (r : Running M). slice_get (map f r.state.processors) t ≡ Some (f (processor_of p))) same got
+      subst (λ (r : MachineRun M). slice_get (map f r.state.processors) t ≡ Some (f (processor_of p))) same got
 
   -- the outcome of a running machine, of which all registers and the content are listed
-  pub outcome_is : (mem : Memory M) {run : Running M} {program : List (List Instr)} {initial : Initial}
+  pub outcome_is : (mem : Memory M) {run : MachineRun M} {program : List (List Instr)} {initial : InitialWords}
       (processors : List (ProcessorInMemory A)) {m : M} (regs : List (List ℕ)) (words : List ℕ)
       → record { program = program; initial = initial; state = state_of processors m } ≡ run
       → regs ≡ map (λ p. p.regs) processors
@@ -120,59 +122,59 @@ module _ {M A : Type 0} where
       → record { regs = regs; words = words } ≡ machine_outcome mem run.state
   outcome_is mem processors {m = m} regs words same listed content =
       let seen = sym (map-map (λ (p : Processor). p.regs) processor_of processors) in
-      let outcome : (let o : Final = record { regs = regs; words = words } in o) ≡ machine_outcome mem (state_of processors m) =
-      rw (listed, content, seen) refl in
-      outcome ∙ ap (λ (r : Running M). machine_outcome mem r.state) same
+      let outcome : (let o : FinalState = record { regs = regs; words = words } in o)
+      ≡ machine_outcome mem (state_of processors m) = rw (listed, content, seen) refl in
+      outcome ∙ ap (λ (r : MachineRun M). machine_outcome mem r.state) same
 
   -- the test whether all processors are done says the same of the processors in memory
   pub all_done : (codes : List (List Instr)) (processors : List (ProcessorInMemory A)) (m : M)
-      → list_all (λ p. is_done p.0 (processor_of p.1)) (zip codes processors) ≡ is_final codes (state_of processors m)
-  all_done (code ∷ codes) (p ∷ processors) m = ap (λ b. is_done code (processor_of p) && b) (all_done codes processors m)
+      → list_all (λ p. has_terminated p.0 (processor_of p.1)) (zip codes processors) ≡ is_final codes (state_of processors m)
+  all_done (code ∷ codes) (p ∷ processors) m = ap (λ b. has_terminated code (processor_of p) && b) (all_done codes processors m)
   all_done _ _ m = refl
 
 module _ {M A : Type 0} (mem : Memory M) (program : List (List Instr)) where
   -- what a processor in memory has done by an act is the event of the whole machine
-  pub done_by : (e : Event) (run : Running M) (initial : Initial) (p q : ProcessorInMemory A)
-      (processors : List (ProcessorInMemory A)) (m n : M) (answer : Answer)
+  pub done_by : (e : Event) (run : MachineRun M) (initial : InitialWords) (p q : ProcessorInMemory A)
+      (processors : List (ProcessorInMemory A)) (m n : M) (answer : EventResult)
       → record { program = program; initial = initial; state = state_of processors m } ≡ run
       → slice_get processors (cpu_of e) ≡ Some p
-      → ActDone mem (cpu_of e) (event_act program (length (mem.content m)) e (processor_of p)) (processor_of p) m answer
-      (processor_of q) n
-      → EventDone mem run.program e run.state answer (state_of (slice_set processors (cpu_of e) q) n)
+      → EffectTransition mem (cpu_of e) (event_effect program (length (mem.content m)) e (processor_of p)) (processor_of p) m
+      answer (processor_of q) n
+      → MachineTransition mem run.program e run.state answer (state_of (slice_set processors (cpu_of e) q) n)
   done_by e run initial p q processors m n answer same at done =
       let there = slice_get-map processor_of processors (cpu_of e) ∙ ap (option_map processor_of) at in
       let end : MachineState M = state_of (slice_set processors (cpu_of e) q) n in
       let set = map-set processor_of processors (cpu_of e) q in
-      subst (λ (r : Running M). EventDone mem r.program e r.state answer end) same
-      (subst (λ o. DoneBy mem o program e (state_of processors m) answer end) (sym there)
+      subst (λ (r : MachineRun M). MachineTransition mem r.program e r.state answer end) same
+      (subst (λ o. ProcessorTransition mem o program e (state_of processors m) answer end) (sym there)
       (processor_of q, n, done, ap (λ c. let s : MachineState M = record { processors = c; memory = n } in s) set))
 
   -- a machine evicts as its memory does, and its processors stay as they are
-  pub machine_evicts : (t x : ℕ) (run : Running M) (initial : Initial) (processors : List (ProcessorInMemory A)) (m n : M)
-      (answer : Answer)
+  pub machine_evicts : (t x : ℕ) (run : MachineRun M) (initial : InitialWords) (processors : List (ProcessorInMemory A)) (m n : M)
+      (answer : EventResult)
       → record { program = program; initial = initial; state = state_of processors m } ≡ run
       → t < length processors
       → Evicts mem program t x m answer n
-      → EventDone mem run.program (Evict t x) run.state answer (state_of processors n)
+      → MachineTransition mem run.program (Evict t x) run.state answer (state_of processors n)
   machine_evicts t x run initial processors m n answer same within evicts =
       let (p, at) = slice_get-some processors t within in
-      let left = ap (λ ps. state_of ps n) (set_own processors t p at) in
-      subst (EventDone mem run.program (Evict t x) run.state answer) left
+      let left = ap (λ ps. state_of ps n) (set-get_same processors t p at) in
+      subst (MachineTransition mem run.program (Evict t x) run.state answer) left
       (done_by (Evict t x) run initial p p processors m n answer same at (evicts (processor_of p)))
 
   -- an event of a processor that is not there is refused
-  pub no_cpu : {Z : Type 0} (e : Event) (run : Running M) (processors : Vec (ProcessorInMemory A) Z) {initial : Initial} {m : M}
-      (count index : ℕ)
+  pub no_cpu : {Z : Type 0} (e : Event) (run : MachineRun M) (processors : Vec (ProcessorInMemory A) Z) {initial : InitialWords}
+      {m : M} (count index : ℕ)
       → record { program = program; initial = initial; state = state_of processors.items m } ≡ run
       → count ≡ vec_len processors
       → index ≡ cpu_of e
       → count ≤ index
-      → EventDone mem run.program e run.state (Err NoCpu) run.state
+      → MachineTransition mem run.program e run.state (Err NoCpu) run.state
   no_cpu e run processors count index same many at past =
       let gone : length (map processor_of processors.items) ≤ cpu_of e =
       omega (arith, many, at, past, length-map processors.items processor_of) in
       let none = slice_get_past (map processor_of processors.items) (cpu_of e) gone in
-      subst (λ (r : Running M). EventDone mem r.program e r.state (Err NoCpu) r.state) same (rw none (refl, refl))
+      subst (λ (r : MachineRun M). MachineTransition mem r.program e r.state (Err NoCpu) r.state) same (rw none (refl, refl))
 
 module _ {M A : Type 0} (mem : Memory M) (inv : Invariant M) (program : List (List Instr)) where
   -- What an operation needs to be carried out: processor and location are there, and a store has room.
@@ -182,55 +184,55 @@ module _ {M A : Type 0} (mem : Memory M) (inv : Invariant M) (program : List (Li
     pub position : p.position + 1 < 2 ^ 64
     pub room : is_store o ≡ true → length p.buffer.entries < p.buffer.room
 
-  module _ (locs : ℕ) (threads : All (IsThread x86 locs) program) where
+  module _ (locs : ℕ) (threads : All (IsWellFormedThread x86_language locs) program) where
     thread_at : (processors : List (ProcessorInMemory A)) (m : M) (t : ℕ) (p : ProcessorInMemory A)
-        → IsMachine mem inv program locs m processors
+        → IsReachableMachine mem inv program locs m processors
         → slice_get processors t ≡ Some p
-        → IsThread x86 locs (code_of program t)
+        → IsWellFormedThread x86_language locs (thread_code program t)
     thread_at processors m t p ok at = threads t _ (omega (arith, slice_get_within processors t p at, ok.as_many))
 
     pub can_carry_out : (processors : List (ProcessorInMemory A)) {m : M} (t : ℕ) (p : ProcessorInMemory A) (i : Instr)
         {o : Operation}
-        → IsMachine mem inv program locs m processors
+        → IsReachableMachine mem inv program locs m processors
         → slice_get processors t ≡ Some p
-        → slice_get (code_of program t) p.position ≡ Some i
+        → slice_get (thread_code program t) p.position ≡ Some i
         → o ≡ x86_operation i
         → CanCarryOut locs t p m o
     can_carry_out processors {m = m} t p i ok at next is =
         let thread = thread_at processors m t p ok at in
-        let here = stores_here (code_of program t) p.position i next in
+        let here = stores_here (thread_code program t) p.position i next in
         subst (CanCarryOut locs t p m) (sym is) (record {
           cpu = omega (arith, slice_get_within processors t p at, ok.cpus);
-          loc = rw ok.locations ((statement_at locs (code_of program t) thread p.position i next).0);
-          position = omega (arith, (slice_get_within (code_of program t) p.position i next), thread.short);
+          loc = rw ok.locations ((statement_at locs (thread_code program t) thread p.position i next).0);
+          position = omega (arith, (slice_get_within (thread_code program t) p.position i next), thread.short);
           room = λ store. omega (arith, (ok.rooms t p at).fits, here, counted i store);
         })
 
     -- the entries of a buffer are for locations of the memory
     pub entries_there : {processors : List (ProcessorInMemory A)} {m : M} (t : ℕ) (p : ProcessorInMemory A)
-        → IsMachine mem inv program locs m processors
+        → IsReachableMachine mem inv program locs m processors
         → slice_get processors t ≡ Some p
         → All (λ (entry : ℕ × ℕ). entry.0 < length (mem.content m)) p.buffer.entries
     entries_there t p ok at = rw ok.locations ((ok.rooms t p at).there)
 
     -- the parts of a machine after an event
-    pub machine_after : Lawful mem inv
-        → (e : Event) (p q : ProcessorInMemory A) (processors : List (ProcessorInMemory A)) (m n : M) (answer : Answer)
-        → IsMachine mem inv program locs m processors
+    pub machine_after : IsLawful mem inv
+        → (e : Event) (p q : ProcessorInMemory A) (processors : List (ProcessorInMemory A)) (m n : M) (answer : EventResult)
+        → IsReachableMachine mem inv program locs m processors
         → slice_get processors (cpu_of e) ≡ Some p
-        → ActDone mem (cpu_of e) (event_act program (length (mem.content m)) e (processor_of p)) (processor_of p) m answer
-        (processor_of q) n
+        → EffectTransition mem (cpu_of e) (event_effect program (length (mem.content m)) e (processor_of p)) (processor_of p) m
+        answer (processor_of q) n
         → q.buffer.room ≡ p.buffer.room
-        → IsMachine mem inv program locs n (slice_set processors (cpu_of e) q)
+        → IsReachableMachine mem inv program locs n (slice_set processors (cpu_of e) q)
     machine_after laws e p q processors m n answer ok at done same =
         let kept =
-        act_kept mem inv laws (cpu_of e) (event_act program (length (mem.content m)) e (processor_of p)) (processor_of p)
+        act_kept mem inv laws (cpu_of e) (event_effect program (length (mem.content m)) e (processor_of p)) (processor_of p)
         (processor_of q) m n answer ok.sound done in
         let longer = length-set processors (cpu_of e) q in
         let thread = thread_at processors m (cpu_of e) p ok at in
         let becomes = event_becomes program (length (mem.content m)) mem (processor_of p) (processor_of q) m n answer e done in
-        let room : HasRoom locs (code_of program (cpu_of e)) (processor_of q) q.buffer.room =
-        subst (HasRoom locs (code_of program (cpu_of e)) (processor_of q)) (sym same)
+        let room : HasRoom locs (thread_code program (cpu_of e)) (processor_of q) q.buffer.room =
+        subst (HasRoom locs (thread_code program (cpu_of e)) (processor_of q)) (sym same)
         (event_room thread becomes (ok.rooms (cpu_of e) p at)) in
         record {
           sound = kept.sound;
@@ -238,9 +240,9 @@ module _ {M A : Type 0} (mem : Memory M) (inv : Invariant M) (program : List (Li
           cpus = omega (arith, longer, kept.cpus, ok.cpus);
           as_many = longer ∙ ok.as_many;
           rooms =
-              each_after (λ u r. HasRoom locs (code_of program u) (processor_of r) r.buffer.room) processors (cpu_of e) q
+              each_after (λ u r. HasRoom locs (thread_code program u) (processor_of r) r.buffer.room) processors (cpu_of e) q
               (slice_get_within processors (cpu_of e) p at) ok.rooms room;
           whole =
-              each_after (λ u r. stores_from 0 (code_of program u) ≤ r.buffer.room) processors (cpu_of e) q
+              each_after (λ u r. stores_from 0 (thread_code program u) ≤ r.buffer.room) processors (cpu_of e) q
               (slice_get_within processors (cpu_of e) p at) ok.whole (rw same (ok.whole (cpu_of e) p at));
         }

@@ -1,56 +1,58 @@
 -- A run over a memory that keeps the laws is, evictions left out, a run over the flat one.
 use Rattle.lw_tso.proofs.Common.{◌≡◌, ℕ, Bool, true, false, if◌then◌else◌, List, [], ◌∷◌, length, Ok, Option}
-use Rattle.lw_tso.proofs.Common.{Some, None, refl, ap, ap₂, ◌∙◌, subst, slice_get, slice_set, Final, Event}
-use Rattle.lw_tso.proofs.Common.{Step, Drain, Evict, NoLocation, flat, Memory, is_held, Lawful, Invariant}
-use Rattle.lw_tso.proofs.Common.{set_own, Instr, ProgramTest, Processor, Act, Refused, Asks, Evicts, cpu_of}
-use Rattle.lw_tso.proofs.Common.{event_act, MachineState, Answer, flatten, ActDone, EvictionDone, DoneBy}
-use Rattle.lw_tso.proofs.Common.{EventDone, MachineRan, Replays, machine_start, without_evictions}
+use Rattle.lw_tso.proofs.Common.{Some, None, refl, ap, ap₂, ◌∙◌, subst, slice_get, slice_set, FinalState}
+use Rattle.lw_tso.proofs.Common.{Event, Step, Drain, Evict, NoLocation, flat_memory, Memory, is_held}
+use Rattle.lw_tso.proofs.Common.{IsLawful, Invariant, set-get_same, Instr, X86Test, Processor, EventEffect}
+use Rattle.lw_tso.proofs.Common.{Refused, MemoryAccess, Eviction, cpu_of, event_effect, MachineState}
+use Rattle.lw_tso.proofs.Common.{EventResult, over_flat_memory, EffectTransition, EvictionTransition}
+use Rattle.lw_tso.proofs.Common.{ProcessorTransition, MachineTransition, MachineRunsTo, ReplaysTo}
+use Rattle.lw_tso.proofs.Common.{initial_machine_state, without_evictions}
 use Rattle.lw_tso.proofs.Acts.{event_kept}
 use Rattle.lw_tso.proofs.EventActs.{IsNoEviction, EventComes, event_comes}
 use Rattle.lw_memory.specs.declared.request.Request.TheVariants as request
 
-module _ {M : Type 0} (mem : Memory M) (inv : Invariant M) (laws : Lawful mem inv) where
+module _ {M : Type 0} (mem : Memory M) (inv : Invariant M) (laws : IsLawful mem inv) where
   -- an act that is no eviction
-  act_flat : (t : ℕ) (act : Act) (p q : Processor) (m n : M) (answer : Answer)
+  act_flat : (t : ℕ) (act : EventEffect) (p q : Processor) (m n : M) (answer : EventResult)
       → inv.sound m
-      → ((x : ℕ) → act ≡ Evicts x → ⊥)
-      → ActDone mem t act p m answer q n
-      → ActDone flat t act p (mem.content m) answer q (mem.content n)
-  act_flat t (Asks x access next) p q m n answer sound none done =
+      → ((x : ℕ) → act ≡ Eviction x → ⊥)
+      → EffectTransition mem t act p m answer q n
+      → EffectTransition flat_memory t act p (mem.content m) answer q (mem.content n)
+  act_flat t (MemoryAccess x access next) p q m n answer sound none done =
       let s = laws.served m (request.Ask t x access) done.0 n sound done.3 in (done.0, done.1, done.2, (s.answer, s.content))
-  act_flat t (Evicts x) p q m n answer sound none done = absurd (none x refl)
+  act_flat t (Eviction x) p q m n answer sound none done = absurd (none x refl)
   act_flat t _ p q m n answer sound none done = (done.0, done.1, ap mem.content done.2)
 
-  by_flat : (o : Option Processor) (program : List (List Instr)) (e : Event) (s after : MachineState M) (answer : Answer)
+  by_flat : (o : Option Processor) (program : List (List Instr)) (e : Event) (s after : MachineState M) (answer : EventResult)
       → inv.sound s.memory
       → IsNoEviction e
-      → DoneBy mem o program e s answer after
-      → DoneBy flat o program e (flatten mem s) answer (flatten mem after)
-  by_flat None program e s after answer sound none done = (done.0, ap (flatten mem) done.1)
+      → ProcessorTransition mem o program e s answer after
+      → ProcessorTransition flat_memory o program e (over_flat_memory mem s) answer (over_flat_memory mem after)
+  by_flat None program e s after answer sound none done = (done.0, ap (over_flat_memory mem) done.1)
   by_flat (Some p) program e s after answer sound none done =
       let l = length (mem.content s.memory) in
-      let keeps =
-      λ (x : ℕ) (is : event_act program l e p ≡ Evicts x). subst (EventComes program l e p) is (event_comes program l e p none) in
-      (done.0, mem.content done.1, act_flat _ _ p _ _ _ answer sound keeps done.2, ap (flatten mem) done.3)
+      let keeps = λ (x : ℕ) (is : event_effect program l e p ≡ Eviction x).
+      subst (EventComes program l e p) is (event_comes program l e p none) in
+      (done.0, mem.content done.1, act_flat _ _ p _ _ _ answer sound keeps done.2, ap (over_flat_memory mem) done.3)
 
   -- an event but an eviction, done over a memory, is done with the same answer over the flat memory of its content
-  pub event_flat : (program : List (List Instr)) (e : Event) (s after : MachineState M) (answer : Answer)
+  pub event_flat : (program : List (List Instr)) (e : Event) (s after : MachineState M) (answer : EventResult)
       → inv.sound s.memory
       → IsNoEviction e
-      → EventDone mem program e s answer after
-      → EventDone flat program e (flatten mem s) answer (flatten mem after)
+      → MachineTransition mem program e s answer after
+      → MachineTransition flat_memory program e (over_flat_memory mem s) answer (over_flat_memory mem after)
   event_flat program e s = by_flat (slice_get s.processors (cpu_of e)) program e s
 
   evicted_flat : (held : Bool) (t x : ℕ) (p q : Processor) (m n : M)
       → inv.sound m
-      → EvictionDone mem held t x p m (Ok tt) q n
+      → EvictionTransition mem held t x p m (Ok tt) q n
       → (q ≡ p) × (mem.content n ≡ mem.content m)
   evicted_flat false t x p q m n sound done = (done.1, ap mem.content done.2)
   evicted_flat _ t x p q m n sound done = (done.1, (laws.served m (request.Evict t x) None n sound done.2).content)
 
   evict_flat : (there : Bool) (t x : ℕ) (p q : Processor) (m n : M)
       → inv.sound m
-      → ActDone mem t (if there then Evicts x else Refused NoLocation) p m (Ok tt) q n
+      → EffectTransition mem t (if there then Eviction x else Refused NoLocation) p m (Ok tt) q n
       → (q ≡ p) × (mem.content n ≡ mem.content m)
   evict_flat true t x p q m n sound done = evicted_flat (is_held (mem.state m t x)) t x p q m n sound done
   evict_flat false t x p q m n sound done = (done.1, ap mem.content done.2)
@@ -58,13 +60,13 @@ module _ {M : Type 0} (mem : Memory M) (inv : Invariant M) (laws : Lawful mem in
   eviction_flat : (o : Option Processor) (program : List (List Instr)) (t x : ℕ) (s after : MachineState M)
       → inv.sound s.memory
       → slice_get s.processors t ≡ o
-      → DoneBy mem o program (Evict t x) s (Ok tt) after
-      → flatten mem after ≡ flatten mem s
-  eviction_flat None program t x s after sound at done = ap (flatten mem) done.1
+      → ProcessorTransition mem o program (Evict t x) s (Ok tt) after
+      → over_flat_memory mem after ≡ over_flat_memory mem s
+  eviction_flat None program t x s after sound at done = ap (over_flat_memory mem) done.1
   eviction_flat (Some p) program t x s after sound at done =
       let same = evict_flat _ t x p done.0 s.memory done.1 sound done.2 in
-      let processors = ap (slice_set s.processors t) same.0 ∙ set_own s.processors t p at in
-      ap (flatten mem) done.3
+      let processors = ap (slice_set s.processors t) same.0 ∙ set-get_same s.processors t p at in
+      ap (over_flat_memory mem) done.3
       ∙ ap₂
       (λ (ps : List Processor) (words : List ℕ). let a : MachineState (List ℕ) = record { processors = ps; memory = words } in a)
       processors same.1
@@ -72,32 +74,32 @@ module _ {M : Type 0} (mem : Memory M) (inv : Invariant M) (laws : Lawful mem in
   -- a run over any memory is one over flat memory, its evictions left out
   pub run_flat : (program : List (List Instr)) (es : List Event) (s end : MachineState M)
       → inv.sound s.memory
-      → MachineRan mem program es s end
-      → MachineRan flat program (without_evictions es) (flatten mem s) (flatten mem end)
-  run_flat program [] s end sound ran = ap (flatten mem) ran
+      → MachineRunsTo mem program es s end
+      → MachineRunsTo flat_memory program (without_evictions es) (over_flat_memory mem s) (over_flat_memory mem end)
+  run_flat program [] s end sound ran = ap (over_flat_memory mem) ran
   run_flat program (Step t ∷ es) s end sound ran = (
-    flatten mem ran.0,
+    over_flat_memory mem ran.0,
     event_flat program (Step t) s ran.0 (Ok tt) sound refl ran.1,
     run_flat program es _ end (event_kept mem inv laws program (Step t) s ran.0 _ sound ran.1).sound ran.2,
   )
   run_flat program (Drain t ∷ es) s end sound ran = (
-    flatten mem ran.0,
+    over_flat_memory mem ran.0,
     event_flat program (Drain t) s ran.0 (Ok tt) sound refl ran.1,
     run_flat program es _ end (event_kept mem inv laws program (Drain t) s ran.0 _ sound ran.1).sound ran.2,
   )
   run_flat program (Evict t x ∷ es) s end sound ran =
-      subst (λ a. MachineRan flat program (without_evictions es) a (flatten mem end))
+      subst (λ a. MachineRunsTo flat_memory program (without_evictions es) a (over_flat_memory mem end))
       (eviction_flat (slice_get s.processors t) program t x s ran.0 sound refl ran.1)
       (run_flat program es ran.0 end (event_kept mem inv laws program (Evict t x) s ran.0 (Ok tt) sound ran.1).sound ran.2)
 
   -- a replay over any memory is one over flat memory, its evictions left out
-  pub replays_flat : (test : ProgramTest) (m : M) (es : List Event) (o : Final)
+  pub replays_flat : (test : X86Test) (m : M) (es : List Event) (o : FinalState)
       → inv.sound m
-      → Replays mem test m es o
-      → Replays flat test (mem.content m) (without_evictions es) o
+      → ReplaysTo mem test m es o
+      → ReplaysTo flat_memory test (mem.content m) (without_evictions es) o
   replays_flat test m es o sound r = record {
-    end = flatten mem r.end;
-    ran = run_flat test.threads es (machine_start test m) r.end sound r.ran;
+    end = over_flat_memory mem r.end;
+    ran = run_flat test.threads es (initial_machine_state test m) r.end sound r.ran;
     final = r.final;
     is = r.is;
   }

@@ -2,14 +2,16 @@
 -- its write, and gives the lock back, in a row.
 use Rattle.lw_tso.proofs.Common.{◌≡◌, ℕ, Bool, true, false, List, [], ◌∷◌, ◌++◌, length, map, Ok, Option}
 use Rattle.lw_tso.proofs.Common.{Some, None, refl, sym, ap, ◌∙◌, subst, slice_get, slice_set, slice_index}
-use Rattle.lw_tso.proofs.Common.{option_map, set-set, get_or_from_slice_get, slice_get-map, got_set_same}
-use Rattle.lw_tso.proofs.Common.{code_of, Event, Step, Drain, Evict, flat, Instr, is_locked, x86_operation}
-use Rattle.lw_tso.proofs.Common.{Processor, step_act, MachineState, buffer_of, EventDone, MachineRan, Begun}
-use Rattle.lw_tso.proofs.Common.{HasRead, HasWritten, Lock, HeldBy, PhasedState, PhasedEvent, Steps, Drains}
-use Rattle.lw_tso.proofs.Common.{Locks, Reads, Writes, Unlocks, Locked, locked_by, emptied, having_written}
-use Rattle.lw_tso.proofs.Common.{IsAtLocked, PhasedRan, unlocked}
+use Rattle.lw_tso.proofs.Common.{option_map, set-set, get_or_from_slice_get, slice_get-map, get-set_same}
+use Rattle.lw_tso.proofs.Common.{thread_code, Event, Step, Drain, Evict, flat_memory, Instr, is_locked}
+use Rattle.lw_tso.proofs.Common.{x86_operation, Processor, step_effect, MachineState, buffer_of}
+use Rattle.lw_tso.proofs.Common.{MachineTransition, MachineRunsTo, Begun, HasRead, HasWritten, Lock, HeldBy}
+use Rattle.lw_tso.proofs.Common.{PhasedState, PhasedEvent, Steps, Drains, Locks, Reads, Writes, Unlocks}
+use Rattle.lw_tso.proofs.Common.{Locked, locked_by, with_empty_buffer, having_written, IsAtLocked}
+use Rattle.lw_tso.proofs.Common.{PhasedRunsTo, unlocked}
 use Rattle.lw_tso.proofs.LockedSteps.{locked_does, locked_there, locked_waited, step_empty}
-use Rattle.lw_tso.proofs.api.Effects.{state, Does, no_eviction, Did, event_once, leads_from, leads_to}
+use Rattle.lw_tso.proofs.api.Effects.{state, EffectLeadsTo, no_eviction, EventOccurrence}
+use Rattle.lw_tso.proofs.api.Effects.{MachineTransition-deterministic, event_of_effect, effect_of_event}
 
 -- the store buffer of a processor that is there is found in the machine
 pub buffer_at : (s : MachineState (List ℕ)) (t : ℕ) (p : Processor) → slice_get s.processors t ≡ Some p → buffer_of s t ≡ p.buffer
@@ -20,17 +22,18 @@ buffer_at s t p at =
 module _ (program : List (List Instr)) where
   -- events in phases of locked instructions lead from one state to another; nobody holds the lock before or after
   abbrev pub InPhases : MachineState (List ℕ) → MachineState (List ℕ) → Type 0
-  InPhases s end = (events : List PhasedEvent) × PhasedRan program events (unlocked s) (unlocked end)
+  InPhases s end = (events : List PhasedEvent) × PhasedRunsTo program events (unlocked s) (unlocked end)
 
   ran_append : (es fs : List PhasedEvent) (s mid end : PhasedState)
-      → PhasedRan program es s mid
-      → PhasedRan program fs mid end
-      → PhasedRan program (es ++ fs) s end
-  ran_append [] fs s mid end r q = subst (λ (m : PhasedState). PhasedRan program fs m end) r q
+      → PhasedRunsTo program es s mid
+      → PhasedRunsTo program fs mid end
+      → PhasedRunsTo program (es ++ fs) s end
+  ran_append [] fs s mid end r q = subst (λ (m : PhasedState). PhasedRunsTo program fs m end) r q
   ran_append (e ∷ es) fs s mid end r q = (r.0, r.1, ran_append es fs r.0 mid end r.2 q)
 
   -- a locked instruction of a processor whose buffer is empty
-  module _ (t : ℕ) (s : MachineState (List ℕ)) (p : Processor) (l : Locked) (at : IsAtLocked program s t (emptied p) l) where
+  module _ (t : ℕ) (s : MachineState (List ℕ)) (p : Processor) (l : Locked)
+      (at : IsAtLocked program s t (with_empty_buffer p) l) where
     abbrev word : ℕ
     word = slice_index s.memory l.location
 
@@ -61,19 +64,20 @@ module _ (program : List (List Instr)) where
     ending = state (slice_set (slice_set s.processors t written) t behind) words
 
     written_there : slice_get (slice_set s.processors t written) t ≡ Some written
-    written_there = got_set_same s.processors t written (emptied p) at.is
+    written_there = get-set_same s.processors t written (with_empty_buffer p) at.is
 
-    drains : EventDone flat program (Drain t) writing (Ok tt) ending
+    drains : MachineTransition flat_memory program (Drain t) writing (Ok tt) ending
     drains =
-        leads_from program (Drain t) (slice_set s.processors t written) written behind s.memory words written_there (refl, refl)
+        event_of_effect program (Drain t) (slice_set s.processors t written) written behind s.memory words written_there
+        (refl, refl)
 
     no_entries : buffer_of ending t ≡ []
-    no_entries = buffer_at ending t behind (got_set_same (slice_set s.processors t written) t behind written written_there)
+    no_entries = buffer_at ending t behind (get-set_same (slice_set s.processors t written) t behind written written_there)
 
     same_processor : behind ≡ l.next word
     same_processor =
         ap (λ b. record (l.next word) { buffer = b })
-        (sym (step_empty (slice_get (code_of program t) p.position) p l word at.locked))
+        (sym (step_empty (slice_get (thread_code program t) p.position) p l word at.locked))
 
     same_end : done_at_once ≡ ending
     same_end =
@@ -84,13 +88,13 @@ module _ (program : List (List Instr)) where
       Locks t ∷ Reads t ∷ Writes t ∷ Drains t ∷ Unlocks t ∷ [],
       (
         with_lock s (HeldBy t Begun),
-        (emptied p, l, at, refl, refl),
+        (with_empty_buffer p, l, at, refl, refl),
         (
           with_lock s (HeldBy t (HasRead word)),
-          (emptied p, l, at, refl, refl),
+          (with_empty_buffer p, l, at, refl, refl),
           (
             with_lock writing (HeldBy t HasWritten),
-            (emptied p, l, word, at, refl, refl),
+            (with_empty_buffer p, l, word, at, refl, refl),
             (
               with_lock ending (HeldBy t HasWritten),
               (refl, drains, refl),
@@ -102,27 +106,31 @@ module _ (program : List (List Instr)) where
     )
 
     -- that is what its step leaves
-    step_leaves : (after : MachineState (List ℕ)) → EventDone flat program (Step t) s (Ok tt) after → after ≡ done_at_once
+    step_leaves : (after : MachineState (List ℕ))
+        → MachineTransition flat_memory program (Step t) s (Ok tt) after
+        → after ≡ done_at_once
     step_leaves after done =
-        let act = step_act (slice_get (code_of program t) p.position) (emptied p) in
+        let act = step_effect (slice_get (thread_code program t) p.position) (with_empty_buffer p) in
         let way =
-        leads_from program (Step t) s.processors (emptied p) (l.next word) s.memory words at.is
+        event_of_effect program (Step t) s.processors (with_empty_buffer p) (l.next word) s.memory words at.is
         (locked_does s.memory act l at.locked) in
-        (event_once program (Step t) s after done_at_once (Ok tt) (Ok tt) done way).1
+        (MachineTransition-deterministic program (Step t) s after done_at_once (Ok tt) (Ok tt) done way).1
 
   -- one event
-  event_phases : (e : Event) (s after : MachineState (List ℕ)) → EventDone flat program e s (Ok tt) after → InPhases s after
+  event_phases : (e : Event) (s after : MachineState (List ℕ))
+      → MachineTransition flat_memory program e s (Ok tt) after
+      → InPhases s after
   event_phases (Drain t) s after done = (Drains t ∷ [], (unlocked after, (tt, done, refl), refl))
   event_phases (Evict t x) s after done =
-      let d = leads_to program (Evict t x) s after done in
+      let d = effect_of_event program (Evict t x) s after done in
       absurd (no_eviction program (length s.memory) t x d.from d.to s.memory d.words d.does)
-  event_phases (Step t) s after done = by_next (slice_get (code_of program t) d.from.position) refl
+  event_phases (Step t) s after done = by_next (slice_get (thread_code program t) d.from.position) refl
     where
-      d : Did program (Step t) s after
-      d = leads_to program (Step t) s after done
+      d : EventOccurrence program (Step t) s after
+      d = effect_of_event program (Step t) s after done
 
       plain : (i : Instr)
-          → slice_get (code_of program t) d.from.position ≡ Some i
+          → slice_get (thread_code program t) d.from.position ≡ Some i
           → is_locked (x86_operation i) ≡ false
           → InPhases s after
       plain i next is = (
@@ -145,33 +153,33 @@ module _ (program : List (List Instr)) where
       )
 
       locked : (i : Instr)
-          → slice_get (code_of program t) d.from.position ≡ Some i
+          → slice_get (thread_code program t) d.from.position ≡ Some i
           → is_locked (x86_operation i) ≡ true
           → InPhases s after
       locked i next is =
-          let does = subst (λ o. Does s.memory (step_act o d.from) d.to d.words) next d.does in
+          let does = subst (λ o. EffectLeadsTo s.memory (step_effect o d.from) d.to d.words) next d.does in
           let empty = locked_waited (x86_operation i) d.from d.to s.memory d.words is does in
           let l = locked_there (x86_operation i) d.from is in
-          let at : IsAtLocked program s t (emptied d.from) l.0 = record {
+          let at : IsAtLocked program s t (with_empty_buffer d.from) l.0 = record {
             is = d.was ∙ ap (λ b. Some (record d.from { buffer = b })) empty;
-            locked = subst (λ o. locked_by (step_act o (emptied d.from)) ≡ Some l.0) (sym next) l.1;
+            locked = subst (λ o. locked_by (step_effect o (with_empty_buffer d.from)) ≡ Some l.0) (sym next) l.1;
           } in
           subst (InPhases s) (sym (step_leaves t s d.from l.0 at after done)) (locked_phases t s d.from l.0 at)
 
       by_lock : (i : Instr)
-          → slice_get (code_of program t) d.from.position ≡ Some i
+          → slice_get (thread_code program t) d.from.position ≡ Some i
           → (b : Bool)
           → is_locked (x86_operation i) ≡ b
           → InPhases s after
       by_lock i next true is = locked i next is
       by_lock i next false is = plain i next is
 
-      by_next : (o : Option Instr) → slice_get (code_of program t) d.from.position ≡ o → InPhases s after
-      by_next None next = absurd (subst (λ o. Does s.memory (step_act o d.from) d.to d.words) next d.does)
+      by_next : (o : Option Instr) → slice_get (thread_code program t) d.from.position ≡ o → InPhases s after
+      by_next None next = absurd (subst (λ o. EffectLeadsTo s.memory (step_effect o d.from) d.to d.words) next d.does)
       by_next (Some i) next = by_lock i next (is_locked (x86_operation i)) refl
 
   -- each run is one in phases of locked instructions
-  pub run_phases : (es : List Event) (s end : MachineState (List ℕ)) → MachineRan flat program es s end → InPhases s end
+  pub run_phases : (es : List Event) (s end : MachineState (List ℕ)) → MachineRunsTo flat_memory program es s end → InPhases s end
   run_phases [] s end ran = ([], ap unlocked ran)
   run_phases (e ∷ es) s end ran =
       let one = event_phases e s ran.0 ran.1 in

@@ -2,7 +2,7 @@
 use Rattle.lw_tso.proofs.Common.{IsSome, Bor, refl, option_copied, slice_get-some, length, ◌≡◌, ℕ, suc, ◌-◌}
 use Rattle.lw_tso.proofs.Common.{◌<◌, true, false, List, ◌∷◌, slice_get, drop, Option, Some, None, ◌==◌}
 use Rattle.lw_tso.proofs.Common.{if◌then◌else◌, ap, sym, ◌∙◌, subst, arith, drop-cons, option_or}
-use Rattle.lw_tso.proofs.Common.{slice_get_within, get_or_from_slice_get, newest}
+use Rattle.lw_tso.proofs.Common.{slice_get_within, get_or_from_slice_get, newest_buffered}
 
 -- what is looked up at an index of a list is found
 pub found_within : {X : Type 0} (read : Option (Bor X)) (xs : List X) (i : ℕ)
@@ -17,38 +17,40 @@ abbrev word_for : ℕ → ℕ × ℕ → Option ℕ
 word_for x entry = if entry.0 == x then Some entry.1 else None
 
 -- if the entries from index k on have a word for the location x, their newest is the newest of all
-newest_from_newer : (x k w : ℕ) (entries : List (ℕ × ℕ)) → newest (drop k entries) x ≡ Some w → newest entries x ≡ Some w
+newest_from_newer : (x k w : ℕ) (entries : List (ℕ × ℕ))
+    → newest_buffered (drop k entries) x ≡ Some w
+    → newest_buffered entries x ≡ Some w
 newest_from_newer x (suc k) w (entry ∷ entries) h = ap (λ q. option_or q (word_for x entry)) (newest_from_newer x k w entries h)
 newest_from_newer x _ w _ h = h
 
 -- if no entry behind index k is for the location x, the newest word from k on is that of the entry at k, if that is for x
 newest_at : (x k : ℕ) (entries : List (ℕ × ℕ)) (entry : ℕ × ℕ)
     → slice_get entries k ≡ Some entry
-    → newest (drop (suc k) entries) x ≡ None
-    → newest (drop k entries) x ≡ word_for x entry
+    → newest_buffered (drop (suc k) entries) x ≡ None
+    → newest_buffered (drop k entries) x ≡ word_for x entry
 newest_at x k entries entry at h =
     let parts =
     drop-cons entries k entry (slice_get_within entries k entry at)
     ∙ ap (λ y. y ∷ drop (suc k) entries) (get_or_from_slice_get entries k entry entry at) in
-    ap (λ es. newest es x) parts ∙ ap (λ q. option_or q (word_for x entry)) h
+    ap (λ es. newest_buffered es x) parts ∙ ap (λ q. option_or q (word_for x entry)) h
 
 -- if no entry from index p on is for x, the newest word from p - 1 on is that of the entry there, if that is for x
 before : (x p : ℕ) (entries : List (ℕ × ℕ)) (entry : ℕ × ℕ)
     → 0 < p
     → slice_get entries (p - 1) ≡ Some entry
-    → newest (drop p entries) x ≡ None
-    → newest (drop (p - 1) entries) x ≡ word_for x entry
+    → newest_buffered (drop p entries) x ≡ None
+    → newest_buffered (drop (p - 1) entries) x ≡ word_for x entry
 before x p entries entry positive at h =
     let back : suc (p - 1) ≡ p = omega arith in
-    newest_at x (p - 1) entries entry at (subst (λ (n : ℕ). newest (drop n entries) x ≡ None) (sym back) h)
+    newest_at x (p - 1) entries entry at (subst (λ (n : ℕ). newest_buffered (drop n entries) x ≡ None) (sym back) h)
 
 -- if no entry from index p on is for x, nor the one before p, there is no word for x from that one on: the search goes on
 pub passed_one_more : (x p : ℕ) (entries : List (ℕ × ℕ)) (entry : ℕ × ℕ)
     → 0 < p
     → slice_get entries (p - 1) ≡ Some entry
     → (entry.0 == x) ≡ false
-    → newest (drop p entries) x ≡ None
-    → newest (drop (p - 1) entries) x ≡ None
+    → newest_buffered (drop p entries) x ≡ None
+    → newest_buffered (drop (p - 1) entries) x ≡ None
 passed_one_more x p entries entry positive at other h =
     before x p entries entry positive at h ∙ ap (λ b. if b then Some entry.1 else None) other
 
@@ -57,8 +59,8 @@ pub found_newest : (x p : ℕ) (entries : List (ℕ × ℕ)) (entry : ℕ × ℕ
     → 0 < p
     → slice_get entries (p - 1) ≡ Some entry
     → (entry.0 == x) ≡ true
-    → newest (drop p entries) x ≡ None
-    → newest entries x ≡ Some entry.1
+    → newest_buffered (drop p entries) x ≡ None
+    → newest_buffered entries x ≡ Some entry.1
 found_newest x p entries entry positive at same h =
     newest_from_newer x (p - 1) entry.1 entries
     (before x p entries entry positive at h ∙ ap (λ b. if b then Some entry.1 else None) same)

@@ -2,7 +2,7 @@
 use Rattle.lw_tso.proofs.Common.{◌≡◌, ℕ, ◌+◌, ◌<◌, ◌≤◌, List, [], ◌∷◌, ◌++◌, length, map, set, take, get_or}
 use Rattle.lw_tso.proofs.Common.{Some, refl, sym, ap, ap₂, ◌∙◌, arith, slice_get, get_or-take, length-take}
 use Rattle.lw_tso.proofs.Common.{take_all, map-append, map-set, map_more, take_more, take_more_set}
-use Rattle.lw_tso.proofs.Common.{get_or-range_with_len, range_with_len, set_own}
+use Rattle.lw_tso.proofs.Common.{get_or-range_with_len, range_with_len, set-get_same}
 
 -- The items of xs before index i have the images of those of ys, and both lists have an item at i.
 pub record RefilledUpTo {X Y Z : Type 0} (f : X → Z) (g : Y → Z) (xs : List X) (ys : List Y) (i : ℕ) : Type 0 where
@@ -35,7 +35,7 @@ pub kept_in_place : {X Y : Type 0} (f : X → Y) (xs : List X) (i : ℕ) (x y : 
     → slice_get xs i ≡ Some y
     → f x ≡ f y
     → map f (set xs i x) ≡ map f xs
-kept_in_place f xs i x y at same = map-set f xs i x ∙ rw same (sym (map-set f xs i y) ∙ ap (map f) (set_own xs i y at))
+kept_in_place f xs i x y at same = map-set f xs i x ∙ rw same (sym (map-set f xs i y) ∙ ap (map f) (set-get_same xs i y at))
 
 -- of the list of all locations, which are the numbers from 0 to 7, or of its first n, the item at index i is i
 pub location_at : (n i l : ℕ) {all : List ℕ}

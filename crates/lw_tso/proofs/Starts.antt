@@ -3,8 +3,8 @@ use Rattle.lw_tso.proofs.Common.{◌≡◌, ℕ, suc, ◌+◌, ◌<◌, ◌≤�
 use Rattle.lw_tso.proofs.Common.{Option, Some, None, refl, sym, ap, ◌∙◌, subst, arith, slice_get, inl, inr}
 use Rattle.lw_tso.proofs.Common.{◌⊎◌, option_map, take-suc, length-take-le, cases_eq, map-append, length-map}
 use Rattle.lw_tso.proofs.Common.{All-nil, slice_get-map, slice_get_within, same_Some, slice_get-push}
-use Rattle.lw_tso.proofs.Common.{slice_get-last, Invariant, Memory, Instr, starting, code_of, stores_from}
-use Rattle.lw_tso.proofs.Common.{HasRoom, IsMachine, processor_of}
+use Rattle.lw_tso.proofs.Common.{slice_get-last, Invariant, Memory, Instr, initial_processor, thread_code}
+use Rattle.lw_tso.proofs.Common.{stores_from, HasRoom, IsReachableMachine, processor_of}
 use Rattle.lw_tso.specs.declared.processor.Processor.{Processor as ProcessorInMemory}
 
 -- what holds at each index of a list and of one item more holds at each index of both
@@ -27,10 +27,10 @@ more_indices P xs x is before here t y at = go (cases_eq t (length xs))
 module _ {A : Type 0} (program : List (List Instr)) (regs : List (List ℕ)) where
   -- each of the first so many threads has a processor that starts with its registers, with room for its stores
   pub record AreStarted (n : ℕ) (processors : List (ProcessorInMemory A)) : Type 0 where
-    pub start : map processor_of processors ≡ map starting (take n regs)
+    pub start : map processor_of processors ≡ map initial_processor (take n regs)
     pub rooms : (t : ℕ) (p : ProcessorInMemory A)
         → slice_get processors t ≡ Some p
-        → stores_from 0 (code_of program t) ≤ p.buffer.room
+        → stores_from 0 (thread_code program t) ≤ p.buffer.room
 
   -- before the first thread no processor is made
   pub none_started : AreStarted 0 []
@@ -41,8 +41,8 @@ module _ {A : Type 0} (program : List (List Instr)) (regs : List (List ℕ)) whe
       → AreStarted n processors
       → n < length regs
       → next ≡ processors ++ p ∷ []
-      → processor_of p ≡ starting (get_or regs n [])
-      → stores_from 0 (code_of program n) ≤ p.buffer.room
+      → processor_of p ≡ initial_processor (get_or regs n [])
+      → stores_from 0 (thread_code program n) ≤ p.buffer.room
       → AreStarted (n + 1) next
   one_more n processors next p so_far within is started roomy =
       let more : take (suc n) regs ≡ take n regs ++ get_or regs n [] ∷ [] = take-suc regs n [] within in
@@ -50,23 +50,23 @@ module _ {A : Type 0} (program : List (List Instr)) (regs : List (List ℕ)) whe
       let many : length processors ≡ n =
       sym (length-map processors processor_of)
       ∙ ap length so_far.start
-      ∙ length-map (take n regs) starting
+      ∙ length-map (take n regs) initial_processor
       ∙ length-take-le n regs (omega (arith, within)) in
       record {
         start =
             ap (map processor_of) is
             ∙ map-append processor_of processors (p ∷ [])
-            ∙ rw (so_far.start, started, ← last, more) (sym (map-append starting (take n regs) (get_or regs n [] ∷ [])));
+            ∙ rw (so_far.start, started, ← last, more) (sym (map-append initial_processor (take n regs) (get_or regs n [] ∷ [])));
         rooms = more_indices _ processors p is so_far.rooms (rw many roomy);
       }
 
   -- processors with the same rooms have room for their codes too
   pub still_roomy : (before now : List (ProcessorInMemory A))
       → map (λ (p : ProcessorInMemory A). p.buffer.room) now ≡ map (λ (p : ProcessorInMemory A). p.buffer.room) before
-      → ((t : ℕ) (p : ProcessorInMemory A) → slice_get before t ≡ Some p → stores_from 0 (code_of program t) ≤ p.buffer.room)
+      → ((t : ℕ) (p : ProcessorInMemory A) → slice_get before t ≡ Some p → stores_from 0 (thread_code program t) ≤ p.buffer.room)
       → (t : ℕ) (p : ProcessorInMemory A)
       → slice_get now t ≡ Some p
-      → stores_from 0 (code_of program t) ≤ p.buffer.room
+      → stores_from 0 (thread_code program t) ≤ p.buffer.room
   still_roomy before now same roomy t p at = go (slice_get before t) refl
     where
       room : ProcessorInMemory A → ℕ
@@ -79,31 +79,31 @@ module _ {A : Type 0} (program : List (List Instr)) (regs : List (List ℕ)) whe
           ∙ slice_get-map room now t
           ∙ ap (option_map room) at
 
-      go : (o : Option (ProcessorInMemory A)) → slice_get before t ≡ o → stores_from 0 (code_of program t) ≤ p.buffer.room
+      go : (o : Option (ProcessorInMemory A)) → slice_get before t ≡ o → stores_from 0 (thread_code program t) ≤ p.buffer.room
       go None e = absurd (let none = subst (λ o. option_map room o ≡ Some (room p)) e seen in cc)
       go (Some q) e =
-          subst (λ (n : ℕ). stores_from 0 (code_of program t) ≤ n)
+          subst (λ (n : ℕ). stores_from 0 (thread_code program t) ≤ n)
           (same_Some (room q) (room p) (subst (λ o. option_map room o ≡ Some (room p)) e seen)) (roomy t q e)
 
   module _ {M : Type 0} (mem : Memory M) (inv : Invariant M) (locs : ℕ) (m : M) (processors : List (ProcessorInMemory A)) where
     starts_with : (t : ℕ) (p : ProcessorInMemory A) (o : Option (List ℕ))
-        → Some (processor_of p) ≡ option_map starting o
-        → (r : List ℕ) × (processor_of p ≡ starting r)
+        → Some (processor_of p) ≡ option_map initial_processor o
+        → (r : List ℕ) × (processor_of p ≡ initial_processor r)
     starts_with t p None e = absurd cc
-    starts_with t p (Some r) e = (r, same_Some (processor_of p) (starting r) e)
+    starts_with t p (Some r) e = (r, same_Some (processor_of p) (initial_processor r) e)
 
     -- the parts of a machine at the start
     pub machine_made : inv.sound m
         → length (mem.content m) ≡ locs
         → length program ≤ inv.cpus m
         → length regs ≡ length program
-        → map processor_of processors ≡ map starting regs
+        → map processor_of processors ≡ map initial_processor regs
         → ((t : ℕ) (p : ProcessorInMemory A)
         → slice_get processors t ≡ Some p
-        → stores_from 0 (code_of program t) ≤ p.buffer.room)
-        → IsMachine mem inv program locs m processors
+        → stores_from 0 (thread_code program t) ≤ p.buffer.room)
+        → IsReachableMachine mem inv program locs m processors
     machine_made sound locations cpus many started roomy =
-        let as_many = sym (length-map processors _) ∙ ap length started ∙ length-map regs starting ∙ many in
+        let as_many = sym (length-map processors _) ∙ ap length started ∙ length-map regs initial_processor ∙ many in
         record {
           sound = sound;
           locations = locations;
@@ -113,9 +113,9 @@ module _ {A : Type 0} (program : List (List Instr)) (regs : List (List ℕ)) whe
               let seen =
               sym (slice_get-map processor_of processors t ∙ ap (option_map processor_of) at)
               ∙ ap (λ ps. slice_get ps t) started
-              ∙ slice_get-map starting regs t in
+              ∙ slice_get-map initial_processor regs t in
               let first = starts_with t p (slice_get regs t) seen in
-              subst (λ q. HasRoom locs (code_of program t) q p.buffer.room) (sym first.1)
+              subst (λ q. HasRoom locs (thread_code program t) q p.buffer.room) (sym first.1)
               (record { fits = omega (arith, roomy t p at); there = All-nil _ });
           whole = roomy;
         }

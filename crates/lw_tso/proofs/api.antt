@@ -5,8 +5,8 @@ pub mod Operations
 pub mod Effects
 pub mod Neighbours
 pub mod Endings
-pub mod Lift
+pub mod FlatSimulation
 pub mod Fencing
-pub mod LeavingOut
+pub mod FenceRemoval
 pub mod FewerFences
 pub mod Replaying

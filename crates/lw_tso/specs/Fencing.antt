@@ -7,16 +7,16 @@
 use Rattle.std.specs.Prelude.{◌≡◌, ◌⊎◌, ℕ, ◌+◌, ◌<◌, ◌≤◌, Bool, true, false, not, Some, List, [], ◌∷◌, length, map}
 use Rattle.std.specs.Prelude.{take, slice_get}
 use Rattle.std.specs.List.{count_by}
-use Rattle.lw_base.specs.Threads.{code_of}
+use Rattle.lw_base.specs.Threads.{thread_code}
 use Rattle.lw_litmus.specs.declared.instr.Instr.{Instr}
 use Rattle.lw_litmus.specs.declared.instr.Instr.TheVariants.{Mfence, Je, Jne, Jmp}
-use Rattle.lw_litmus.specs.Tests.{ProgramTest}
+use Rattle.lw_litmus.specs.Tests.{X86Test}
 
-abbrev pub in_blocks : (ℕ → ℕ) → Instr → Instr  -- an instruction, with the block of an index where it jumps to the index
-in_blocks block (Je index) = Je (block index)
-in_blocks block (Jne index) = Jne (block index)
-in_blocks block (Jmp index) = Jmp (block index)
-in_blocks block i = i
+abbrev pub retarget_to_blocks : (ℕ → ℕ) → Instr → Instr  -- an instruction, with the block of an index where it jumps to the index
+retarget_to_blocks block (Je index) = Je (block index)
+retarget_to_blocks block (Jne index) = Jne (block index)
+retarget_to_blocks block (Jmp index) = Jmp (block index)
+retarget_to_blocks block i = i
 
 -- The instruction at this index was inserted: it is an MFENCE, and behind it its block goes on.
 abbrev pub IsInserted : (ℕ → ℕ) → ℕ → Instr → Type 0
@@ -24,7 +24,7 @@ IsInserted block index i = (i ≡ Mfence) × (block (index + 1) ≡ block index)
 
 -- It is the instruction of the code whose block it is in, and behind it the next block begins.
 abbrev pub EndsBlock : (ℕ → ℕ) → List Instr → ℕ → Instr → Type 0
-EndsBlock block code index i = (slice_get code (block index) ≡ Some (in_blocks block i)) × (block (index + 1) ≡ block index + 1)
+EndsBlock block code index i = (slice_get code (block index) ≡ Some (retarget_to_blocks block i)) × (block (index + 1) ≡ block index + 1)
 
 -- `fenced` is `code` with MFENCEs inserted: its first index is in the first block, and behind its end is the last one.
 pub record IsFencedCode (code fenced : List Instr) : Type 0 where
@@ -36,15 +36,15 @@ pub record IsFencedCode (code fenced : List Instr) : Type 0 where
   pub last : (index : ℕ) → length fenced ≤ index → block index ≡ length code
 
 -- `fenced` is `test` with MFENCEs inserted: its head is the same, but for its name, and each of its threads has such a code.
-pub record IsFencedTest (test fenced : ProgramTest) : Type 0 where
+pub record IsFencedTest (test fenced : X86Test) : Type 0 where
   pub head : fenced.head ≡ record test.head { name = fenced.head.name }
   pub as_many : length fenced.threads ≡ length test.threads
-  pub threads : (t : ℕ) → t < length test.threads → IsFencedCode (code_of test.threads t) (code_of fenced.threads t)
+  pub threads : (t : ℕ) → t < length test.threads → IsFencedCode (thread_code test.threads t) (thread_code fenced.threads t)
 
 -- ---- leaving fences out
 
-abbrev pub kept_before : List Bool → ℕ → ℕ  -- how many instructions before an index are kept, the marked ones left out
-kept_before left_out index = count_by not (take index left_out)
+abbrev pub unmarked_count_before : List Bool → ℕ → ℕ  -- how many instructions before an index are kept, the marked ones left out
+unmarked_count_before left_out index = count_by not (take index left_out)
 
 abbrev pub kept : List Bool → List Instr → List Instr  -- the instructions that are kept: those without a mark
 kept (true ∷ left_out) (i ∷ code) = kept left_out code
@@ -52,10 +52,10 @@ kept (false ∷ left_out) (i ∷ code) = i ∷ kept left_out code
 kept left_out code = []
 
 abbrev pub code_without : List Bool → List Instr → List Instr  -- the code without the marked instructions, jumps led on
-code_without left_out code = map (in_blocks (kept_before left_out)) (kept left_out code)
+code_without left_out code = map (retarget_to_blocks (unmarked_count_before left_out)) (kept left_out code)
 
-abbrev pub AreFences : List Bool → List Instr → Type 0  -- As many marks as instructions, and each that is marked is an MFENCE.
-AreFences [] [] = Unit {0}
-AreFences (true ∷ left_out) (i ∷ code) = (i ≡ Mfence) × AreFences left_out code
-AreFences (false ∷ left_out) (i ∷ code) = AreFences left_out code
-AreFences left_out code = ⊥
+abbrev pub MarksAreFences : List Bool → List Instr → Type 0  -- As many marks as instructions, and each that is marked is an MFENCE.
+MarksAreFences [] [] = Unit {0}
+MarksAreFences (true ∷ left_out) (i ∷ code) = (i ≡ Mfence) × MarksAreFences left_out code
+MarksAreFences (false ∷ left_out) (i ∷ code) = MarksAreFences left_out code
+MarksAreFences left_out code = ⊥

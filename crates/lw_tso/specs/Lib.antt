@@ -1,11 +1,11 @@
 pub mod Processors
-pub mod Acts
+pub mod EventEffects
 pub mod Machines
 pub mod Runs
 pub mod Evictions
 pub mod Starts
 pub mod Endings
-pub mod Exchange
+pub mod Independence
 pub mod LockPhases
 pub mod Fencing
 pub mod inner

@@ -11,20 +11,20 @@
 --   U   it gives its lock back and ends the locked instruction, where its buffer is empty.
 use Rattle.std.specs.Prelude.{◌≡◌, ◌≢◌, ℕ, true, false, IsTrue, Option, Some, None, Ok, List, [], ◌∷◌, ◌++◌}
 use Rattle.std.specs.Prelude.{slice_get, slice_set, slice_index, unwrap_or}
-use Rattle.lw_base.specs.Changes.{word_after}
-use Rattle.lw_base.specs.Outcomes.{Final}
-use Rattle.lw_base.specs.Threads.{code_of}
+use Rattle.lw_base.specs.Changes.{changed_word}
+use Rattle.lw_base.specs.Outcomes.{FinalState}
+use Rattle.lw_base.specs.Threads.{thread_code}
 use Rattle.lw_base.specs.declared.event.Event.TheVariants.{Step, Drain}
 use Rattle.lw_memory.specs.declared.request.Access.TheVariants as to
-use Rattle.lw_memory.specs.Flat.{flat}
+use Rattle.lw_memory.specs.Flat.{flat_memory}
 use Rattle.lw_litmus.specs.declared.instr.Instr.{Instr}
 use Rattle.lw_litmus.specs.Operations.{is_load, is_locked}
 use Rattle.lw_litmus.specs.Programs.{x86_operation}
-use Rattle.lw_litmus.specs.Tests.{ProgramTest}
-use Rattle.lw_tso.specs.Processors.{Processor, newest}
-use Rattle.lw_tso.specs.Acts.{Act, Asks, step_act}
-use Rattle.lw_tso.specs.Machines.{MachineState, buffer_of, EventDone}
-use Rattle.lw_tso.specs.Runs.{machine_start, is_final, machine_outcome}
+use Rattle.lw_litmus.specs.Tests.{X86Test}
+use Rattle.lw_tso.specs.Processors.{Processor, newest_buffered}
+use Rattle.lw_tso.specs.EventEffects.{EventEffect, MemoryAccess, step_effect}
+use Rattle.lw_tso.specs.Machines.{MachineState, buffer_of, MachineTransition}
+use Rattle.lw_tso.specs.Runs.{initial_machine_state, is_final, machine_outcome}
 
 pub data Phase : Type 0 where  -- How far the locked instruction is that the lock is held for.
   Begun : Phase  -- it has not read yet
@@ -52,20 +52,20 @@ IsNotBlocked Free t = Unit {0}
 IsNotBlocked (HeldBy u phase) t = u ≡ t
 
 -- What a processor reads: its buffer's newest word for the location, or else memory's.
-abbrev pub word_seen : List (ℕ × ℕ) → List ℕ → ℕ → ℕ
-word_seen buffer memory x = unwrap_or (newest buffer x) (slice_index memory x)
+abbrev pub read_value : List (ℕ × ℕ) → List ℕ → ℕ → ℕ
+read_value buffer memory x = unwrap_or (newest_buffered buffer x) (slice_index memory x)
 
 pub record Locked : Type 0 where  -- What a locked instruction does.
   pub location : ℕ
   pub leaves : ℕ → ℕ  -- the word that it writes, by the one that it reads
   pub next : ℕ → Processor  -- its processor after it, by the same
 
-abbrev pub locked_by : Act → Option Locked  -- what a locked instruction does, by the act that it comes to in one step
-locked_by (Asks x (to.Update change) next) = Some (record { location = x; leaves = word_after change; next = next })
+abbrev pub locked_by : EventEffect → Option Locked  -- what a locked instruction does, by the act that it comes to in one step
+locked_by (MemoryAccess x (to.Update change) next) = Some (record { location = x; leaves = changed_word change; next = next })
 locked_by other = None
 
-abbrev pub emptied : Processor → Processor  -- the processor, with an empty buffer
-emptied p = record p { buffer = [] }
+abbrev pub with_empty_buffer : Processor → Processor  -- the processor, with an empty buffer
+with_empty_buffer p = record p { buffer = [] }
 
 -- The processor, once its locked instruction has read w and has put its write behind the entries of the buffer. Its position,
 -- registers and flag, which no other processor sees, are then those after the instruction.
@@ -75,7 +75,7 @@ having_written l w buffer = record (l.next w) { buffer = buffer ++ (l.location, 
 module _ (program : List (List Instr)) where
   -- what a processor's next instruction does, if it is a locked one: its row of Acts, where the buffer is empty
   abbrev pub locked_next : ℕ → Processor → Option Locked
-  locked_next t p = locked_by (step_act (slice_get (code_of program t) p.position) (emptied p))
+  locked_next t p = locked_by (step_effect (slice_get (thread_code program t) p.position) (with_empty_buffer p))
 
   -- Processor t is p, and this locked instruction is its next.
   pub record IsAtLocked (s : MachineState (List ℕ)) (t : ℕ) (p : Processor) (l : Locked) : Type 0 where
@@ -84,31 +84,31 @@ module _ (program : List (List Instr)) where
 
   -- One step of Acts: the next instruction of a processor, which is no locked one. The processor does not hold the lock, for
   -- then it would be within a locked instruction; and to load it is not blocked.
-  pub record Stepped (t : ℕ) (s after : PhasedState) : Type 0 where
+  pub record PhasedStep (t : ℕ) (s after : PhasedState) : Type 0 where
     pub processor : Processor
     pub instr : Instr
     pub is : slice_get s.machine.processors t ≡ Some processor
-    pub next : slice_get (code_of program t) processor.position ≡ Some instr
+    pub next : slice_get (thread_code program t) processor.position ≡ Some instr
     pub plain : is_locked (x86_operation instr) ≡ false
     pub outside : (phase : Phase) → s.lock ≢ HeldBy t phase
     pub unblocked : is_load (x86_operation instr) ≡ true → IsNotBlocked s.lock t
-    pub done : EventDone flat program (Step t) s.machine (Ok tt) after.machine
+    pub done : MachineTransition flat_memory program (Step t) s.machine (Ok tt) after.machine
     pub lock : after.lock ≡ s.lock
 
   -- An event is possible, and leads from a state to another. Beside each row stands which rules it is.
-  abbrev pub PhasedDone : PhasedEvent → PhasedState → PhasedState → Type 0
-  PhasedDone (Steps t) s after = Stepped t s after  -- Rm, Rb, Wb and B, and instructions that ask for no memory
-  PhasedDone (Drains t) s after =  -- Wm
-      IsNotBlocked s.lock t × EventDone flat program (Drain t) s.machine (Ok tt) after.machine × (after.lock ≡ s.lock)
-  PhasedDone (Locks t) s after =  -- L
+  abbrev pub PhasedTransition : PhasedEvent → PhasedState → PhasedState → Type 0
+  PhasedTransition (Steps t) s after = PhasedStep t s after  -- Rm, Rb, Wb and B, and instructions that ask for no memory
+  PhasedTransition (Drains t) s after =  -- Wm
+      IsNotBlocked s.lock t × MachineTransition flat_memory program (Drain t) s.machine (Ok tt) after.machine × (after.lock ≡ s.lock)
+  PhasedTransition (Locks t) s after =  -- L
       (p : Processor) × (l : Locked) × IsAtLocked s.machine t p l
       × (s.lock ≡ Free)
       × (after ≡ record { machine = s.machine; lock = HeldBy t Begun })
-  PhasedDone (Reads t) s after =  -- Rm, Rb: who holds the lock is not blocked
+  PhasedTransition (Reads t) s after =  -- Rm, Rb: who holds the lock is not blocked
       (p : Processor) × (l : Locked) × IsAtLocked s.machine t p l
       × (s.lock ≡ HeldBy t Begun)
-      × (after ≡ record { machine = s.machine; lock = HeldBy t (HasRead (word_seen p.buffer s.machine.memory l.location)) })
-  PhasedDone (Writes t) s after =  -- Wb
+      × (after ≡ record { machine = s.machine; lock = HeldBy t (HasRead (read_value p.buffer s.machine.memory l.location)) })
+  PhasedTransition (Writes t) s after =  -- Wb
       (p : Processor) × (l : Locked) × (w : ℕ) × IsAtLocked s.machine t p l
       × (s.lock ≡ HeldBy t (HasRead w))
       × (after ≡ record {
@@ -118,24 +118,24 @@ module _ (program : List (List Instr)) where
         };
         lock = HeldBy t HasWritten;
       })
-  PhasedDone (Unlocks t) s after =  -- U
+  PhasedTransition (Unlocks t) s after =  -- U
       (s.lock ≡ HeldBy t HasWritten) × (buffer_of s.machine t ≡ []) × (after ≡ record { machine = s.machine; lock = Free })
 
   -- The events lead, each possible in turn, from a state to another.
-  abbrev pub PhasedRan : List PhasedEvent → PhasedState → PhasedState → Type 0
-  PhasedRan [] s end = end ≡ s
-  PhasedRan (e ∷ es) s end = (mid : PhasedState) × PhasedDone e s mid × PhasedRan es mid end
+  abbrev pub PhasedRunsTo : List PhasedEvent → PhasedState → PhasedState → Type 0
+  PhasedRunsTo [] s end = end ≡ s
+  PhasedRunsTo (e ∷ es) s end = (mid : PhasedState) × PhasedTransition e s mid × PhasedRunsTo es mid end
 
 abbrev pub unlocked : MachineState (List ℕ) → PhasedState  -- a state in which nobody holds the lock
 unlocked s = record { machine = s; lock = Free }
 
 -- These events lead from the start of a test to this outcome: to a state in which all threads are at their ends, all buffers
 -- are empty and nobody holds the lock.
-pub record ReplaysInPhases (test : ProgramTest) (events : List PhasedEvent) (o : Final) : Type 0 where
+pub record ReplaysInPhases (test : X86Test) (events : List PhasedEvent) (o : FinalState) : Type 0 where
   pub end : MachineState (List ℕ)
-  pub ran : PhasedRan test.threads events (unlocked (machine_start test test.head.init_words)) (unlocked end)
+  pub ran : PhasedRunsTo test.threads events (unlocked (initial_machine_state test test.head.init_words)) (unlocked end)
   pub final : IsTrue (is_final test.threads end)
-  pub is : o ≡ machine_outcome flat end
+  pub is : o ≡ machine_outcome flat_memory end
 
-abbrev pub OutcomeInPhases : ProgramTest → Final → Type 0  -- Some list of events leads from the start of the test to the outcome.
+abbrev pub OutcomeInPhases : X86Test → FinalState → Type 0  -- Some list of events leads from the start of the test to the outcome.
 OutcomeInPhases test o = (events : List PhasedEvent) × ReplaysInPhases test events o

@@ -3,7 +3,7 @@
 -- Sarkar, Owens, Zappa Nardelli and Myreen (CACM 2010), and for words and flags Intel's manual of the instruction set.
 use Rattle.std.specs.Prelude.{ℕ, ◌+◌, ◌==◌, Bool, false, if◌then◌else◌, Option, Some, None, List, [], ◌∷◌, ◌++◌, slice_set}
 use Rattle.std.specs.Option.{option_or}
-use Rattle.lw_base.specs.Threads.{with_word}
+use Rattle.lw_base.specs.Threads.{set_word_if_some}
 
 -- A processor: where it stands in its code, its registers and its zero flag, and its store buffer.
 pub record Processor : Type 0 where
@@ -12,27 +12,27 @@ pub record Processor : Type 0 where
   pub zero_flag : Bool
   pub buffer : List (ℕ × ℕ)  -- its store buffer: locations with words, the oldest entry first
 
-abbrev pub starting : List ℕ → Processor  -- a processor at its first instruction
-starting regs = record { position = 0; regs = regs; zero_flag = false; buffer = [] }
+abbrev pub initial_processor : List ℕ → Processor  -- a processor at its first instruction
+initial_processor regs = record { position = 0; regs = regs; zero_flag = false; buffer = [] }
 
-abbrev pub newest : List (ℕ × ℕ) → ℕ → Option ℕ  -- the newest word that a buffer has for a location
-newest [] x = None
-newest (entry ∷ newer) x = option_or (newest newer x) (if entry.0 == x then Some entry.1 else None)
+abbrev pub newest_buffered : List (ℕ × ℕ) → ℕ → Option ℕ  -- the newest word that a buffer has for a location
+newest_buffered [] x = None
+newest_buffered (entry ∷ newer) x = option_or (newest_buffered newer x) (if entry.0 == x then Some entry.1 else None)
 
-abbrev pub going_on : Processor → Processor  -- at the next instruction
-going_on p = record p { position = p.position + 1 }
+abbrev pub advance_processor : Processor → Processor  -- at the next instruction
+advance_processor p = record p { position = p.position + 1 }
 
-abbrev pub jumping : Processor → Bool → ℕ → Processor  -- at the target, or else at the next instruction
-jumping p holds to = record p { position = if holds then to else p.position + 1 }
+abbrev pub jump_or_advance_processor : Processor → Bool → ℕ → Processor  -- at the target, or else at the next instruction
+jump_or_advance_processor p holds to = record p { position = if holds then to else p.position + 1 }
 
-abbrev pub getting : Processor → ℕ → ℕ → Processor  -- with a word in a register
-getting p d w = record p { regs = slice_set p.regs d w }
+abbrev pub set_register : Processor → ℕ → ℕ → Processor  -- with a word in a register
+set_register p d w = record p { regs = slice_set p.regs d w }
 
-abbrev pub getting_if : Processor → Option ℕ → ℕ → Processor  -- with a word in a register, if one is named
-getting_if p d w = record p { regs = with_word p.regs d w }
+abbrev pub set_register_if_some : Processor → Option ℕ → ℕ → Processor  -- with a word in a register, if one is named
+set_register_if_some p d w = record p { regs = set_word_if_some p.regs d w }
 
-abbrev pub flagging : Processor → Bool → Processor  -- with the zero flag telling this
-flagging p holds = record p { zero_flag = holds }
+abbrev pub set_zero_flag : Processor → Bool → Processor  -- with the zero flag telling this
+set_zero_flag p holds = record p { zero_flag = holds }
 
-abbrev pub buffering : Processor → ℕ → ℕ → Processor  -- with an entry in its buffer, behind all others
-buffering p x w = record p { buffer = p.buffer ++ (x, w) ∷ [] }
+abbrev pub enqueue_store : Processor → ℕ → ℕ → Processor  -- with an entry in its buffer, behind all others
+enqueue_store p x w = record p { buffer = p.buffer ++ (x, w) ∷ [] }

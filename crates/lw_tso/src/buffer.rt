@@ -84,7 +84,7 @@ impl<A: Allocator> StoreBuffer<A> {
 
     /// The newest word that it has for a location, if it has one.
     pub(crate) fn newest(&self, loc: Loc) -> Option<Word>
-        ensures { result ≡ table.newest self.now.entries loc }
+        ensures { result ≡ table.newest_buffered self.now.entries loc }
     {
         newest_in(&self.ring, loc)
     }
@@ -92,7 +92,7 @@ impl<A: Allocator> StoreBuffer<A> {
 
 /// The newest word that a ring of entries has for a location, looked for from the newest entry on.
 fn newest_in<A: Allocator>(ring: &HeapCircularBuffer<(Loc, Word), A>, loc: Loc) -> Option<Word>
-    ensures { result ≡ table.newest ring.now.items loc }
+    ensures { result ≡ table.newest_buffered ring.now.items loc }
 {
     for index in (0..ring.len()).rev() {
         let (at, word) = *ring.get(index).unwrap();

@@ -2,7 +2,7 @@
 //!
 //! It names lw_base, of lw_litmus the program and its instructions, of lw_memory the trait of memory systems, and the kit's
 //! ring for the buffers. The promise that the crates above use: an event of a `Machine` is done as the table in
-//! `specs/Acts.antt` says, over any memory that keeps the laws.
+//! `specs/EventEffects.antt` says, over any memory that keeps the laws.
 #![tactic(auto)]
 
 mod buffer;

@@ -4,12 +4,12 @@ ghost use Rattle.std.specs.List.{list_all, zip};
 ghost use Rattle.lw_base.specs.declared.event.Event.TheVariants as of;
 ghost use Rattle.lw_memory.specs.Memory.{memory_of};
 ghost use Rattle.lw_litmus.specs.Tests.{test_of};
-ghost use Rattle.lw_tso.specs.Processors.{starting};
-ghost use Rattle.lw_tso.specs.Machines.{EventDone, buffer_of};
-ghost use Rattle.lw_tso.specs.Runs.{is_done, machine_start, machine_outcome, MachineReplayed};
+ghost use Rattle.lw_tso.specs.Processors.{initial_processor};
+ghost use Rattle.lw_tso.specs.Machines.{MachineTransition, buffer_of};
+ghost use Rattle.lw_tso.specs.Runs.{has_terminated, initial_machine_state, machine_outcome, IsMachineReplay};
 ghost use Rattle.lw_tso.specs.Runs as runs;
-ghost use Rattle.lw_base.specs.Threads.{code_of};
-ghost use Rattle.lw_tso.specs.inner.Rooms.{stores_from};
+ghost use Rattle.lw_base.specs.Threads.{thread_code};
+ghost use Rattle.lw_tso.specs.inner.BufferCapacity.{stores_from};
 ghost use Rattle.lw_tso.specs.inner.Views.{processor_of};
 ghost use Rattle.lw_tso.specs.declared.processor.Processor.{Processor as ProcessorInMemory};
 
@@ -30,13 +30,13 @@ pub struct Machine<'a, M: MemorySystem, A: Allocator = Global, B: Allocator = Gl
 
 impl<'a, M: MemorySystem, A: Allocator, B: Allocator> Model for Machine<'a, M, A, B> {
     ghost use Rattle.std.specs.Prelude.{length, map};
-    ghost use Rattle.lw_tso.specs.Runs.{Running};
-    ghost use Rattle.lw_memory.specs.MemoryLaws.{invariant_of};
+    ghost use Rattle.lw_tso.specs.Runs.{MachineRun};
+    ghost use Rattle.lw_memory.specs.SystemLaws.{invariant_of};
     ghost use Rattle.lw_memory.specs.Memory.{memory_of};
-    ghost use Rattle.lw_tso.specs.inner.Rooms.{IsMachine};
+    ghost use Rattle.lw_tso.specs.inner.BufferCapacity.{IsReachableMachine};
     ghost use Rattle.lw_tso.specs.inner.Views.{processor_of};
 
-    ghost Value = { Running M };
+    ghost Value = { MachineRun M };
 
     ghost view = { λ m. record {
       program = m.program.now.threads;
@@ -44,7 +44,7 @@ impl<'a, M: MemorySystem, A: Allocator, B: Allocator> Model for Machine<'a, M, A
       state = record { processors = map processor_of m.processors.items; memory = m.memory };
     } };
 
-    ghost invariant = { λ m. IsMachine (memory_of M.content M.state M.serves) (invariant_of M.cpus M.sound)
+    ghost invariant = { λ m. IsReachableMachine (memory_of M.content M.state M.serves) (invariant_of M.cpus M.sound)
         m.program.now.threads (length m.program.now.head.locs) m.memory m.processors.items };
 }
 
@@ -58,7 +58,7 @@ impl<'a, M: MemorySystem, A: Allocator + Copy, B: Allocator> Machine<'a, M, A, B
         ensures program { IfOk result (λ m. m.program ≡ program.now.threads) }
         ensures initial { IfOk result
             (λ m. m.initial ≡ record { regs = program.now.head.init_regs; words = program.now.head.init_words }) }
-        ensures start { IfOk result (λ m. m.state ≡ machine_start (test_of program.now.head program.now.threads) memory) }
+        ensures start { IfOk result (λ m. m.state ≡ initial_machine_state (test_of program.now.head program.now.threads) memory) }
         ensures err { IfErr result (λ m. m ≡ memory) }
     {
         let _cpus = memory.cpu_count();
@@ -122,7 +122,7 @@ impl<'a, M: MemorySystem, A: Allocator, B: Allocator> Machine<'a, M, A, B> {
         ensures program { self.new.program ≡ self.old.program }
         ensures initial { self.new.initial ≡ self.old.initial }
         ensures state { self.new.state
-            ≡ record { processors = map starting self.old.initial.regs; memory = M.start (M.cpus self.old.state.memory) self.old.initial.words } }
+            ≡ record { processors = map initial_processor self.old.initial.regs; memory = M.start (M.cpus self.old.state.memory) self.old.initial.words } }
         ensures sound { M.sound self.new.state.memory }
         ensures cpus { length self.new.program ≤ M.cpus self.new.state.memory }
         ensures words { M.content self.new.state.memory ≡ self.old.initial.words }
@@ -155,7 +155,7 @@ impl<'a, M: MemorySystem, A: Allocator, B: Allocator> Machine<'a, M, A, B> {
     pub fn step(&mut self, event: Event) -> Result<(), Stop>
         ensures program { self.new.program ≡ self.old.program }
         ensures initial { self.new.initial ≡ self.old.initial }
-        ensures done { EventDone (memory_of M.content M.state M.serves)
+        ensures done { MachineTransition (memory_of M.content M.state M.serves)
             self.old.program event self.old.state result self.new.state }
         ensures err { OnErr result (self.new ≡ self.old) }
         ensures processors { length self.new.state.processors ≡ length self.old.state.processors }
@@ -172,7 +172,7 @@ impl<'a, M: MemorySystem, A: Allocator, B: Allocator> Machine<'a, M, A, B> {
     pub fn run(&mut self, events: &[Event]) -> Replay
         ensures program { self.new.program ≡ self.old.program }
         ensures initial { self.new.initial ≡ self.old.initial }
-        ensures replayed { MachineReplayed (memory_of M.content M.state M.serves)
+        ensures replayed { IsMachineReplay (memory_of M.content M.state M.serves)
             self.old.program events.now self.old.state result self.new.state }
         ensures processors { length self.new.state.processors ≡ length self.old.state.processors }
         ensures words { length (M.content self.new.state.memory) ≡ length (M.content self.old.state.memory) }
@@ -200,14 +200,14 @@ impl<'a, M: MemorySystem, A: Allocator, B: Allocator> Machine<'a, M, A, B> {
     pub fn is_final(&self) -> bool
         ensures { result ≡ runs.is_final self.now.program self.now.state }
     {
-        are_done(self.program, self.processors.as_slice())
+        have_terminated(self.program, self.processors.as_slice())
     }
 
     /// Carries out the next instruction of a processor.
     fn step_thread(&mut self, cpu: Cpu) -> Result<(), Stop>
         ensures program { self.new.program ≡ self.old.program }
         ensures initial { self.new.initial ≡ self.old.initial }
-        ensures done { EventDone (memory_of M.content M.state M.serves)
+        ensures done { MachineTransition (memory_of M.content M.state M.serves)
             self.old.program (of.Step cpu) self.old.state result self.new.state }
         ensures sound { M.sound self.old.state.memory }
     {
@@ -225,7 +225,7 @@ impl<'a, M: MemorySystem, A: Allocator, B: Allocator> Machine<'a, M, A, B> {
     fn drain(&mut self, cpu: Cpu) -> Result<(), Stop>
         ensures program { self.new.program ≡ self.old.program }
         ensures initial { self.new.initial ≡ self.old.initial }
-        ensures done { EventDone (memory_of M.content M.state M.serves)
+        ensures done { MachineTransition (memory_of M.content M.state M.serves)
             self.old.program (of.Drain cpu) self.old.state result self.new.state }
         ensures sound { M.sound self.old.state.memory }
     {
@@ -240,7 +240,7 @@ impl<'a, M: MemorySystem, A: Allocator, B: Allocator> Machine<'a, M, A, B> {
     fn evict(&mut self, cpu: Cpu, loc: Loc) -> Result<(), Stop>
         ensures program { self.new.program ≡ self.old.program }
         ensures initial { self.new.initial ≡ self.old.initial }
-        ensures done { EventDone (memory_of M.content M.state M.serves)
+        ensures done { MachineTransition (memory_of M.content M.state M.serves)
             self.old.program (of.Evict cpu loc) self.old.state result self.new.state }
         ensures sound { M.sound self.old.state.memory }
     {
@@ -262,9 +262,9 @@ fn processors_of<A: Allocator + Copy, B: Allocator>(
     alloc: A,
     program: &Program<B>,
 ) -> Result<Vec<Processor<A>, A>, AllocError>
-    ensures start { IfOk result (λ v. map processor_of v.items ≡ map starting program.now.head.init_regs) }
+    ensures start { IfOk result (λ v. map processor_of v.items ≡ map initial_processor program.now.head.init_regs) }
     ensures rooms { IfOk result (λ v. (t : ℕ) (p : ProcessorInMemory A) → slice_get v.items t ≡ Some p
-        → stores_from 0 (code_of program.now.threads t) ≤ p.buffer.room) }
+        → stores_from 0 (thread_code program.now.threads t) ≤ p.buffer.room) }
 {
     let mut processors = Vec::new(alloc);
     for (thread, regs) in program.head.init_regs.as_slice().iter().enumerate() {
@@ -277,7 +277,7 @@ fn processors_of<A: Allocator + Copy, B: Allocator>(
 /// Puts processors back to their first instructions, with these registers.
 fn restart_all<A: Allocator>(processors: &mut [Processor<A>], init_regs: &[[Word; REGISTERS]])
     requires { length processors.old ≡ length init_regs.now }
-    ensures start { map processor_of processors.new ≡ map starting init_regs.now }
+    ensures start { map processor_of processors.new ≡ map initial_processor init_regs.now }
     ensures rooms { map (λ p. p.buffer.room) processors.new ≡ map (λ p. p.buffer.room) processors.old }
 {
     for (thread, regs) in init_regs.iter().enumerate() {
@@ -289,15 +289,18 @@ fn restart_all<A: Allocator>(processors: &mut [Processor<A>], init_regs: &[[Word
 /// The instruction at a position of a thread's code, if it is not at the end.
 fn instr_at<A: Allocator>(program: &Program<A>, cpu: Cpu, position: usize) -> Option<Instr>
     requires { cpu < length program.now.threads }
-    ensures { result ≡ slice_get (code_of program.now.threads cpu) position }
+    ensures { result ≡ slice_get (thread_code program.now.threads cpu) position }
 {
     let code = &program.threads.as_slice()[cpu.index()];
     code.get(position).copied()
 }
 
 /// Whether all processors are at the ends of their codes, and their buffers are empty.
-fn are_done<A: Allocator, B: Allocator>(program: &Program<B>, processors: &[Processor<A>]) -> bool
-    ensures { result ≡ list_all (λ p. is_done p.0 (processor_of p.1)) (zip program.now.threads processors.now) }
+fn have_terminated<A: Allocator, B: Allocator>(
+    program: &Program<B>,
+    processors: &[Processor<A>],
+) -> bool
+    ensures { result ≡ list_all (λ p. has_terminated p.0 (processor_of p.1)) (zip program.now.threads processors.now) }
 {
     program
         .threads

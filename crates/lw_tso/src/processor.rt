@@ -2,15 +2,15 @@
 ghost use Rattle.std.specs.Prelude.{◌≡◌, ◌+◌, ◌<◌, ◌≤◌, ◌^◌, ◌==◌, ◌&&◌, nat_le, true, Some, Ok, Err, length, max, slice_index, if◌then◌else◌, All, IfOk, OnOk};
 ghost use Rattle.std.specs.Prelude.{OnErr};
 ghost use Rattle.std.specs.Option.{ForSome};
-ghost use Rattle.lw_base.specs.Changes.{sum_of};
+ghost use Rattle.lw_base.specs.Changes.{wrapping_sum};
 ghost use Rattle.lw_memory.specs.Memory.{memory_of};
-ghost use Rattle.lw_litmus.specs.Operations.{location_of, is_store, holds};
-ghost use Rattle.lw_base.specs.Threads.{value_of};
+ghost use Rattle.lw_litmus.specs.Operations.{location_of, is_store, guard_holds};
+ghost use Rattle.lw_base.specs.Threads.{operand_value};
 ghost use Rattle.lw_tso.specs.Processors as table;
-ghost use Rattle.lw_tso.specs.Processors.{starting, going_on, getting, flagging, buffering, jumping};
-ghost use Rattle.lw_tso.specs.Acts.{operation_act, drain_act};
-ghost use Rattle.lw_tso.specs.Machines.{ActDone};
-ghost use Rattle.lw_tso.specs.inner.Rooms.{stores_from};
+ghost use Rattle.lw_tso.specs.Processors.{initial_processor, advance_processor, set_register, set_zero_flag, enqueue_store, jump_or_advance_processor};
+ghost use Rattle.lw_tso.specs.EventEffects.{operation_effect, drain_effect};
+ghost use Rattle.lw_tso.specs.Machines.{EffectTransition};
+ghost use Rattle.lw_tso.specs.inner.BufferCapacity.{stores_from};
 ghost use Rattle.lw_tso.specs.inner.Views.{processor_of};
 
 use crate::buffer::StoreBuffer;
@@ -33,7 +33,7 @@ impl<A: Allocator> Processor<A> {
     /// A processor at the first instruction of a code. Its store buffer has room for as many entries as the code has stores,
     /// and for one at least.
     pub(crate) fn new(alloc: A, regs: [Word; REGISTERS], code: &[Instr]) -> Result<Self, AllocError>
-        ensures processor { IfOk result (λ p. processor_of p ≡ starting regs) }
+        ensures processor { IfOk result (λ p. processor_of p ≡ initial_processor regs) }
         ensures room { IfOk result (λ p. p.buffer.room ≡ max (stores_from 0 code.now) 1) }
     {
         let stores = code
@@ -51,7 +51,7 @@ impl<A: Allocator> Processor<A> {
 
     /// Puts the processor back to the first instruction, with these registers. It takes no memory.
     pub(crate) fn restart(&mut self, regs: [Word; REGISTERS])
-        ensures processor { processor_of self.new ≡ starting regs }
+        ensures processor { processor_of self.new ≡ initial_processor regs }
         ensures room { self.new.buffer.room ≡ self.old.buffer.room }
     {
         self.position = 0;
@@ -78,8 +78,8 @@ impl<A: Allocator> Processor<A> {
         requires loc { ForSome (location_of operation) (λ x. x < length (M.content memory.old)) }
         requires position { self.old.position + 1 < 2 ^ 64 }
         requires room { is_store operation ≡ true → length self.old.buffer.entries < self.old.buffer.room }
-        ensures done { ActDone (memory_of M.content M.state M.serves) cpu
-            (operation_act operation (processor_of self.old)) (processor_of self.old) memory.old
+        ensures done { EffectTransition (memory_of M.content M.state M.serves) cpu
+            (operation_effect operation (processor_of self.old)) (processor_of self.old) memory.old
             result (processor_of self.new) memory.new }
         ensures room { self.new.buffer.room ≡ self.old.buffer.room }
     {
@@ -101,14 +101,14 @@ impl<A: Allocator> Processor<A> {
 
     /// The word that an operand stands for.
     fn value(&self, operand: Operand) -> Word
-        ensures { result ≡ value_of operand self.now.regs }
+        ensures { result ≡ operand_value operand self.now.regs }
     {
         operand.value(&self.regs)
     }
 
     /// Whether a branch with this guard jumps.
     fn holds(&self, guard: Guard) -> bool
-        ensures { result ≡ holds guard self.now.regs self.now.zero_flag }
+        ensures { result ≡ guard_holds guard self.now.regs self.now.zero_flag }
     {
         guard.holds(&self.regs, self.zero_flag)
     }
@@ -117,7 +117,7 @@ impl<A: Allocator> Processor<A> {
     fn store(&mut self, loc: Loc, word: Word)
         requires position { self.old.position + 1 < 2 ^ 64 }
         requires room { length self.old.buffer.entries < self.old.buffer.room }
-        ensures processor { processor_of self.new ≡ going_on (buffering (processor_of self.old) loc word) }
+        ensures processor { processor_of self.new ≡ advance_processor (enqueue_store (processor_of self.old) loc word) }
         ensures room { self.new.buffer.room ≡ self.old.buffer.room }
     {
         self.buffer.push(loc, word);
@@ -127,7 +127,7 @@ impl<A: Allocator> Processor<A> {
     /// Goes on to the next instruction, with this word in a register.
     fn go_on_with(&mut self, reg: Reg, word: Word)
         requires { self.old.position + 1 < 2 ^ 64 }
-        ensures processor { processor_of self.new ≡ going_on (getting (processor_of self.old) reg word) }
+        ensures processor { processor_of self.new ≡ advance_processor (set_register (processor_of self.old) reg word) }
         ensures buffer { self.new.buffer ≡ self.old.buffer }
     {
         self.regs[reg.index()] = word;
@@ -139,8 +139,8 @@ impl<A: Allocator> Processor<A> {
         requires cpu { cpu < M.cpus memory.old }
         requires loc { loc < length (M.content memory.old) }
         requires position { self.old.position + 1 < 2 ^ 64 }
-        ensures done { ActDone (memory_of M.content M.state M.serves) cpu
-            (operation_act (Operation.Load reg loc) (processor_of self.old)) (processor_of self.old) memory.old
+        ensures done { EffectTransition (memory_of M.content M.state M.serves) cpu
+            (operation_effect (Operation.Load reg loc) (processor_of self.old)) (processor_of self.old) memory.old
             (Ok tt) (processor_of self.new) memory.new }
         ensures buffer { self.new.buffer ≡ self.old.buffer }
     {
@@ -153,8 +153,8 @@ impl<A: Allocator> Processor<A> {
     /// A register gets the sum of a register's word and another. The zero flag tells whether the sum is 0.
     fn add(&mut self, dst: Reg, left: Reg, word: Word)
         requires { self.old.position + 1 < 2 ^ 64 }
-        ensures processor { let sum = sum_of (slice_index self.old.regs left) word in
-            processor_of self.new ≡ going_on (flagging (getting (processor_of self.old) dst sum) (sum == 0)) }
+        ensures processor { let sum = wrapping_sum (slice_index self.old.regs left) word in
+            processor_of self.new ≡ advance_processor (set_zero_flag (set_register (processor_of self.old) dst sum) (sum == 0)) }
         ensures buffer { self.new.buffer ≡ self.old.buffer }
     {
         let sum = self.regs[left.index()].wrapping_add(word);
@@ -166,7 +166,7 @@ impl<A: Allocator> Processor<A> {
     fn compare(&mut self, reg: Reg, word: Word)
         requires { self.old.position + 1 < 2 ^ 64 }
         ensures processor { processor_of self.new
-            ≡ going_on (flagging (processor_of self.old) (slice_index self.old.regs reg == word)) }
+            ≡ advance_processor (set_zero_flag (processor_of self.old) (slice_index self.old.regs reg == word)) }
         ensures buffer { self.new.buffer ≡ self.old.buffer }
     {
         self.zero_flag = self.regs[reg.index()] == word;
@@ -176,7 +176,7 @@ impl<A: Allocator> Processor<A> {
     /// To the target where the guard holds, and else to the next instruction.
     fn jump(&mut self, holds: bool, to: usize)
         requires { self.old.position + 1 < 2 ^ 64 }
-        ensures processor { processor_of self.new ≡ jumping (processor_of self.old) holds to }
+        ensures processor { processor_of self.new ≡ jump_or_advance_processor (processor_of self.old) holds to }
         ensures buffer { self.new.buffer ≡ self.old.buffer }
     {
         self.position = if holds { to } else { self.position + 1 };
@@ -194,8 +194,8 @@ impl<A: Allocator> Processor<A> {
         requires cpu { cpu < M.cpus memory.old }
         requires loc { loc < length (M.content memory.old) }
         requires position { self.old.position + 1 < 2 ^ 64 }
-        ensures done { ActDone (memory_of M.content M.state M.serves) cpu
-            (operation_act (Operation.Swap dst loc src) (processor_of self.old)) (processor_of self.old) memory.old
+        ensures done { EffectTransition (memory_of M.content M.state M.serves) cpu
+            (operation_effect (Operation.Swap dst loc src) (processor_of self.old)) (processor_of self.old) memory.old
             result (processor_of self.new) memory.new }
         ensures buffer { self.new.buffer ≡ self.old.buffer }
     {
@@ -220,8 +220,8 @@ impl<A: Allocator> Processor<A> {
         requires cpu { cpu < M.cpus memory.old }
         requires loc { loc < length (M.content memory.old) }
         requires position { self.old.position + 1 < 2 ^ 64 }
-        ensures done { ActDone (memory_of M.content M.state M.serves) cpu
-            (operation_act (Operation.FetchAdd dst loc val) (processor_of self.old)) (processor_of self.old) memory.old
+        ensures done { EffectTransition (memory_of M.content M.state M.serves) cpu
+            (operation_effect (Operation.FetchAdd dst loc val) (processor_of self.old)) (processor_of self.old) memory.old
             result (processor_of self.new) memory.new }
         ensures buffer { self.new.buffer ≡ self.old.buffer }
     {
@@ -242,7 +242,7 @@ impl<A: Allocator> Processor<A> {
     fn fence(&mut self) -> Result<(), Stop>
         requires { self.old.position + 1 < 2 ^ 64 }
         ensures waits { result ≡ (if length self.old.buffer.entries == 0 then Ok tt else Err Stop.FenceWaits) }
-        ensures ok { OnOk result (processor_of self.new ≡ going_on (processor_of self.old)) }
+        ensures ok { OnOk result (processor_of self.new ≡ advance_processor (processor_of self.old)) }
         ensures err { OnErr result (self.new ≡ self.old) }
         ensures buffer { self.new.buffer ≡ self.old.buffer }
     {
@@ -257,8 +257,8 @@ impl<A: Allocator> Processor<A> {
     pub(crate) fn drain<M: MemorySystem>(&mut self, cpu: Cpu, memory: &mut M) -> Result<(), Stop>
         requires cpu { cpu < M.cpus memory.old }
         requires locs { All (λ entry. entry.0 < length (M.content memory.old)) self.old.buffer.entries }
-        ensures done { ActDone (memory_of M.content M.state M.serves) cpu
-            (drain_act self.old.buffer.entries (processor_of self.old)) (processor_of self.old) memory.old
+        ensures done { EffectTransition (memory_of M.content M.state M.serves) cpu
+            (drain_effect self.old.buffer.entries (processor_of self.old)) (processor_of self.old) memory.old
             result (processor_of self.new) memory.new }
         ensures room { self.new.buffer.room ≡ self.old.buffer.room }
     {

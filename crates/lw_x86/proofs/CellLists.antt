@@ -4,9 +4,9 @@ use Rattle.lw_x86.proofs.Common.{None, List, [], ◌∷◌, ◌++◌, length, ma
 use Rattle.lw_x86.proofs.Common.{slice_get, slice_index_or, codes, nat_cmp, if◌then◌else◌, option_map}
 use Rattle.lw_x86.proofs.Common.{nat_tests, slice_get-get_or, slice_get-map, slice_get_read, take_more}
 use Rattle.lw_x86.proofs.Common.{map-append, length-map, list_any_none, fold-append, ForSome, option_map_or}
-use Rattle.lw_x86.proofs.Common.{ord_max, IsThread, Bytes, NameTable, Instr, target_of, x86, x86_operation}
-use Rattle.lw_x86.proofs.Common.{greater_is, label, jumps_to, is_target, cell_text, end_cells, cells_from}
-use Rattle.lw_x86.proofs.Common.{cells_of, row_text, row_of, longest}
+use Rattle.lw_x86.proofs.Common.{ord_max, IsWellFormedThread, Bytes, NameTable, Instr, branch_target}
+use Rattle.lw_x86.proofs.Common.{x86_language, x86_operation, greater_is, label, jumps_to, is_target}
+use Rattle.lw_x86.proofs.Common.{cell_text, end_cells, cells_from, cells_of, row_text, row_at, max_cell_count}
 
 -- the text of a thread's cell at position k, where this is the instruction there, or none
 abbrev pub at_row : NameTable → List Instr → ℕ → Option Instr → Bytes
@@ -21,13 +21,13 @@ cells-length names code k (r ∷ rest) =
     let here : suc k + length rest ≡ k + suc (length rest) = omega arith in
     omega (arith, cells-length names code (suc k) rest, ap (λ (n : ℕ). length (end_cells code n)) here)
 
-module _ (names : NameTable) (locs : ℕ) (code : List Instr) (thread : IsThread x86 locs code) where
+module _ (names : NameTable) (locs : ℕ) (code : List Instr) (thread : IsWellFormedThread x86_language locs code) where
   -- no instruction jumps past the end
   no_target : (n : ℕ) → length code < n → is_target code n ≡ false
   no_target n past = list_any_none (jumps_to n) code (λ k i lt. go k _ (slice_get-get_or code k i lt))
     where
       go : (k : ℕ) (i : Instr) → slice_get code k ≡ Some i → jumps_to n i ≡ false
-      go k i at = other (target_of (x86_operation i)) (λ to e. (thread.forward k i at to e).1)
+      go k i at = other (branch_target (x86_operation i)) (λ to e. (thread.forward k i at to e).1)
         where
           other : (target : Option ℕ)
               → ForSome target (λ to. to ≤ length code)
@@ -65,10 +65,10 @@ count_is names code n is = let here : 0 + length code ≡ length code = omega ar
 pub longest_more : {X : Type 0} (f : X → List Bytes) (threads : List X) (k : ℕ) {code : X} {height count new : ℕ}
     → k < length threads
     → code ≡ get_or threads k code
-    → height ≡ longest (map f (take k threads))
+    → height ≡ max_cell_count (map f (take k threads))
     → count ≡ length (f code)
     → new ≡ ord_max nat_cmp height count
-    → new ≡ longest (map f (take (k + 1) threads))
+    → new ≡ max_cell_count (map f (take (k + 1) threads))
 longest_more f threads k {code} {height} {count} lt is before counted taken =
     rw (
       take_more threads k code lt,
@@ -83,14 +83,14 @@ longest_more f threads k {code} {height} {count} lt is before counted taken =
 -- The cells of all threads in the row at an index.
 module _ (names : NameTable) (threads : List (List Instr)) (row : ℕ) where
   -- a row has a cell for each thread
-  pub row_length : length (row_of (map (cells_of names) threads) row) ≡ length threads
+  pub row_length : length (row_at (map (cells_of names) threads) row) ≡ length threads
   row_length = length-map (map (cells_of names) threads) _ ∙ length-map threads (cells_of names)
 
   -- in a row, a thread has at its index the text of its cell at the row's index
   pub part_of_row : (k : ℕ) (code : List Instr)
       → k < length threads
       → code ≡ get_or threads k code
-      → slice_get (row_of (map (cells_of names) threads) row) k ≡ Some (slice_index_or (cells_of names code) row [])
+      → slice_get (row_at (map (cells_of names) threads) row) k ≡ Some (slice_index_or (cells_of names code) row [])
   part_of_row k code lt is =
       slice_get-map _ _ k
       ∙ ap (option_map (λ cells. slice_index_or cells row []))
@@ -98,4 +98,4 @@ module _ (names : NameTable) (threads : List (List Instr)) (row : ℕ) where
 
 -- the printed text of the row at an index, of the cells of all threads; the loop over rows goes through these
 abbrev pub whole_row : List (List Bytes) → ℕ → Bytes
-whole_row threads k = row_text (row_of threads k)
+whole_row threads k = row_text (row_at threads k)

@@ -28,22 +28,24 @@ pub use Rattle.std.proofs.lemmas.Str.{IsUtf8-append, IsUtf8-from_ascii}
 pub use Rattle.std.specs.List.{AllByRecursion, AllZip, cons_option, list_any, range_with_len}
 pub use Rattle.std.specs.Option.{ForSome, option_map_or}
 pub use Rattle.std.specs.Ordering.{ord_max}
-pub use Rattle.lw_base.proofs.Common.{Bytes, CellGrid, Cells, EachOnce, IsLocation, IsName, IsRegisterIndex}
-pub use Rattle.lw_base.proofs.Common.{IsSeen, IsTable, IsWellFormedHead, IsWordNumber, NameTable, TestHead}
-pub use Rattle.lw_base.proofs.Common.{TokenList, all_registers, begins, condition_text, contains_name}
-pub use Rattle.lw_base.proofs.Common.{head_of, is_blank, is_name_byte, joined, locations, most_threads}
-pub use Rattle.lw_base.proofs.Common.{register_name, same_seen, thread_registers, with_names}
+pub use Rattle.lw_base.proofs.Common.{Bytes, CellGrid, Cells, IsDuplicateFree, IsLocationName, IsName}
+pub use Rattle.lw_base.proofs.Common.{IsNameTable, IsRegisterIndex, IsSeenInRange, IsWellFormedHead}
+pub use Rattle.lw_base.proofs.Common.{IsWordNumber, NameTable, TestHead, TokenList, all_registers}
+pub use Rattle.lw_base.proofs.Common.{condition_text, contains_name, first_byte_is, head_of, insert_names}
+pub use Rattle.lw_base.proofs.Common.{is_blank, is_name_byte, joined, locations, most_threads, register_name}
+pub use Rattle.lw_base.proofs.Common.{seen_eq, thread_registers}
 pub use Rattle.lw_base.proofs.api.Blanks.{name_ascii}
-pub use Rattle.lw_base.proofs.api.Elements.{all_append, all_filter, all_map, all_of_flat, all_of_range}
-pub use Rattle.lw_base.proofs.api.Elements.{all_unmap, all_weaker}
+pub use Rattle.lw_base.proofs.api.Elements.{All-map_inv, All-mono, all_append, all_filter, all_map}
+pub use Rattle.lw_base.proofs.api.Elements.{all_of_flat, all_of_range}
 pub use Rattle.lw_base.proofs.api.Formulas.{has_locations}
-pub use Rattle.lw_base.proofs.api.GrowingTables.{with_names-append}
-pub use Rattle.lw_base.proofs.api.ListedAgain.{filter_shorter, has_left, has_location, has_register}
-pub use Rattle.lw_base.proofs.api.ListedAgain.{has_right, has_seen, listed_again, listed_few, most_seen}
-pub use Rattle.lw_base.proofs.api.ListedAgain.{same_seen_is, seen_length}
+pub use Rattle.lw_base.proofs.api.GrowingTables.{insert_names-append}
 pub use Rattle.lw_base.proofs.api.Lists.{drop_all, get_some, take_one}
-pub use Rattle.lw_base.proofs.api.Returns.{passed_on}
-pub use Rattle.lw_base.proofs.api.Tables.{IsInTable, index_of-again, with_names-again, with_names-there}
+pub use Rattle.lw_base.proofs.api.Returns.{Err-clause_propagated}
+pub use Rattle.lw_base.proofs.api.SeenMembership.{filter_shorter, has_left, has_location, has_register}
+pub use Rattle.lw_base.proofs.api.SeenMembership.{has_right, has_seen, listed_again, listed_few, most_seen}
+pub use Rattle.lw_base.proofs.api.SeenMembership.{same_seen_is, seen_length}
+pub use Rattle.lw_base.proofs.api.Tables.{IsInTable, insert_names-again, insert_names-there}
+pub use Rattle.lw_base.proofs.api.Tables.{position_of_name-again}
 pub use Rattle.lw_base.proofs.api.Writing.{both_written, numbers_all, numbers_more, pushed, then_written}
 pub use Rattle.lw_base.proofs.api.Writing.{written_as}
 pub use Rattle.lw_base.specs.declared.head.Arch.TheVariants.{X86}
@@ -53,17 +55,18 @@ pub use Rattle.lw_base.specs.declared.head.Seen.{Seen}
 pub use Rattle.lw_base.specs.declared.head.Seen.TheVariants.{Location, Register}
 pub use Rattle.lw_base.specs.declared.operand.Operand.{Operand}
 pub use Rattle.lw_base.specs.declared.operand.Operand.TheVariants.{Number}
-pub use Rattle.lw_litmus.proofs.Common.{IsStatement, IsThread, IsWellFormedProgram, ProgramTest, location_of}
-pub use Rattle.lw_litmus.proofs.Common.{numbers_of, registers_of, target_of, test_of, x86, x86_operation}
+pub use Rattle.lw_litmus.proofs.Common.{IsWellFormedProgram, IsWellFormedStatement, IsWellFormedThread}
+pub use Rattle.lw_litmus.proofs.Common.{X86Test, branch_target, location_of, numbers_of, registers_of}
+pub use Rattle.lw_litmus.proofs.Common.{test_of, x86_language, x86_operation}
 pub use Rattle.lw_litmus.specs.declared.instr.Instr.{Instr}
 pub use Rattle.lw_litmus.specs.declared.instr.Instr.TheVariants.{Add, Cmp, Set, Store}
 pub use Rattle.lw_text.proofs.Common.{AtomSyntax, Block, Condition, HasFewNodes, HasFrame, Header}
 pub use Rattle.lw_text.proofs.Common.{InitializerSyntax, IsInitializer, IsProposition, IsSite, Listed, Names}
-pub use Rattle.lw_text.proofs.Common.{Parts, Preamble, Row, RowCells, SiteSyntax, Terminal, TestFrame}
-pub use Rattle.lw_text.proofs.Common.{TestSyntax, ThreadExists, Until, begins_stop, begins_token, blank}
-pub use Rattle.lw_text.proofs.Common.{column, columns, ends_cell, head_of_syntax, listed_in, made_of}
-pub use Rattle.lw_text.proofs.Common.{resolved, seen_in, site_name, site_names, sites_in, table, thread_name}
-pub use Rattle.lw_text.proofs.Common.{word_of}
+pub use Rattle.lw_text.proofs.Common.{ParsesManyTill, ParsesTest, Preamble, Row, RowCells, SiteSyntax}
+pub use Rattle.lw_text.proofs.Common.{Terminal, TestFrame, TestSyntax, ThreadExists, begins_stop}
+pub use Rattle.lw_text.proofs.Common.{begins_token, blank, column, columns, ends_cell, frame_of_syntax}
+pub use Rattle.lw_text.proofs.Common.{head_of_syntax, initial_word_of, listed_in, location_table, resolved}
+pub use Rattle.lw_text.proofs.Common.{seen_in, site_name, site_names, sites_in, thread_name}
 pub use Rattle.lw_text.proofs.api.CellTokens.{EndsNoCell}
 pub use Rattle.lw_text.proofs.api.ConditionTokens.{IsPrintable, ended_said, named_claim, named_printable}
 pub use Rattle.lw_text.proofs.api.ConditionTokens.{named_site, quantifier_said, quantifier_tokens, seen_again}
@@ -82,20 +85,22 @@ pub use Rattle.lw_text.proofs.api.Spelling.{Spells-mark, Spells-name, Spells-new
 pub use Rattle.lw_text.proofs.api.Spelling.{Spells-number, Spells-on, Spells-run, Spells-space, Spells-then}
 pub use Rattle.lw_text.proofs.api.Spelling.{Spells-whole, Spells-within, blank_ends_name, decimal_is_name_run}
 pub use Rattle.lw_text.proofs.api.Spelling.{decimal_is_number, decimal_is_short, is_name_text, name_by_test}
-pub use Rattle.lw_cells.proofs.Common.{CellSays, CellSyntax, Column, Filling, Fills, Given, Gives, IsGrammar}
-pub use Rattle.lw_cells.proofs.Common.{IsMade, IsSpelling, Labels, LeadsForward, MaybeStatement, Said}
-pub use Rattle.lw_cells.proofs.Common.{code_in, label_in, labels_of, led_to, name_in, names_in, names_of}
-pub use Rattle.lw_cells.proofs.Common.{number_in, resolved_statement, statements, target_in, test_on}
-pub use Rattle.lw_cells.proofs.api.Forms.{is_grammar, names_allowed}
-pub use Rattle.lw_cells.proofs.api.Greater.{greater_is}
-pub use Rattle.lw_cells.proofs.api.Tests.{one_test, well_formed_test}
-pub use Rattle.lw_cells.specs.declared.slot.Slot.{Slot}
-pub use Rattle.lw_cells.specs.declared.slot.Slot.TheVariants.{Keyword, Label, Value}
+pub use Rattle.lw_statements.proofs.Common.{CellSyntax, Column, Filling, Fills, Gives, IsGrammar, IsMade}
+pub use Rattle.lw_statements.proofs.Common.{IsSpelling, Labels, LabelsLeadForward, MaybeStatement, ParsesCell}
+pub use Rattle.lw_statements.proofs.Common.{ParsesStatement, SlotValue, code_in, label_in, labels_of}
+pub use Rattle.lw_statements.proofs.Common.{location_index, name_in, names_in, names_of, resolve_test}
+pub use Rattle.lw_statements.proofs.Common.{resolved_statement, resolved_target, statements, target_in}
+pub use Rattle.lw_statements.proofs.api.Forms.{is_grammar, names_allowed}
+pub use Rattle.lw_statements.proofs.api.Greater.{greater_is}
+pub use Rattle.lw_statements.proofs.api.Tests.{one_test, well_formed_test}
+pub use Rattle.lw_statements.specs.declared.slot.Slot.{Slot}
+pub use Rattle.lw_statements.specs.declared.slot.Slot.TheVariants.{Keyword, Label, Value}
 pub use Rattle.lw_x86.specs.CanonicalTexts.{block_text, canonical_text, cell_text, cells_from, cells_of}
 pub use Rattle.lw_x86.specs.CanonicalTexts.{element_text, end_cells, header_text, initial_word}
 pub use Rattle.lw_x86.specs.CanonicalTexts.{initializer_text, instruction_text, is_sign, is_target, jumps_to}
-pub use Rattle.lw_x86.specs.CanonicalTexts.{label, listed_text, longest, printed_as, register_initializer}
-pub use Rattle.lw_x86.specs.CanonicalTexts.{row_of, row_text, rows_text, slot_text, slots_text}
+pub use Rattle.lw_x86.specs.CanonicalTexts.{label, listed_text, max_cell_count, printed_form}
+pub use Rattle.lw_x86.specs.CanonicalTexts.{register_initializer, row_at, row_text, rows_text, slot_text}
+pub use Rattle.lw_x86.specs.CanonicalTexts.{slots_text}
 pub use Rattle.lw_x86.specs.Grammar.{HasProgram, x86_grammar}
 pub use Rattle.lw_x86.specs.Spelling.{instruction, x86_forms, x86_keyword_text, x86_slots, x86_spelling}
 pub use Rattle.lw_x86.specs.Texts.{IsTextOf}
@@ -104,5 +109,5 @@ pub use Rattle.lw_x86.specs.declared.language.X86Form.TheVariants.{Compare}
 pub use Rattle.lw_x86.specs.declared.language.X86Keyword.{X86Keyword}
 pub use Rattle.lw_x86.specs.declared.language.X86Keyword.TheVariants.{Close, Comma, Dollar, Open}
 pub use Rattle.lw_x86.specs.inner.OperandTexts.{memory_text, operand_text, with_operands}
-pub use Rattle.lw_x86.specs.inner.Operands.{made}
+pub use Rattle.lw_x86.specs.inner.Operands.{instruction_of_operands}
 pub use Rattle.lw_x86.specs.inner.Separators.{separator}

@@ -2,15 +2,16 @@
 use Rattle.lw_x86.proofs.Common.{◌≡◌, ℕ, zero, suc, ◌+◌, ◌*◌, ◌<◌, ◌≤◌, ◌^◌, Bool, true, false, not, List, []}
 use Rattle.lw_x86.proofs.Common.{◌∷◌, ◌++◌, map, length, refl, arith, append_assoc, length-append, ◌==◌}
 use Rattle.lw_x86.proofs.Common.{codes, filter, slice_index, slice_index_or, flat_map, AllByRecursion}
-use Rattle.lw_x86.proofs.Common.{flat_map-append, TokenList, X86, Seen, Register, Location, TestHead, IsSeen}
-use Rattle.lw_x86.proofs.Common.{IsWellFormedHead, IsWordNumber, ThreadExists, InitializerSyntax}
-use Rattle.lw_x86.proofs.Common.{IsInitializer, Block, thread_registers, all_registers, locations, all_append}
-use Rattle.lw_x86.proofs.Common.{all_filter, all_map, all_weaker, all_of_range, all_of_flat, filter_shorter}
-use Rattle.lw_x86.proofs.Common.{seen_length, most_seen, Anything, Spells, Spells-then, Spells-on}
-use Rattle.lw_x86.proofs.Common.{Spells-within, Spells-nothing, Spells-space, Spells-newline, Spells-mark}
-use Rattle.lw_x86.proofs.Common.{named_site, site_tokens, value_tokens, IsPrintable, named_printable}
-use Rattle.lw_x86.proofs.Common.{site_said, value_said, site_exists, ended_said, assignment_spelled}
-use Rattle.lw_x86.proofs.Common.{initial_word, initializer_text, register_initializer, block_text}
+use Rattle.lw_x86.proofs.Common.{flat_map-append, TokenList, X86, Seen, Register, Location, TestHead}
+use Rattle.lw_x86.proofs.Common.{IsSeenInRange, IsWellFormedHead, IsWordNumber, ThreadExists}
+use Rattle.lw_x86.proofs.Common.{InitializerSyntax, IsInitializer, Block, thread_registers, all_registers}
+use Rattle.lw_x86.proofs.Common.{locations, all_append, all_filter, all_map, All-mono, all_of_range}
+use Rattle.lw_x86.proofs.Common.{all_of_flat, filter_shorter, seen_length, most_seen, Anything, Spells}
+use Rattle.lw_x86.proofs.Common.{Spells-then, Spells-on, Spells-within, Spells-nothing, Spells-space}
+use Rattle.lw_x86.proofs.Common.{Spells-newline, Spells-mark, named_site, site_tokens, value_tokens}
+use Rattle.lw_x86.proofs.Common.{IsPrintable, named_printable, site_said, value_said, site_exists, ended_said}
+use Rattle.lw_x86.proofs.Common.{assignment_spelled, initial_word, initializer_text, register_initializer}
+use Rattle.lw_x86.proofs.Common.{block_text}
 
 -- ---- initializers
 
@@ -48,7 +49,7 @@ block_bytes = 57 * most_seen + 4
 module _ (head : TestHead) (well : IsWellFormedHead head) where
   -- The site is of the test.
   abbrev Sees : Seen → Type 0
-  Sees = IsSeen head.threads (length head.locs)
+  Sees = IsSeenInRange head.threads (length head.locs)
 
   row_word : (ws : List ℕ) (k : ℕ) → AllByRecursion IsWordNumber ws → slice_index ws k < 2 ^ 32
   row_word [] k a = omega arith
@@ -163,12 +164,12 @@ module _ (head : TestHead) (well : IsWellFormedHead head) where
     (flat_map (λ e. initializer_tokens e ++ codes ";" ∷ []) (initializers_of head) ++ (codes "}" ∷ [])) ++ rest,
     refl,
     rw (append_assoc (flat_map (λ e. initializer_tokens e ++ codes ";" ∷ []) (initializers_of head)))
-        (ended_said _ _ (codes ";") (codes "}") _ rest (all_map _ _ _ (all_weaker _ _ initializer_said _ entered_seen))),
+        (ended_said _ _ (codes ";") (codes "}") _ rest (all_map _ _ _ (All-mono _ _ initializer_said _ entered_seen))),
   )
 
   -- each initializer of a register is of a thread that the test has
   pub initializers_exist : AllByRecursion (λ e. ThreadExists head.threads e.site) (initializers_of head)
   initializers_exist =
       all_map _ (initializer_of head) (entered head)
-      (all_weaker _ _ (λ s h. site_exists X86 head.threads well.few head.locs (named_site head.locs s) (printable s h))
+      (All-mono _ _ (λ s h. site_exists X86 head.threads well.few head.locs (named_site head.locs s) (printable s h))
       (entered head) entered_seen)

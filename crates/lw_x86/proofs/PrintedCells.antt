@@ -2,12 +2,13 @@
 use Rattle.lw_x86.proofs.Common.{EndsNoCell, ◌≡◌, ℕ, ◌<◌, ◌^◌, Bool, true, false, Option, Some, None, List}
 use Rattle.lw_x86.proofs.Common.{[], ◌∷◌, ◌++◌, length, refl, arith, if◌then◌else◌, codes, option_map}
 use Rattle.lw_x86.proofs.Common.{slice_get, slice_index_or, subst, AllByRecursion, slice_get_within}
-use Rattle.lw_x86.proofs.Common.{get_or_from_slice_get, Bytes, NameTable, TokenList, IsLocation, begins_stop}
-use Rattle.lw_x86.proofs.Common.{all_append, Anything, IsBlankNext, Spells, Spells-then, Spells-on}
-use Rattle.lw_x86.proofs.Common.{Spells-before, Spells-within, Spells-nothing, Spells-space, blank_ends_name}
-use Rattle.lw_x86.proofs.Common.{Spells-colon, blank_no_equals, CellSyntax, MaybeStatement, Labels, CellSays}
-use Rattle.lw_x86.proofs.Common.{IsStatement, IsThread, Instr, Said, x86_spelling, x86, label, printed_as}
-use Rattle.lw_x86.proofs.Common.{is_target, cells_of, x86_grammar}
+use Rattle.lw_x86.proofs.Common.{get_or_from_slice_get, Bytes, NameTable, TokenList, IsLocationName}
+use Rattle.lw_x86.proofs.Common.{begins_stop, all_append, Anything, IsBlankNext, Spells, Spells-then}
+use Rattle.lw_x86.proofs.Common.{Spells-on, Spells-before, Spells-within, Spells-nothing, Spells-space}
+use Rattle.lw_x86.proofs.Common.{blank_ends_name, Spells-colon, blank_no_equals, CellSyntax, MaybeStatement}
+use Rattle.lw_x86.proofs.Common.{Labels, ParsesCell, IsWellFormedStatement, IsWellFormedThread, Instr}
+use Rattle.lw_x86.proofs.Common.{ParsesStatement, x86_spelling, x86_language, label, printed_form, is_target}
+use Rattle.lw_x86.proofs.Common.{cells_of, x86_grammar}
 use Rattle.lw_x86.proofs.CellLists.{at_row, cell_at}
 use Rattle.lw_x86.proofs.PrintedSlots.{name_no_end}
 use Rattle.lw_x86.proofs.PrintedInstructions.{instruction_tokens, HasTarget, label_is_location, Spells-label}
@@ -34,9 +35,9 @@ abbrev pub cell_tokens : NameTable → List Instr → ℕ → TokenList
 cell_tokens names code k = front_tokens (is_target code k) k ++ maybe_tokens names (slice_get code k)
 
 -- what a thread's cell in the row at an index says: its label, if something jumps there, and its instruction
-abbrev pub cell_syntax : NameTable → List Instr → ℕ → CellSyntax (Said x86_spelling)
+abbrev pub cell_syntax : NameTable → List Instr → ℕ → CellSyntax (ParsesStatement x86_spelling)
 cell_syntax names code k =
-    record { labels = front_labels (is_target code k) k; stmt = option_map (printed_as names) (slice_get code k) }
+    record { labels = front_labels (is_target code k) k; stmt = option_map (printed_form names) (slice_get code k) }
 
 -- ---- their texts
 
@@ -88,12 +89,13 @@ labels_said false k mid h = refl
 
 -- ---- a thread
 
-module _ (names : NameTable) (table : AllByRecursion IsLocation names) (code : List Instr)
-    (thread : IsThread x86 (length names) code) where
+module _ (names : NameTable) (table : AllByRecursion IsLocationName names) (code : List Instr)
+    (thread : IsWellFormedThread x86_language (length names) code) where
   -- each instruction of the thread is well-formed
-  pub statement_at : (k : ℕ) (i : Instr) → slice_get code k ≡ Some i → IsStatement x86 (length names) i
+  pub statement_at : (k : ℕ) (i : Instr) → slice_get code k ≡ Some i → IsWellFormedStatement x86_language (length names) i
   statement_at k i e =
-      subst (IsStatement x86 (length names)) (get_or_from_slice_get code k i i e) (thread.there k i (slice_get_within code k i e))
+      subst (IsWellFormedStatement x86_language (length names)) (get_or_from_slice_get code k i i e)
+      (thread.there k i (slice_get_within code k i e))
 
   -- each target of the thread is below 2 ^ 32
   pub target_small : (k : ℕ) (i : Instr) → slice_get code k ≡ Some i → HasTarget i
@@ -118,7 +120,7 @@ module _ (names : NameTable) (table : AllByRecursion IsLocation names) (code : L
 
     maybe_said : (o : Option Instr)
         → slice_get code k ≡ o
-        → MaybeStatement x86_grammar (maybe_tokens names o) (option_map (printed_as names) o)
+        → MaybeStatement x86_grammar (maybe_tokens names o) (option_map (printed_form names) o)
     maybe_said None e = refl
     maybe_said (Some i) e = instruction_said names table i (statement_at k i e) (target_small k i e)
 
@@ -127,7 +129,7 @@ module _ (names : NameTable) (table : AllByRecursion IsLocation names) (code : L
     cell_printed = rw (cell_at names (length names) code thread k) (maybe_printed (slice_get code k) refl)
 
     -- the tokens of a thread's cell say its label and its instruction
-    pub cell_said : CellSays x86_grammar (cell_tokens names code k) (cell_syntax names code k)
+    pub cell_said : ParsesCell x86_grammar (cell_tokens names code k) (cell_syntax names code k)
     cell_said = (
       maybe_tokens names (slice_get code k),
       labels_said (is_target code k) k (maybe_tokens names (slice_get code k)) small,

@@ -3,11 +3,13 @@ use Rattle.lw_x86.proofs.Common.{◌≡◌, ℕ, zero, suc, ◌+◌, ◌<◌, �
 use Rattle.lw_x86.proofs.Common.{map, length, refl, sym, ap, ◌∙◌, subst, arith, true, inl, inr, slice_get}
 use Rattle.lw_x86.proofs.Common.{slice_index_or, Contains, filter_map, option_map, AllByRecursion, AllZip}
 use Rattle.lw_x86.proofs.Common.{cons_option, range_with_len, ForSome, cases_lt, length-map, slice_get-get_or}
-use Rattle.lw_x86.proofs.Common.{Bytes, NameTable, EachOnce, IsTable, IsInTable, index_of-again, CellSyntax}
-use Rattle.lw_x86.proofs.Common.{CellSays, statements, labels_of, target_in, number_in, led_to}
-use Rattle.lw_x86.proofs.Common.{resolved_statement, code_in, names_in, LeadsForward, Column, IsThread, Instr}
-use Rattle.lw_x86.proofs.Common.{Said, x86_spelling, target_of, location_of, x86, x86_operation, label}
-use Rattle.lw_x86.proofs.Common.{printed_as, is_target, end_cells, cells_of, x86_grammar}
+use Rattle.lw_x86.proofs.Common.{Bytes, NameTable, IsDuplicateFree, IsNameTable, IsInTable}
+use Rattle.lw_x86.proofs.Common.{position_of_name-again, CellSyntax, ParsesCell, statements, labels_of}
+use Rattle.lw_x86.proofs.Common.{target_in, location_index, resolved_target, resolved_statement, code_in}
+use Rattle.lw_x86.proofs.Common.{names_in, LabelsLeadForward, Column, IsWellFormedThread, Instr}
+use Rattle.lw_x86.proofs.Common.{ParsesStatement, x86_spelling, branch_target, location_of, x86_language}
+use Rattle.lw_x86.proofs.Common.{x86_operation, label, printed_form, is_target, end_cells, cells_of}
+use Rattle.lw_x86.proofs.Common.{x86_grammar}
 use Rattle.lw_x86.proofs.CellLists.{cells-length}
 use Rattle.lw_x86.proofs.PrintedInstructions.{printed}
 use Rattle.lw_x86.proofs.PrintedCells.{cell_tokens, cell_said, statement_at, target_small}
@@ -15,24 +17,25 @@ use Rattle.lw_x86.proofs.PrintedLabels.{syntaxes_from, target_is, statements_are
 
 -- ---- the instructions again
 
-module _ (names : NameTable) (once : EachOnce names) (syntaxes : List (CellSyntax (Said x86_spelling))) where
+module _ (names : NameTable) (once : IsDuplicateFree names) (syntaxes : List (CellSyntax (ParsesStatement x86_spelling))) where
   -- an instruction's location is in the table, and its label leads to its target
   abbrev pub IsResolved : Instr → Type 0
   IsResolved i =
       ForSome (location_of (x86_operation i)) (λ x. x < length names)
-      × ForSome (target_of (x86_operation i)) (λ to. target_in syntaxes (label to) ≡ to)
+      × ForSome (branch_target (x86_operation i)) (λ to. target_in syntaxes (label to) ≡ to)
 
   -- such an instruction, as it is printed, is resolved to itself
-  resolved_again : (i : Instr) → IsResolved i → resolved_statement x86_grammar names syntaxes (printed_as names i) ≡ i
+  resolved_again : (i : Instr) → IsResolved i → resolved_statement x86_grammar names syntaxes (printed_form names i) ≡ i
   resolved_again i h =
       let p = printed names i in
       p.again _ _ (λ x e.
-      ap (number_in names) (p.name ∙ ap (option_map (λ (y : ℕ). slice_index_or names y [])) e)
-      ∙ index_of-again names once x (h.0 x e)) (λ to e. ap (led_to syntaxes) (p.led ∙ ap (option_map label) e) ∙ h.1 to e)
+      ap (location_index names) (p.name ∙ ap (option_map (λ (y : ℕ). slice_index_or names y [])) e)
+      ∙ position_of_name-again names once x (h.0 x e))
+      (λ to e. ap (resolved_target syntaxes) (p.led ∙ ap (option_map label) e) ∙ h.1 to e)
 
   all_again : (code : List Instr)
       → AllByRecursion IsResolved code
-      → map (resolved_statement x86_grammar names syntaxes) (map (printed_as names) code) ≡ code
+      → map (resolved_statement x86_grammar names syntaxes) (map (printed_form names) code) ≡ code
   all_again [] h = refl
   all_again (i ∷ code) h = rw (resolved_again i h.0, all_again code h.1) refl
 
@@ -48,16 +51,16 @@ name_there names (Some x) h more all = ((x, slice_get-get_or names x [] (h x ref
 -- if the locations of instructions are of the table, their names are in the table
 names_there : (names : NameTable) (code : List Instr)
     → AllByRecursion (λ i. ForSome (location_of (x86_operation i)) (λ x. x < length names)) code
-    → AllByRecursion (IsInTable names) (filter_map x86_grammar.name_of (map (printed_as names) code))
+    → AllByRecursion (IsInTable names) (filter_map x86_grammar.name_of (map (printed_form names) code))
 names_there names [] h = tt
 names_there names (i ∷ code) h =
     rw (printed names i).name (name_there names (location_of (x86_operation i)) h.0 _ (names_there names code h.1))
 
 -- what holds of the label of an instruction's target holds of the label that is printed for it
 of_label : (names : NameTable) (P : Bytes → Type 0) (i : Instr)
-    → ForSome (target_of (x86_operation i)) (λ to. P (label to))
-    → ForSome (x86_grammar.label_of (printed_as names i)) P
-of_label names P i h = rw (printed names i).led (go (target_of (x86_operation i)) h)
+    → ForSome (branch_target (x86_operation i)) (λ to. P (label to))
+    → ForSome (x86_grammar.label_of (printed_form names i)) P
+of_label names P i h = rw (printed names i).led (go (branch_target (x86_operation i)) h)
   where
     go : (target : Option ℕ) → ForSome target (λ to. P (label to)) → ForSome (option_map label target) P
     go None h = λ l e. absurd cc
@@ -78,10 +81,10 @@ all_places P (x ∷ xs) h = (h 0 x refl, all_places P xs (λ k y e. h (suc k) y 
 
 -- ---- a thread, in so many rows that all its cells have one
 
-module _ (names : NameTable) (table : IsTable names) (n : ℕ) (few : n ≤ 33) (code : List Instr)
-    (thread : IsThread x86 (length names) code) (long : length (cells_of names code) ≤ n) where
+module _ (names : NameTable) (table : IsNameTable names) (n : ℕ) (few : n ≤ 33) (code : List Instr)
+    (thread : IsWellFormedThread x86_language (length names) code) (long : length (cells_of names code) ≤ n) where
   -- what all cells of a thread say, in the rows below n
-  abbrev pub syntaxes : List (CellSyntax (Said x86_spelling))
+  abbrev pub syntaxes : List (CellSyntax (ParsesStatement x86_spelling))
   syntaxes = syntaxes_from names code 0 n
 
   -- each target of the thread is the index of one of its rows
@@ -96,7 +99,7 @@ module _ (names : NameTable) (table : IsTable names) (n : ℕ) (few : n ≤ 33) 
 
   target_at : (k to : ℕ) (i : Instr)
       → slice_get code k ≡ Some i
-      → target_of (x86_operation i) ≡ Some to
+      → branch_target (x86_operation i) ≡ Some to
       → Contains (labels_of syntaxes) (label to) × (target_in syntaxes (label to) ≡ to) × (k < to)
   target_at k to i e f =
       let goes = thread.forward k i e to f in
@@ -107,24 +110,24 @@ module _ (names : NameTable) (table : IsTable names) (n : ℕ) (few : n ≤ 33) 
       let leads = label_leads names code to small is goes.1 0 n first last in
       (leads.0, omega (arith, leads.1), goes.0)
 
-  statements_all : statements syntaxes ≡ map (printed_as names) code
+  statements_all : statements syntaxes ≡ map (printed_form names) code
   statements_all = statements_are names code 0 n (omega (arith, long, cells-length names code 0 code))
 
   thread_column : Column x86_grammar (map (cell_tokens names code) (range_with_len 0 n)) syntaxes
   thread_column = record {
     says = says 0 n (omega (arith, few));
-    few = omega (arith, ap length statements_all, length-map code (printed_as names), thread.short);
+    few = omega (arith, ap length statements_all, length-map code (printed_form names), thread.short);
     once = (labels_fine names code 0 n (omega (arith, few))).1;
     forward = λ k s e.
-        let found = from_map (printed_as names) code k s (ap (λ l. slice_get l k) (sym statements_all) ∙ e) in
-        subst (LeadsForward x86_grammar syntaxes k) found.2
+        let found = from_map (printed_form names) code k s (ap (λ l. slice_get l k) (sym statements_all) ∙ e) in
+        subst (LabelsLeadForward x86_grammar syntaxes k) found.2
         (of_label names (λ l. Contains (labels_of syntaxes) l × (k < target_in syntaxes l)) found.0
         (λ to f. let t = target_at k to found.0 found.1 f in (t.0, omega (arith, t.1, t.2))));
   }
     where
       says : (k m : ℕ)
           → k + m < 2 ^ 32
-          → AllZip (CellSays x86_grammar) (map (cell_tokens names code) (range_with_len k m)) (syntaxes_from names code k m)
+          → AllZip (ParsesCell x86_grammar) (map (cell_tokens names code) (range_with_len k m)) (syntaxes_from names code k m)
       says k zero h = tt
       says k (suc m) h = (cell_said names table.all code thread k (omega (arith, h)), says (k + 1) m (omega (arith, h)))
 

@@ -5,13 +5,14 @@ use Rattle.lw_x86.proofs.Common.{flat_map, IsUtf8, slice_index_or, AllByRecursio
 use Rattle.lw_x86.proofs.Common.{length-map, length-map-range_with_len, recursion_from_All, IsUtf8-append}
 use Rattle.lw_x86.proofs.Common.{IsUtf8-from_ascii, Bytes, NameTable, TokenList, Cells, CellGrid, X86}
 use Rattle.lw_x86.proofs.Common.{condition_text, IsName, blank, Preamble, columns, HasFewNodes, IsProposition}
-use Rattle.lw_x86.proofs.Common.{sites_in, resolved, TestSyntax, TestFrame, Parts, HasFrame, table}
-use Rattle.lw_x86.proofs.Common.{head_of_syntax, made_of, all_append, all_map, all_weaker, proposition_nodes}
-use Rattle.lw_x86.proofs.Common.{resolved_single, resolved_count, Anything, Spells, Spells-on, Spells-within}
-use Rattle.lw_x86.proofs.Common.{Spells-whole, Spells-space, Spells-newline, Spells-name, name_by_test}
-use Rattle.lw_x86.proofs.Common.{printed_proposition, IsPrintable, sites_printable, whole_fine, whole_again}
-use Rattle.lw_x86.proofs.Common.{IsThread, Instr, x86, IsWellFormedProgram, ProgramTest, cells_of, row_of}
-use Rattle.lw_x86.proofs.Common.{longest, rows_text, header_text, block_text, listed_text, canonical_text}
+use Rattle.lw_x86.proofs.Common.{sites_in, resolved, TestSyntax, TestFrame, ParsesTest, HasFrame}
+use Rattle.lw_x86.proofs.Common.{location_table, head_of_syntax, frame_of_syntax, all_append, all_map}
+use Rattle.lw_x86.proofs.Common.{All-mono, proposition_nodes, resolved_single, resolved_count, Anything}
+use Rattle.lw_x86.proofs.Common.{Spells, Spells-on, Spells-within, Spells-whole, Spells-space, Spells-newline}
+use Rattle.lw_x86.proofs.Common.{Spells-name, name_by_test, printed_proposition, IsPrintable, sites_printable}
+use Rattle.lw_x86.proofs.Common.{whole_fine, whole_again, IsWellFormedThread, Instr, x86_language}
+use Rattle.lw_x86.proofs.Common.{IsWellFormedProgram, X86Test, cells_of, row_at, max_cell_count, rows_text}
+use Rattle.lw_x86.proofs.Common.{header_text, block_text, listed_text, canonical_text}
 use Rattle.lw_text.specs.Tokens.{none as no_trivia}
 use Rattle.lw_text.specs.Preambles.{none as no_notes}
 use Rattle.lw_x86.proofs.PrintedCells.{IsPrintedCell, cell_tokens, cell_printed}
@@ -28,23 +29,23 @@ use Rattle.lw_x86.proofs.PrintedLists.{listed_printable, condition_said, rows_st
 -- ---- the threads' cells
 
 -- the texts of a test's cells, thread by thread
-abbrev pub texts_in : ProgramTest → List (List Bytes)
+abbrev pub texts_in : X86Test → List (List Bytes)
 texts_in p = map (cells_of p.head.locs) p.threads
 
 -- the number of rows of a test as it is printed
-abbrev pub height_of : ProgramTest → ℕ
-height_of p = longest (texts_in p)
+abbrev pub height_of : X86Test → ℕ
+height_of p = max_cell_count (texts_in p)
 
 -- the tokens of the cells of the row at an index
-abbrev row_in : ProgramTest → ℕ → Cells
+abbrev row_in : X86Test → ℕ → Cells
 row_in p k = map (λ code. cell_tokens p.head.locs code k) p.threads
 
 -- the tokens of all rows of a test, cell by cell
-abbrev pub rows_in : ProgramTest → CellGrid
+abbrev pub rows_in : X86Test → CellGrid
 rows_in p = map (row_in p) (range_with_len 0 (height_of p))
 
 -- what the tokens of the printed test say
-abbrev pub syntax_in : ProgramTest → TestSyntax
+abbrev pub syntax_in : X86Test → TestSyntax
 syntax_in p = record {
   initializers = initializers_of p.head;
   threads = p.head.threads;
@@ -55,30 +56,30 @@ syntax_in p = record {
 }
 
 -- the frame that the printed test has: its head, and the tokens of its cells
-abbrev pub frame_in : ProgramTest → TestFrame
+abbrev pub frame_in : X86Test → TestFrame
 frame_in p =
     record { head = p.head; cells = map (λ code. map (cell_tokens p.head.locs code) (range_with_len 0 (height_of p))) p.threads }
 
 -- ---- tokens
 
 -- the tokens of the list of names and of the condition
-abbrev tokens_behind_rows : ProgramTest → TokenList
+abbrev tokens_behind_rows : X86Test → TokenList
 tokens_behind_rows p = listed_tokens p.head.locs p.head.listed ++ condition_tokens p.head
 
 -- the tokens of the rows, and all behind them
-abbrev tokens_behind_header : ProgramTest → TokenList
+abbrev tokens_behind_header : X86Test → TokenList
 tokens_behind_header p = flat_map row_tokens (rows_in p) ++ tokens_behind_rows p
 
 -- the tokens of the header, and all behind it
-abbrev tokens_behind_block : ProgramTest → TokenList
+abbrev tokens_behind_block : X86Test → TokenList
 tokens_behind_block p = header_tokens p.head.threads ++ tokens_behind_header p
 
 -- all tokens of the printed test
-abbrev tokens_in : ProgramTest → TokenList
+abbrev tokens_in : X86Test → TokenList
 tokens_in p = block_tokens p.head ++ tokens_behind_block p
 
 -- the canonical text behind its first line
-abbrev body_text : ProgramTest → Bytes
+abbrev body_text : X86Test → Bytes
 body_text p =
     block_text p.head
     ++ (header_text p.head.threads
@@ -88,33 +89,33 @@ body_text p =
 abbrev body_bytes : ℕ
 body_bytes = block_bytes + row_bytes * 34 + listed_bytes + condition_bytes
 
-module _ (p : ProgramTest) (well : IsWellFormedProgram p) where
+module _ (p : X86Test) (well : IsWellFormedProgram p) where
   -- each thread of a well-formed test is well-formed on the test's locations
-  pub threads_are : AllByRecursion (IsThread x86 (length p.head.locs)) p.threads
-  threads_are = recursion_from_All (IsThread x86 (length p.head.locs)) p.threads well.code
+  pub threads_are : AllByRecursion (IsWellFormedThread x86_language (length p.head.locs)) p.threads
+  threads_are = recursion_from_All (IsWellFormedThread x86_language (length p.head.locs)) p.threads well.code
 
   -- no thread has more than 33 cells
   pub height_few : height_of p ≤ 33
   height_few =
       longest_under 33 (texts_in p)
       (all_map (λ cells. length cells ≤ 33) (cells_of p.head.locs) p.threads
-      (all_weaker (IsThread x86 (length p.head.locs)) (λ code. length (cells_of p.head.locs code) ≤ 33)
+      (All-mono (IsWellFormedThread x86_language (length p.head.locs)) (λ code. length (cells_of p.head.locs code) ≤ 33)
       (λ code thread. omega (arith, cells_few p.head.locs code, thread.short)) p.threads threads_are))
 
   row_printed : (k : ℕ)
       → k < 33
       → (threads : List (List Instr))
-      → AllByRecursion (IsThread x86 (length p.head.locs)) threads
-      → AllZip IsPrintedCell (row_of (map (cells_of p.head.locs) threads) k)
+      → AllByRecursion (IsWellFormedThread x86_language (length p.head.locs)) threads
+      → AllZip IsPrintedCell (row_at (map (cells_of p.head.locs) threads) k)
       (map (λ code. cell_tokens p.head.locs code k) threads)
   row_printed k small [] h = tt
   row_printed k small (code ∷ threads) h =
       (cell_printed p.head.locs well.head.table.all code h.0 k (omega (arith, small)), row_printed k small threads h.1)
 
-  printed : (k : ℕ) → k < 33 → AllZip IsPrintedCell (row_of (texts_in p) k) (row_in p k)
+  printed : (k : ℕ) → k < 33 → AllZip IsPrintedCell (row_at (texts_in p) k) (row_in p k)
   printed k small = row_printed k small p.threads threads_are
 
-  texts_long : (k : ℕ) → length (row_of (texts_in p) k) ≡ p.head.threads
+  texts_long : (k : ℕ) → length (row_at (texts_in p) k) ≡ p.head.threads
   texts_long k =
       length-map (texts_in p) (λ cells. slice_index_or cells k []) ∙ length-map p.threads (cells_of p.head.locs) ∙ well.as_many
 
@@ -129,7 +130,7 @@ module _ (p : ProgramTest) (well : IsWellFormedProgram p) where
       (Spells-on (block_spelled p.head well.head)
       (Spells-on (header_spelled p.head.threads well.head.some well.head.few)
       (Spells-on
-      (rows_spelled (row_of (texts_in p)) (row_in p) p.head.threads 33 well.head.some well.head.few printed texts_long row_long 0
+      (rows_spelled (row_at (texts_in p)) (row_in p) p.head.threads 33 well.head.some well.head.few printed texts_long row_long 0
       (height_of p) (omega (arith, height_few)))
       (Spells-on (listed_spelled p.head well.head) (condition_spelled p.head well.head well.arch)))))
 
@@ -143,7 +144,7 @@ module _ (p : ProgramTest) (well : IsWellFormedProgram p) where
       (sites_printable p.head.threads p.head.locs (terminals_in p.head)
       (whole_fine p.head.threads p.head.locs well.head.table.all p.head.condition well.head.condition))
 
-  table_is : table (syntax_in p) ≡ p.head.locs
+  table_is : location_table (syntax_in p) ≡ p.head.locs
   table_is =
       rw
       (append_assoc (map (λ e. e.site) (initializers_of p.head)) (named_sites p.head.locs p.head.listed)
@@ -163,7 +164,7 @@ module _ (p : ProgramTest) (well : IsWellFormedProgram p) where
     well.head.nodes_few,
   )
 
-  parts : Parts X86 (tokens_in p) (syntax_in p)
+  parts : ParsesTest X86 (tokens_in p) (syntax_in p)
   parts = record {
     behind_block = tokens_behind_block p;
     behind_header = tokens_behind_header p;
@@ -173,7 +174,7 @@ module _ (p : ProgramTest) (well : IsWellFormedProgram p) where
     there = initializers_exist p.head well.head;
     rows = (
       rows_said p.head.threads (rows_in p) (tokens_behind_rows p) well.head.some
-          (rows_plain (row_of (texts_in p)) (row_in p) p.head.threads 33 well.head.some well.head.few printed texts_long row_long
+          (rows_plain (row_at (texts_in p)) (row_in p) p.head.threads 33 well.head.some well.head.few printed texts_long row_long
           0 (height_of p) (omega (arith, height_few))) (rows_stop p.head well.head),
       omega (arith, length-map-range_with_len (row_in p) 0 (height_of p), height_few),
     );
@@ -191,7 +192,7 @@ module _ (p : ProgramTest) (well : IsWellFormedProgram p) where
   cells_are : columns p.head.threads (rows_in p) ≡ (frame_in p).cells
   cells_are = rw (← well.as_many) (columns_are (cell_tokens p.head.locs) p.threads (height_of p))
 
-  frame_is : frame_in p ≡ made_of X86 p.head.name (syntax_in p) p.head.condition
+  frame_is : frame_in p ≡ frame_of_syntax X86 p.head.name (syntax_in p) p.head.condition
   frame_is = rw (head_is, cells_are) refl
 
   -- ---- the whole text

@@ -3,8 +3,8 @@ use Rattle.lw_x86.proofs.Common.{◌≡◌, ℕ, zero, suc, ◌+◌, ◌≤◌, 
 use Rattle.lw_x86.proofs.Common.{◌++◌, map, length, refl, sym, ap, ◌∙◌, arith, fold, if◌then◌else◌, codes}
 use Rattle.lw_x86.proofs.Common.{slice_get, option_map, AllByRecursion, range_with_len, length-map}
 use Rattle.lw_x86.proofs.Common.{fill_by_all, slice_get-map, get_or_from_slice_get, Bytes, NameTable, column}
-use Rattle.lw_x86.proofs.Common.{columns, all_map, all_unmap, get_some, Instr, label, cells_of, longest}
-use Rattle.lw_x86.proofs.Common.{is_target}
+use Rattle.lw_x86.proofs.Common.{columns, all_map, All-map_inv, get_some, Instr, label, cells_of}
+use Rattle.lw_x86.proofs.Common.{max_cell_count, is_target}
 use Rattle.lw_x86.proofs.CellLists.{cells-length}
 
 -- ---- columns
@@ -47,13 +47,13 @@ all_under a b [] le all = le
 all_under a b (x ∷ xs) le all = all_under (max a x) b xs (omega (arith, le, all.0)) all.1
 
 -- no thread has more cells than the longest
-pub under_longest : (threads : List (List Bytes)) → AllByRecursion (λ cells. length cells ≤ longest threads) threads
-under_longest threads = all_unmap _ length threads (each_under 0 (map length threads))
+pub under_longest : (threads : List (List Bytes)) → AllByRecursion (λ cells. length cells ≤ max_cell_count threads) threads
+under_longest threads = All-map_inv _ length threads (each_under 0 (map length threads))
 
 -- where no thread has more than so many cells, the longest has not
 pub longest_under : (n : ℕ) (threads : List (List Bytes))
     → AllByRecursion (λ cells. length cells ≤ n) threads
-    → longest threads ≤ n
+    → max_cell_count threads ≤ n
 longest_under n threads h = all_under 0 n _ (omega arith) (all_map (λ k. k ≤ n) length threads h)
 
 -- a thread has one cell more than instructions at most

@@ -4,12 +4,12 @@ use Rattle.lw_x86.proofs.Common.{[], ◌∷◌, ◌++◌, map, length, refl, sym
 use Rattle.lw_x86.proofs.Common.{filter, fold, slice_index_or, eqb-true, AllByRecursion, list_any}
 use Rattle.lw_x86.proofs.Common.{range_with_len, any-filter_same, map-append, fill_by_all, All-from_recursion}
 use Rattle.lw_x86.proofs.Common.{All-get_or, filter_map-append, filter_agree, Seen, Register, Location}
-use Rattle.lw_x86.proofs.Common.{TestHead, with_names, IsSeen, IsWellFormedHead, with_names-there}
-use Rattle.lw_x86.proofs.Common.{with_names-again, with_names-append, SiteSyntax, site_name, site_names}
-use Rattle.lw_x86.proofs.Common.{seen_in, InitializerSyntax, word_of, listed_in, same_seen, thread_registers}
-use Rattle.lw_x86.proofs.Common.{all_registers, locations, all_filter, all_of_range, all_of_flat}
-use Rattle.lw_x86.proofs.Common.{same_seen_is, has_seen, has_register, has_location, has_left, has_right}
-use Rattle.lw_x86.proofs.Common.{listed_again, named_site, IsPrintable, sites_in_table, seen_again}
+use Rattle.lw_x86.proofs.Common.{TestHead, insert_names, IsSeenInRange, IsWellFormedHead, insert_names-there}
+use Rattle.lw_x86.proofs.Common.{insert_names-again, insert_names-append, SiteSyntax, site_name, site_names}
+use Rattle.lw_x86.proofs.Common.{seen_in, InitializerSyntax, initial_word_of, listed_in, seen_eq}
+use Rattle.lw_x86.proofs.Common.{thread_registers, all_registers, locations, all_filter, all_of_range}
+use Rattle.lw_x86.proofs.Common.{all_of_flat, same_seen_is, has_seen, has_register, has_location, has_left}
+use Rattle.lw_x86.proofs.Common.{has_right, listed_again, named_site, IsPrintable, sites_in_table, seen_again}
 use Rattle.lw_x86.proofs.Common.{initial_word}
 use Rattle.lw_x86.proofs.PrintedBlocks.{has_initializer, entered, initializer_of, initializers_of}
 use Rattle.lw_x86.proofs.PrintedBlocks.{entered_seen}
@@ -22,7 +22,7 @@ map_twice f g (x ∷ xs) = let e = map_twice f g xs in cc
 module _ (head : TestHead) (well : IsWellFormedHead head) where
   -- The site is of the test.
   abbrev Sees : Seen → Type 0
-  Sees = IsSeen head.threads (length head.locs)
+  Sees = IsSeenInRange head.threads (length head.locs)
 
   -- ---- the table
 
@@ -64,22 +64,22 @@ module _ (head : TestHead) (well : IsWellFormedHead head) where
   -- the names of the printed initializers, and of more of the test's sites, are the head's table again
   pub table_again : (more : List SiteSyntax)
       → AllByRecursion (IsPrintable head.threads head.locs) more
-      → with_names [] (site_names (map (λ e. e.site) (initializers_of head) ++ more)) ≡ head.locs
+      → insert_names [] (site_names (map (λ e. e.site) (initializers_of head) ++ more)) ≡ head.locs
   table_again more h =
       rw (
         filter_map-append site_name (map (λ e. e.site) (initializers_of head)) more,
         entered_names,
-        with_names-append [] head.locs (site_names more),
-        with_names-again head.locs well.table.once,
-      ) (with_names-there head.locs (site_names more) (sites_in_table head.threads head.locs more h))
+        insert_names-append [] head.locs (site_names more),
+        insert_names-again head.locs well.table.once,
+      ) (insert_names-there head.locs (site_names more) (sites_in_table head.threads head.locs more h))
 
   -- ---- the words at the start
 
-  same_again : (x : Seen) → Sees x → (s : Seen) → same_seen (seen_in head.locs (named_site head.locs x)) s ≡ same_seen x s
-  same_again x h s = ap (λ (y : Seen). same_seen y s) (seen_again head.threads head.locs well.table.once x h)
+  same_again : (x : Seen) → Sees x → (s : Seen) → seen_eq (seen_in head.locs (named_site head.locs x)) s ≡ seen_eq x s
+  same_again x h s = ap (λ (y : Seen). seen_eq y s) (seen_again head.threads head.locs well.table.once x h)
 
   abbrev last_word : Seen → ℕ → List InitializerSyntax → ℕ
-  last_word s w initializers = fold (λ v e. if same_seen (seen_in head.locs e.site) s then e.word else v) w initializers
+  last_word s w initializers = fold (λ v e. if seen_eq (seen_in head.locs e.site) s then e.word else v) w initializers
 
   abbrev word_if : Bool → Seen → ℕ → ℕ
   word_if b s w = if b then initial_word head s else w
@@ -90,10 +90,10 @@ module _ (head : TestHead) (well : IsWellFormedHead head) where
   words_step [] s w h = refl
   words_step (x ∷ ss) s w h =
       ap (λ (b : Bool). last_word s (word_if b x w) (map (initializer_of head) ss)) (same_again x h.0 s)
-      ∙ go (same_seen x s) refl (λ v. words_step ss s v h.1)
+      ∙ go (seen_eq x s) refl (λ v. words_step ss s v h.1)
     where
       go : (b : Bool)
-          → same_seen x s ≡ b
+          → seen_eq x s ≡ b
           → ((v : ℕ) → last_word s v (map (initializer_of head) ss) ≡ word_if (has_seen ss s) s v)
           → last_word s (word_if b x w) (map (initializer_of head) ss) ≡ word_if (b || has_seen ss s) s w
       go true e step = step (initial_word head x) ∙ either (has_seen ss s)
@@ -105,13 +105,13 @@ module _ (head : TestHead) (well : IsWellFormedHead head) where
 
   word_again : (s : Seen)
       → (initial_word head s ≡ 0) ⊎ (has_seen (entered head) s ≡ true)
-      → word_of head.locs (initializers_of head) s ≡ initial_word head s
+      → initial_word_of head.locs (initializers_of head) s ≡ initial_word head s
   word_again s = go (has_seen (entered head) s) (words_step (entered head) s 0 (entered_seen head well))
     where
       go : (b : Bool)
-          → word_of head.locs (initializers_of head) s ≡ word_if b s 0
+          → initial_word_of head.locs (initializers_of head) s ≡ word_if b s 0
           → (initial_word head s ≡ 0) ⊎ (b ≡ true)
-          → word_of head.locs (initializers_of head) s ≡ initial_word head s
+          → initial_word_of head.locs (initializers_of head) s ≡ initial_word head s
       go true step there = step
       go false step (inl zero_word) = step ∙ sym zero_word
       go false step (inr e) = absurd cc
@@ -119,7 +119,7 @@ module _ (head : TestHead) (well : IsWellFormedHead head) where
   register_again : (t r : ℕ)
       → t < head.threads
       → r < 6
-      → word_of head.locs (initializers_of head) (Register t r) ≡ initial_word head (Register t r)
+      → initial_word_of head.locs (initializers_of head) (Register t r) ≡ initial_word head (Register t r)
   register_again t r h k = word_again (Register t r) (there (initial_word head (Register t r) == 0) refl)
     where
       there : (b : Bool)
@@ -129,27 +129,27 @@ module _ (head : TestHead) (well : IsWellFormedHead head) where
       there false e =
           let initializer : has_initializer head (Register t r) ≡ true = rw e refl in
           inr (has_left (filter (has_initializer head) (all_registers head.threads)) (locations (length head.locs)) (Register t r)
-          (any-filter_same (λ x. same_seen x (Register t r)) (has_initializer head) true
+          (any-filter_same (λ x. seen_eq x (Register t r)) (has_initializer head) true
           (λ x same. ap (has_initializer head) (same_seen_is x (Register t r) same) ∙ initializer) (all_registers head.threads)
           ∙ has_register head.threads t r h k))
 
   -- the registers' words that the initializers say are the head's again
   pub registers_again :
-      map (λ t. map (word_of head.locs (initializers_of head)) (thread_registers t)) (range_with_len 0 head.threads)
+      map (λ t. map (initial_word_of head.locs (initializers_of head)) (thread_registers t)) (range_with_len 0 head.threads)
       ≡ head.init_regs
   registers_again =
-      sym (fill_by_all (λ t. map (word_of head.locs (initializers_of head)) (thread_registers t)) head.init_regs head.threads []
-      well.regs
+      sym (fill_by_all (λ t. map (initial_word_of head.locs (initializers_of head)) (thread_registers t)) head.init_regs
+      head.threads [] well.regs
       (λ t lt.
-      fill_by_all (λ r. word_of head.locs (initializers_of head) (Register t r)) (slice_index_or head.init_regs t []) 6 0
+      fill_by_all (λ r. initial_word_of head.locs (initializers_of head) (Register t r)) (slice_index_or head.init_regs t []) 6 0
       (All-get_or (λ row. length row ≡ 6) head.init_regs t [] (omega (arith, lt, well.regs))
       (All-from_recursion (λ row. length row ≡ 6) head.init_regs well.six)) (λ r k. sym (register_again t r lt k))))
 
   -- the locations' words that the initializers say are the head's again
-  pub words_again : map (word_of head.locs (initializers_of head)) (locations (length head.locs)) ≡ head.init_words
+  pub words_again : map (initial_word_of head.locs (initializers_of head)) (locations (length head.locs)) ≡ head.init_words
   words_again =
-      map_twice (word_of head.locs (initializers_of head)) (λ x. Location x) (range_with_len 0 (length head.locs))
-      ∙ sym (fill_by_all (λ x. word_of head.locs (initializers_of head) (Location x)) head.init_words (length head.locs) 0
+      map_twice (initial_word_of head.locs (initializers_of head)) (λ x. Location x) (range_with_len 0 (length head.locs))
+      ∙ sym (fill_by_all (λ x. initial_word_of head.locs (initializers_of head) (Location x)) head.init_words (length head.locs) 0
       well.words (λ x lt.
       sym (word_again (Location x)
       (inr (has_right (filter (has_initializer head) (all_registers head.threads)) (locations (length head.locs)) (Location x)
@@ -160,7 +160,7 @@ module _ (head : TestHead) (well : IsWellFormedHead head) where
   listed_agrees : (ss : List Seen)
       → AllByRecursion Sees ss
       → (s : Seen)
-      → list_any (λ site. same_seen (seen_in head.locs site) s) (map (named_site head.locs) ss) ≡ has_seen ss s
+      → list_any (λ site. seen_eq (seen_in head.locs site) s) (map (named_site head.locs) ss) ≡ has_seen ss s
   listed_agrees [] h s = refl
   listed_agrees (x ∷ ss) h s = rw (same_again x h.0 s, listed_agrees ss h.1 s) refl
 

@@ -1,12 +1,13 @@
 -- Instructions as they are printed: their texts spell tokens, which say them again.
 use Rattle.lw_x86.proofs.Common.{EndsNoCell, ◌≡◌, ℕ, ◌<◌, ◌≤◌, ◌^◌, inl, true, false, [], ◌∷◌, length, refl}
 use Rattle.lw_x86.proofs.Common.{ap, arith, slice_index_or, Contains, option_map, AllByRecursion, ForSome}
-use Rattle.lw_x86.proofs.Common.{recursion_from_All, NameTable, TokenList, Number, IsLocation}
+use Rattle.lw_x86.proofs.Common.{recursion_from_All, NameTable, TokenList, Number, IsLocationName}
 use Rattle.lw_x86.proofs.Common.{IsRegisterIndex, IsWordNumber, begins_stop, EndsName, Spells, Spells-within}
-use Rattle.lw_x86.proofs.Common.{Spells-run, decimal_is_name_run, decimal_is_short, name_there, IsStatement}
-use Rattle.lw_x86.proofs.Common.{registers_of, numbers_of, Instr, target_of, location_of, x86, x86_operation}
-use Rattle.lw_x86.proofs.Common.{Fills, Said, name_in, label_in, x86_forms, x86_slots, instruction}
-use Rattle.lw_x86.proofs.Common.{x86_spelling, label, printed_as, instruction_text}
+use Rattle.lw_x86.proofs.Common.{Spells-run, decimal_is_name_run, decimal_is_short, name_there}
+use Rattle.lw_x86.proofs.Common.{IsWellFormedStatement, registers_of, numbers_of, Instr, branch_target}
+use Rattle.lw_x86.proofs.Common.{location_of, x86_language, x86_operation, Fills, ParsesStatement, name_in}
+use Rattle.lw_x86.proofs.Common.{label_in, x86_forms, x86_slots, instruction, x86_spelling, label}
+use Rattle.lw_x86.proofs.Common.{printed_form, instruction_text}
 use Rattle.lw_base.specs.declared.operand.Operand.TheVariants.{Register}
 use Rattle.lw_x86.proofs.PrintedSlots.{ArePrintable, are_spaced, most_in, slots_tokens, slots_spelled}
 use Rattle.lw_x86.proofs.PrintedSlots.{slots_said, slots_no_end}
@@ -15,7 +16,7 @@ use Rattle.lw_litmus.specs.declared.instr.Instr.TheVariants as instr
 -- ---- labels
 
 -- a label of an instruction is a name that is not reserved
-pub label_is_location : (k : ℕ) → k < 2 ^ 32 → IsLocation (label k)
+pub label_is_location : (k : ℕ) → k < 2 ^ 32 → IsLocationName (label k)
 label_is_location k h = (
   (record { some = omega arith; all = (refl, decimal_is_name_run k h); front = refl }, omega (arith, decimal_is_short k h)),
   refl,
@@ -30,44 +31,44 @@ Spells-label k h =
 
 -- the instruction's target, if it has one, is below 2 ^ 32
 abbrev pub HasTarget : Instr → Type 0
-HasTarget i = ForSome (target_of (x86_operation i)) (λ to. to < 2 ^ 32)
+HasTarget i = ForSome (branch_target (x86_operation i)) (λ to. to < 2 ^ 32)
 
 -- the tokens of an instruction, slot by slot of its form
 abbrev pub instruction_tokens : NameTable → Instr → TokenList
-instruction_tokens names i = slots_tokens (x86_slots (printed_as names i).form) (printed_as names i).filling
+instruction_tokens names i = slots_tokens (x86_slots (printed_form names i).form) (printed_form names i).filling
 
 -- A form of the language, which is short and begins with a mnemonic; it has the instruction's location and label, and with them
 -- it is the instruction.
-pub record IsPrintedAs (names : NameTable) (i : Instr) (s : Said x86_spelling) : Type 0 where
+pub record IsPrintedAs (names : NameTable) (i : Instr) (s : ParsesStatement x86_spelling) : Type 0 where
   pub there : Contains x86_forms s.form
   pub spaced : are_spaced (x86_slots s.form) ≡ true
   pub short : most_in (x86_slots s.form) ≤ 133
   pub starts : begins_stop (slots_tokens (x86_slots s.form) s.filling) ≡ false
   pub name : name_in (x86_slots s.form) s.filling ≡ option_map (λ x. slice_index_or names x []) (location_of (x86_operation i))
-  pub led : label_in (x86_slots s.form) s.filling ≡ option_map label (target_of (x86_operation i))
+  pub led : label_in (x86_slots s.form) s.filling ≡ option_map label (branch_target (x86_operation i))
   pub again : (x to : ℕ)
       → ForSome (location_of (x86_operation i)) (λ y. x ≡ y)
-      → ForSome (target_of (x86_operation i)) (λ t. to ≡ t)
+      → ForSome (branch_target (x86_operation i)) (λ t. to ≡ t)
       → instruction x to s.form s.filling ≡ i
 
 module _ (names : NameTable) where
-  row : {i : Instr} {s : Said x86_spelling}
+  row : {i : Instr} {s : ParsesStatement x86_spelling}
       → Contains x86_forms s.form
       → are_spaced (x86_slots s.form) ≡ true
       → most_in (x86_slots s.form) ≤ 133
       → begins_stop (slots_tokens (x86_slots s.form) s.filling) ≡ false
       → name_in (x86_slots s.form) s.filling ≡ option_map (λ x. slice_index_or names x []) (location_of (x86_operation i))
-      → label_in (x86_slots s.form) s.filling ≡ option_map label (target_of (x86_operation i))
+      → label_in (x86_slots s.form) s.filling ≡ option_map label (branch_target (x86_operation i))
       → ((x to : ℕ)
       → ForSome (location_of (x86_operation i)) (λ y. x ≡ y)
-      → ForSome (target_of (x86_operation i)) (λ t. to ≡ t)
+      → ForSome (branch_target (x86_operation i)) (λ t. to ≡ t)
       → instruction x to s.form s.filling ≡ i)
       → IsPrintedAs names i s
   row there spaced short starts name led again =
       record { there = there; spaced = spaced; short = short; starts = starts; name = name; led = led; again = again }
 
   -- each instruction is printed in a form that is so (IsPrintedAs)
-  pub printed : (i : Instr) → IsPrintedAs names i (printed_as names i)
+  pub printed : (i : Instr) → IsPrintedAs names i (printed_form names i)
   printed (instr.Store x (Register a)) =
       row (0, omega arith, refl) refl (omega arith) refl refl refl
       (λ y to p q. ap (λ (z : ℕ). instr.Store z (Register a)) (p x refl))
@@ -91,14 +92,14 @@ module _ (names : NameTable) where
   printed (instr.Jne to) = row (16, omega arith, refl) refl (omega arith) refl refl refl (λ y t p q. ap instr.Jne (q to refl))
   printed (instr.Jmp to) = row (17, omega arith, refl) refl (omega arith) refl refl refl (λ y t p q. ap instr.Jmp (q to refl))
 
-module _ (names : NameTable) (table : AllByRecursion IsLocation names) where
+module _ (names : NameTable) (table : AllByRecursion IsLocationName names) where
   -- what an instruction's form is given can be printed, if its location, registers, numbers and target are in their bounds
   fills : (i : Instr)
       → ForSome (location_of (x86_operation i)) (λ x. x < length names)
       → AllByRecursion IsRegisterIndex (registers_of (x86_operation i))
       → AllByRecursion IsWordNumber (numbers_of (x86_operation i))
       → HasTarget i
-      → ArePrintable (x86_slots (printed_as names i).form) (printed_as names i).filling
+      → ArePrintable (x86_slots (printed_form names i).form) (printed_form names i).filling
   fills (instr.Store x (Register a)) l r n t = (tt, (tt, (name_there _ x table (l x refl), (tt, (tt, (r.0, tt))))))
   fills (instr.Store x (Number k)) l r n t = (tt, (tt, (name_there names x table (l x refl), (tt, (tt, (tt, (n.0, tt)))))))
   fills (instr.Load d x) l r n t = (tt, (r.0, (tt, (tt, (name_there names x table (l x refl), (tt, tt))))))
@@ -116,28 +117,31 @@ module _ (names : NameTable) (table : AllByRecursion IsLocation names) where
   fills (instr.Jmp to) l r n t = (tt, (label_is_location to (t to refl), tt))
 
   printable : (i : Instr)
-      → IsStatement x86 (length names) i
+      → IsWellFormedStatement x86_language (length names) i
       → HasTarget i
-      → ArePrintable (x86_slots (printed_as names i).form) (printed_as names i).filling
+      → ArePrintable (x86_slots (printed_form names i).form) (printed_form names i).filling
   printable i h t = fills i h.0 (recursion_from_All _ _ h.1) (recursion_from_All IsWordNumber _ h.2) t
 
   -- the text of an instruction spells its tokens
   pub instruction_spelled : (i : Instr)
-      → IsStatement x86 (length names) i
+      → IsWellFormedStatement x86_language (length names) i
       → HasTarget i
       → Spells EndsName 133 (instruction_text names i) (instruction_tokens names i)
   instruction_spelled i h t =
       let p = printed names i in
-      Spells-within 133 p.short (slots_spelled _ (printed_as names i).filling (printable i h t) p.spaced)
+      Spells-within 133 p.short (slots_spelled _ (printed_form names i).filling (printable i h t) p.spaced)
 
   -- the tokens of an instruction fill the slots of its form
   pub instruction_said : (i : Instr)
-      → IsStatement x86 (length names) i
+      → IsWellFormedStatement x86_language (length names) i
       → HasTarget i
-      → Contains x86_forms (printed_as names i).form
-      × Fills x86_spelling (instruction_tokens names i) (x86_slots (printed_as names i).form) (printed_as names i).filling
-  instruction_said i h t = ((printed _ i).there, slots_said _ (printed_as names i).filling (printable i h t))
+      → Contains x86_forms (printed_form names i).form
+      × Fills x86_spelling (instruction_tokens names i) (x86_slots (printed_form names i).form) (printed_form names i).filling
+  instruction_said i h t = ((printed _ i).there, slots_said _ (printed_form names i).filling (printable i h t))
 
   -- no cell ends in the tokens of an instruction
-  pub instruction_no_end : (i : Instr) → IsStatement x86 (length names) i → HasTarget i → EndsNoCell (instruction_tokens names i)
-  instruction_no_end i h t = slots_no_end _ (printed_as names i).filling (printable i h t)
+  pub instruction_no_end : (i : Instr)
+      → IsWellFormedStatement x86_language (length names) i
+      → HasTarget i
+      → EndsNoCell (instruction_tokens names i)
+  instruction_no_end i h t = slots_no_end _ (printed_form names i).filling (printable i h t)

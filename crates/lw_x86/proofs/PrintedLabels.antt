@@ -5,10 +5,10 @@ use Rattle.lw_x86.proofs.Common.{slice_get, Contains, bytes_eq, decimal, eq-eqb,
 use Rattle.lw_x86.proofs.Common.{AllByRecursion, range_with_len, cons_option, cases_Bool, eqb-false}
 use Rattle.lw_x86.proofs.Common.{false_from_ne_true, list_any_at, get_or_from_slice_get, slice_get_within}
 use Rattle.lw_x86.proofs.Common.{decimal_injective, bytes_eq-Decides, All-contains, All-from_recursion}
-use Rattle.lw_x86.proofs.Common.{Contains-append_right, Bytes, NameTable, EachOnce, contains_name, all_append}
-use Rattle.lw_x86.proofs.Common.{all_weaker, drop_all, get_some, CellSyntax, statements, labels_of, target_in}
-use Rattle.lw_x86.proofs.Common.{Said, Instr, target_of, x86_operation, x86_spelling, label, printed_as}
-use Rattle.lw_x86.proofs.Common.{jumps_to, is_target}
+use Rattle.lw_x86.proofs.Common.{Contains-append_right, Bytes, NameTable, IsDuplicateFree, contains_name}
+use Rattle.lw_x86.proofs.Common.{all_append, All-mono, drop_all, get_some, CellSyntax, statements, labels_of}
+use Rattle.lw_x86.proofs.Common.{target_in, ParsesStatement, Instr, branch_target, x86_operation}
+use Rattle.lw_x86.proofs.Common.{x86_spelling, label, printed_form, jumps_to, is_target}
 use Rattle.lw_x86.proofs.PrintedCells.{front_labels, cell_syntax}
 
 -- positions with the same label are the same
@@ -28,7 +28,7 @@ other_label j k h l ne =
 -- what an instruction of the code jumps to is a target of the code
 pub target_is : (code : List Instr) (k to : ℕ) (i : Instr)
     → slice_get code k ≡ Some i
-    → target_of (x86_operation i) ≡ Some to
+    → branch_target (x86_operation i) ≡ Some to
     → is_target code to ≡ true
 target_is code k to i at e =
     list_any_at (jumps_to to) code k i (slice_get_within code k i at)
@@ -47,8 +47,8 @@ front_from false k h = tt
 front_once : (b : Bool) (k : ℕ) (ls : List Bytes)
     → k < 2 ^ 32
     → AllByRecursion (IsLabelFrom (k + 1)) ls
-    → EachOnce ls
-    → EachOnce (front_labels b k ++ ls)
+    → IsDuplicateFree ls
+    → IsDuplicateFree (front_labels b k ++ ls)
 front_once true k ls h from once = (
   (λ there.
       let f = All-contains (IsLabelFrom (k + 1)) ls (label k) (All-from_recursion (IsLabelFrom (k + 1)) ls from) there in
@@ -59,26 +59,26 @@ front_once false k ls h from once = once
 
 module _ (names : NameTable) (code : List Instr) where
   -- what n cells of a thread say, from position k on
-  abbrev pub syntaxes_from : ℕ → ℕ → List (CellSyntax (Said x86_spelling))
+  abbrev pub syntaxes_from : ℕ → ℕ → List (CellSyntax (ParsesStatement x86_spelling))
   syntaxes_from k n = map (cell_syntax names code) (range_with_len k n)
 
   -- ---- statements
 
   next_statement : (rest : List Instr) (k : ℕ)
-      → map (printed_as names) (drop k rest)
-      ≡ cons_option (option_map (printed_as names) (slice_get rest k)) (map (printed_as names) (drop (suc k) rest))
+      → map (printed_form names) (drop k rest)
+      ≡ cons_option (option_map (printed_form names) (slice_get rest k)) (map (printed_form names) (drop (suc k) rest))
   next_statement [] zero = refl
   next_statement [] (suc k) = refl
   next_statement (i ∷ rest) zero = refl
   next_statement (i ∷ rest) (suc k) = next_statement rest k
 
   -- without their labels, the cells from position k to the end say the instructions from there on
-  pub statements_are : (k n : ℕ) → length code ≤ k + n → statements (syntaxes_from k n) ≡ map (printed_as names) (drop k code)
-  statements_are k zero all = ap (map (printed_as names)) (sym (drop_all code k (omega (arith, all))))
+  pub statements_are : (k n : ℕ) → length code ≤ k + n → statements (syntaxes_from k n) ≡ map (printed_form names) (drop k code)
+  statements_are k zero all = ap (map (printed_form names)) (sym (drop_all code k (omega (arith, all))))
   statements_are k (suc n) all =
       let next : k + 1 ≡ suc k = omega arith in
-      ap (cons_option (option_map (printed_as names) (slice_get code k)))
-      (statements_are (k + 1) n (omega (arith, all)) ∙ ap (λ (j : ℕ). map (printed_as names) (drop j code)) next)
+      ap (cons_option (option_map (printed_form names) (slice_get code k)))
+      (statements_are (k + 1) n (omega (arith, all)) ∙ ap (λ (j : ℕ). map (printed_form names) (drop j code)) next)
       ∙ sym (next_statement code k)
 
   -- ---- labels
@@ -86,14 +86,14 @@ module _ (names : NameTable) (code : List Instr) where
   -- the labels of n cells from position k on are labels of positions from there on, each once
   pub labels_fine : (k n : ℕ)
       → k + n < 2 ^ 32
-      → AllByRecursion (IsLabelFrom k) (labels_of (syntaxes_from k n)) × EachOnce (labels_of (syntaxes_from k n))
+      → AllByRecursion (IsLabelFrom k) (labels_of (syntaxes_from k n)) × IsDuplicateFree (labels_of (syntaxes_from k n))
   labels_fine k zero h = (tt, tt)
   labels_fine k (suc n) h =
       let more = labels_fine (k + 1) n (omega (arith, h)) in
       let labels = labels_of (syntaxes_from (k + 1) n) in
       let small : k < 2 ^ 32 = omega (arith, h) in (
         all_append (IsLabelFrom k) (front_labels (is_target code k) k) labels (front_from (is_target code k) k small)
-            (all_weaker (IsLabelFrom (k + 1)) (IsLabelFrom k) (λ l f. (f.0, omega (arith, f.1), f.2, f.3)) labels more.0),
+            (All-mono (IsLabelFrom (k + 1)) (IsLabelFrom k) (λ l f. (f.0, omega (arith, f.1), f.2, f.3)) labels more.0),
         front_once (is_target code k) k labels small more.0 more.1,
       )
 

@@ -2,9 +2,9 @@
 use Rattle.lw_x86.proofs.Common.{◌≡◌, ℕ, suc, ◌+◌, ◌*◌, inl, inr, true, false, List, [], ◌∷◌, ◌++◌, map}
 use Rattle.lw_x86.proofs.Common.{length, refl, arith, append_assoc, append-nil, codes, flat_map}
 use Rattle.lw_x86.proofs.Common.{AllByRecursion, NameTable, TokenList, X86, Quant, Exists, Seen}
-use Rattle.lw_x86.proofs.Common.{condition_text, TestHead, IsSeen, IsWellFormedHead, SiteSyntax, IsSite}
-use Rattle.lw_x86.proofs.Common.{begins_stop, AtomSyntax, Listed, Condition, begins_token, Terminal, all_map}
-use Rattle.lw_x86.proofs.Common.{all_weaker, listed_few, most_seen, Anything, Spells, Spells-nothing}
+use Rattle.lw_x86.proofs.Common.{condition_text, TestHead, IsSeenInRange, IsWellFormedHead, SiteSyntax}
+use Rattle.lw_x86.proofs.Common.{IsSite, begins_stop, AtomSyntax, Listed, Condition, begins_token, Terminal}
+use Rattle.lw_x86.proofs.Common.{all_map, All-mono, listed_few, most_seen, Anything, Spells, Spells-nothing}
 use Rattle.lw_x86.proofs.Common.{Spells-then, Spells-on, Spells-within, Spells-space, Spells-newline}
 use Rattle.lw_x86.proofs.Common.{Spells-mark, Spells-name, name_by_test, enclosed, terminals_of, named_site}
 use Rattle.lw_x86.proofs.Common.{site_tokens, terminal_tokens, quantifier_tokens, named_claim, IsPrintable}
@@ -47,7 +47,7 @@ condition_bytes = 15397
 module _ (head : TestHead) (well : IsWellFormedHead head) where
   -- The site is of the test.
   abbrev Sees : Seen → Type 0
-  Sees = IsSeen head.threads (length head.locs)
+  Sees = IsSeenInRange head.threads (length head.locs)
 
   -- ---- the texts
 
@@ -103,7 +103,7 @@ module _ (head : TestHead) (well : IsWellFormedHead head) where
   pub listed_printable : AllByRecursion (IsPrintable head.threads head.locs) (named_sites head.locs head.listed)
   listed_printable =
       all_map (IsPrintable head.threads head.locs) (named_site head.locs) head.listed
-      (all_weaker _ _ (named_printable head.threads head.locs well.table.all) head.listed well.there)
+      (All-mono _ _ (named_printable head.threads head.locs well.table.all) head.listed well.there)
 
   list_said : (ss : List Seen) (rest : TokenList)
       → AllByRecursion (IsPrintable head.threads head.locs) (named_sites head.locs ss)
@@ -117,7 +117,7 @@ module _ (head : TestHead) (well : IsWellFormedHead head) where
         refl,
         rw (append_assoc (flat_map element_tokens sites))
             (ended_said (IsSite X86) (site_tokens X86) (codes ";") (codes "]") sites rest
-            (all_weaker _ _ (λ site p l. site_said X86 head.threads well.few head.locs site l p) sites h)),
+            (All-mono _ _ (λ site p l. site_said X86 head.threads well.few head.locs site l p) sites h)),
       )
 
   -- a quantifier begins no list, and ends the rows
@@ -135,7 +135,7 @@ module _ (head : TestHead) (well : IsWellFormedHead head) where
     behind_quant = flat_map (terminal_tokens X86) (terminals_in head);
     lists = list_said head.listed (condition_tokens head) listed_printable (quantifier_begins head.quant _).0;
     there =
-        all_weaker _ _ (λ site p. site_exists X86 head.threads well.few head.locs site p) (named_sites head.locs head.listed)
+        All-mono _ _ (λ site p. site_exists X86 head.threads well.few head.locs site p) (named_sites head.locs head.listed)
         listed_printable;
     quantifies = quantifier_said head.quant (flat_map (terminal_tokens X86) (terminals_in head));
     says =

@@ -2,9 +2,9 @@
 use Rattle.lw_x86.proofs.Common.{EndsNoCell, ◌≡◌, ℕ, zero, suc, ◌+◌, ◌*◌, ◌<◌, ◌≤◌, true, false, List, []}
 use Rattle.lw_x86.proofs.Common.{◌∷◌, ◌++◌, map, length, refl, arith, append_assoc, codes, flat_map}
 use Rattle.lw_x86.proofs.Common.{AllByRecursion, AllZip, range_with_len, agree_below_at}
-use Rattle.lw_x86.proofs.Common.{length-map-range_with_len, Bytes, TokenList, Cells, CellGrid, begins}
-use Rattle.lw_x86.proofs.Common.{is_blank, most_threads, Until, thread_name, Names, Header, RowCells, Row}
-use Rattle.lw_x86.proofs.Common.{begins_stop, Anything, IsBlankNext, Spells, Spells-then, Spells-on}
+use Rattle.lw_x86.proofs.Common.{length-map-range_with_len, Bytes, TokenList, Cells, CellGrid, first_byte_is}
+use Rattle.lw_x86.proofs.Common.{is_blank, most_threads, ParsesManyTill, thread_name, Names, Header, RowCells}
+use Rattle.lw_x86.proofs.Common.{Row, begins_stop, Anything, IsBlankNext, Spells, Spells-then, Spells-on}
 use Rattle.lw_x86.proofs.Common.{Spells-before, Spells-within, Spells-nothing, Spells-space, Spells-newline}
 use Rattle.lw_x86.proofs.Common.{Spells-mark, Spells-name, is_name_text, name_by_test, blank_ends_name}
 use Rattle.lw_x86.proofs.Common.{row_text, header_text}
@@ -28,7 +28,7 @@ row_tokens [] = codes ";" ∷ []
 row_tokens (t ∷ ts) = t ++ tokens_behind ts
 
 -- behind a cell, what stands in its row begins with a blank
-begins_behind : (cells : List Bytes) (rest : Bytes) → begins is_blank (behind_text cells ++ rest) ≡ true
+begins_behind : (cells : List Bytes) (rest : Bytes) → first_byte_is is_blank (behind_text cells ++ rest) ≡ true
 begins_behind [] rest = refl
 begins_behind (c ∷ cells) rest = refl
 
@@ -100,7 +100,7 @@ pub rows_said : (threads : ℕ) (rows : CellGrid) (rest : TokenList)
     → 1 ≤ threads
     → AllByRecursion (IsPlainRow threads) rows
     → begins_stop rest ≡ true
-    → Until begins_stop (Row threads) (flat_map row_tokens rows ++ rest) rows rest
+    → ParsesManyTill begins_stop (Row threads) (flat_map row_tokens rows ++ rest) rows rest
 rows_said threads [] rest some h stop = (refl, stop)
 rows_said threads (row ∷ rows) rest some h stop =
     let more = flat_map row_tokens rows ++ rest in

@@ -2,14 +2,15 @@
 use Rattle.lw_x86.proofs.Common.{◌≡◌, ℕ, ◌+◌, ◌<◌, ◌⊎◌, inl, inr, Bool, true, false, List, [], ◌∷◌, ◌++◌}
 use Rattle.lw_x86.proofs.Common.{length, refl, arith, append_assoc, ◌==◌, ◌&&◌, ◌||◌, decimal, eqb-true}
 use Rattle.lw_x86.proofs.Common.{AllByRecursion, cases_Bool, and_parts, decimal_nonempty, Bytes, TokenList}
-use Rattle.lw_x86.proofs.Common.{X86, is_name_byte, IsName, IsLocation, register_name, IsRegisterIndex}
+use Rattle.lw_x86.proofs.Common.{X86, is_name_byte, IsName, IsLocationName, register_name, IsRegisterIndex}
 use Rattle.lw_x86.proofs.Common.{IsWordNumber, ends_cell, Anything, EndsName, Spells, Spells-then, Spells-on}
 use Rattle.lw_x86.proofs.Common.{Spells-within, Spells-before, Spells-nothing, Spells-space, Spells-mark}
 use Rattle.lw_x86.proofs.Common.{Spells-name, Spells-number, name_by_test, decimal_is_number}
 use Rattle.lw_x86.proofs.Common.{decimal_is_name_run, Spells-register, register_is_name, Slot, Keyword, Value}
-use Rattle.lw_x86.proofs.Common.{Label, Given, Filling, Gives, Fills, X86Keyword, Open, Close, Comma, Dollar}
-use Rattle.lw_x86.proofs.Common.{x86_keyword_text, x86_spelling, slot_text, is_sign, slots_text, EndsNoCell}
-use Rattle.lw_cells.specs.declared.slot.Slot.TheVariants.{Register, Location, Number}
+use Rattle.lw_x86.proofs.Common.{Label, SlotValue, Filling, Gives, Fills, X86Keyword, Open, Close, Comma}
+use Rattle.lw_x86.proofs.Common.{Dollar, x86_keyword_text, x86_spelling, slot_text, is_sign, slots_text}
+use Rattle.lw_x86.proofs.Common.{EndsNoCell}
+use Rattle.lw_statements.specs.declared.slot.Slot.TheVariants.{Register, Location, Number}
 use Rattle.lw_base.specs.declared.operand.Operand.TheVariants as operand
 
 -- ---- no token ends a cell
@@ -62,14 +63,14 @@ kind_of w = inl (record { unsigned = refl; name = name_by_test _ refl })
 -- ---- what can be printed at a slot
 
 -- what a slot is given can be printed there: a register, an allowed name, or a word
-abbrev pub IsPrintable : (slot : Slot X86Keyword) → Given slot → Type 0
+abbrev pub IsPrintable : (slot : Slot X86Keyword) → SlotValue slot → Type 0
 IsPrintable (Keyword w) g = Unit {0}
 IsPrintable Register r = IsRegisterIndex r
-IsPrintable Location x = IsLocation x
+IsPrintable Location x = IsLocationName x
 IsPrintable Value (operand.Register r) = IsRegisterIndex r
 IsPrintable Value (operand.Number n) = IsWordNumber n
 IsPrintable Number n = IsWordNumber n
-IsPrintable Label l = IsLocation l
+IsPrintable Label l = IsLocationName l
 
 -- what each slot is given can be printed there
 abbrev pub ArePrintable : (slots : List (Slot X86Keyword)) → Filling slots → Type 0
@@ -118,7 +119,7 @@ number_no_end : (n : ℕ) → IsWordNumber n → ends_cell (decimal n) ≡ false
 number_no_end n p = run_no_end (decimal n) (decimal_nonempty n (omega (arith, p))) (decimal_is_name_run n p)
 
 -- What is given is printed at the slot as one token, which gives it again and ends no cell.
-record IsPrinted (slot : Slot X86Keyword) (g : Given slot) : Type 0 where
+record IsPrinted (slot : Slot X86Keyword) (g : SlotValue slot) : Type 0 where
   spelled : Spells EndsName (most_of slot) (slot_text slot g) (slot_text slot g ∷ [])
   said : Gives x86_spelling (slot_text slot g) slot g
   plain : ends_cell (slot_text slot g) ≡ false
@@ -128,7 +129,7 @@ register_no_end : (r : ℕ) → IsRegisterIndex r → ends_cell (register_name X
 register_no_end r p = name_no_end (register_name X86 r) (register_is_name X86 r p)
 
 -- what can be printed at a slot is printed there as one token
-printed : (slot : Slot X86Keyword) (g : Given slot) → IsPrintable slot g → IsPrinted slot g
+printed : (slot : Slot X86Keyword) (g : SlotValue slot) → IsPrintable slot g → IsPrinted slot g
 printed (Keyword w) g p = elim (kind_of w) [
   | inl m ↦ record {
     spelled = Spells-within (1 + length (x86_keyword_text w)) (omega arith) (name_spelled (x86_keyword_text w) m.name);
@@ -161,7 +162,7 @@ signed : (w : X86Keyword) → is_sign w ≡ true → IsSign w
 signed w e = elim (kind_of w) [ inl m ↦ absurd (let other = m.unsigned in cc) | inr s ↦ s ]
 
 -- before slots of which the first is a sign's, a name ends
-sign_ends : (next : Slot X86Keyword) (slots : List (Slot X86Keyword)) (h : Given next) (f : Filling slots)
+sign_ends : (next : Slot X86Keyword) (slots : List (Slot X86Keyword)) (h : SlotValue next) (f : Filling slots)
     → is_sign_slot next ≡ true
     → (rest : Bytes)
     → EndsName (slots_text (next ∷ slots) (h, f) ++ rest)
@@ -169,9 +170,9 @@ sign_ends (Keyword w) [] h f e rest = (signed w e).ends rest
 sign_ends (Keyword w) (next ∷ slots) h (k, f) e rest = rw (append_assoc (x86_keyword_text w)) ((signed w e).ends _)
 sign_ends next slots h f e rest = absurd cc
 
-module _ (next : Slot X86Keyword) (slots : List (Slot X86Keyword)) (h : Given next) (f : Filling slots) (n : ℕ) (us : TokenList)
-    (behind : Spells EndsName n (slots_text (next ∷ slots) (h, f)) us) where
-  front_spelled : (slot : Slot X86Keyword) (g : Given slot)
+module _ (next : Slot X86Keyword) (slots : List (Slot X86Keyword)) (h : SlotValue next) (f : Filling slots) (n : ℕ)
+    (us : TokenList) (behind : Spells EndsName n (slots_text (next ∷ slots) (h, f)) us) where
+  front_spelled : (slot : Slot X86Keyword) (g : SlotValue slot)
       → IsPrintable slot g
       → (is_keyword_slot slot || is_sign_slot next) ≡ true
       → Spells EndsName (most_of slot + n) (slots_text (slot ∷ next ∷ slots) (g, (h, f))) (slot_text slot g ∷ us)

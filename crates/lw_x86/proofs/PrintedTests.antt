@@ -1,30 +1,30 @@
 -- The frame of a test as it is printed says the test again.
 use Rattle.lw_x86.proofs.Common.{◌≡◌, ◌-◌, ◌≤◌, List, [], ◌∷◌, map, length, refl, sym, ap, arith, append-nil}
-use Rattle.lw_x86.proofs.Common.{AllByRecursion, AllZip, range_with_len, NameTable, with_names, IsInTable}
-use Rattle.lw_x86.proofs.Common.{with_names-there, all_append, all_unmap, CellSyntax, Column, code_in}
-use Rattle.lw_x86.proofs.Common.{names_in, names_of, test_on, IsThread, Instr, Said, x86_spelling, x86}
-use Rattle.lw_x86.proofs.Common.{IsWellFormedProgram, ProgramTest, HasProgram, x86_grammar, cells_of}
-use Rattle.lw_x86.proofs.Common.{canonical_text, IsTextOf}
+use Rattle.lw_x86.proofs.Common.{AllByRecursion, AllZip, range_with_len, NameTable, insert_names, IsInTable}
+use Rattle.lw_x86.proofs.Common.{insert_names-there, all_append, All-map_inv, CellSyntax, Column, code_in}
+use Rattle.lw_x86.proofs.Common.{names_in, names_of, resolve_test, IsWellFormedThread, Instr, ParsesStatement}
+use Rattle.lw_x86.proofs.Common.{x86_spelling, x86_language, IsWellFormedProgram, X86Test, HasProgram}
+use Rattle.lw_x86.proofs.Common.{x86_grammar, cells_of, canonical_text, IsTextOf}
 use Rattle.lw_x86.proofs.PrintedCells.{cell_tokens}
 use Rattle.lw_x86.proofs.PrintedLabels.{syntaxes_from}
 use Rattle.lw_x86.proofs.PrintedColumns.{thread_said}
 use Rattle.lw_x86.proofs.PrintedGrids.{under_longest}
 use Rattle.lw_x86.proofs.PrintedFrames.{texts_in, height_of, frame_in, threads_are, height_few, printed_frame}
 
-module _ (p : ProgramTest) (well : IsWellFormedProgram p) where
+module _ (p : X86Test) (well : IsWellFormedProgram p) where
   abbrev locs : NameTable
   locs = p.head.locs
 
   -- what a thread's cells say, in all rows
-  abbrev thread_says : List Instr → List (CellSyntax (Said x86_spelling))
+  abbrev thread_says : List Instr → List (CellSyntax (ParsesStatement x86_spelling))
   thread_says code = syntaxes_from locs code 0 (height_of p)
 
   -- a thread whose cells each have a row
   abbrev HasRoom : List Instr → Type 0
-  HasRoom code = IsThread x86 (length locs) code × (length (cells_of locs code) ≤ height_of p)
+  HasRoom code = IsWellFormedThread x86_language (length locs) code × (length (cells_of locs code) ≤ height_of p)
 
   all_room : (threads : List (List Instr))
-      → AllByRecursion (IsThread x86 (length locs)) threads
+      → AllByRecursion (IsWellFormedThread x86_language (length locs)) threads
       → AllByRecursion (λ code. length (cells_of locs code) ≤ height_of p) threads
       → AllByRecursion HasRoom threads
   all_room [] h k = tt
@@ -49,16 +49,16 @@ module _ (p : ProgramTest) (well : IsWellFormedProgram p) where
   room : AllByRecursion HasRoom p.threads
   room =
       all_room p.threads (threads_are p well)
-      (all_unmap (λ cells. length cells ≤ height_of p) (cells_of locs) p.threads (under_longest (texts_in p)))
+      (All-map_inv (λ cells. length cells ≤ height_of p) (cells_of locs) p.threads (under_longest (texts_in p)))
 
-  abbrev all_say : List (List (CellSyntax (Said x86_spelling)))
+  abbrev all_say : List (List (CellSyntax (ParsesStatement x86_spelling)))
   all_say = map thread_says p.threads
 
-  names_are : with_names locs (names_of x86_grammar all_say) ≡ locs
-  names_are = with_names-there locs (names_of x86_grammar all_say) (all_said p.threads room).2
+  names_are : insert_names locs (names_of x86_grammar all_say) ≡ locs
+  names_are = insert_names-there locs (names_of x86_grammar all_say) (all_said p.threads room).2
 
   -- no location is new, so no word is
-  test_is : test_on x86_grammar p.head (with_names locs (names_of x86_grammar all_say)) all_say ≡ p
+  test_is : resolve_test x86_grammar p.head (insert_names locs (names_of x86_grammar all_say)) all_say ≡ p
   test_is =
       let none : length locs - length locs ≡ 0 = omega arith in
       rw (names_are, none, append-nil p.head.init_words, (all_said p.threads room).1) refl

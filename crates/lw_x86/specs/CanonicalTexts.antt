@@ -17,12 +17,12 @@ use Rattle.lw_base.specs.SeenLists.{all_registers, locations}
 use Rattle.lw_text.specs.Rows.{thread_name}
 use Rattle.lw_litmus.specs.declared.instr.Instr.{Instr}
 use Rattle.lw_litmus.specs.declared.instr.Instr.TheVariants as instr
-use Rattle.lw_litmus.specs.Operations.{target_of}
+use Rattle.lw_litmus.specs.Operations.{branch_target}
 use Rattle.lw_litmus.specs.Programs.{x86_operation}
-use Rattle.lw_litmus.specs.Tests.{ProgramTest}
-use Rattle.lw_cells.specs.declared.slot.Slot.{Slot}
-use Rattle.lw_cells.specs.declared.slot.Slot.TheVariants.{Keyword, Register, Location, Value, Number, Label}
-use Rattle.lw_cells.specs.Spellings.{Given, Filling, Said}
+use Rattle.lw_litmus.specs.Tests.{X86Test}
+use Rattle.lw_statements.specs.declared.slot.Slot.{Slot}
+use Rattle.lw_statements.specs.declared.slot.Slot.TheVariants.{Keyword, Register, Location, Value, Number, Label}
+use Rattle.lw_statements.specs.Spellings.{SlotValue, Filling, ParsesStatement}
 use Rattle.lw_x86.specs.declared.language.X86Keyword.{X86Keyword}
 use Rattle.lw_x86.specs.declared.language.X86Keyword.TheVariants.{Open, Close, Comma, Dollar}
 use Rattle.lw_x86.specs.declared.language.X86Form.TheVariants.{Store, StoreNumber, Load, Set, SetNumber, Add, AddNumber, Compare, CompareNumber, Exchange}
@@ -36,28 +36,28 @@ abbrev pub label : ℕ → Bytes
 label k = codes "L" ++ decimal k
 
 -- the form that an instruction is printed in, and what stands at its slots
-abbrev pub printed_as : NameTable → Instr → Said x86_spelling
-printed_as names (instr.Store x (operand.Register a)) =
+abbrev pub printed_form : NameTable → Instr → ParsesStatement x86_spelling
+printed_form names (instr.Store x (operand.Register a)) =
     record { form = Store; filling = (tt, (tt, (slice_index_or names x [], (tt, (tt, (operand.Register a, tt)))))) }
-printed_as names (instr.Store x (operand.Number n)) =
+printed_form names (instr.Store x (operand.Number n)) =
     record { form = StoreNumber; filling = (tt, (tt, (slice_index_or names x [], (tt, (tt, (tt, (n, tt))))))) }
-printed_as names (instr.Load d x) = record { form = Load; filling = (tt, (d, (tt, (tt, (slice_index_or names x [], (tt, tt)))))) }
-printed_as names (instr.Set d (operand.Register a)) = record { form = Set; filling = (tt, (d, (tt, (operand.Register a, tt)))) }
-printed_as names (instr.Set d (operand.Number n)) = record { form = SetNumber; filling = (tt, (d, (tt, (tt, (n, tt))))) }
-printed_as names (instr.Add d (operand.Register a)) = record { form = Add; filling = (tt, (d, (tt, (operand.Register a, tt)))) }
-printed_as names (instr.Add d (operand.Number n)) = record { form = AddNumber; filling = (tt, (d, (tt, (tt, (n, tt))))) }
-printed_as names (instr.Cmp a (operand.Register b)) = record { form = Compare; filling = (tt, (a, (tt, (operand.Register b, tt)))) }
-printed_as names (instr.Cmp a (operand.Number n)) = record { form = CompareNumber; filling = (tt, (a, (tt, (tt, (n, tt))))) }
-printed_as names (instr.Xchg x a) = record { form = Exchange; filling = (tt, (tt, (slice_index_or names x [], (tt, (tt, (a, tt)))))) }
-printed_as names (instr.Xadd x a) =
+printed_form names (instr.Load d x) = record { form = Load; filling = (tt, (d, (tt, (tt, (slice_index_or names x [], (tt, tt)))))) }
+printed_form names (instr.Set d (operand.Register a)) = record { form = Set; filling = (tt, (d, (tt, (operand.Register a, tt)))) }
+printed_form names (instr.Set d (operand.Number n)) = record { form = SetNumber; filling = (tt, (d, (tt, (tt, (n, tt))))) }
+printed_form names (instr.Add d (operand.Register a)) = record { form = Add; filling = (tt, (d, (tt, (operand.Register a, tt)))) }
+printed_form names (instr.Add d (operand.Number n)) = record { form = AddNumber; filling = (tt, (d, (tt, (tt, (n, tt))))) }
+printed_form names (instr.Cmp a (operand.Register b)) = record { form = Compare; filling = (tt, (a, (tt, (operand.Register b, tt)))) }
+printed_form names (instr.Cmp a (operand.Number n)) = record { form = CompareNumber; filling = (tt, (a, (tt, (tt, (n, tt))))) }
+printed_form names (instr.Xchg x a) = record { form = Exchange; filling = (tt, (tt, (slice_index_or names x [], (tt, (tt, (a, tt)))))) }
+printed_form names (instr.Xadd x a) =
     record { form = ExchangeAdd; filling = (tt, (tt, (tt, (slice_index_or names x [], (tt, (tt, (a, tt))))))) }
-printed_as names instr.Mfence = record { form = Fence; filling = (tt, tt) }
-printed_as names (instr.Je to) = record { form = JumpEqual; filling = (tt, (label to, tt)) }
-printed_as names (instr.Jne to) = record { form = JumpNotEqual; filling = (tt, (label to, tt)) }
-printed_as names (instr.Jmp to) = record { form = Jump; filling = (tt, (label to, tt)) }
+printed_form names instr.Mfence = record { form = Fence; filling = (tt, tt) }
+printed_form names (instr.Je to) = record { form = JumpEqual; filling = (tt, (label to, tt)) }
+printed_form names (instr.Jne to) = record { form = JumpNotEqual; filling = (tt, (label to, tt)) }
+printed_form names (instr.Jmp to) = record { form = Jump; filling = (tt, (label to, tt)) }
 
 -- what is printed at a slot
-abbrev pub slot_text : (slot : Slot X86Keyword) → Given slot → Bytes
+abbrev pub slot_text : (slot : Slot X86Keyword) → SlotValue slot → Bytes
 slot_text (Keyword w) g = x86_keyword_text w
 slot_text Register r = register_name X86 r
 slot_text Location x = x
@@ -75,37 +75,37 @@ is_sign Dollar = true
 is_sign w = false
 
 -- the blank behind a mnemonic, where more comes; a sign has none
-abbrev pub space_behind : Slot X86Keyword → Bytes
-space_behind (Keyword w) = if is_sign w then [] else codes " "
-space_behind slot = []
+abbrev pub space_after : Slot X86Keyword → Bytes
+space_after (Keyword w) = if is_sign w then [] else codes " "
+space_after slot = []
 
 -- the text of slots, with blanks behind mnemonics
 abbrev pub slots_text : (slots : List (Slot X86Keyword)) → Filling slots → Bytes
 slots_text [] f = []
 slots_text (slot ∷ []) (g, f) = slot_text slot g
-slots_text (slot ∷ next ∷ slots) (g, f) = slot_text slot g ++ (space_behind slot ++ slots_text (next ∷ slots) f)
+slots_text (slot ∷ next ∷ slots) (g, f) = slot_text slot g ++ (space_after slot ++ slots_text (next ∷ slots) f)
 
 -- the text of an instruction, slot by slot of the form that it is printed in
 abbrev pub instruction_text : NameTable → Instr → Bytes
-instruction_text names i = slots_text (x86_slots (printed_as names i).form) (printed_as names i).filling
+instruction_text names i = slots_text (x86_slots (printed_form names i).form) (printed_form names i).filling
 
 -- ---- cells
 
 -- whether the instruction jumps to this position
 abbrev pub jumps_to : ℕ → Instr → Bool
-jumps_to k i = option_map_or (λ to. to == k) (target_of (x86_operation i)) false
+jumps_to k i = option_map_or (λ to. to == k) (branch_target (x86_operation i)) false
 
 -- whether some instruction of the code jumps to the position
 abbrev pub is_target : List Instr → ℕ → Bool
 is_target code k = list_any (jumps_to k) code
 
 -- the label in front of the instruction at a position, where some instruction jumps to it
-abbrev pub label_in_front : List Instr → ℕ → Bytes
-label_in_front code k = if is_target code k then label k ++ codes ": " else []
+abbrev pub label_prefix : List Instr → ℕ → Bytes
+label_prefix code k = if is_target code k then label k ++ codes ": " else []
 
 -- the text of the cell of the instruction at a position, with its label in front if it has one
 abbrev pub cell_text : NameTable → List Instr → ℕ → Instr → Bytes
-cell_text names code k i = label_in_front code k ++ instruction_text names i
+cell_text names code k i = label_prefix code k ++ instruction_text names i
 
 -- the cell behind the last instruction, whose label is the end's, where some instruction jumps there; else no cell
 abbrev pub end_cells : List Instr → ℕ → List Bytes
@@ -127,16 +127,16 @@ abbrev pub row_text : List Bytes → Bytes
 row_text cells = codes " " ++ (joined (codes " | ") cells ++ codes " ;\n")
 
 -- the row at an index: the cell of each thread there, which is empty where the thread has no more
-abbrev pub row_of : List (List Bytes) → ℕ → List Bytes
-row_of threads k = map (λ cells. slice_index_or cells k []) threads
+abbrev pub row_at : List (List Bytes) → ℕ → List Bytes
+row_at threads k = map (λ cells. slice_index_or cells k []) threads
 
 -- how many cells the longest thread has
-abbrev pub longest : List (List Bytes) → ℕ
-longest threads = fold max 0 (map length threads)
+abbrev pub max_cell_count : List (List Bytes) → ℕ
+max_cell_count threads = fold max 0 (map length threads)
 
 -- the texts of all rows, as many as the longest thread has cells
 abbrev pub rows_text : List (List Bytes) → Bytes
-rows_text threads = flat_map (λ k. row_text (row_of threads k)) (range_with_len 0 (longest threads))
+rows_text threads = flat_map (λ k. row_text (row_at threads k)) (range_with_len 0 (max_cell_count threads))
 
 -- the line of threads' names
 abbrev pub header_text : ℕ → Bytes
@@ -174,7 +174,7 @@ listed_text names (s ∷ ss) =
     codes "locations [" ++ (joined (codes " ") (map (element_text names) (s ∷ ss)) ++ codes "]\n")
 
 -- the one text of a program that is printed
-abbrev pub canonical_text : ProgramTest → Bytes
+abbrev pub canonical_text : X86Test → Bytes
 canonical_text test =
     codes "X86 " ++ (test.head.name ++ (codes "\n"
     ++ (block_text test.head

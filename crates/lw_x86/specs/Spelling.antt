@@ -5,10 +5,10 @@ use Rattle.lw_base.specs.Types.{Bytes}
 use Rattle.lw_base.specs.declared.operand.Operand.TheVariants as operand
 use Rattle.lw_litmus.specs.declared.instr.Instr.{Instr}
 use Rattle.lw_litmus.specs.declared.instr.Instr.TheVariants as instr
-use Rattle.lw_litmus.specs.Programs.{x86}
-use Rattle.lw_cells.specs.declared.slot.Slot.{Slot}
-use Rattle.lw_cells.specs.declared.slot.Slot.TheVariants.{Keyword, Register, Location, Value, Number, Label}
-use Rattle.lw_cells.specs.Spellings.{Spelling, Filling}
+use Rattle.lw_litmus.specs.Programs.{x86_language}
+use Rattle.lw_statements.specs.declared.slot.Slot.{Slot}
+use Rattle.lw_statements.specs.declared.slot.Slot.TheVariants.{Keyword, Register, Location, Value, Number, Label}
+use Rattle.lw_statements.specs.Spellings.{Spelling, Filling}
 use Rattle.lw_x86.specs.declared.language.X86Keyword.{X86Keyword}
 use Rattle.lw_x86.specs.declared.language.X86Keyword.TheVariants as keyword
 use Rattle.lw_x86.specs.declared.language.X86Keyword.TheVariants.{Lock, Open, Close, Comma, Dollar}
@@ -107,7 +107,7 @@ instruction x target Jump (jmp, (label, end)) = instr.Jmp target
 -- the spelling of x86: its keywords, forms, slots and instructions
 abbrev pub x86_spelling : Spelling X86Keyword X86Form Instr
 x86_spelling = record {
-  language = x86;
+  language = x86_language;
   text_of = x86_keyword_text;
   forms = x86_forms;
   slots_of = x86_slots;

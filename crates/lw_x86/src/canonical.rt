@@ -2,8 +2,8 @@
 ghost use Rattle.std.specs.Prelude.{◌≡◌, ℕ, ◌≤◌, ◌++◌, length, IfOk, OnOk};
 ghost use Rattle.std.specs.List.{AllByRecursion};
 ghost use Rattle.std.specs.String.{string_bytes};
-ghost use Rattle.lw_base.specs.WellFormed.{IsSeen};
-ghost use Rattle.lw_litmus.specs.Tests.{test_of, ProgramTest};
+ghost use Rattle.lw_base.specs.WellFormed.{IsSeenInRange};
+ghost use Rattle.lw_litmus.specs.Tests.{test_of, X86Test};
 ghost use Rattle.lw_base.specs.Limits.{most_threads, most_text_bytes};
 ghost use Rattle.lw_x86.specs.CanonicalTexts.{header_text, element_text, listed_text, canonical_text};
 ghost use Rattle.lw_litmus.specs.WellFormedTests.{IsWellFormedProgram};
@@ -52,7 +52,7 @@ fn write_parts<A: Allocator + Copy, B: Allocator>(
 
 /// The canonical text of a test reads back as the same test.
 pub fn a_canonical_text_reads_back()
-    ensures { (p : ProgramTest) → IsWellFormedProgram p → IsTextOf (canonical_text p) p }
+    ensures { (p : X86Test) → IsWellFormedProgram p → IsTextOf (canonical_text p) p }
 {}
 
 /// Writes the header: the line of the threads' names.
@@ -73,7 +73,7 @@ fn write_listed<A: Allocator, B: Allocator>(
     out: &mut String<A>,
     head: &Head<B>,
 ) -> Result<(), AllocError>
-    requires { AllByRecursion (IsSeen head.now.threads (length head.now.locs)) head.now.listed }
+    requires { AllByRecursion (IsSeenInRange head.now.threads (length head.now.locs)) head.now.listed }
     ensures { OnOk result (string_bytes out.new
         ≡ string_bytes out.old ++ listed_text head.now.locs head.now.listed) }
 {
@@ -95,7 +95,7 @@ fn write_element<A: Allocator, B: Allocator>(
     names: &LocNames<B>,
     site: Seen,
 ) -> Result<(), AllocError>
-    requires { (threads : ℕ) × IsSeen threads (length names.now) site }
+    requires { (threads : ℕ) × IsSeenInRange threads (length names.now) site }
     ensures { OnOk result (string_bytes out.new ≡ string_bytes out.old ++ element_text names.now site) }
 {
     match site {

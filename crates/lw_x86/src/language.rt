@@ -1,11 +1,11 @@
 //! How the instructions of an x86 test are spelled.
 ghost use Rattle.std.specs.Prelude.{◌≡◌};
 ghost use Rattle.lw_x86.specs.Spelling.{x86_spelling};
-ghost use Rattle.lw_x86.specs.inner.Operands.{made, value_of};
+ghost use Rattle.lw_x86.specs.inner.Operands.{instruction_of_operands, value_of};
 
 use lw_base::{Arch, Operand};
-use lw_cells::{Operands, Slot, StatementReader};
 use lw_litmus::{Instr, MAX_INSTRUCTIONS};
+use lw_statements::{Operands, Slot, StatementReader};
 
 /// The x86 language.
 pub(crate) enum X86Language {}
@@ -79,7 +79,7 @@ impl StatementReader for X86Language {
 
     ghost spelling = { x86_spelling };
 
-    ghost made = { made };
+    ghost made = { instruction_of_operands };
 
     /// The language is x86.
     fn arch() -> Arch {

@@ -1,6 +1,6 @@
 //! The x86 language: the reading of an x86 test from its frame, and its canonical text.
 //!
-//! It names lw_base, of lw_litmus the test, of lw_text the frame, and the rule of lw_cells. What it reads and writes is said by
+//! It names lw_base, of lw_litmus the test, of lw_text the frame, and the rule of lw_statements. What it reads and writes is said by
 //! docs/FORMAT.md. It passes on the test and its instructions of lw_litmus. The promise that the crates above use: a `Program`
 //! that is read is the test of its frame, and its canonical text is what `specs/CanonicalTexts.antt` says, and reads back as
 //! the same program.

@@ -1,22 +1,22 @@
 //! Reads an x86 test from its frame.
 ghost use Rattle.std.specs.Prelude.{◌≡◌, ◌≤◌, IfOk, IfErr};
 ghost use Rattle.lw_base.specs.Types.{Bytes};
-ghost use Rattle.lw_base.specs.Refusals.{NotFound};
+ghost use Rattle.lw_base.specs.NoParse.{HoldsOfNothingOrOutOfMemory};
 ghost use Rattle.lw_base.specs.declared.head.Arch.TheVariants as arch;
 ghost use Rattle.lw_base.specs.declared.fault.CellCause.TheVariants.{Memory};
 ghost use Rattle.lw_text.specs.Frames.{TestFrame};
 ghost use Rattle.lw_text.specs.Views.{frame_of};
 ghost use Rattle.lw_text.specs.Places.{placed_cells};
-ghost use Rattle.lw_cells.specs.Faults.{Tells};
-ghost use Rattle.lw_litmus.specs.Tests.{ProgramTest};
+ghost use Rattle.lw_statements.specs.Faults.{CellFaultIsTrue};
+ghost use Rattle.lw_litmus.specs.Tests.{X86Test};
 ghost use Rattle.lw_litmus.specs.Views.{program_of};
 ghost use Rattle.lw_x86.specs.Grammar.{HasProgram, x86_grammar};
 ghost use Rattle.lw_x86.specs.Texts.{IsTextOf};
 
 use crate::language::X86Language;
 use lw_base::CellFault;
-use lw_cells::read_test;
 use lw_litmus::Program;
+use lw_statements::read_test;
 use lw_text::Frame;
 use std::alloc::Allocator;
 
@@ -30,11 +30,11 @@ pub fn read_program<A: Allocator + Copy>(
     requires { frame.head.arch ≡ arch.X86 }
     // What is answered is the frame's test, and where it is refused it has none, unless memory ran out.
     ensures found { IfOk result (λ p. HasProgram (frame_of frame.entry) (program_of p)) }
-    ensures fault { IfErr result (λ f. NotFound Memory f.cause (HasProgram (frame_of frame.entry))) }
+    ensures fault { IfErr result (λ f. HoldsOfNothingOrOutOfMemory Memory f.cause (HasProgram (frame_of frame.entry))) }
     ensures place { IfErr result (λ f. f.at ≤ frame.entry.len) }
     ensures memory { IfErr result (λ f. f.cause ≡ Memory → f.at ≡ 0) }
     // What the cause says of the place is so.
-    ensures cause { IfErr result (Tells x86_grammar frame.entry.head.locs (placed_cells frame.entry.cells)) }
+    ensures cause { IfErr result (CellFaultIsTrue x86_grammar frame.entry.head.locs (placed_cells frame.entry.cells)) }
 {
     let parts = read_test::<X86Language, A>(alloc, frame)?;
     Ok(Program {
@@ -45,10 +45,10 @@ pub fn read_program<A: Allocator + Copy>(
 
 /// A frame has at most one x86 test.
 pub fn a_frame_has_one_program()
-    ensures { (frame : TestFrame) (p q : ProgramTest) → HasProgram frame p → HasProgram frame q → p ≡ q }
+    ensures { (frame : TestFrame) (p q : X86Test) → HasProgram frame p → HasProgram frame q → p ≡ q }
 {}
 
 /// A text says at most one x86 test.
 pub fn a_text_has_one_program()
-    ensures { (text : Bytes) (p q : ProgramTest) → IsTextOf text p → IsTextOf text q → p ≡ q }
+    ensures { (text : Bytes) (p q : X86Test) → IsTextOf text p → IsTextOf text q → p ≡ q }
 {}

@@ -2,10 +2,10 @@
 ghost use Rattle.std.specs.Prelude.{◌≡◌, ◌+◌, ◌++◌, [], length, map, codes, slice_index_or, All, OnOk};
 ghost use Rattle.std.specs.String.{string_bytes};
 ghost use Rattle.lw_base.specs.Texts.{joined};
-ghost use Rattle.lw_litmus.specs.WellFormed.{IsThread};
+ghost use Rattle.lw_litmus.specs.WellFormed.{IsWellFormedThread};
 ghost use Rattle.lw_x86.specs.CanonicalTexts as printed;
-ghost use Rattle.lw_x86.specs.CanonicalTexts.{label_in_front, end_cells, cells_of, row_text, row_of, longest, rows_text};
-ghost use Rattle.lw_litmus.specs.Programs.{x86};
+ghost use Rattle.lw_x86.specs.CanonicalTexts.{label_prefix, end_cells, cells_of, row_text, row_at, max_cell_count, rows_text};
+ghost use Rattle.lw_litmus.specs.Programs.{x86_language};
 
 use crate::instruction_text::write_instruction;
 use crate::separator::write_separator;
@@ -29,7 +29,7 @@ pub(crate) fn write_rows<A: Allocator, B: Allocator>(
 
 /// The number of rows: as many as the longest thread has cells.
 fn height<B: Allocator>(program: &Program<B>) -> usize
-    ensures { result ≡ longest (map (cells_of program.now.head.locs) program.now.threads) }
+    ensures { result ≡ max_cell_count (map (cells_of program.now.head.locs) program.now.threads) }
 {
     let mut height = 0;
     for code in program.threads.as_slice() {
@@ -55,7 +55,7 @@ fn write_row<A: Allocator, B: Allocator>(
     row: usize,
 ) -> Result<(), AllocError>
     ensures { OnOk result (string_bytes out.new ≡ string_bytes out.old
-        ++ row_text (row_of (map (cells_of program.now.head.locs) program.now.threads) row)) }
+        ++ row_text (row_at (map (cells_of program.now.head.locs) program.now.threads) row)) }
 {
     out.push_str(" ")?;
     write_cells(out, &program.head.locs, program.threads.as_slice(), row)?;
@@ -69,9 +69,9 @@ fn write_cells<A: Allocator, B: Allocator>(
     threads: &[Sequence<Instr, B>],
     row: usize,
 ) -> Result<(), AllocError>
-    requires { All (IsThread x86 (length names.now)) threads.now }
+    requires { All (IsWellFormedThread x86_language (length names.now)) threads.now }
     ensures { OnOk result (string_bytes out.new ≡ string_bytes out.old
-        ++ joined (codes " | ") (row_of (map (cells_of names.now) threads.now) row)) }
+        ++ joined (codes " | ") (row_at (map (cells_of names.now) threads.now) row)) }
 {
     for (index, code) in threads.iter().enumerate() {
         write_separator(out, index, " | ")?;
@@ -87,7 +87,7 @@ fn write_cell<A: Allocator, B: Allocator>(
     code: &[Instr],
     row: usize,
 ) -> Result<(), AllocError>
-    requires { IsThread x86 (length names.now) code.now }
+    requires { IsWellFormedThread x86_language (length names.now) code.now }
     ensures { OnOk result (string_bytes out.new
         ≡ string_bytes out.old ++ slice_index_or (cells_of names.now code.now) row []) }
 {
@@ -106,7 +106,7 @@ fn write_label<A: Allocator>(
     code: &[Instr],
     index: usize,
 ) -> Result<(), AllocError>
-    ensures { OnOk result (string_bytes out.new ≡ string_bytes out.old ++ label_in_front code.now index) }
+    ensures { OnOk result (string_bytes out.new ≡ string_bytes out.old ++ label_prefix code.now index) }
 {
     if is_target(code, index) {
         return write!(out, "L{}: ", index);

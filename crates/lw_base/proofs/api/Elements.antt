@@ -29,13 +29,9 @@ all_filter P p (x ∷ xs) h = one P p x xs (p x) refl h.0 (all_filter P p xs h.1
     one P p x xs false e h k = rw e k
 
 -- what follows from a property of each item holds of all that have it
-pub all_weaker : {X : Type 0} (P Q : X → Type 0)
-    → ((x : X) → P x → Q x)
-    → (xs : List X)
-    → AllByRecursion P xs
-    → AllByRecursion Q xs
-all_weaker P Q f [] h = tt
-all_weaker P Q f (x ∷ xs) h = (f x h.0, all_weaker P Q f xs h.1)
+pub All-mono : {X : Type 0} (P Q : X → Type 0) → ((x : X) → P x → Q x) → (xs : List X) → AllByRecursion P xs → AllByRecursion Q xs
+All-mono P Q f [] h = tt
+All-mono P Q f (x ∷ xs) h = (f x h.0, All-mono P Q f xs h.1)
 
 -- what holds of the image of each number of a range holds of all images
 pub all_of_range : {X : Type 0} (P : X → Type 0) (f : ℕ → X) (a n : ℕ)
@@ -67,15 +63,15 @@ all_map P f [] h = tt
 all_map P f (x ∷ xs) h = (h.0, all_map P f xs h.1)
 
 -- what holds of all images holds of each item's image
-pub all_unmap : {X Y : Type 0} (P : Y → Type 0) (f : X → Y) (xs : List X)
+pub All-map_inv : {X Y : Type 0} (P : Y → Type 0) (f : X → Y) (xs : List X)
     → AllByRecursion P (map f xs)
     → AllByRecursion (λ x. P (f x)) xs
-all_unmap P f [] h = tt
-all_unmap P f (x ∷ xs) h = (h.0, all_unmap P f xs h.1)
+All-map_inv P f [] h = tt
+All-map_inv P f (x ∷ xs) h = (h.0, All-map_inv P f xs h.1)
 
 -- what holds of two lists, one behind the other, holds of each of them
-pub all_parts : {X : Type 0} (P : X → Type 0) (xs ys : List X)
+pub All-append_inv : {X : Type 0} (P : X → Type 0) (xs ys : List X)
     → AllByRecursion P (xs ++ ys)
     → AllByRecursion P xs × AllByRecursion P ys
-all_parts P [] ys h = (tt, h)
-all_parts P (x ∷ xs) ys h = let more = all_parts P xs ys h.1 in ((h.0, more.0), more.1)
+All-append_inv P [] ys h = (tt, h)
+All-append_inv P (x ∷ xs) ys h = let more = All-append_inv P xs ys h.1 in ((h.0, more.0), more.1)

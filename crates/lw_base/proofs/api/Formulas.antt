@@ -1,8 +1,8 @@
 -- Which locations a formula speaks of.
-use Rattle.lw_base.proofs.Common.{ℕ, Formula, Word_is, Not, And, Or, SpeaksOf, HasLocations}
+use Rattle.lw_base.proofs.Common.{ℕ, Formula, Word_is, Not, And, Or, MentionsOnly, MentionsLocationsBelow}
 
 -- if a formula speaks of so many threads and locations only, its locations have indices below that number
-pub has_locations : (threads locs : ℕ) (p : Formula) → SpeaksOf threads locs p → HasLocations locs p
+pub has_locations : (threads locs : ℕ) (p : Formula) → MentionsOnly threads locs p → MentionsLocationsBelow locs p
 has_locations threads locs (Word_is x n) h = h.0
 has_locations threads locs (Not p) h = has_locations threads locs p h
 has_locations threads locs (And p q) h = (has_locations threads locs p h.0, has_locations threads locs q h.1)

@@ -1,36 +1,36 @@
 -- Tables that grow: what is in one stays at its index.
 use Rattle.lw_base.proofs.Common.{◌≡◌, ℕ, ◌<◌, ◌≤◌, ◌+◌, Bool, true, false, [], ◌∷◌, ◌++◌, length, refl, sym}
 use Rattle.lw_base.proofs.Common.{ap, ◌∙◌, length-append, arith, if◌then◌else◌, bytes_eq, append-nil, or_left}
-use Rattle.lw_base.proofs.Common.{or_right, unsigned_Decides, pointwise_decides, Bytes, NameTable, EachOnce}
-use Rattle.lw_base.proofs.Common.{contains_name, with_name, with_names, index_of}
+use Rattle.lw_base.proofs.Common.{or_right, unsigned_Decides, pointwise_decides, Bytes, NameTable}
+use Rattle.lw_base.proofs.Common.{IsDuplicateFree, contains_name, insert_name, insert_names, position_of_name}
 use Rattle.lw_base.proofs.api.Tables.{once_more, contains_name-Contains}
 
 -- a table after a name was put in, by whether it was there already
-with_name-case : (names : NameTable) (n : Bytes) (b : Bool)
+insert_name-case : (names : NameTable) (n : Bytes) (b : Bool)
     → contains_name names n ≡ b
-    → with_name names n ≡ (if b then names else names ++ n ∷ [])
-with_name-case names n b e = rw e refl
+    → insert_name names n ≡ (if b then names else names ++ n ∷ [])
+insert_name-case names n b e = rw e refl
 
 -- a table with a name put in is the table before, and perhaps more behind it
-pub with_name-grows : (names : NameTable) (n : Bytes) → (more : NameTable) × (with_name names n ≡ names ++ more)
-with_name-grows names n = go (contains_name names n) refl
+pub insert_name-grows : (names : NameTable) (n : Bytes) → (more : NameTable) × (insert_name names n ≡ names ++ more)
+insert_name-grows names n = go (contains_name names n) refl
   where
-    go : (b : Bool) → contains_name names n ≡ b → (more : NameTable) × (with_name names n ≡ names ++ more)
-    go true e = ([], with_name-case names n true e ∙ sym (append-nil names))
-    go false e = (n ∷ [], with_name-case names n false e)
+    go : (b : Bool) → contains_name names n ≡ b → (more : NameTable) × (insert_name names n ≡ names ++ more)
+    go true e = ([], insert_name-case names n true e ∙ sym (append-nil names))
+    go false e = (n ∷ [], insert_name-case names n false e)
 
 -- names that are put in one after another may be put in in two parts
-pub with_names-append : (names ns ms : NameTable) → with_names names (ns ++ ms) ≡ with_names (with_names names ns) ms
-with_names-append names [] ms = refl
-with_names-append names (n ∷ ns) ms = with_names-append (with_name names n) ns ms
+pub insert_names-append : (names ns ms : NameTable) → insert_names names (ns ++ ms) ≡ insert_names (insert_names names ns) ms
+insert_names-append names [] ms = refl
+insert_names-append names (n ∷ ns) ms = insert_names-append (insert_name names n) ns ms
 
 -- a table with names put in is no shorter
-pub with_names-longer : (names ns : NameTable) → length names ≤ length (with_names names ns)
-with_names-longer names [] = omega arith
-with_names-longer names (n ∷ ns) =
-    let grows = with_name-grows names n in
-    let longer : length names ≤ length (with_name names n) = omega (arith, ap length grows.1, length-append names grows.0) in
-    omega (arith, with_names-longer (with_name names n) ns)
+pub insert_names-longer : (names ns : NameTable) → length names ≤ length (insert_names names ns)
+insert_names-longer names [] = omega arith
+insert_names-longer names (n ∷ ns) =
+    let grows = insert_name-grows names n in
+    let longer : length names ≤ length (insert_name names n) = omega (arith, ap length grows.1, length-append names grows.0) in
+    omega (arith, insert_names-longer (insert_name names n) ns)
 
 -- a name that is in a table is in each that goes on from it
 pub contains_name-append : (names more : NameTable) (n : Bytes)
@@ -47,16 +47,16 @@ contains_name-append (m ∷ names) more n e = go (bytes_eq m n) refl (contains_n
     go false f further = rw f (further (rw f at e))
 
 -- a name has the same index in each table that goes on from one that has it
-pub index_of-append : (names more : NameTable) (n : Bytes)
+pub position_of_name-append : (names more : NameTable) (n : Bytes)
     → contains_name names n ≡ true
-    → index_of (names ++ more) n ≡ index_of names n
-index_of-append [] more n e = absurd cc
-index_of-append (m ∷ names) more n e = go (bytes_eq m n) refl (index_of-append names more n)
+    → position_of_name (names ++ more) n ≡ position_of_name names n
+position_of_name-append [] more n e = absurd cc
+position_of_name-append (m ∷ names) more n e = go (bytes_eq m n) refl (position_of_name-append names more n)
   where
     go : (b : Bool)
         → bytes_eq m n ≡ b
-        → (contains_name names n ≡ true → index_of (names ++ more) n ≡ index_of names n)
-        → index_of ((m ∷ names) ++ more) n ≡ index_of (m ∷ names) n
+        → (contains_name names n ≡ true → position_of_name (names ++ more) n ≡ position_of_name names n)
+        → position_of_name ((m ∷ names) ++ more) n ≡ position_of_name (m ∷ names) n
     go true f further = rw f refl
     go false f further = rw f (ap (λ (k : ℕ). 1 + k) (further (rw f at e)))
 
@@ -66,59 +66,62 @@ contains_name-last [] n = or_left (bytes_eq n n) false ((pointwise_decides unsig
 contains_name-last (m ∷ names) n = or_right (bytes_eq m n) _ (contains_name-last names n)
 
 -- a name that is put in is there, whether it is new or not
-pub contains_name-with_name : (names : NameTable) (n : Bytes) → contains_name (with_name names n) n ≡ true
-contains_name-with_name names n = go (contains_name names n) refl
+pub contains_name-insert_name : (names : NameTable) (n : Bytes) → contains_name (insert_name names n) n ≡ true
+contains_name-insert_name names n = go (contains_name names n) refl
   where
-    go : (b : Bool) → contains_name names n ≡ b → contains_name (with_name names n) n ≡ true
-    go true e = rw (with_name-case names n true e) e
-    go false e = rw (with_name-case names n false e) (contains_name-last names n)
+    go : (b : Bool) → contains_name names n ≡ b → contains_name (insert_name names n) n ≡ true
+    go true e = rw (insert_name-case names n true e) e
+    go false e = rw (insert_name-case names n false e) (contains_name-last names n)
 
 -- a name that is in a table still is when another is put in
 pub contains_name-more : (names : NameTable) (m n : Bytes)
     → contains_name names n ≡ true
-    → contains_name (with_name names m) n ≡ true
-contains_name-more names m n e = let grows = with_name-grows names m in rw grows.1 (contains_name-append names grows.0 n e)
+    → contains_name (insert_name names m) n ≡ true
+contains_name-more names m n e = let grows = insert_name-grows names m in rw grows.1 (contains_name-append names grows.0 n e)
 
 -- a name that is in a table still is when several are put in
-pub contains_name-with_names : (names ns : NameTable) (n : Bytes)
+pub contains_name-insert_names : (names ns : NameTable) (n : Bytes)
     → contains_name names n ≡ true
-    → contains_name (with_names names ns) n ≡ true
-contains_name-with_names names [] n e = e
-contains_name-with_names names (m ∷ ns) n e = contains_name-with_names (with_name names m) ns n (contains_name-more names m n e)
+    → contains_name (insert_names names ns) n ≡ true
+contains_name-insert_names names [] n e = e
+contains_name-insert_names names (m ∷ ns) n e =
+    contains_name-insert_names (insert_name names m) ns n (contains_name-more names m n e)
 
 -- a name that is in a table keeps its index when several are put in
-pub index_of-with_names : (names ns : NameTable) (n : Bytes)
+pub position_of_name-insert_names : (names ns : NameTable) (n : Bytes)
     → contains_name names n ≡ true
-    → index_of (with_names names ns) n ≡ index_of names n
-index_of-with_names names [] n e = refl
-index_of-with_names names (m ∷ ns) n e =
-    let grows = with_name-grows names m in
-    index_of-with_names (with_name names m) ns n (contains_name-more names m n e)
-    ∙ ap (λ ms. index_of ms n) grows.1
-    ∙ index_of-append names grows.0 n e
+    → position_of_name (insert_names names ns) n ≡ position_of_name names n
+position_of_name-insert_names names [] n e = refl
+position_of_name-insert_names names (m ∷ ns) n e =
+    let grows = insert_name-grows names m in
+    position_of_name-insert_names (insert_name names m) ns n (contains_name-more names m n e)
+    ∙ ap (λ ms. position_of_name ms n) grows.1
+    ∙ position_of_name-append names grows.0 n e
 
 -- the index of a name that is in a table is below the table's length
-pub index_of-within : (names : NameTable) (n : Bytes) → contains_name names n ≡ true → index_of names n < length names
-index_of-within [] n e = absurd cc
-index_of-within (m ∷ names) n e = go (bytes_eq m n) refl (index_of-within names n)
+pub position_of_name-within : (names : NameTable) (n : Bytes)
+    → contains_name names n ≡ true
+    → position_of_name names n < length names
+position_of_name-within [] n e = absurd cc
+position_of_name-within (m ∷ names) n e = go (bytes_eq m n) refl (position_of_name-within names n)
   where
     go : (b : Bool)
         → bytes_eq m n ≡ b
-        → (contains_name names n ≡ true → index_of names n < length names)
-        → index_of (m ∷ names) n < length (m ∷ names)
+        → (contains_name names n ≡ true → position_of_name names n < length names)
+        → position_of_name (m ∷ names) n < length (m ∷ names)
     go true f further = rw f (omega arith)
     go false f further = rw f (omega (arith, further (rw f at e)))
 
 -- a table that has each name once has each once when a name is put in
-pub once-name : (names : NameTable) (n : Bytes) → EachOnce names → EachOnce (with_name names n)
+pub once-name : (names : NameTable) (n : Bytes) → IsDuplicateFree names → IsDuplicateFree (insert_name names n)
 once-name names n once = go (contains_name names n) refl
   where
-    go : (b : Bool) → contains_name names n ≡ b → EachOnce (with_name names n)
-    go true e = rw (with_name-case names n true e) once
+    go : (b : Bool) → contains_name names n ≡ b → IsDuplicateFree (insert_name names n)
+    go true e = rw (insert_name-case names n true e) once
     go false e =
-        rw (with_name-case names n false e) (once_more names n once (λ h. let k = contains_name-Contains names n h in cc))
+        rw (insert_name-case names n false e) (once_more names n once (λ h. let k = contains_name-Contains names n h in cc))
 
 -- a table that has each name once has each once when names are put in
-pub once-along : (names ns : NameTable) → EachOnce names → EachOnce (with_names names ns)
+pub once-along : (names ns : NameTable) → IsDuplicateFree names → IsDuplicateFree (insert_names names ns)
 once-along names [] once = once
-once-along names (n ∷ ns) once = once-along (with_name names n) ns (once-name names n once)
+once-along names (n ∷ ns) once = once-along (insert_name names n) ns (once-name names n once)

@@ -2,13 +2,13 @@
 use Rattle.lw_base.proofs.Common.{◌≡◌, ◌≢◌, ℕ, zero, suc, ◌<◌, ◌≤◌, Some, ◌⊎◌, inl, inr, ⊎_elim, List, []}
 use Rattle.lw_base.proofs.Common.{◌∷◌, ◌++◌, length, take, drop, refl, sym, ap, ◌∙◌, subst, arith, slice_get}
 use Rattle.lw_base.proofs.Common.{slice_set, set-get_or, cases_eq, same_Some, get_or_from_slice_get, Option}
-use Rattle.lw_base.proofs.Common.{None, with_word, length-set}
+use Rattle.lw_base.proofs.Common.{None, set_word_if_some, length-set}
 -- the item at an index that is there
 pub use Rattle.std.proofs.lemmas.Option.{slice_get-get_or as at_index}
 
 -- lists with other first items differ
-pub apart : {X : Type 0} (a b : X) (u v : List X) → (a ≡ b → ⊥) → a ∷ u ≡ b ∷ v → ⊥
-apart a b u v differ same = differ cc
+pub cons-ne : {X : Type 0} (a b : X) (u v : List X) → (a ≡ b → ⊥) → a ∷ u ≡ b ∷ v → ⊥
+cons-ne a b u v differ same = differ cc
 
 -- equal lists have one first item
 pub cons_head : {X : Type 0} (a b : X) (u v : List X) → a ∷ u ≡ b ∷ v → a ≡ b
@@ -60,29 +60,31 @@ get_append {X} (x ∷ xs) y z (suc k) e = go (get_append xs y z k e)
     go (inr f) = inr (ap suc f.0, f.1)
 
 -- the item between two lists stands where the first one ends
-pub get_seam : {X : Type 0} (xs : List X) (y : X) (ys : List X) (k : ℕ) → k ≡ length xs → slice_get (xs ++ y ∷ ys) k ≡ Some y
-get_seam {X} [] y ys k e = ap (slice_get (y ∷ ys)) e
-get_seam (x ∷ xs) y ys zero e = absurd (omega (arith, e))
-get_seam (x ∷ xs) y ys (suc k) e = get_seam xs y ys k (omega (arith, e))
+pub get-append_middle : {X : Type 0} (xs : List X) (y : X) (ys : List X) (k : ℕ)
+    → k ≡ length xs
+    → slice_get (xs ++ y ∷ ys) k ≡ Some y
+get-append_middle {X} [] y ys k e = ap (slice_get (y ∷ ys)) e
+get-append_middle (x ∷ xs) y ys zero e = absurd (omega (arith, e))
+get-append_middle (x ∷ xs) y ys (suc k) e = get-append_middle xs y ys k (omega (arith, e))
 
 -- where an item is set, it stands
-pub got_set_same : {A : Type 0}
+pub get-set_same : {A : Type 0}
     → (xs : List A) (i : ℕ) (x y : A)
     → slice_get xs i ≡ Some y
     → slice_get (slice_set xs i x) i ≡ Some x
-got_set_same [] i x y e = absurd cc
-got_set_same (z ∷ xs) zero x y e = refl
-got_set_same (z ∷ xs) (suc i) x y e = got_set_same xs i x y e
+get-set_same [] i x y e = absurd cc
+get-set_same (z ∷ xs) zero x y e = refl
+get-set_same (z ∷ xs) (suc i) x y e = get-set_same xs i x y e
 
 -- where an item is set, at every other index stands what stood there
-pub got_set_other : {A : Type 0} → (xs : List A) (i j : ℕ) (x : A) → i ≢ j → slice_get (slice_set xs i x) j ≡ slice_get xs j
-got_set_other (z ∷ xs) zero zero x ne = absurd (ne refl)
-got_set_other (z ∷ xs) (suc i) (suc j) x ne = got_set_other xs i j x (λ e. ne (ap suc e))
-got_set_other _ _ _ x ne = refl
+pub get-set_other : {A : Type 0} → (xs : List A) (i j : ℕ) (x : A) → i ≢ j → slice_get (slice_set xs i x) j ≡ slice_get xs j
+get-set_other (z ∷ xs) zero zero x ne = absurd (ne refl)
+get-set_other (z ∷ xs) (suc i) (suc j) x ne = get-set_other xs i j x (λ e. ne (ap suc e))
+get-set_other _ _ _ x ne = refl
 
 -- to set an item where it stands already leaves the list as it is
-pub set_own : {X : Type 0} (xs : List X) (i : ℕ) (x : X) → slice_get xs i ≡ Some x → slice_set xs i x ≡ xs
-set_own xs i x at = ap (slice_set xs i) (sym (get_or_from_slice_get xs i x x at)) ∙ set-get_or xs i x
+pub set-get_same : {X : Type 0} (xs : List X) (i : ℕ) (x : X) → slice_get xs i ≡ Some x → slice_set xs i x ≡ xs
+set-get_same xs i x at = ap (slice_set xs i) (sym (get_or_from_slice_get xs i x x at)) ∙ set-get_or xs i x
 
 -- the property P holds of each index of a list, with the item there
 abbrev pub AtEach : {X : Type 0} → (ℕ → X → Type 0) → List X → Type 0
@@ -99,10 +101,10 @@ each_after P xs i x within before here u y at = go (cases_eq u i)
     go : (u ≡ i) ⊎ (u ≡ i → ⊥) → P u y
     go (inl e) =
         let there : slice_get (slice_set xs i x) u ≡ Some x =
-        ap (slice_get (slice_set xs i x)) e ∙ got_set_same xs i x (get_some xs i within).0 (get_some xs i within).1 in
+        ap (slice_get (slice_set xs i x)) e ∙ get-set_same xs i x (get_some xs i within).0 (get_some xs i within).1 in
         let same : x ≡ y = cc in
         subst (λ (k : ℕ). P k y) (sym e) (subst (P i) same here)
-    go (inr other) = before u y (sym (got_set_other xs i u x (λ e. other (sym e))) ∙ at)
+    go (inr other) = before u y (sym (get-set_other xs i u x (λ e. other (sym e))) ∙ at)
 
 -- the property P holds of each index of two lists, with the items there, which are fellows
 abbrev pub OfFellows : {X Y : Type 0} → (ℕ → X → Y → Type 0) → List X → List Y → Type 0
@@ -121,17 +123,17 @@ pub fellows_after : {X Y : Type 0} {old : X} {was : Y} (P : ℕ → X → Y → 
     → P t x y
     → OfFellows P (slice_set xs t x) (slice_set ys t y)
 fellows_after {X} {Y} {old} {was} P xs ys t x y fellows others now u a b e f =
-    ⊎_elim here (λ ne. others u a b (sym (got_set_other xs t u x ne) ∙ e) (sym (got_set_other ys t u y ne) ∙ f) ne) (cases_eq t u)
+    ⊎_elim here (λ ne. others u a b (sym (get-set_other xs t u x ne) ∙ e) (sym (get-set_other ys t u y ne) ∙ f) ne) (cases_eq t u)
   where
     here : t ≡ u → P u a b
     here same =
         let left : x ≡ a =
-        same_Some x a (sym (got_set_same xs t x old fellows.left) ∙ ap (λ (k : ℕ). slice_get (slice_set xs t x) k) same ∙ e) in
+        same_Some x a (sym (get-set_same xs t x old fellows.left) ∙ ap (λ (k : ℕ). slice_get (slice_set xs t x) k) same ∙ e) in
         let right : y ≡ b =
-        same_Some y b (sym (got_set_same ys t y was fellows.right) ∙ ap (λ (k : ℕ). slice_get (slice_set ys t y) k) same ∙ f) in
+        same_Some y b (sym (get-set_same ys t y was fellows.right) ∙ ap (λ (k : ℕ). slice_get (slice_set ys t y) k) same ∙ f) in
         subst (λ k. P k a b) same (subst (λ (c : X). P t c b) left (subst (λ (d : Y). P t x d) right now))
 
 -- setting a register's word leaves as many registers
-pub length-with_word : (regs : List ℕ) (d : Option ℕ) (w : ℕ) → length (with_word regs d w) ≡ length regs
-length-with_word regs None w = refl
-length-with_word regs (Some d) w = length-set regs d w
+pub length-set_word_if_some : (regs : List ℕ) (d : Option ℕ) (w : ℕ) → length (set_word_if_some regs d w) ≡ length regs
+length-set_word_if_some regs None w = refl
+length-set_word_if_some regs (Some d) w = length-set regs d w

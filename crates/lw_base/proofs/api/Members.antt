@@ -2,16 +2,16 @@
 use Rattle.lw_base.proofs.Common.{◌≡◌, zero, suc, ◌⊎◌, inl, inr, List, [], ◌∷◌, arith, Contains}
 
 -- the empty list has no member
-pub none_in : {X : Type 0} (x : X) → Contains [] x → ⊥
-none_in x (k, l, e) = absurd (omega arith)
+pub not-Contains-nil : {X : Type 0} (x : X) → Contains [] x → ⊥
+not-Contains-nil x (k, l, e) = absurd (omega arith)
 
 -- the item in front is a member
-pub Contains-here : {X : Type 0} (x y : X) (xs : List X) → x ≡ y → Contains (x ∷ xs) y
-Contains-here x y xs e = (0, omega arith, e)
+pub Contains-head : {X : Type 0} (x y : X) (xs : List X) → x ≡ y → Contains (x ∷ xs) y
+Contains-head x y xs e = (0, omega arith, e)
 
 -- a member of what stands behind an item is one of the whole list
-pub Contains-there : {X : Type 0} (x y : X) (xs : List X) → Contains xs y → Contains (x ∷ xs) y
-Contains-there x y xs (k, l, e) = (suc k, omega arith, e)
+pub Contains-tail : {X : Type 0} (x y : X) (xs : List X) → Contains xs y → Contains (x ∷ xs) y
+Contains-tail x y xs (k, l, e) = (suc k, omega arith, e)
 
 -- a member of a list is its first item or stands behind it
 pub Contains-cons : {X : Type 0} (x y : X) (xs : List X) → Contains (x ∷ xs) y → (x ≡ y) ⊎ Contains xs y

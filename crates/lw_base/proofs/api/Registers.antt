@@ -1,7 +1,7 @@
 -- A token names one register at most.
 use Rattle.lw_base.proofs.Common.{◌≡◌, ℕ, suc, ◌+◌, ◌<◌, [], ◌∷◌, Some, None, Option, refl, sym, ap, ◌∙◌}
-use Rattle.lw_base.proofs.Common.{arith, if◌then◌else◌, codes, bytes_eq, Bytes, Arch, Source, X86, IsRegister}
-use Rattle.lw_base.proofs.Common.{register_name, without_case}
+use Rattle.lw_base.proofs.Common.{arith, if◌then◌else◌, codes, bytes_eq, Bytes, Arch, Source, X86}
+use Rattle.lw_base.proofs.Common.{IsRegisterName, register_name, lowercase_if_x86}
 
 -- the register of x86 that a text in small letters names
 abbrev spelled : Bytes → Option ℕ
@@ -17,12 +17,12 @@ spelled w =
     else (if bytes_eq w (codes "esi") then Some 4 else (if bytes_eq w (codes "edi") then Some 5 else None)))))
 
 -- the name of a register of x86, in small letters, names that register
-spelled_name : (r : ℕ) → r < 6 → spelled (without_case X86 (register_name X86 r)) ≡ Some r
+spelled_name : (r : ℕ) → r < 6 → spelled (lowercase_if_x86 X86 (register_name X86 r)) ≡ Some r
 spelled_name (suc (suc (suc (suc (suc (suc r)))))) h = absurd (omega arith)
 spelled_name _ h = refl
 
 -- a token names one register of a language
-pub register_unique : (arch : Arch) (w : Bytes) (r q : ℕ) → IsRegister arch w r → IsRegister arch w q → r ≡ q
+pub register_unique : (arch : Arch) (w : Bytes) (r q : ℕ) → IsRegisterName arch w r → IsRegisterName arch w q → r ≡ q
 register_unique Source w r q h k =
     let e : 114 ∷ (48 + r) ∷ [] ≡ 114 ∷ (48 + q) ∷ [] = h.1 ∙ sym k.1 in
     let f : 48 + r ≡ 48 + q = cc in

@@ -1,28 +1,31 @@
 -- Runs, one behind another, and one event further.
 use Rattle.lw_base.proofs.Common.{◌≡◌, ℕ, suc, ◌+◌, ◌<◌, List, [], ◌∷◌, ◌++◌, length, take, get_or, Ok}
-use Rattle.lw_base.proofs.Common.{Result, refl, sym, ap, ◌∙◌, subst, arith, take-suc, Event, Stop, Ran}
+use Rattle.lw_base.proofs.Common.{Result, refl, sym, ap, ◌∙◌, subst, arith, take-suc, Event, Stop, RunsTo}
 
 module _ {State : Type 0} (Done : Event → State → Result (Unit {0}) Stop → State → Type 0) where
   -- a run by one list of events, and then by another, is one by both
-  pub Ran-append : (es fs : List Event) (s mid end : State) → Ran Done es s mid → Ran Done fs mid end → Ran Done (es ++ fs) s end
-  Ran-append [] fs s mid end r q = subst (λ (m : State). Ran Done fs m end) r q
-  Ran-append (e ∷ es) fs s mid end r q = (r.0, r.1, Ran-append es fs r.0 mid end r.2 q)
+  pub RunsTo-append : (es fs : List Event) (s mid end : State)
+      → RunsTo Done es s mid
+      → RunsTo Done fs mid end
+      → RunsTo Done (es ++ fs) s end
+  RunsTo-append [] fs s mid end r q = subst (λ (m : State). RunsTo Done fs m end) r q
+  RunsTo-append (e ∷ es) fs s mid end r q = (r.0, r.1, RunsTo-append es fs r.0 mid end r.2 q)
 
-  Ran-push : (es : List Event) (e : Event) (s mid end : State)
-      → Ran Done es s mid
+  RunsTo-push : (es : List Event) (e : Event) (s mid end : State)
+      → RunsTo Done es s mid
       → Done e mid (Ok tt) end
-      → Ran Done (es ++ e ∷ []) s end
-  Ran-push es e s mid end ran done = Ran-append es (e ∷ []) s mid end ran (end, done, refl)
+      → RunsTo Done (es ++ e ∷ []) s end
+  RunsTo-push es e s mid end ran done = RunsTo-append es (e ∷ []) s mid end ran (end, done, refl)
 
   -- a run, and one event more that is carried out, are a run by all these events
-  pub Ran-more : (events : List Event) (n : ℕ) (e : Event) (s mid end : State)
+  pub RunsTo-more : (events : List Event) (n : ℕ) (e : Event) (s mid end : State)
       → n < length events
       → e ≡ get_or events n e
-      → Ran Done (take n events) s mid
+      → RunsTo Done (take n events) s mid
       → Done e mid (Ok tt) end
-      → Ran Done (take (n + 1) events) s end
-  Ran-more events n e s mid end within is ran done =
-      let pushed = Ran-push (take n events) e s mid end ran done in
+      → RunsTo Done (take (n + 1) events) s end
+  RunsTo-more events n e s mid end within is ran done =
+      let pushed = RunsTo-push (take n events) e s mid end ran done in
       let more = take-suc events n e within ∙ ap (λ (x : Event). take n events ++ x ∷ []) (sym is) in
       let next : suc n ≡ n + 1 = omega arith in
-      subst (λ (es : List Event). Ran Done es s end) (sym more ∙ ap (λ (k : ℕ). take k events) next) pushed
+      subst (λ (es : List Event). RunsTo Done es s end) (sym more ∙ ap (λ (k : ℕ). take k events) next) pushed

@@ -3,17 +3,17 @@ use Rattle.lw_base.proofs.Common.{◌≡◌, ◌≢◌, sym, subst, Option, None
 use Rattle.lw_base.proofs.Common.{MatchOption, MatchResult}
 
 -- The callee's error is returned as it is: what is known of it holds of what is returned.
-pub passed_on : {T E : Type 0} {e : E} (P : E → Type 0) (r : Result T E) → IsErrAnd r (λ y. y ≡ e) → P e → IfErr r P
-passed_on P (Ok x) h p = absurd h
-passed_on P (Err y) h p = subst P (sym h) p
+pub Err-clause_propagated : {T E : Type 0} {e : E} (P : E → Type 0) (r : Result T E) → IsErrAnd r (λ y. y ≡ e) → P e → IfErr r P
+Err-clause_propagated P (Ok x) h p = absurd h
+Err-clause_propagated P (Err y) h p = subst P (sym h) p
 
 -- A known error is returned, in a clause for both cases: what is owed of it holds.
-pub refused : {T E : Type 0} {e : E} (P : T → Type 0) (Q : E → Type 0) (r : Result T E)
+pub Err-clause_known : {T E : Type 0} {e : E} (P : T → Type 0) (Q : E → Type 0) (r : Result T E)
     → IsErrAnd r (λ y. y ≡ e)
     → Q e
     → MatchResult r P Q
-refused P Q (Ok x) h q = absurd h
-refused P Q (Err y) h q = subst Q (sym h) q
+Err-clause_known P Q (Ok x) h q = absurd h
+Err-clause_known P Q (Err y) h q = subst Q (sym h) q
 
 -- The callee's error is turned by `From`: what holds of all that it can become.
 pub turned : {T E : Type 0} {Q : E → Type 0} (P : E → Type 0) (r : Result T E) → IsErrAnd r Q → ((y : E) → Q y → P y) → IfErr r P

@@ -3,11 +3,12 @@ use Rattle.lw_base.proofs.Common.{bytes_eq, true≢false, append-nil, append_ass
 use Rattle.lw_base.proofs.Common.{◌≡◌, ℕ, ◌<◌, ◌+◌, true, false, suc, zero, List, [], map, length, take}
 use Rattle.lw_base.proofs.Common.{get_or, slice_get, Option, Some, None, MatchOption, Contains, ◌⊎◌, inl, inr}
 use Rattle.lw_base.proofs.Common.{refl, ap, sym, ◌∙◌, subst, nat_eq, arith, IsSome, option_map, SomeIff}
-use Rattle.lw_base.proofs.Common.{Bytes, NameTable, EachOnce, IsLocation, IsTable, contains_name, with_name}
-use Rattle.lw_base.proofs.Common.{with_names, index_of, false_from_ne_true, or_right, AllByRecursion}
-use Rattle.lw_base.proofs.Common.{map-append, take_more, Contains-push_cases, Contains-append_right}
-use Rattle.lw_base.proofs.Common.{unsigned_Decides, pointwise, pointwise_decides, slice_get-get_or}
-use Rattle.lw_base.proofs.Common.{slice_get-map, slice_get_read, slice_get_within, get_or_from_slice_get}
+use Rattle.lw_base.proofs.Common.{Bytes, NameTable, IsDuplicateFree, IsLocationName, IsNameTable}
+use Rattle.lw_base.proofs.Common.{contains_name, insert_name, insert_names, position_of_name}
+use Rattle.lw_base.proofs.Common.{false_from_ne_true, or_right, AllByRecursion, map-append, take_more}
+use Rattle.lw_base.proofs.Common.{Contains-push_cases, Contains-append_right, unsigned_Decides, pointwise}
+use Rattle.lw_base.proofs.Common.{pointwise_decides, slice_get-get_or, slice_get-map, slice_get_read}
+use Rattle.lw_base.proofs.Common.{slice_get_within, get_or_from_slice_get}
 
 -- An entry stands at index p of a list, and this is its name, which f gives.
 pub record EntryAt {S : Type 0} (f : S → Bytes) (ss : List S) (p : ℕ) (name : Bytes) : Type 0 where
@@ -47,7 +48,7 @@ name_at {place} f ss p t x view same =
     subst (λ ns. slice_get ns place ≡ Some t) view (subst (λ (q : ℕ). slice_get (map f ss) q ≡ Some t) same (at_index f ss p t x))
 
 -- names that stand once each, and one more that is none of them, stand once each
-pub once_more : (ns : NameTable) (n : Bytes) → EachOnce ns → (Contains ns n → ⊥) → EachOnce (ns ++ n ∷ [])
+pub once_more : (ns : NameTable) (n : Bytes) → IsDuplicateFree ns → (Contains ns n → ⊥) → IsDuplicateFree (ns ++ n ∷ [])
 once_more [] n once fresh = ((λ h. let k : h.0 < 0 = h.1 in absurd (omega arith)), tt)
 once_more (m ∷ ns) n once fresh =
     ((λ h. apart (Contains-push_cases ns n m h)), once_more ns n once.1 (λ h. fresh (Contains-append_right (m ∷ []) ns n h)))
@@ -57,7 +58,10 @@ once_more (m ∷ ns) n once fresh =
     apart (inr e) = fresh (0, omega arith, sym e)
 
 -- a table of allowed names with one more has allowed names alone
-all_more : (ns : NameTable) (n : Bytes) → AllByRecursion IsLocation ns → IsLocation n → AllByRecursion IsLocation (ns ++ n ∷ [])
+all_more : (ns : NameTable) (n : Bytes)
+    → AllByRecursion IsLocationName ns
+    → IsLocationName n
+    → AllByRecursion IsLocationName (ns ++ n ∷ [])
 all_more [] n all is = (is, tt)
 all_more (m ∷ ns) n all is = (all.0, all_more ns n all.1 is)
 
@@ -84,10 +88,10 @@ copied_more {ts} f us ss s k x done more =
 -- a table of locations with a new one put last is a table
 pub table_more : (names : NameTable) (name : Bytes)
     → length names < 8
-    → IsLocation name
+    → IsLocationName name
     → (Contains names name → ⊥)
-    → IsTable names
-    → IsTable (names ++ name ∷ [])
+    → IsNameTable names
+    → IsNameTable (names ++ name ∷ [])
 table_more names name few is fresh table = record {
   few = omega (arith, length-append names (name ∷ []));
   all = all_more names name table.all is;
@@ -134,46 +138,55 @@ contains_name-not (m ∷ names) n h =
     refl
 
 -- a name that is in the table is not put in again
-pub with_name-there : (names : NameTable) (n : Bytes) (l : ℕ) → slice_get names l ≡ Some n → with_name names n ≡ names
-with_name-there names n l at =
+pub insert_name-there : (names : NameTable) (n : Bytes) (l : ℕ) → slice_get names l ≡ Some n → insert_name names n ≡ names
+insert_name-there names n l at =
     rw (contains_name-Contains names n (l, slice_get_within names l n at, get_or_from_slice_get names l n n at)) refl
 
 -- a name that is not in the table is put last
-pub with_name-new : (names : NameTable) (n : Bytes) → (Contains names n → ⊥) → with_name names n ≡ names ++ n ∷ []
-with_name-new names n fresh = rw (contains_name-not names n fresh) refl
+pub insert_name-new : (names : NameTable) (n : Bytes) → (Contains names n → ⊥) → insert_name names n ≡ names ++ n ∷ []
+insert_name-new names n fresh = rw (contains_name-not names n fresh) refl
 
 -- a name has the index at which it stands, where each name stands once
-pub index_of-at : (names : NameTable) (n : Bytes) (l : ℕ) → EachOnce names → slice_get names l ≡ Some n → index_of names n ≡ l
-index_of-at [] n l once at = absurd cc
-index_of-at (m ∷ names) n zero once at = let e : m ≡ n = cc in rw (same_bytes m n e) refl
-index_of-at (m ∷ names) n (suc l) once at =
+pub position_of_name-at : (names : NameTable) (n : Bytes) (l : ℕ)
+    → IsDuplicateFree names
+    → slice_get names l ≡ Some n
+    → position_of_name names n ≡ l
+position_of_name-at [] n l once at = absurd cc
+position_of_name-at (m ∷ names) n zero once at = let e : m ≡ n = cc in rw (same_bytes m n e) refl
+position_of_name-at (m ∷ names) n (suc l) once at =
     let other : m ≡ n → ⊥ = λ e.
     once.0 (l, slice_get_within names l m (at ∙ ap Some (sym e)), get_or_from_slice_get names l m m (at ∙ ap Some (sym e))) in
-    rw (other_bytes m n other) (ap (λ (k : ℕ). 1 + k) (index_of-at names n l once.1 at) ∙ omega arith)
+    rw (other_bytes m n other) (ap (λ (k : ℕ). 1 + k) (position_of_name-at names n l once.1 at) ∙ omega arith)
 
 -- the name at an index is found at that index
-pub index_of-again : (names : NameTable) → EachOnce names → (x : ℕ) → x < length names → index_of names (get_or names x []) ≡ x
-index_of-again names once x h = index_of-at names (get_or names x []) x once (slice_get-get_or names x [] h)
+pub position_of_name-again : (names : NameTable)
+    → IsDuplicateFree names
+    → (x : ℕ)
+    → x < length names
+    → position_of_name names (get_or names x []) ≡ x
+position_of_name-again names once x h = position_of_name-at names (get_or names x []) x once (slice_get-get_or names x [] h)
 
 -- a new name gets the index behind the last
-pub index_of-new : (names : NameTable) (n : Bytes) → (Contains names n → ⊥) → index_of (names ++ n ∷ []) n ≡ length names
-index_of-new [] n fresh = rw (same_bytes n n refl) refl
-index_of-new (m ∷ names) n fresh =
+pub position_of_name-new : (names : NameTable) (n : Bytes)
+    → (Contains names n → ⊥)
+    → position_of_name (names ++ n ∷ []) n ≡ length names
+position_of_name-new [] n fresh = rw (same_bytes n n refl) refl
+position_of_name-new (m ∷ names) n fresh =
     rw (other_bytes m n (λ e. fresh (0, omega arith, e)))
-    (ap (λ (k : ℕ). 1 + k) (index_of-new names n (λ k. fresh (Contains-append_right (m ∷ []) names n k))) ∙ omega arith)
+    (ap (λ (k : ℕ). 1 + k) (position_of_name-new names n (λ k. fresh (Contains-append_right (m ∷ []) names n k))) ∙ omega arith)
 
 -- the name stands at some index of the table
 abbrev pub IsInTable : NameTable → Bytes → Type 0
 IsInTable names n = (l : ℕ) × (slice_get names l ≡ Some n)
 
 -- a table that has all of some names already stays as it is when they are put in
-pub with_names-there : (names ns : NameTable) → AllByRecursion (IsInTable names) ns → with_names names ns ≡ names
-with_names-there names [] h = refl
-with_names-there names (n ∷ ns) h =
-    ap (λ (t : NameTable). with_names t ns) (with_name-there names n h.0.0 h.0.1) ∙ with_names-there names ns h.1
+pub insert_names-there : (names ns : NameTable) → AllByRecursion (IsInTable names) ns → insert_names names ns ≡ names
+insert_names-there names [] h = refl
+insert_names-there names (n ∷ ns) h =
+    ap (λ (t : NameTable). insert_names t ns) (insert_name-there names n h.0.0 h.0.1) ∙ insert_names-there names ns h.1
 
 -- where each name stands once, a name is none of those before it
-not_before : (before ns : NameTable) (n : Bytes) → EachOnce (before ++ (n ∷ ns)) → Contains before n → ⊥
+not_before : (before ns : NameTable) (n : Bytes) → IsDuplicateFree (before ++ (n ∷ ns)) → Contains before n → ⊥
 not_before [] ns n once there = let k : there.0 < 0 = there.1 in absurd (omega arith)
 not_before (b ∷ before) ns n once there = at there.0 there.1 there.2 (not_before before ns n once.1)
   where
@@ -184,14 +197,14 @@ not_before (b ∷ before) ns n once there = at there.0 there.1 there.2 (not_befo
     at (suc k) lt e further = further (k, omega (arith, lt), e)
 
 -- names that each appear once are put last one by one
-with_names-new : (before ns : NameTable) → EachOnce (before ++ ns) → with_names before ns ≡ before ++ ns
-with_names-new before [] once = sym (append-nil before)
-with_names-new before (n ∷ ns) once =
+insert_names-new : (before ns : NameTable) → IsDuplicateFree (before ++ ns) → insert_names before ns ≡ before ++ ns
+insert_names-new before [] once = sym (append-nil before)
+insert_names-new before (n ∷ ns) once =
     let e : before ++ (n ∷ ns) ≡ (before ++ n ∷ []) ++ ns = sym (append_assoc before (n ∷ []) ns) in
-    ap (λ (t : NameTable). with_names t ns) (with_name-new before n (not_before before ns n once))
-    ∙ with_names-new (before ++ n ∷ []) ns (subst EachOnce e once)
+    ap (λ (t : NameTable). insert_names t ns) (insert_name-new before n (not_before before ns n once))
+    ∙ insert_names-new (before ++ n ∷ []) ns (subst IsDuplicateFree e once)
     ∙ sym e
 
 -- the names of a table, put in one by one, make that table
-pub with_names-again : (names : NameTable) → EachOnce names → with_names [] names ≡ names
-with_names-again names once = with_names-new [] names once
+pub insert_names-again : (names : NameTable) → IsDuplicateFree names → insert_names [] names ≡ names
+insert_names-again names once = insert_names-new [] names once

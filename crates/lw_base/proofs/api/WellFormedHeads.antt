@@ -1,11 +1,11 @@
 -- A head is as well-formed with a longer table of locations.
 use Rattle.lw_base.proofs.Common.{ℕ, zero, suc, ◌-◌, ◌≤◌, List, [], ◌∷◌, ◌++◌, length, arith, length-append}
 use Rattle.lw_base.proofs.Common.{replicate, AllByRecursion, length-replicate, Seen, Register, Location}
-use Rattle.lw_base.proofs.Common.{Formula, Word_is, Not, And, Or, TestHead, with_table, IsTable, IsSeen}
-use Rattle.lw_base.proofs.Common.{IsWordNumber, SpeaksOf, IsWellFormedHead}
+use Rattle.lw_base.proofs.Common.{Formula, Word_is, Not, And, Or, TestHead, set_location_names, IsNameTable}
+use Rattle.lw_base.proofs.Common.{IsSeenInRange, IsWordNumber, MentionsOnly, IsWellFormedHead}
 
 -- a register or location of a test is one of it with a longer table of locations, too
-seen_more : (threads few more : ℕ) → few ≤ more → (s : Seen) → IsSeen threads few s → IsSeen threads more s
+seen_more : (threads few more : ℕ) → few ≤ more → (s : Seen) → IsSeenInRange threads few s → IsSeenInRange threads more s
 seen_more threads few more le (Register t r) h = h
 seen_more threads few more le (Location x) h = omega (arith, h)
 
@@ -13,13 +13,13 @@ seen_more threads few more le (Location x) h = omega (arith, h)
 all_seen_more : (threads few more : ℕ)
     → few ≤ more
     → (ss : List Seen)
-    → AllByRecursion (IsSeen threads few) ss
-    → AllByRecursion (IsSeen threads more) ss
+    → AllByRecursion (IsSeenInRange threads few) ss
+    → AllByRecursion (IsSeenInRange threads more) ss
 all_seen_more threads few more le [] h = tt
 all_seen_more threads few more le (s ∷ ss) h = (seen_more _ few _ le s h.0, all_seen_more _ few _ le ss h.1)
 
 -- a formula that speaks of so many threads and locations only does so where there are more locations, too
-speaks_more : (threads few more : ℕ) → few ≤ more → (p : Formula) → SpeaksOf threads few p → SpeaksOf threads more p
+speaks_more : (threads few more : ℕ) → few ≤ more → (p : Formula) → MentionsOnly threads few p → MentionsOnly threads more p
 speaks_more threads few more le (Word_is x n) h = (omega (arith, h.0), h.1)
 speaks_more threads few more le (Not p) h = speaks_more threads few more le p h
 speaks_more threads few more le (And p q) h = (speaks_more _ few _ le p h.0, speaks_more _ few more le q h.1)
@@ -33,12 +33,12 @@ words_more [] (suc n) h = (omega arith, words_more [] n tt)
 words_more (w ∷ ws) n h = (h.0, words_more ws n h.1)
 
 -- the head of a test with a longer table, and 0 for each location that is new, is well-formed
-pub with_table-well_formed : (head : TestHead) (names : List (List ℕ))
+pub set_location_names-well_formed : (head : TestHead) (names : List (List ℕ))
     → IsWellFormedHead head
-    → IsTable names
+    → IsNameTable names
     → length head.locs ≤ length names
-    → IsWellFormedHead (with_table head names)
-with_table-well_formed head names h table le = record {
+    → IsWellFormedHead (set_location_names head names)
+set_location_names-well_formed head names h table le = record {
   name = h.name;
   some = h.some;
   few = h.few;

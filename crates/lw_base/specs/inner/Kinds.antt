@@ -1,8 +1,8 @@
 -- The kinds of bytes that the scanner takes from the front of a text.
 use Rattle.std.specs.Prelude.{ℕ, ◌==◌, not, Bool}
 use Rattle.lw_base.specs.Characters.{is_blank, is_name_byte, is_key_byte, is_space}
-use Rattle.lw_base.specs.declared.scan.ByteKind.{ByteKind}
-use Rattle.lw_base.specs.declared.scan.ByteKind.TheVariants.{Blank, NotBlank, NameByte, Key, Space, Not}
+use Rattle.lw_base.specs.declared.byte_kinds.ByteKind.{ByteKind}
+use Rattle.lw_base.specs.declared.byte_kinds.ByteKind.TheVariants.{Blank, NotBlank, NameByte, Key, Space, Not}
 
 -- whether a byte is of the kind: a blank or none, a name byte, a key's, a space, or any but one
 abbrev pub is_of_kind : ByteKind → ℕ → Bool

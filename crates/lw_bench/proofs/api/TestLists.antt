@@ -1,17 +1,17 @@
 -- What makes some entries the list of a test.
-use Rattle.lw_bench.proofs.Common.{◌≡◌, ◌↔◌, refl, All, Contains, Result, Ok, Err, IfOk, Final}
-use Rattle.lw_bench.proofs.Common.{IsListedOutcome, ListedOutcomes, outcomes_of, IsStrictlySorted}
-use Rattle.lw_bench.proofs.Common.{ListsMachine, ReplaysOverCaches, OutcomeOverCaches, Protocol, Mesi}
-use Rattle.lw_bench.proofs.Common.{SourceOutcome, SourceTest, ProgramTest, Of_source, Of_x86, IsListOf}
+use Rattle.lw_bench.proofs.Common.{◌≡◌, ◌↔◌, refl, All, Contains, Result, Ok, Err, IfOk, FinalState}
+use Rattle.lw_bench.proofs.Common.{IsListedOutcome, OutcomeEntries, outcomes_of, IsStrictlySorted}
+use Rattle.lw_bench.proofs.Common.{ListsMachine, ReplaysToOverCaches, OutcomeOverCaches, Protocol, Mesi}
+use Rattle.lw_bench.proofs.Common.{SourceOutcome, SourceTest, X86Test, Of_source, Of_x86, IsListOf}
 use Rattle.lw_bench.proofs.Common.{IsWellFormedSource, IsWellFormedProgram, same_outcomes}
 use Rattle.lw_bench.proofs.Theorems.{CachesAreFlat}
 
 -- Entries that are sorted, are exactly a source test's outcomes, and have each a schedule of its compiled program that leads there, are
 -- the test's list.
-pub source_list : (test : SourceTest) (entries : ListedOutcomes)
+pub source_list : (test : SourceTest) (entries : OutcomeEntries)
     → IsWellFormedSource test
     → IsStrictlySorted entries
-    → ((o : Final) → Contains (outcomes_of entries) o ↔ SourceOutcome test o)
+    → ((o : FinalState) → Contains (outcomes_of entries) o ↔ SourceOutcome test o)
     → ListsMachine test entries
     → All (IsListedOutcome test.head) entries
     → IsListOf (Of_source test) entries
@@ -28,10 +28,10 @@ source_list test entries ok sorted exactly lists of = record {
 }
 
 -- The same of a result, if it is no fault.
-pub source_listed : {E : Type 0} (test : SourceTest) (r : Result ListedOutcomes E)
+pub source_listed : {E : Type 0} (test : SourceTest) (r : Result OutcomeEntries E)
     → IsWellFormedSource test
     → IfOk r IsStrictlySorted
-    → IfOk r (λ l. (o : Final) → Contains (outcomes_of l) o ↔ SourceOutcome test o)
+    → IfOk r (λ l. (o : FinalState) → Contains (outcomes_of l) o ↔ SourceOutcome test o)
     → IfOk r (ListsMachine test)
     → IfOk r (λ l. All (IsListedOutcome test.head) l)
     → IfOk r (IsListOf (Of_source test))
@@ -41,11 +41,11 @@ source_listed test (Err e) ok sorted exactly lists of = tt
 -- Entries that are sorted, are exactly an x86 test's outcomes over caches, and have each a schedule that leads there, are the test's
 -- list.
 pub x86_list : CachesAreFlat
-    → (test : ProgramTest) (entries : ListedOutcomes)
+    → (test : X86Test) (entries : OutcomeEntries)
     → IsWellFormedProgram test
     → IsStrictlySorted entries
-    → ((protocol : Protocol) (o : Final) → Contains (outcomes_of entries) o ↔ OutcomeOverCaches protocol test o)
-    → ((protocol : Protocol) → All (λ e. ReplaysOverCaches protocol test e.1 e.0) entries)
+    → ((protocol : Protocol) (o : FinalState) → Contains (outcomes_of entries) o ↔ OutcomeOverCaches protocol test o)
+    → ((protocol : Protocol) → All (λ e. ReplaysToOverCaches protocol test e.1 e.0) entries)
     → All (IsListedOutcome test.head) entries
     → IsListOf (Of_x86 test) entries
 x86_list caches test entries ok sorted exactly replays of = record {
@@ -63,11 +63,11 @@ x86_list caches test entries ok sorted exactly replays of = record {
 -- The same of a result, if it is no fault.
 pub x86_listed : {E : Type 0}
     → CachesAreFlat
-    → (test : ProgramTest) (r : Result ListedOutcomes E)
+    → (test : X86Test) (r : Result OutcomeEntries E)
     → IsWellFormedProgram test
     → IfOk r IsStrictlySorted
-    → IfOk r (λ l. (protocol : Protocol) (o : Final) → Contains (outcomes_of l) o ↔ OutcomeOverCaches protocol test o)
-    → IfOk r (λ l. (protocol : Protocol) → All (λ e. ReplaysOverCaches protocol test e.1 e.0) l)
+    → IfOk r (λ l. (protocol : Protocol) (o : FinalState) → Contains (outcomes_of l) o ↔ OutcomeOverCaches protocol test o)
+    → IfOk r (λ l. (protocol : Protocol) → All (λ e. ReplaysToOverCaches protocol test e.1 e.0) l)
     → IfOk r (λ l. All (IsListedOutcome test.head) l)
     → IfOk r (IsListOf (Of_x86 test))
 x86_listed caches test (Ok l) ok sorted exactly replays of = x86_list caches test l ok sorted exactly replays of

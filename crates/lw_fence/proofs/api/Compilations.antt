@@ -1,10 +1,10 @@
 -- What a source test is in x86, compiled or with other fences: that it is well-formed, and which outcomes it has.
-use Rattle.lw_fence.proofs.Common.{◌↔◌, ℕ, List, [], Bool, refl, Final, SourceOutcome, start_of, SourceTest}
-use Rattle.lw_fence.proofs.Common.{ProgramTest, IsWellFormedSource, IsWellFormedProgram, flat, MachineOutcome}
-use Rattle.lw_fence.proofs.Common.{IsCompiled, IsCompiledWith, schedule}
+use Rattle.lw_fence.proofs.Common.{◌↔◌, ℕ, List, [], Bool, refl, FinalState, SourceOutcome, initial_state}
+use Rattle.lw_fence.proofs.Common.{SourceTest, X86Test, IsWellFormedSource, IsWellFormedProgram, flat_memory}
+use Rattle.lw_fence.proofs.Common.{IsMachineOutcome, IsCompiled, IsCompiledWith, compiled_schedule}
 use Rattle.lw_fence.proofs.Endings.{program_ends}
 use Rattle.lw_fence.proofs.MachineToSource.{machine_to_source}
-use Rattle.lw_fence.proofs.Placed.{laid_out_with}
+use Rattle.lw_fence.proofs.CodeLayout.{laid_out_with}
 use Rattle.lw_fence.proofs.Programs.{laid_program}
 use Rattle.lw_fence.proofs.SourceToMachine.{laid_replays, schedule_replays}
 -- A well-formed source has a compiled program, any source at most one, and that is well-formed.
@@ -17,34 +17,34 @@ pub use Rattle.lw_fence.proofs.NoFence.{without_needless_fences}
 pub use Rattle.lw_fence.proofs.MoreFences.{more_fences, none_among}
 
 -- What a source is compiled to has over flat memory exactly the outcomes of its source.
-pub same_outcomes : (s : SourceTest) (p : ProgramTest) (starts : List (List ℕ)) (o : Final)
+pub same_outcomes : (s : SourceTest) (p : X86Test) (starts : List (List ℕ)) (o : FinalState)
     → IsWellFormedSource s
     → IsCompiled s p starts
-    → MachineOutcome flat p p.head.init_words o ↔ SourceOutcome s o
+    → IsMachineOutcome flat_memory p p.head.init_words o ↔ SourceOutcome s o
 same_outcomes s p starts o ok compiled = (
   machine_to_source s p starts o ok compiled,
-  λ run. (schedule s.threads starts run.0 (start_of s), schedule_replays p run.0 o ok compiled run.1),
+  λ run. (compiled_schedule s.threads starts run.0 (initial_state s), schedule_replays p run.0 o ok compiled run.1),
 )
 
 -- What a well-formed source is in x86 with any fences is a well-formed program.
-pub is_program_with : (fences : List (List Bool)) (s : SourceTest) (p : ProgramTest) (starts : List (List ℕ))
+pub is_program_with : (fences : List (List Bool)) (s : SourceTest) (p : X86Test) (starts : List (List ℕ))
     → IsWellFormedSource s
     → IsCompiledWith fences s p starts
     → IsWellFormedProgram p
 is_program_with fences s p starts ok compiled = laid_program s p starts ok (laid_out_with fences s p starts compiled)
 
 -- each outcome of a source test is one of what it is in x86 with any fences
-pub has_outcomes : (fences : List (List Bool)) (s : SourceTest) (p : ProgramTest) (starts : List (List ℕ)) (o : Final)
+pub has_outcomes : (fences : List (List Bool)) (s : SourceTest) (p : X86Test) (starts : List (List ℕ)) (o : FinalState)
     → IsWellFormedSource s
     → IsCompiledWith fences s p starts
     → SourceOutcome s o
-    → MachineOutcome flat p p.head.init_words o
+    → IsMachineOutcome flat_memory p p.head.init_words o
 has_outcomes fences s p starts o ok compiled run = (
-  schedule s.threads starts run.0 (start_of s),
+  compiled_schedule s.threads starts run.0 (initial_state s),
   laid_replays s p starts run.0 ok (laid_out_with fences s p starts compiled) run.1,
 )
 
 -- A well-formed x86 test has at least one outcome over flat memory.
-pub has_outcome : (p : ProgramTest) → IsWellFormedProgram p → (o : Final) × MachineOutcome flat p p.head.init_words o
+pub has_outcome : (p : X86Test) → IsWellFormedProgram p → (o : FinalState) × IsMachineOutcome flat_memory p p.head.init_words o
 has_outcome p ok =
     let e = program_ends p ok [] _ refl in (_, (e.more, record { end = e.end; ran = e.ran; final = e.final; is = refl }))

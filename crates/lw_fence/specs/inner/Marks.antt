@@ -1,12 +1,12 @@
 -- Used within the crate: the marks on the positions that a flow path reaches from a store that may still wait.
 use Rattle.std.specs.Prelude.{ℕ, ◌+◌, Bool, true, ◌&&◌, ◌||◌, if◌then◌else◌, Option, Some, None, List, slice_set}
 use Rattle.lw_litmus.specs.declared.operation.Operation.{Operation}
-use Rattle.lw_litmus.specs.Operations.{is_store, target_of, goes_on}
-use Rattle.lw_fence.specs.Fences.{lets_stores_wait}
+use Rattle.lw_litmus.specs.Operations.{is_store, branch_target, falls_through}
+use Rattle.lw_fence.specs.Fences.{preserves_pending_stores}
 
 -- whether a store may wait behind the operation, where one may before it
 abbrev pub may_wait : Operation → Bool → Bool
-may_wait o before = is_store o || (lets_stores_wait o && before)
+may_wait o before = is_store o || (preserves_pending_stores o && before)
 
 -- the marks, with this position marked too, if one is given and they reach so far
 abbrev pub with_mark : Option ℕ → List Bool → List Bool
@@ -14,5 +14,5 @@ with_mark None marks = marks
 with_mark (Some k) marks = slice_set marks k true
 
 -- the marks, with those of the successors of the operation at i set
-abbrev pub marked_behind : Operation → ℕ → List Bool → List Bool
-marked_behind o i marks = with_mark (if goes_on o then Some (i + 1) else None) (with_mark (target_of o) marks)
+abbrev pub mark_successors : Operation → ℕ → List Bool → List Bool
+mark_successors o i marks = with_mark (if falls_through o then Some (i + 1) else None) (with_mark (branch_target o) marks)

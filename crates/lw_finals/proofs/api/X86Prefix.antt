@@ -1,17 +1,18 @@
 -- What has been done, and which stores wait, after a part of an order of an x86 test's items that keeps the fixed pairs.
 use Rattle.lw_finals.proofs.Common.{◌≡◌, ℕ, suc, ◌<◌, ◌≤◌, Bool, true, false, true≢false, List, [], ◌∷◌}
 use Rattle.lw_finals.proofs.Common.{length, Some, refl, sym, ap, ap₂, ◌∙◌, subst, inl, inr, arith, slice_get}
-use Rattle.lw_finals.proofs.Common.{cases_lt, code_of, index_in, Before, IsLinearExtension, same_index, Instr}
-use Rattle.lw_finals.proofs.Common.{x86, IsForward, IsChoice, Item, item_at, items_of, statement_of}
-use Rattle.lw_finals.proofs.Common.{constraints_of, AreOrdered, kept, In, Has, item, slot, slot_less}
-use Rattle.lw_finals.proofs.Common.{store_slot, real, number_less, same_number, beside}
-use Rattle.lw_finals.proofs.api.Waiting.{DrainsOldest, Climbs, climbs_in, stored, waits_after, from_after}
-use Rattle.lw_finals.proofs.api.Waiting.{in_after, store_after}
+use Rattle.lw_finals.proofs.Common.{cases_lt, thread_code, index_in, Before, IsLinearExtension, same_index}
+use Rattle.lw_finals.proofs.Common.{Instr, x86_language, JumpsForward, IsPathAssignment, Item, item_at}
+use Rattle.lw_finals.proofs.Common.{items_of, statement_of, constraints_of, AreOrdered, kept, IsMember}
+use Rattle.lw_finals.proofs.Common.{HasItem, item, thread_rank, slot_less, store_slot, IsItemOnPath-of_member}
+use Rattle.lw_finals.proofs.Common.{number_less, same_number, beside}
+use Rattle.lw_finals.proofs.api.Waiting.{DrainsOldest, IsAscendingBetween, climbs_in, entry_location}
+use Rattle.lw_finals.proofs.api.Waiting.{waits_after, from_after, in_after, store_after}
 
-module _ (program : List (List Instr)) (forward : (t : ℕ) → IsForward x86 (code_of program t)) (paths : List (List ℕ))
-    (choice : IsChoice x86 program paths) where
+module _ (program : List (List Instr)) (forward : (t : ℕ) → JumpsForward x86_language (thread_code program t))
+    (paths : List (List ℕ)) (choice : IsPathAssignment x86_language program paths) where
   abbrev items : List Item
-  items = items_of x86 program paths
+  items = items_of x86_language program paths
 
   abbrev it : ℕ → Item
   it i = item_at items i
@@ -27,7 +28,7 @@ module _ (program : List (List Instr)) (forward : (t : ℕ) → IsForward x86 (c
 
   -- which stores wait once the first k items of an order are done
   pub record Waiting (order : List ℕ) (k : ℕ) (W : ℕ → List ℕ) : Type 0 where
-    pub coming : (t w : ℕ) → In w (W t) → Coming order k t w
+    pub coming : (t w : ℕ) → IsMember w (W t) → Coming order k t w
     pub waits : (s d : ℕ)
         → s < length items
         → d < length items
@@ -37,26 +38,27 @@ module _ (program : List (List Instr)) (forward : (t : ℕ) → IsForward x86 (c
         → (it d).is_drain ≡ true
         → index_in order s < k
         → k ≤ index_in order d
-        → In (it d).position (W (it d).thread)
+        → IsMember (it d).position (W (it d).thread)
 
   -- before the first item no store waits
   pub waiting_first : (order : List ℕ) → Waiting order 0 (λ t. [])
   waiting_first order = record { coming = λ t w h. absurd h; waits = λ s d ls ld c j f g lt ge. absurd (omega arith) }
 
-  module _ (order : List ℕ) (keeps : IsLinearExtension (constraints_of x86 program items) order) where
+  module _ (order : List ℕ) (keeps : IsLinearExtension (constraints_of x86_language program items) order) where
     -- the other item of a store: each drain has its store before it, and each store its drain behind it
     abbrev Partner : ℕ → Bool → Type 0
-    Partner i b = Has items (item (it i).thread (it i).position b)
+    Partner i b = HasItem items (item (it i).thread (it i).position b)
 
     stand_so : (i j : ℕ)
         → i < length items
         → j < length items
         → (it i).thread ≡ (it j).thread
-        → slot (it i) < slot (it j)
-        → AreOrdered x86 program (it i) (it j)
+        → thread_rank (it i) < thread_rank (it j)
+        → AreOrdered x86_language program (it i) (it j)
         → Before order i j
     stand_so i j li lj same less ordered =
-        kept x86 program paths order keeps.1 i j (number_less x86 program paths forward choice i j li same less) lj same ordered
+        kept x86_language program paths order keeps.1 i j (number_less x86_language program paths forward choice i j li same less)
+        lj same ordered
 
     pair_stands : (s d : ℕ)
         → s < length items
@@ -72,7 +74,7 @@ module _ (program : List (List Instr)) (forward : (t : ℕ) → IsForward x86 (c
 
     store_of : (d : ℕ) → d < length items → (it d).is_drain ≡ true → (s : Partner d false) × Before order s.0 d
     store_of d l f =
-        let s = beside x86 program paths forward choice d false l (λ e. absurd (true≢false (sym e))) in (
+        let s = beside x86_language program paths forward choice d false l (λ e. absurd (true≢false (sym e))) in (
           s,
           pair_stands s.0 d s.1 l (ap (λ (a : Item). a.thread) s.2) (ap (λ (a : Item). a.position) s.2)
               (ap (λ (a : Item). a.is_drain) s.2) f,
@@ -81,12 +83,12 @@ module _ (program : List (List Instr)) (forward : (t : ℕ) → IsForward x86 (c
     drain_of : (s x : ℕ)
         → s < length items
         → (it s).is_drain ≡ false
-        → stored x86 (statement_of x86 program (it s)) ≡ Some x
+        → entry_location x86_language (statement_of x86_language program (it s)) ≡ Some x
         → (d : Partner s true) × Before order s d.0
     drain_of s x l f e =
         let d : Partner s true =
-        beside x86 program paths forward choice s true l
-        (λ b. (x, sym (ap (stored x86) (real x86 program paths s l).at) ∙ e)) in (
+        beside x86_language program paths forward choice s true l
+        (λ b. (x, sym (ap (entry_location x86_language) (IsItemOnPath-of_member x86_language program paths s l).at) ∙ e)) in (
           d,
           pair_stands s d.0 l d.1 (ap (λ (a : Item). a.thread) (sym d.2)) (ap (λ (a : Item). a.position) (sym d.2)) f
               (ap (λ (a : Item). a.is_drain) d.2),
@@ -95,7 +97,7 @@ module _ (program : List (List Instr)) (forward : (t : ℕ) → IsForward x86 (c
     -- a drain's turn comes when its store is the oldest that waits
     pub oldest : (k high i : ℕ) (W : ℕ → List ℕ)
         → Waiting order k W
-        → Climbs 0 (W (it i).thread) high
+        → IsAscendingBetween 0 (W (it i).thread) high
         → i < length items
         → index_in order i ≡ k
         → DrainsOldest (it i).is_drain (it i).position (W (it i).thread)
@@ -106,9 +108,9 @@ module _ (program : List (List Instr)) (forward : (t : ℕ) → IsForward x86 (c
         (ap (λ (a : Item). a.is_drain) s.0.2) f (omega (arith, s.1, at)) (omega (arith, at)))
       where
         first : (ws : List ℕ)
-            → Climbs 0 ws high
-            → ((v : ℕ) → In v ws → Coming order k (it i).thread v)
-            → In (it i).position ws
+            → IsAscendingBetween 0 ws high
+            → ((v : ℕ) → IsMember v ws → Coming order k (it i).thread v)
+            → IsMember (it i).position ws
             → (rest : List ℕ) × (ws ≡ (it i).position ∷ rest)
         first [] climbs coming h = absurd h
         first (v ∷ ws) climbs coming (inl e) = (ws, ap (λ x. x ∷ ws) e)
@@ -130,12 +132,12 @@ module _ (program : List (List Instr)) (forward : (t : ℕ) → IsForward x86 (c
     -- one item more
     pub waiting_next : (k high i : ℕ) (W : ℕ → List ℕ)
         → Waiting order k W
-        → Climbs 0 (W (it i).thread) high
+        → IsAscendingBetween 0 (W (it i).thread) high
         → i < length items
         → index_in order i ≡ k
-        → Waiting order (suc k) (waits_after x86 program (it i) W)
+        → Waiting order (suc k) (waits_after x86_language program (it i) W)
     waiting_next k high i W w climbs lt at = record {
-      coming = λ t v h. elim (from_after x86 program W (it i) high climbs head t v h) [
+      coming = λ t v h. elim (from_after x86_language program W (it i) high climbs head t v h) [
         | inl (g, ne) ↦
             (let c : Coming order k t v = w.coming t v g in
             still t v c (λ e.
@@ -156,13 +158,14 @@ module _ (program : List (List Instr)) (forward : (t : ℕ) → IsForward x86 (c
         | inl l ↦ keep d ld g later (w.waits s d ls ld c j f g l (omega arith))
         | inr ge ↦
             (let e : i ≡ s = same_item i s lt (omega arith) in
-            let r = real x86 program paths d ld in
+            let r = IsItemOnPath-of_member x86_language program paths d ld in
             let thread : (it i).thread ≡ (it d).thread = ap (λ n. (it n).thread) e ∙ c in
             let position : (it i).position ≡ (it d).position = ap (λ n. (it n).position) e ∙ j in
-            let there : stored x86 (statement_of x86 program (it i)) ≡ Some (r.store g).0 =
-            ap₂ (λ t n. stored x86 (slice_get (code_of program t) n)) thread position ∙ (ap (stored x86) r.at ∙ (r.store g).1) in
-            subst (λ v. In v (waits_after x86 program (it i) W (it d).thread)) position
-            (store_after x86 program W (it i) high climbs head (it d).thread (r.store g).0 thread
+            let there : entry_location x86_language (statement_of x86_language program (it i)) ≡ Some (r.store g).0 =
+            ap₂ (λ t n. entry_location x86_language (slice_get (thread_code program t) n)) thread position
+            ∙ (ap (entry_location x86_language) r.at ∙ (r.store g).1) in
+            subst (λ v. IsMember v (waits_after x86_language program (it i) W (it d).thread)) position
+            (store_after x86_language program W (it i) high climbs head (it d).thread (r.store g).0 thread
             (ap (λ n. (it n).is_drain) e ∙ f) there))
       ];
     }
@@ -187,9 +190,9 @@ module _ (program : List (List Instr)) (forward : (t : ℕ) → IsForward x86 (c
             → d < length items
             → (it d).is_drain ≡ true
             → suc k ≤ index_in order d
-            → In (it d).position (W (it d).thread)
-            → In (it d).position (waits_after x86 program (it i) W (it d).thread)
-        keep d ld g later h = in_after x86 program W (it i) high climbs head (it d).thread (it d).position h (λ same f e.
-            (let n = same_number x86 _ _ forward choice d i ld lt (sym same) e (g ∙ sym f) in
+            → IsMember (it d).position (W (it d).thread)
+            → IsMember (it d).position (waits_after x86_language program (it i) W (it d).thread)
+        keep d ld g later h = in_after x86_language program W (it i) high climbs head (it d).thread (it d).position h (λ same f e.
+            (let n = same_number x86_language _ _ forward choice d i ld lt (sym same) e (g ∙ sym f) in
             let p = ap (index_in order) n in
             absurd (omega (arith, p, later, at))))

@@ -10,14 +10,14 @@ abbrev Part : Type 0
 Part = (ℕ × (ℕ × ℕ)) ⊎ ((ℕ × ℕ) ⊎ (Bool ⊎ Option Bool))
 
 -- the list of a proposition's parts, with others behind them
-abbrev pub written : Formula → List Part → List Part
-written Yes rest = inr (inr (inl true)) ∷ rest
-written No rest = inr (inr (inl false)) ∷ rest
-written (Reg_is cpu reg word) rest = inl (cpu, (reg, word)) ∷ rest
-written (Word_is loc word) rest = inr (inl (loc, word)) ∷ rest
-written (Not p) rest = written p (inr (inr (inr None)) ∷ rest)
-written (And p q) rest = written p (written q (inr (inr (inr (Some true))) ∷ rest))
-written (Or p q) rest = written p (written q (inr (inr (inr (Some false))) ∷ rest))
+abbrev pub serialize : Formula → List Part → List Part
+serialize Yes rest = inr (inr (inl true)) ∷ rest
+serialize No rest = inr (inr (inl false)) ∷ rest
+serialize (Reg_is cpu reg word) rest = inl (cpu, (reg, word)) ∷ rest
+serialize (Word_is loc word) rest = inr (inl (loc, word)) ∷ rest
+serialize (Not p) rest = serialize p (inr (inr (inr None)) ∷ rest)
+serialize (And p q) rest = serialize p (serialize q (inr (inr (inr (Some true))) ∷ rest))
+serialize (Or p q) rest = serialize p (serialize q (inr (inr (inr (Some false))) ∷ rest))
 
 -- the propositions that are read so far, the last one negated
 abbrev negated : List Formula → List Formula
@@ -40,19 +40,19 @@ with_part (inr (inr (inr None))) ps = negated ps
 with_part (inr (inr (inr (Some b)))) ps = connected b ps
 
 -- the propositions that parts give, read on from those before them, the last one first
-abbrev pub read_parts : List Part → List Formula → List Formula
-read_parts [] ps = ps
-read_parts (part ∷ parts) ps = read_parts parts (with_part part ps)
+abbrev pub deserialize : List Part → List Formula → List Formula
+deserialize [] ps = ps
+deserialize (part ∷ parts) ps = deserialize parts (with_part part ps)
 
 -- what a proposition's parts give is the proposition, before those that were read before
-pub read_written : (p : Formula) (rest : List Part) (ps : List Formula) → read_parts (written p rest) ps ≡ read_parts rest (p ∷ ps)
+pub read_written : (p : Formula) (rest : List Part) (ps : List Formula) → deserialize (serialize p rest) ps ≡ deserialize rest (p ∷ ps)
 read_written (Not p) rest ps = read_written p (inr (inr (inr None)) ∷ rest) ps
 read_written (And p q) rest ps =
     let last : List Part = inr (inr (inr (Some true))) ∷ rest in
-    read_written p (written q last) ps ∙ read_written q last (p ∷ ps)
+    read_written p (serialize q last) ps ∙ read_written q last (p ∷ ps)
 read_written (Or p q) rest ps =
     let last : List Part = inr (inr (inr (Some false))) ∷ rest in
-    read_written p (written q last) ps ∙ read_written q last (p ∷ ps)
+    read_written p (serialize q last) ps ∙ read_written q last (p ∷ ps)
 read_written _ rest ps = refl
 
 -- the proposition that was read last
@@ -65,4 +65,4 @@ abbrev pub formula_code : Coded Formula
 formula_code =
     code_by (List Part) (coded_list (coded⊎ (coded× coded_ℕ (coded× coded_ℕ coded_ℕ))
     (coded⊎ (coded× coded_ℕ coded_ℕ) (coded⊎ coded_bool (coded_option coded_bool)))))
-    (λ p. written p []) (λ parts. the_first (read_parts parts [])) (λ p. ap the_first (read_written p [] []))
+    (λ p. serialize p []) (λ parts. the_first (deserialize parts [])) (λ p. ap the_first (read_written p [] []))

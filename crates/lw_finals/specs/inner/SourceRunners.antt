@@ -2,18 +2,18 @@
 -- compiled to.
 use Rattle.std.specs.Prelude.{ℕ, ◌<◌, List, length, map, slice_get}
 use Rattle.std.specs.List.{flat_map}
-use Rattle.lw_base.specs.Threads.{code_of}
+use Rattle.lw_base.specs.Threads.{thread_code}
 use Rattle.lw_base.specs.declared.event.Event.{Event}
-use Rattle.lw_litmus.specs.Tests.{SourceTest, ProgramTest}
+use Rattle.lw_litmus.specs.Tests.{SourceTest, X86Test}
 use Rattle.lw_fence.specs.Schedules.{statement_events}
 use Rattle.lw_litmus.specs.declared.stmt.Stmt.{Stmt}
-use Rattle.lw_choices.specs.declared.item.Item.{Item}
-use Rattle.lw_choices.specs.Items.{item_at}
+use Rattle.lw_paths.specs.declared.item.Item.{Item}
+use Rattle.lw_paths.specs.Items.{item_at}
 
 -- a source test, the program that it is compiled to, and where its statements start
 pub record CompiledSource : Type 0 where
   pub source : SourceTest
-  pub program : ProgramTest
+  pub program : X86Test
   pub starts : List (List ℕ)
 
 -- the threads of an order's items
@@ -21,13 +21,13 @@ abbrev pub threads_of : List Item → List ℕ → List ℕ
 threads_of items order = map (λ i. (item_at items i).thread) order
 
 -- an item's thread has a statement where the item is
-abbrev pub IsThere : List (List Stmt) → Item → Type 0
-IsThere program item = item.position < length (code_of program item.thread)
+abbrev pub HasStatementAt : List (List Stmt) → Item → Type 0
+HasStatementAt program item = item.position < length (thread_code program item.thread)
 
 -- the events of an item's statement
 abbrev pub events_at : List (List Stmt) → List (List ℕ) → Item → List Event
 events_at program starts item =
-    statement_events item.thread (code_of starts item.thread) item.position (slice_get (code_of program item.thread) item.position)
+    statement_events item.thread (thread_code starts item.thread) item.position (slice_get (thread_code program item.thread) item.position)
 
 -- the events of an order's items, one after another
 abbrev pub item_events : List (List Stmt) → List (List ℕ) → List Item → List ℕ → List Event

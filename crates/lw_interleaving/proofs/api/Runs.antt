@@ -5,13 +5,14 @@ use Rattle.lw_interleaving.proofs.Common.{MatchResult, length-set, take-suc, All
 use Rattle.lw_interleaving.proofs.Common.{Option, Some, None, Bool, true, false, if◌then◌else◌, nat_lt}
 use Rattle.lw_interleaving.proofs.Common.{lt-ltb, append_assoc, length-take-le, take_all, option_map, Stop}
 use Rattle.lw_interleaving.proofs.Common.{End, Step, Drain, Evict, NoCpu, NoLocation, Ended, BufferEmpty}
-use Rattle.lw_interleaving.proofs.Common.{NotHeld, Operation, Change, changed_at, location_of, change_of}
-use Rattle.lw_interleaving.proofs.Common.{Thread, IsStatement, IsThread, source, source_operation, code_of}
-use Rattle.lw_interleaving.proofs.Common.{thread_after, words_after, Event, Stmt, Final, EndsAs, State}
-use Rattle.lw_interleaving.proofs.Common.{SourceRunState, SourceEventDone, SourceReplayed, SourceRan}
-use Rattle.lw_interleaving.proofs.Common.{is_source_final, outcome_of, source_step, source_event, carried_out}
-use Rattle.lw_interleaving.proofs.Common.{step_of, drop_more, length-map, map-append, map_more, set_at}
-use Rattle.lw_interleaving.proofs.Common.{slice_get-map, slice_get_within, at_index}
+use Rattle.lw_interleaving.proofs.Common.{NotHeld, Operation, Change, apply_change_if_some, location_of}
+use Rattle.lw_interleaving.proofs.Common.{written_change, Thread, IsWellFormedStatement, IsWellFormedThread}
+use Rattle.lw_interleaving.proofs.Common.{source_language, source_operation, thread_code, thread_after}
+use Rattle.lw_interleaving.proofs.Common.{words_after, Event, Stmt, FinalState, HasReplayEnd, State}
+use Rattle.lw_interleaving.proofs.Common.{SourceRunState, SourceTransition, IsSourceReplay, SourceRunsTo}
+use Rattle.lw_interleaving.proofs.Common.{is_source_final, source_outcome, source_step, source_event_result}
+use Rattle.lw_interleaving.proofs.Common.{state_after_step, thread_step, drop_more, length-map, map-append}
+use Rattle.lw_interleaving.proofs.Common.{map_more, set_at, slice_get-map, slice_get_within, at_index}
 use Rattle.lw_base.specs.declared.stop.End.TheVariants as at
 
 -- A call for an event answered so and left the state `end`, where r is what the event gives: its state, or a refusal, and then Q.
@@ -45,39 +46,39 @@ pub record MeetsRefusal (Q : Type 0) (program : List (List Stmt)) (events : List
   pub answer : Result (Unit {0}) Stop
   pub within : done < length events
   pub is_event : e ≡ get_or events done e
-  pub ran : SourceRan program (take done events) s mid
-  pub told : Told Q (source_event program e mid) answer end
+  pub ran : SourceRunsTo program (take done events) s mid
+  pub told : Told Q (source_event_result program e mid) answer end
   pub failed : answer ≡ Err stop
   pub kept : Q → end ≡ mid
 
 -- a replay whose next event is refused stops there
 pub stopped : (Q : Type 0) (program : List (List Stmt)) (events : List Event) (s : State) (done : ℕ) (stop : Stop) (end : State)
     → MeetsRefusal Q program events s done stop end
-    → SourceReplayed program events s (record { done = done; end = at.Stopped stop }) end
+    → IsSourceReplay program events s (record { done = done; end = at.Stopped stop }) end
 stopped Q program events s done stop end meets =
     let e = meets.e in
-    let (is_refused, left) = refusal Q (source_event program e meets.mid) meets.answer stop end meets.told meets.failed in
+    let (is_refused, left) = refusal Q (source_event_result program e meets.mid) meets.answer stop end meets.told meets.failed in
     let same = sym (meets.kept left) in
     record {
       within = omega (arith, meets.within);
-      ran = subst (λ (m : State). SourceRan program (take done events) s m) same meets.ran;
+      ran = subst (λ (m : State). SourceRunsTo program (take done events) s m) same meets.ran;
       ends = (
         e,
         at_index events done e meets.within ∙ ap Some (sym meets.is_event),
-        (subst (λ (m : State). source_event program e m ≡ Err stop) same is_refused, refl),
+        (subst (λ (m : State). source_event_result program e m ≡ Err stop) same is_refused, refl),
       );
     }
 
 -- a replay that carries out all events has replayed them, and ends as its last state does
 pub replayed_all : (program : List (List Stmt)) (events : List Event) (k : ℕ) (s last : State) (end : End)
     → length events ≤ k
-    → SourceRan program (take k events) s last
-    → EndsAs (SourceEventDone program) (is_source_final program) events (length events) last end
-    → SourceReplayed program events s (record { done = length events; end = end }) last
+    → SourceRunsTo program (take k events) s last
+    → HasReplayEnd (SourceTransition program) (is_source_final program) events (length events) last end
+    → IsSourceReplay program events s (record { done = length events; end = end }) last
 replayed_all program events k s last end done ran ends = record {
   within = omega arith;
   ran =
-      subst (λ (es : List Event). SourceRan program es s last)
+      subst (λ (es : List Event). SourceRunsTo program es s last)
       (take_all k events done ∙ sym (take_all (length events) events (omega arith))) ran;
   ends = ends;
 }
@@ -91,13 +92,14 @@ pub drained : (Q : Type 0) (answer : Result (Unit {0}) Stop) (s : State) (t n : 
 drained Q answer s t n within failed same = rw (lt-ltb t n within) (failed, same)
 
 -- a change at a location leaves as many words, whether one is made or not
-pub changed_length : (x : Option ℕ) (change : Option Change) (words : List ℕ) → length (changed_at x change words) ≡ length words
+pub changed_length : (x : Option ℕ) (change : Option Change) (words : List ℕ)
+    → length (apply_change_if_some x change words) ≡ length words
 changed_length (Some x) (Some change) words = length-set words x _
 changed_length _ _ words = refl
 
 -- an operation keeps the number of words
 pub words_kept : (o : Operation) (th : Thread) (words : List ℕ) → length (words_after o th words) ≡ length words
-words_kept o th words = changed_length (location_of o) (change_of o th.regs) words
+words_kept o th words = changed_length (location_of o) (written_change o th.regs) words
 
 -- as many threads, and as many words
 abbrev pub SameSize : State → State → Type 0
@@ -109,10 +111,12 @@ refused true x y mid e = absurd cc
 refused false x y mid e = absurd cc
 
 -- an event keeps the number of threads and the number of words
-pub event_kept : (program : List (List Stmt)) (e : Event) (s mid : State) → source_event program e s ≡ Ok mid → SameSize s mid
+pub event_kept : (program : List (List Stmt)) (e : Event) (s mid : State)
+    → source_event_result program e s ≡ Ok mid
+    → SameSize s mid
 event_kept program (Step t) s mid e = go (slice_get s.threads t) e
   where
-    carried : (th : Thread) (stmt : Option Stmt) → carried_out t th s stmt ≡ Ok mid → SameSize s mid
+    carried : (th : Thread) (stmt : Option Stmt) → state_after_step t th s stmt ≡ Ok mid → SameSize s mid
     carried th None e = absurd cc
     carried th (Some stmt) e =
         let o : Operation = source_operation stmt in
@@ -121,9 +125,9 @@ event_kept program (Step t) s mid e = go (slice_get s.threads t) e
         let kept : SameSize s next = (length-set s.threads t _, words_kept o th s.words) in
         subst (SameSize s) (let same : next ≡ mid = cc in same) kept
 
-    go : (th : Option Thread) → step_of program t s th ≡ Ok mid → SameSize s mid
+    go : (th : Option Thread) → thread_step program t s th ≡ Ok mid → SameSize s mid
     go None e = absurd cc
-    go (Some th) e = carried th (slice_get (code_of program t) th.position) e
+    go (Some th) e = carried th (slice_get (thread_code program t) th.position) e
 event_kept program (Drain t) s mid e = absurd (refused (nat_lt t (length s.threads)) BufferEmpty NoCpu mid e)
 event_kept program (Evict t x) s mid e = go (nat_lt t (length s.threads)) e
   where
@@ -163,7 +167,7 @@ mapped_on {ys} f i d same within so_far pushed =
 the_code : (program : List (List Stmt)) (t : ℕ) (code : List Stmt)
     → t < length program
     → code ≡ get_or program t code
-    → code_of program t ≡ code
+    → thread_code program t ≡ code
 the_code program t code within is =
     let e = at_index program t code within in
     let f = at_index program t [] within in
@@ -181,15 +185,17 @@ pub next_statement : {words locs : ℕ} {program : List (List Stmt)} {code : Lis
     → IsAtCode threads program t th code
     → Some stmt ≡ slice_get code th.position
     → words ≡ locs
-    → All (IsThread source locs) program
-    → IsStatement source words stmt × (th.position + 1 < 2 ^ 64)
+    → All (IsWellFormedThread source_language locs) program
+    → IsWellFormedStatement source_language words stmt × (th.position + 1 < 2 ^ 64)
 next_statement {locs} {code} {stmt} threads t th at is_stmt same whole =
     let there = slice_get_within threads t th (sym at.is_thread) in
-    let here = subst (IsThread source locs) (sym at.is_code) (whole t code (omega (arith, there, at.many))) in
+    let here = subst (IsWellFormedThread source_language locs) (sym at.is_code) (whole t code (omega (arith, there, at.many))) in
     let inside = slice_get_within code th.position stmt (sym is_stmt) in
     let found = at_index code th.position stmt inside in
-    let this : get_or code th.position stmt ≡ stmt = cc in
-    (rw same (subst (IsStatement source locs) this (here.there th.position stmt inside)), omega (arith, inside, here.short))
+    let this : get_or code th.position stmt ≡ stmt = cc in (
+      rw same (subst (IsWellFormedStatement source_language locs) this (here.there th.position stmt inside)),
+      omega (arith, inside, here.short),
+    )
 
 -- states with the same threads and the same memory are one
 pub made : (a b : List Thread) (u v : List ℕ)
@@ -201,7 +207,7 @@ made a b u v e f = rw (e, f) refl
 -- the code of a thread that is at its code is the program's
 code_at : (threads : List Thread) (program : List (List Stmt)) (t : ℕ) (th : Thread) (code : List Stmt)
     → IsAtCode threads program t th code
-    → code_of program t ≡ code
+    → thread_code program t ≡ code
 code_at threads program t th code at =
     the_code program t code (omega (arith, slice_get_within threads t th (sym at.is_thread), at.many)) at.is_code
 
@@ -264,7 +270,7 @@ mapped_all {xs} f i same end so_far = so_far ∙ ap (map f) (take_all i xs (omeg
 pub outcome_is : (regs : List (List ℕ)) (words : List ℕ) (s : State)
     → regs ≡ map (λ t. t.regs) s.threads
     → words ≡ s.words
-    → (let o : Final = record { regs = regs; words = words } in o) ≡ outcome_of s
+    → (let o : FinalState = record { regs = regs; words = words } in o) ≡ source_outcome s
 outcome_is regs words s listed same = rw (listed, same) refl
 
 -- one image more is written, at index i: then the first i + 1 items of the list are images, and behind them stand the old ones

@@ -1,10 +1,10 @@
 -- What one answer about an operation says of another. A catch-all row stands for the locked operations, or for those that write.
-use Rattle.lw_litmus.proofs.Common.{◌≡◌, ℕ, true, false, true≢false, List, Some, None, refl, sym, change_of}
-use Rattle.lw_litmus.proofs.Common.{is_locked, is_store, location_of, writes, Operation, Set, Sum, Compare}
-use Rattle.lw_litmus.proofs.Common.{Store, Load, Fence, Branch}
+use Rattle.lw_litmus.proofs.Common.{◌≡◌, ℕ, true, false, true≢false, List, Some, None, refl, sym}
+use Rattle.lw_litmus.proofs.Common.{written_change, is_locked, is_store, location_of, writes, Operation, Set}
+use Rattle.lw_litmus.proofs.Common.{Sum, Compare, Store, Load, Fence, Branch}
 
 -- an operation that does not write makes no change of a word
-pub no_change : (o : Operation) (regs : List ℕ) → writes o ≡ false → change_of o regs ≡ None
+pub no_change : (o : Operation) (regs : List ℕ) → writes o ≡ false → written_change o regs ≡ None
 no_change (Set d v) regs e = refl
 no_change (Sum d a v) regs e = refl
 no_change (Compare a v) regs e = refl

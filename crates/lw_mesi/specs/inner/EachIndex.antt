@@ -9,12 +9,12 @@ abbrev pub at_each : {A : Type 0} → (ℕ → A) → List A
 at_each f = map f (range_with_len 0 most_threads)
 
 -- The set of processors that the bits of a number are: of each, whether its bit is 1.
-abbrev pub members_of : ℕ → List Bool
-members_of bits = at_each (λ t. bit_at bits t == 1)
+abbrev pub cpu_set_of_bits : ℕ → List Bool
+cpu_set_of_bits bits = at_each (λ t. bit_at bits t == 1)
 
 -- The set without processors.
-abbrev pub nobody : List Bool
-nobody = at_each (λ t. false)
+abbrev pub empty_cpu_set : List Bool
+empty_cpu_set = at_each (λ t. false)
 
 -- Whether the owner, if there is one, is this processor.
 abbrev pub is_owner : Option ℕ → ℕ → Bool

@@ -2,7 +2,7 @@
 use Rattle.std.specs.Prelude.{◌≡◌, ℕ, ◌<◌, Some, None, Bool, true, false, if◌then◌else◌, slice_index_or, length}
 use Rattle.lw_base.specs.Limits.{most_threads}
 use Rattle.lw_mesi.specs.declared.cache_line.PackedCacheLine.TheInside.{Inside}
-use Rattle.lw_mesi.specs.inner.EachIndex.{at_each, nobody, is_owner}
+use Rattle.lw_mesi.specs.inner.EachIndex.{at_each, empty_cpu_set, is_owner}
 use Rattle.lw_mesi.specs.CacheLines.{Copy, Modified, Owned, Exclusive, Shared, Invalid, CacheLine}
 
 -- The owner's copy, by whether it is dirty, and whether it is then in O.
@@ -30,7 +30,7 @@ pub record IsPacked (p : Inside) : Type 0 where
   -- an owner is one of the processors and no sharer, and has sharers beside it only in O
   pub in_range : (o : ℕ) → p.owner ≡ Some o → o < most_threads
   pub apart : (o : ℕ) → p.owner ≡ Some o → slice_index_or p.sharers o false ≡ false
-  pub alone : (o : ℕ) → p.owner ≡ Some o → p.is_owned ≡ false → p.sharers ≡ nobody
+  pub alone : (o : ℕ) → p.owner ≡ Some o → p.is_owned ≡ false → p.sharers ≡ empty_cpu_set
   -- only an owner is dirty, and only what is dirty is in O
   pub unowned : p.owner ≡ None → p.is_dirty ≡ false
   pub owned : p.is_dirty ≡ false → p.is_owned ≡ false

@@ -5,13 +5,13 @@ use Rattle.std.proofs.Common.{length-set}
 use Rattle.std.proofs.lemmas.List.{length-map}
 use Rattle.lw_base.specs.Limits.{most_threads}
 use Rattle.lw_memory.specs.Memory.{is_held}
-use Rattle.lw_mesi.specs.CacheLines.{Copy, Modified, Invalid, CacheLine, copy_of, letter_of, copy_word, dirty_or, content_of}
+use Rattle.lw_mesi.specs.CacheLines.{Copy, Modified, Invalid, CacheLine, copy_of, copy_state, copy_word, dirty_word_or, coherent_word}
 use Rattle.lw_mesi.specs.Coherence.{IsOnlyCopy, IsDirty, IsCoherentCacheLine}
-use Rattle.lw_mesi.specs.Snooping.{ProtocolTable, any_held, copy_from, get_m, cache_line_to_read, cache_line_to_write, cache_line_with_word, cache_line_evicted}
-use Rattle.lw_mesi.specs.laws.Coherent.{copy_in, at_index, put_here, put_there, copy_map, clean, dirty, put_clean, NobodyElse, no_word, one_word, single, After}
+use Rattle.lw_mesi.specs.Snooping.{ProtocolTable, is_held_anywhere, copy_from, get_m, cache_line_to_read, cache_line_to_write, cache_line_with_word, cache_line_evicted}
+use Rattle.lw_mesi.specs.laws.Coherent.{copy_in, at_index, put_here, put_there, copy_map, clean, dirty, put_clean, HasNoOtherCopy, no_word, one_word, single, LineAfterRequest}
 
 -- Where the cache line is held nowhere, each copy is invalid.
-pub none_held : (copies : List Copy) → any_held copies ≡ false → (t : ℕ) → copy_in copies t ≡ Invalid
+pub none_held : (copies : List Copy) → is_held_anywhere copies ≡ false → (t : ℕ) → copy_in copies t ≡ Invalid
 none_held [] h t = refl
 none_held (Invalid ∷ copies) h zero = refl
 none_held (Invalid ∷ copies) h (suc t) = none_held copies h t
@@ -38,8 +38,8 @@ module _ (t : ℕ) (line : CacheLine) (lt : t < most_threads) (sound : IsCoheren
   -- What a write finds: the processor alone has a copy, which holds the content.
   pub record ToWrite (l : CacheLine) : Type 0 where
     pub as_many : length l.copies ≡ most_threads
-    pub word : copy_word (copy_of l t) ≡ Some (content_of line)
-    pub others : NobodyElse l t
+    pub word : copy_word (copy_of l t) ≡ Some (coherent_word line)
+    pub others : HasNoOtherCopy l t
 
   -- Where processor t has a copy in M or E, a write hits: that is the only copy, and has the content.
   pub hit_to_write : (c : Copy) (w : ℕ) → copy_of line t ≡ c → copy_word c ≡ Some w → IsOnlyCopy c → ToWrite line
@@ -55,18 +55,18 @@ module _ (t : ℕ) (line : CacheLine) (lt : t < most_threads) (sound : IsCoheren
       let gone : List Copy = map (λ c. Invalid) line.copies in
       let long : length gone ≡ most_threads = length-map line.copies (λ c. Invalid) ∙ sound.as_many in
       record {
-        as_many = length-set gone t (Modified (content_of line)) ∙ long;
-        word = ap copy_word (put_here gone t (Modified (content_of line)) (omega (arith, long)));
-        others = λ u ne. put_there gone t (Modified (content_of line)) u ne ∙ copy_map (λ c. Invalid) line.copies u refl;
+        as_many = length-set gone t (Modified (coherent_word line)) ∙ long;
+        word = ap copy_word (put_here gone t (Modified (coherent_word line)) (omega (arith, long)));
+        others = λ u ne. put_there gone t (Modified (coherent_word line)) u ne ∙ copy_map (λ c. Invalid) line.copies u refl;
       }
 
   -- A write, where the processor alone has a copy, leaves a coherent cache line whose content is the word.
-  pub written : (w : ℕ) (l : CacheLine) → ToWrite l → After w (cache_line_with_word t w l)
+  pub written : (w : ℕ) (l : CacheLine) → ToWrite l → LineAfterRequest w (cache_line_with_word t w l)
   written w l h =
       let copies : List Copy = set l.copies t (Modified w) in
       let here : copy_in copies t ≡ Modified w = put_here l.copies t (Modified w) (omega (arith, h.as_many)) in
       let others : (u : ℕ) → t ≢ u → copy_in copies u ≡ Invalid = λ u ne. put_there l.copies t (Modified w) u ne ∙ h.others u ne in
-      let d : dirty_or l.memory copies ≡ w =
+      let d : dirty_word_or l.memory copies ≡ w =
       dirty l.memory w copies t (subst IsDirty (sym here) tt) (ap copy_word here) (λ u ne x. subst IsDirty (others u ne) x) in
       record {
         content = d;
@@ -76,8 +76,8 @@ module _ (t : ℕ) (line : CacheLine) (lt : t < most_threads) (sound : IsCoheren
 
   -- What a load leaves: the content, and a copy that holds it.
   pub record Loaded (l : CacheLine) : Type 0 where
-    pub after : After (content_of line) l
-    pub word : copy_word (copy_of l t) ≡ Some (content_of line)
+    pub after : LineAfterRequest (coherent_word line) l
+    pub word : copy_word (copy_of l t) ≡ Some (coherent_word line)
 
   -- A load that hits leaves the cache line as it is, and finds the content.
   pub hit_loaded : (c : Copy) (w : ℕ) → copy_of line t ≡ c → copy_word c ≡ Some w → Loaded line
@@ -92,10 +92,10 @@ module _ (t : ℕ) (line : CacheLine) (lt : t < most_threads) (sound : IsCoheren
     long : length copies ≡ most_threads
     others : (u : ℕ) → copy_in copies u ≡ f (copy_of line u)
     -- the content is the same
-    content : dirty_or m (set copies t c) ≡ content_of line
+    content : dirty_word_or m (set copies t c) ≡ coherent_word line
     -- the own copy is not dirty, and a word that it holds is the content
     clean : IsDirty c → ⊥
-    own : (w : ℕ) → copy_word c ≡ Some w → w ≡ content_of line
+    own : (w : ℕ) → copy_word c ≡ Some w → w ≡ coherent_word line
     -- the others hold the words that they held, and none became dirty
     word : (u : ℕ) → copy_word (f (copy_of line u)) ≡ copy_word (copy_of line u)
     dirty : (u : ℕ) → IsDirty (f (copy_of line u)) → IsDirty (copy_of line u)
@@ -106,7 +106,7 @@ module _ (t : ℕ) (line : CacheLine) (lt : t < most_threads) (sound : IsCoheren
   -- Such a cache line is coherent too, with the same content.
   changed : (f : Copy → Copy) (c : Copy) (copies : List Copy) (m : ℕ)
       → Changes f c copies m
-      → After (content_of line) (record { copies = set copies t c; memory = m })
+      → LineAfterRequest (coherent_word line) (record { copies = set copies t c; memory = m })
   changed f c copies m h =
       let l : CacheLine = record { copies = set copies t c; memory = m } in
       let here : copy_of l t ≡ c = put_here copies t c (let long = h.long in omega (arith, long)) in
@@ -125,7 +125,7 @@ module _ (t : ℕ) (line : CacheLine) (lt : t < most_threads) (sound : IsCoheren
               (λ a na. at_index t (λ u. IsDirty (copy_of l a) → IsDirty (copy_of l u) → a ≡ u)
               (λ d e. absurd (h.clean (subst IsDirty here e)))
               (λ u nu d e. sound.one_dirty a u (h.dirty a (subst IsDirty (there a na) d)) (h.dirty u (subst IsDirty (there u nu) e))));
-          same_word = at_index t (λ u. (w : ℕ) → copy_word (copy_of l u) ≡ Some w → w ≡ content_of l)
+          same_word = at_index t (λ u. (w : ℕ) → copy_word (copy_of l u) ≡ Some w → w ≡ coherent_word l)
               (λ w e. h.own w (sym (ap copy_word here) ∙ e) ∙ sym h.content)
               (λ u ne w e. sound.same_word u w (sym (ap copy_word (there u ne) ∙ h.word u) ∙ e) ∙ sym h.content);
         };
@@ -134,11 +134,11 @@ module _ (t : ℕ) (line : CacheLine) (lt : t < most_threads) (sound : IsCoheren
   -- A load by a GetS, which makes of the other copies what f says, and puts m into memory, leaves the content, and a copy with
   -- it.
   pub get_s_loaded : (f : Copy → Copy) (m : ℕ)
-      → SharesOthers f line → dirty_or m (map f line.copies) ≡ content_of line → copy_of line t ≡ Invalid
-      → (b : Bool) → (b ≡ false → any_held line.copies ≡ false)
-      → Loaded (record { copies = set (map f line.copies) t (copy_from b (content_of line)); memory = m })
+      → SharesOthers f line → dirty_word_or m (map f line.copies) ≡ coherent_word line → copy_of line t ≡ Invalid
+      → (b : Bool) → (b ≡ false → is_held_anywhere line.copies ≡ false)
+      → Loaded (record { copies = set (map f line.copies) t (copy_from b (coherent_word line)); memory = m })
   get_s_loaded f m shared same mine b held =
-      let v : ℕ = content_of line in
+      let v : ℕ = coherent_word line in
       let are : (u : ℕ) → copy_in (map f line.copies) u ≡ f (copy_of line u) = λ u. copy_map f line.copies u shared.invalid in
       let long : length (map f line.copies) ≡ most_threads = length-map line.copies f ∙ sound.as_many in
       let old_clean : IsDirty (copy_in (map f line.copies) t) → ⊥ = λ d. subst IsDirty (are t ∙ ap f mine ∙ shared.invalid) d in
@@ -159,20 +159,20 @@ module _ (t : ℕ) (line : CacheLine) (lt : t < most_threads) (sound : IsCoheren
       }
     where
       -- where the requestor is in E nobody else has a copy
-      nobody : (b : Bool) → (b ≡ false → any_held line.copies ≡ false) → IsOnlyCopy (copy_from b (content_of line)) → (u : ℕ) → f (copy_of line u) ≡ Invalid
+      nobody : (b : Bool) → (b ≡ false → is_held_anywhere line.copies ≡ false) → IsOnlyCopy (copy_from b (coherent_word line)) → (u : ℕ) → f (copy_of line u) ≡ Invalid
       nobody true e own u = absurd own
       nobody false e own u = ap f (none_held line.copies (e refl) u) ∙ shared.invalid
 
   -- Without the own copy, where the content is the same, the cache line is coherent too.
   without_own : (m : ℕ)
-      → dirty_or m (set line.copies t Invalid) ≡ content_of line → After (content_of line) (record { copies = set line.copies t Invalid; memory = m })
+      → dirty_word_or m (set line.copies t Invalid) ≡ coherent_word line → LineAfterRequest (coherent_word line) (record { copies = set line.copies t Invalid; memory = m })
   without_own m content = changed (λ c. c) Invalid line.copies m (record {
     invalid = refl;
     long = sound.as_many;
     others = λ u. refl;
     content = content;
     clean = λ d. d;
-    own = λ w h. no_word Invalid w (content_of line) refl h;
+    own = λ w h. no_word Invalid w (coherent_word line) refl h;
     word = λ u. refl;
     dirty = λ u d. d;
     alone = λ only. absurd only;
@@ -181,7 +181,7 @@ module _ (t : ℕ) (line : CacheLine) (lt : t < most_threads) (sound : IsCoheren
 
   -- An eviction of a dirty copy, whose word goes to memory, leaves a coherent cache line with the same content.
   pub written_back : (c : Copy) (w : ℕ) → copy_of line t ≡ c → copy_word c ≡ Some w → IsDirty c
-      → After (content_of line) (record { copies = set line.copies t Invalid; memory = w })
+      → LineAfterRequest (coherent_word line) (record { copies = set line.copies t Invalid; memory = w })
   written_back c w e h own =
       let copies : List Copy = set line.copies t Invalid in
       let none : (u : ℕ) → IsDirty (copy_in copies u) → ⊥ =
@@ -192,11 +192,11 @@ module _ (t : ℕ) (line : CacheLine) (lt : t < most_threads) (sound : IsCoheren
 
   -- An eviction of a copy that is not dirty leaves a coherent cache line with the same content; memory is left as it is.
   pub let_go : (c : Copy) → copy_of line t ≡ c → (IsDirty c → ⊥)
-      → After (content_of line) (record { copies = set line.copies t Invalid; memory = line.memory })
+      → LineAfterRequest (coherent_word line) (record { copies = set line.copies t Invalid; memory = line.memory })
   let_go c e not = without_own line.memory (put_clean line.memory line.copies t Invalid (λ d. not (subst IsDirty e d)) (λ d. d))
 
   -- What each case of a protocol's table keeps: what a write finds, and what a load and an eviction leave.
   pub record Keeps (table : ProtocolTable) : Type 0 where
     pub to_write : ToWrite (cache_line_to_write t line)
     pub loaded : Loaded (cache_line_to_read table t line)
-    pub evicted : is_held (letter_of (copy_of line t)) ≡ true → After (content_of line) (cache_line_evicted t line)
+    pub evicted : is_held (copy_state (copy_of line t)) ≡ true → LineAfterRequest (coherent_word line) (cache_line_evicted t line)

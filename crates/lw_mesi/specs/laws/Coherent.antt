@@ -3,7 +3,7 @@ use Rattle.std.proofs.Common.{◌≡◌, ◌≢◌, ℕ, zero, suc, ◌<◌, Lis
 use Rattle.std.proofs.Common.{get_or-set_same, get_or-set_other}
 use Rattle.std.proofs.lemmas.Bool.{cases_eq}
 use Rattle.lw_base.specs.Limits.{most_threads}
-use Rattle.lw_mesi.specs.CacheLines.{Copy, Modified, Owned, Exclusive, Shared, Invalid, CacheLine, copy_of, copy_word, dirty_or, content_of}
+use Rattle.lw_mesi.specs.CacheLines.{Copy, Modified, Owned, Exclusive, Shared, Invalid, CacheLine, copy_of, copy_word, dirty_word_or, coherent_word}
 use Rattle.lw_mesi.specs.Coherence.{IsOnlyCopy, IsDirty, IsCoherentCacheLine}
 
 -- A processor's copy, in a list of copies.
@@ -29,7 +29,7 @@ copy_map f (c ∷ copies) zero e = refl
 copy_map f (c ∷ copies) (suc t) e = copy_map f copies t e
 
 -- With no M or O copy the content is memory's word, w.
-pub clean : (w : ℕ) (copies : List Copy) → ((t : ℕ) → IsDirty (copy_in copies t) → ⊥) → dirty_or w copies ≡ w
+pub clean : (w : ℕ) (copies : List Copy) → ((t : ℕ) → IsDirty (copy_in copies t) → ⊥) → dirty_word_or w copies ≡ w
 clean w [] h = refl
 clean w (Exclusive v ∷ copies) h = clean w copies (λ t. h (suc t))
 clean w (Shared v ∷ copies) h = clean w copies (λ t. h (suc t))
@@ -39,7 +39,7 @@ clean w _ h = absurd (h 0 tt)
 -- With one M or O copy the content is that copy's word, v.
 pub dirty : (w v : ℕ) (copies : List Copy) (t : ℕ)
     → IsDirty (copy_in copies t) → copy_word (copy_in copies t) ≡ Some v → ((u : ℕ) → t ≢ u → IsDirty (copy_in copies u) → ⊥)
-    → dirty_or w copies ≡ v
+    → dirty_word_or w copies ≡ v
 dirty w v (Modified k ∷ copies) zero d e h = cc
 dirty w v (Owned k ∷ copies) zero d e h = cc
 dirty w v (Modified k ∷ copies) (suc t) d e h = absurd (h 0 (omega arith) tt)
@@ -50,14 +50,14 @@ dirty w v (Invalid ∷ copies) (suc t) d e h = dirty w v copies t d e (λ u ne. 
 dirty w v _ _ d e h = absurd d
 
 -- The first copy of a list says nothing of the content if it is not dirty.
-skip : (w : ℕ) (c : Copy) (copies : List Copy) → (IsDirty c → ⊥) → dirty_or w (c ∷ copies) ≡ dirty_or w copies
+skip : (w : ℕ) (c : Copy) (copies : List Copy) → (IsDirty c → ⊥) → dirty_word_or w (c ∷ copies) ≡ dirty_word_or w copies
 skip w (Modified v) copies h = absurd (h tt)
 skip w (Owned v) copies h = absurd (h tt)
 skip w _ copies h = refl
 
 -- A copy that is not dirty can be put in the place of one that is not, and the content stays.
 pub put_clean : (w : ℕ) (copies : List Copy) (t : ℕ) (c : Copy)
-    → (IsDirty (copy_in copies t) → ⊥) → (IsDirty c → ⊥) → dirty_or w (set copies t c) ≡ dirty_or w copies
+    → (IsDirty (copy_in copies t) → ⊥) → (IsDirty c → ⊥) → dirty_word_or w (set copies t c) ≡ dirty_word_or w copies
 put_clean w (k ∷ copies) zero c old new = skip w c copies new ∙ sym (skip w k copies old)
 put_clean w (Exclusive k ∷ copies) (suc t) c old new = put_clean w copies t c old new
 put_clean w (Shared k ∷ copies) (suc t) c old new = put_clean w copies t c old new
@@ -69,8 +69,8 @@ abbrev pub AllHold : CacheLine → ℕ → Type 0
 AllHold line v = (t w : ℕ) → copy_word (copy_of line t) ≡ Some w → w ≡ v
 
 -- No other processor has a copy.
-abbrev pub NobodyElse : CacheLine → ℕ → Type 0
-NobodyElse line t = (u : ℕ) → t ≢ u → copy_of line u ≡ Invalid
+abbrev pub HasNoOtherCopy : CacheLine → ℕ → Type 0
+HasNoOtherCopy line t = (u : ℕ) → t ≢ u → copy_of line u ≡ Invalid
 
 -- An invalid copy has no word.
 pub no_word : (c : Copy) (w v : ℕ) → c ≡ Invalid → copy_word c ≡ Some w → w ≡ v
@@ -81,8 +81,8 @@ pub one_word : (c : Copy) (w v : ℕ) → copy_word c ≡ Some v → copy_word c
 one_word c w v e h = cc
 
 -- A cache line of which one processor alone has a copy, with the content, is coherent.
-pub single : (line : CacheLine) (t : ℕ) → length line.copies ≡ most_threads → NobodyElse line t
-    → ((w : ℕ) → copy_word (copy_of line t) ≡ Some w → w ≡ content_of line) → IsCoherentCacheLine line
+pub single : (line : CacheLine) (t : ℕ) → length line.copies ≡ most_threads → HasNoOtherCopy line t
+    → ((w : ℕ) → copy_word (copy_of line t) ≡ Some w → w ≡ coherent_word line) → IsCoherentCacheLine line
 single line t long others word =
     let none : (P : Copy → Type 0) → (P Invalid → ⊥) → (u : ℕ) → t ≢ u → P (copy_of line u) → ⊥ = λ P not u ne h. not (subst P (others u ne) h) in
     record {
@@ -95,12 +95,12 @@ single line t long others word =
           (λ a b. refl)
           (λ u ne a b. absurd (none IsDirty (λ h. h) u ne b)))
           (λ k other u a b. absurd (none IsDirty (λ h. h) k other a));
-      same_word = at_index t (λ u. (w : ℕ) → copy_word (copy_of line u) ≡ Some w → w ≡ content_of line)
+      same_word = at_index t (λ u. (w : ℕ) → copy_word (copy_of line u) ≡ Some w → w ≡ coherent_word line)
           word
-          (λ u ne w e. no_word (copy_of line u) w (content_of line) (others u ne) e);
+          (λ u ne w e. no_word (copy_of line u) w (coherent_word line) (others u ne) e);
     }
 
 -- What holds of a cache line after a request: its content is v, and it is coherent.
-pub record After (v : ℕ) (line : CacheLine) : Type 0 where
-  pub content : content_of line ≡ v
+pub record LineAfterRequest (v : ℕ) (line : CacheLine) : Type 0 where
+  pub content : coherent_word line ≡ v
   pub sound : IsCoherentCacheLine line

@@ -5,15 +5,15 @@ use Rattle.lw_base.specs.Limits.{most_threads}
 use Rattle.lw_memory.specs.Memory.{is_held}
 use Rattle.lw_mesi.specs.declared.protocol.Protocol.{Protocol}
 use Rattle.lw_mesi.specs.declared.protocol.Protocol.TheVariants.{Mesi, Moesi}
-use Rattle.lw_mesi.specs.CacheLines.{Copy, Modified, Owned, Exclusive, Shared, Invalid, CacheLine, copy_of, letter_of, copy_word, dirty_or, content_of}
-use Rattle.lw_mesi.specs.Coherence.{IsOnlyCopy, IsDirty, IsCoherentCacheLine, IsStateOf, HasStatesOf}
-use Rattle.lw_mesi.specs.Snooping.{any_held, copy_from, get_m, on_load, on_write, on_evict, cache_line_to_read, cache_line_to_write, cache_line_written, cache_line_evicted}
+use Rattle.lw_mesi.specs.CacheLines.{Copy, Modified, Owned, Exclusive, Shared, Invalid, CacheLine, copy_of, copy_state, copy_word, dirty_word_or, coherent_word}
+use Rattle.lw_mesi.specs.Coherence.{IsOnlyCopy, IsDirty, IsCoherentCacheLine, IsProtocolState, HasProtocolStates}
+use Rattle.lw_mesi.specs.Snooping.{is_held_anywhere, copy_from, get_m, on_load, on_write, on_evict, cache_line_to_read, cache_line_to_write, cache_line_written, cache_line_evicted}
 use Rattle.lw_mesi.specs.Protocols.{table_of, mesi_on_other_get_s, moesi_on_other_get_s}
-use Rattle.lw_mesi.specs.laws.Coherent.{copy_in, copy_map, clean, After}
+use Rattle.lw_mesi.specs.laws.Coherent.{copy_in, copy_map, clean, LineAfterRequest}
 use Rattle.lw_mesi.specs.laws.Cases.{SharesOthers, ToWrite, hit_to_write, get_m_to_write, Loaded, hit_loaded, get_s_loaded, written_back, let_go, Keeps}
 
 -- Each protocol has the state I.
-pub invalid_state : (p : Protocol) → IsStateOf p Invalid
+pub invalid_state : (p : Protocol) → IsProtocolState p Invalid
 invalid_state Mesi = tt
 invalid_state Moesi = tt
 
@@ -30,26 +30,26 @@ shared_copy Moesi (Modified w) = (refl, (λ h. h), (λ d. d))
 shared_copy _ _ = (refl, (λ h. h), (λ d. d))
 
 -- Under MESI no copy is dirty after another's GetS.
-shared_clean : (c : Copy) → IsStateOf Mesi c → IsDirty (mesi_on_other_get_s c) → ⊥
+shared_clean : (c : Copy) → IsProtocolState Mesi c → IsDirty (mesi_on_other_get_s c) → ⊥
 shared_clean (Owned w) s d = s
 shared_clean _ s d = d
 
 -- Under MOESI a dirty copy stays so after another's GetS, with its word: the content stays.
-shared_content : (m : ℕ) (copies : List Copy) → dirty_or m (map moesi_on_other_get_s copies) ≡ dirty_or m copies
+shared_content : (m : ℕ) (copies : List Copy) → dirty_word_or m (map moesi_on_other_get_s copies) ≡ dirty_word_or m copies
 shared_content m (Exclusive w ∷ copies) = shared_content m copies
 shared_content m (Shared w ∷ copies) = shared_content m copies
 shared_content m (Invalid ∷ copies) = shared_content m copies
 shared_content m _ = refl
 
 -- A GetS keeps the content, by each protocol.
-content_kept : (p : Protocol) (line : CacheLine) → HasStatesOf p line
-    → dirty_or ((table_of p).memory_after_get_s line) (map (table_of p).on_other_get_s line.copies) ≡ content_of line
+content_kept : (p : Protocol) (line : CacheLine) → HasProtocolStates p line
+    → dirty_word_or ((table_of p).memory_after_get_s line) (map (table_of p).on_other_get_s line.copies) ≡ coherent_word line
 content_kept Mesi line states =
-    clean (content_of line) (map mesi_on_other_get_s line.copies)
+    clean (coherent_word line) (map mesi_on_other_get_s line.copies)
     (λ u d. shared_clean (copy_of line u) (states u) (subst IsDirty (copy_map mesi_on_other_get_s line.copies u refl) d))
 content_kept Moesi line states = shared_content line.memory line.copies
 
-module _ (p : Protocol) (t : ℕ) (line : CacheLine) (lt : t < most_threads) (sound : IsCoherentCacheLine line) (states : HasStatesOf p line) where
+module _ (p : Protocol) (t : ℕ) (line : CacheLine) (lt : t < most_threads) (sound : IsCoherentCacheLine line) (states : HasProtocolStates p line) where
   to_write : (c : Copy) → copy_of line t ≡ c → ToWrite t line lt sound (on_write c t line)
   to_write (Modified w) e = hit_to_write t line lt sound (Modified w) w e refl tt
   to_write (Exclusive w) e = hit_to_write t line lt sound (Exclusive w) w e refl tt
@@ -70,9 +70,9 @@ module _ (p : Protocol) (t : ℕ) (line : CacheLine) (lt : t < most_threads) (so
   loaded (Shared w) e = hit_loaded t line lt sound (Shared w) w e refl
   loaded Invalid e =
       get_s_loaded t line lt sound (table_of p).on_other_get_s ((table_of p).memory_after_get_s line) shares (content_kept p line states)
-      e (any_held line.copies) (λ none. none)
+      e (is_held_anywhere line.copies) (λ none. none)
 
-  evicted : (c : Copy) → copy_of line t ≡ c → is_held (letter_of c) ≡ true → After (content_of line) (on_evict c t line)
+  evicted : (c : Copy) → copy_of line t ≡ c → is_held (copy_state c) ≡ true → LineAfterRequest (coherent_word line) (on_evict c t line)
   evicted (Modified w) e h = written_back t line lt sound (Modified w) w e refl tt
   evicted (Owned w) e h = written_back t line lt sound (Owned w) w e refl tt
   evicted (Exclusive w) e h = let_go t line lt sound (Exclusive w) e (λ d. d)
@@ -84,24 +84,24 @@ module _ (p : Protocol) (t : ℕ) (line : CacheLine) (lt : t < most_threads) (so
   keeps = record { to_write = to_write (copy_of line t) refl; loaded = loaded (copy_of line t) refl; evicted = evicted (copy_of line t) refl }
 
 -- Each protocol has the state M, in which a write leaves a copy.
-modified_state : (p : Protocol) (w : ℕ) → IsStateOf p (Modified w)
+modified_state : (p : Protocol) (w : ℕ) → IsProtocolState p (Modified w)
 modified_state Mesi w = tt
 modified_state Moesi w = tt
 
 -- Each protocol has the states S and E, in which a load brings a copy in.
-from_state : (p : Protocol) (b : Bool) (w : ℕ) → IsStateOf p (copy_from b w)
+from_state : (p : Protocol) (b : Bool) (w : ℕ) → IsProtocolState p (copy_from b w)
 from_state Mesi true w = tt
 from_state Mesi false w = tt
 from_state Moesi b w = tt
 
 -- What a GetS makes of another's copy is in a state of the protocol.
-shared_state : (p : Protocol) (c : Copy) → IsStateOf p c → IsStateOf p ((table_of p).on_other_get_s c)
+shared_state : (p : Protocol) (c : Copy) → IsProtocolState p c → IsProtocolState p ((table_of p).on_other_get_s c)
 shared_state Mesi (Owned w) s = s
 shared_state _ _ s = tt
 
 -- Where copies are in states of the protocol, they are so after one that is too was put in.
 put_state : (p : Protocol) (copies : List Copy) (t : ℕ) (c : Copy)
-    → IsStateOf p c → ((u : ℕ) → IsStateOf p (copy_in copies u)) → (u : ℕ) → IsStateOf p (copy_in (set copies t c) u)
+    → IsProtocolState p c → ((u : ℕ) → IsProtocolState p (copy_in copies u)) → (u : ℕ) → IsProtocolState p (copy_in (set copies t c) u)
 put_state p [] t c here there u = there u
 put_state p (k ∷ copies) zero c here there zero = here
 put_state p (k ∷ copies) zero c here there (suc u) = there (suc u)
@@ -110,40 +110,40 @@ put_state p (k ∷ copies) (suc t) c here there (suc u) = put_state p copies t c
 
 -- Where copies are in states of the protocol, they are so after a change of each that keeps such states.
 map_state : (p : Protocol) (f : Copy → Copy) (copies : List Copy)
-    → f Invalid ≡ Invalid → ((c : Copy) → IsStateOf p c → IsStateOf p (f c)) → ((u : ℕ) → IsStateOf p (copy_in copies u))
-    → (u : ℕ) → IsStateOf p (copy_in (map f copies) u)
-map_state p f copies invalid keeps states u = subst (IsStateOf p) (sym (copy_map f copies u invalid)) (keeps (copy_in copies u) (states u))
+    → f Invalid ≡ Invalid → ((c : Copy) → IsProtocolState p c → IsProtocolState p (f c)) → ((u : ℕ) → IsProtocolState p (copy_in copies u))
+    → (u : ℕ) → IsProtocolState p (copy_in (map f copies) u)
+map_state p f copies invalid keeps states u = subst (IsProtocolState p) (sym (copy_map f copies u invalid)) (keeps (copy_in copies u) (states u))
 
-module _ (p : Protocol) (line : CacheLine) (states : HasStatesOf p line) where
-  load_states : (c : Copy) (t : ℕ) → HasStatesOf p (on_load (table_of p) c t line)
+module _ (p : Protocol) (line : CacheLine) (states : HasProtocolStates p line) where
+  load_states : (c : Copy) (t : ℕ) → HasProtocolStates p (on_load (table_of p) c t line)
   load_states Invalid t =
-      put_state p (map (table_of p).on_other_get_s line.copies) t (copy_from (any_held line.copies) (content_of line))
-      (from_state p (any_held line.copies) (content_of line))
+      put_state p (map (table_of p).on_other_get_s line.copies) t (copy_from (is_held_anywhere line.copies) (coherent_word line))
+      (from_state p (is_held_anywhere line.copies) (coherent_word line))
       (map_state p (table_of p).on_other_get_s line.copies (shared_invalid p) (shared_state p) states)
   load_states _ t = states
 
-  get_m_states : (t : ℕ) → HasStatesOf p (get_m t line)
+  get_m_states : (t : ℕ) → HasProtocolStates p (get_m t line)
   get_m_states t =
-      put_state p (map (λ c. Invalid) line.copies) t (Modified (content_of line)) (modified_state p (content_of line))
+      put_state p (map (λ c. Invalid) line.copies) t (Modified (coherent_word line)) (modified_state p (coherent_word line))
       (map_state p (λ c. Invalid) line.copies refl (λ c s. invalid_state p) states)
 
-  write_states : (c : Copy) (t : ℕ) → HasStatesOf p (on_write c t line)
+  write_states : (c : Copy) (t : ℕ) → HasProtocolStates p (on_write c t line)
   write_states (Modified w) t = states
   write_states (Exclusive w) t = states
   write_states _ t = get_m_states t
 
-  evict_states : (c : Copy) (t : ℕ) → HasStatesOf p (on_evict c t line)
+  evict_states : (c : Copy) (t : ℕ) → HasProtocolStates p (on_evict c t line)
   evict_states Invalid t = states
   evict_states _ t = put_state p line.copies t Invalid (invalid_state p) states
 
   -- After a write, all copies are in states of the protocol.
-  pub written_states : (t w : ℕ) → HasStatesOf p (cache_line_written t w line)
+  pub written_states : (t w : ℕ) → HasProtocolStates p (cache_line_written t w line)
   written_states t w = put_state p (cache_line_to_write t line).copies t (Modified w) (modified_state p w) (write_states (copy_of line t) t)
 
   -- After a load, all copies are in states of the protocol.
-  pub loaded_states : (t : ℕ) → HasStatesOf p (cache_line_to_read (table_of p) t line)
+  pub loaded_states : (t : ℕ) → HasProtocolStates p (cache_line_to_read (table_of p) t line)
   loaded_states t = load_states (copy_of line t) t
 
   -- After an eviction, all copies are in states of the protocol.
-  pub evicted_states : (t : ℕ) → HasStatesOf p (cache_line_evicted t line)
+  pub evicted_states : (t : ℕ) → HasProtocolStates p (cache_line_evicted t line)
   evicted_states t = evict_states (copy_of line t) t

@@ -6,39 +6,39 @@ use Rattle.lw_base.specs.Limits.{most_threads}
 use Rattle.lw_memory.specs.declared.request.Access.TheVariants.{Load, Store, Update}
 use Rattle.lw_memory.specs.declared.request.Request.{Request}
 use Rattle.lw_memory.specs.declared.request.Request.TheVariants.{Ask, Evict}
-use Rattle.lw_base.specs.Changes.{word_after}
-use Rattle.lw_memory.specs.Memory.{is_held, loc_of, IsInRange, IsPossible}
-use Rattle.lw_memory.specs.MemoryLaws.{Lawful, Served}
-use Rattle.lw_mesi.specs.CacheLines.{CacheLine, Caches, copy_of, letter_of, copy_word, unheld_cache_line, cache_line_at, content_of, state_in}
-use Rattle.lw_mesi.specs.Coherence.{IsCoherentCacheLine, HasStatesOf, IsKeptCacheLine, IsKept, caches_invariant}
+use Rattle.lw_base.specs.Changes.{changed_word}
+use Rattle.lw_memory.specs.Memory.{is_held, request_location, IsInRange, IsEnabled}
+use Rattle.lw_memory.specs.SystemLaws.{IsLawful, RequestEffect}
+use Rattle.lw_mesi.specs.CacheLines.{CacheLine, Caches, copy_of, copy_state, copy_word, unheld_cache_line, cache_line_at, coherent_word, line_state}
+use Rattle.lw_mesi.specs.Coherence.{IsCoherentCacheLine, HasProtocolStates, LineSatisfiesProtocol, SatisfiesProtocol, caches_invariant}
 use Rattle.lw_mesi.specs.declared.protocol.Protocol.{Protocol}
 use Rattle.lw_mesi.specs.Snooping.{cache_line_to_read, cache_line_to_write, cache_line_written, cache_line_evicted, answer_from, caches_after}
 use Rattle.lw_mesi.specs.Protocols.{table_of, caches_by}
-use Rattle.lw_mesi.specs.laws.Coherent.{at_index, After}
+use Rattle.lw_mesi.specs.laws.Coherent.{at_index, LineAfterRequest}
 use Rattle.lw_mesi.specs.laws.Cases.{written}
 use Rattle.lw_mesi.specs.laws.ProtocolCases.{keeps, loaded_states, written_states, evicted_states}
 
 -- The content of caches of which one cache line is replaced: that line's content in its place.
 contents_set : (cache_lines : List CacheLine) (x : ℕ) (line : CacheLine)
-    → map content_of (set cache_lines x line) ≡ slice_set (map content_of cache_lines) x (content_of line)
-contents_set (l ∷ cache_lines) (suc x) line = ap (λ r. content_of l ∷ r) (contents_set cache_lines x line)
+    → map coherent_word (set cache_lines x line) ≡ slice_set (map coherent_word cache_lines) x (coherent_word line)
+contents_set (l ∷ cache_lines) (suc x) line = ap (λ r. coherent_word l ∷ r) (contents_set cache_lines x line)
 contents_set _ _ line = refl
 
 -- Caches have the same content where a cache line is replaced by one of the same content.
 contents_same : (cache_lines : List CacheLine) (x : ℕ) (line : CacheLine)
-    → content_of line ≡ content_of (cache_line_at cache_lines x) → map content_of (set cache_lines x line) ≡ map content_of cache_lines
+    → coherent_word line ≡ coherent_word (cache_line_at cache_lines x) → map coherent_word (set cache_lines x line) ≡ map coherent_word cache_lines
 contents_same [] x line e = refl
-contents_same (l ∷ cache_lines) zero line e = ap (λ c. c ∷ map content_of cache_lines) e
-contents_same (l ∷ cache_lines) (suc x) line e = ap (λ r. content_of l ∷ r) (contents_same cache_lines x line e)
+contents_same (l ∷ cache_lines) zero line e = ap (λ c. c ∷ map coherent_word cache_lines) e
+contents_same (l ∷ cache_lines) (suc x) line e = ap (λ r. coherent_word l ∷ r) (contents_same cache_lines x line e)
 
 -- The content of a location's cache line stands at its index.
-contents_at : (cache_lines : List CacheLine) (x : ℕ) → content_of (cache_line_at cache_lines x) ≡ slice_index (map content_of cache_lines) x
+contents_at : (cache_lines : List CacheLine) (x : ℕ) → coherent_word (cache_line_at cache_lines x) ≡ slice_index (map coherent_word cache_lines) x
 contents_at (l ∷ cache_lines) (suc x) = contents_at cache_lines x
 contents_at _ _ = refl
 
 -- Where caches keep a protocol, they do so with one cache line replaced by one that keeps it.
 pub set_kept : (p : Protocol) (m : Caches) (x : ℕ) (line : CacheLine)
-    → IsKept p m → x < length m.cache_lines → IsKeptCacheLine p line → IsKept p (record { cpus = m.cpus; cache_lines = set m.cache_lines x line })
+    → SatisfiesProtocol p m → x < length m.cache_lines → LineSatisfiesProtocol p line → SatisfiesProtocol p (record { cpus = m.cpus; cache_lines = set m.cache_lines x line })
 set_kept p m x line ok lt s =
     let each : (P : CacheLine → Type 0) → P line → ((y : ℕ) → y < length m.cache_lines → P (cache_line_at m.cache_lines y))
     → (y : ℕ) → y < length (set m.cache_lines x line) → P (cache_line_at (set m.cache_lines x line) y) =
@@ -50,51 +50,51 @@ set_kept p m x line ok lt s =
     (omega (arith, length-set m.cache_lines x line))
     in record {
       coherent = record { few = ok.coherent.few; cache_lines = each IsCoherentCacheLine s.coherent ok.coherent.cache_lines };
-      states = each (HasStatesOf p) s.states ok.states;
+      states = each (HasProtocolStates p) s.states ok.states;
     }
 
 -- Each cache line of caches that keep a protocol keeps it.
-pub kept_cache_line : (p : Protocol) (m : Caches) (x : ℕ) → IsKept p m → x < length m.cache_lines → IsKeptCacheLine p (cache_line_at m.cache_lines x)
+pub kept_cache_line : (p : Protocol) (m : Caches) (x : ℕ) → SatisfiesProtocol p m → x < length m.cache_lines → LineSatisfiesProtocol p (cache_line_at m.cache_lines x)
 kept_cache_line p m x ok lt = record { coherent = ok.coherent.cache_lines x lt; states = ok.states x lt }
 
 -- What a cache line has after a request.
-module _ (p : Protocol) (t : ℕ) (line : CacheLine) (lt : t < most_threads) (ok : IsKeptCacheLine p line) where
+module _ (p : Protocol) (t : ℕ) (line : CacheLine) (lt : t < most_threads) (ok : LineSatisfiesProtocol p line) where
   -- What a write finds in the processor's copy, which it brings in if need be, is the content.
-  pub write_word : copy_word (copy_of (cache_line_to_write t line) t) ≡ Some (content_of line)
+  pub write_word : copy_word (copy_of (cache_line_to_write t line) t) ≡ Some (coherent_word line)
   write_word = (keeps p t line lt ok.coherent ok.states).to_write.word
 
   -- After a write the cache line is coherent, and its content is the word that was written.
-  pub write_after : (w : ℕ) → After w (cache_line_written t w line)
+  pub write_after : (w : ℕ) → LineAfterRequest w (cache_line_written t w line)
   write_after w = written t line lt ok.coherent w (cache_line_to_write t line) (keeps p t line lt ok.coherent ok.states).to_write
 
   -- What a load finds in the processor's copy, which it brings in if need be, is the content.
-  pub load_word : copy_word (copy_of (cache_line_to_read (table_of p) t line) t) ≡ Some (content_of line)
+  pub load_word : copy_word (copy_of (cache_line_to_read (table_of p) t line) t) ≡ Some (coherent_word line)
   load_word = (keeps p t line lt ok.coherent ok.states).loaded.word
 
   -- After a load the cache line is coherent, with the content that it had.
-  pub load_after : After (content_of line) (cache_line_to_read (table_of p) t line)
+  pub load_after : LineAfterRequest (coherent_word line) (cache_line_to_read (table_of p) t line)
   load_after = (keeps p t line lt ok.coherent ok.states).loaded.after
 
   -- After an eviction the cache line is coherent, with the content that it had.
-  pub evict_after : is_held (letter_of (copy_of line t)) ≡ true → After (content_of line) (cache_line_evicted t line)
+  pub evict_after : is_held (copy_state (copy_of line t)) ≡ true → LineAfterRequest (coherent_word line) (cache_line_evicted t line)
   evict_after = (keeps p t line lt ok.coherent ok.states).evicted
 
   -- After a load the cache line keeps the protocol.
-  pub load_kept : IsKeptCacheLine p (cache_line_to_read (table_of p) t line)
+  pub load_kept : LineSatisfiesProtocol p (cache_line_to_read (table_of p) t line)
   load_kept = record { coherent = load_after.sound; states = loaded_states p line ok.states t }
 
   -- After a write the cache line keeps the protocol.
-  pub write_kept : (w : ℕ) → IsKeptCacheLine p (cache_line_written t w line)
+  pub write_kept : (w : ℕ) → LineSatisfiesProtocol p (cache_line_written t w line)
   write_kept w = record { coherent = (write_after w).sound; states = written_states p line ok.states t w }
 
   -- After an eviction the cache line keeps the protocol.
-  pub evict_kept : is_held (letter_of (copy_of line t)) ≡ true → IsKeptCacheLine p (cache_line_evicted t line)
+  pub evict_kept : is_held (copy_state (copy_of line t)) ≡ true → LineSatisfiesProtocol p (cache_line_evicted t line)
   evict_kept h = record { coherent = (evict_after h).sound; states = evicted_states p line ok.states t }
 
 -- Each case of the table keeps the laws.
-module _ (p : Protocol) (m : Caches) (ok : IsKept p m) where
+module _ (p : Protocol) (m : Caches) (ok : SatisfiesProtocol p m) where
   abbrev IsServed : Request → Type 0
-  IsServed r = Served (caches_by p) (caches_invariant p) m r (answer_from (table_of p) r (cache_line_at m.cache_lines (loc_of r))) (caches_after (table_of p) r m)
+  IsServed r = RequestEffect (caches_by p) (caches_invariant p) m r (answer_from (table_of p) r (cache_line_at m.cache_lines (request_location r))) (caches_after (table_of p) r m)
 
   -- at one processor and one cache line
   module _ (t x : ℕ) (cpu : t < m.cpus) (loc : x < length m.cache_lines) where
@@ -104,23 +104,23 @@ module _ (p : Protocol) (m : Caches) (ok : IsKept p m) where
     lt : t < most_threads
     lt = omega (arith, ok.coherent.few, cpu)
 
-    kept : IsKeptCacheLine p line
+    kept : LineSatisfiesProtocol p line
     kept = kept_cache_line p m x ok loc
 
     -- what a write of v leaves
     abbrev writes : ℕ → Caches
     writes v = record { cpus = m.cpus; cache_lines = set m.cache_lines x (cache_line_written t v line) }
 
-    written_content : (v : ℕ) → map content_of (set m.cache_lines x (cache_line_written t v line)) ≡ slice_set (map content_of m.cache_lines) x v
-    written_content v = contents_set m.cache_lines x _ ∙ ap (slice_set (map content_of m.cache_lines) x) (write_after p t line lt kept v).content
+    written_content : (v : ℕ) → map coherent_word (set m.cache_lines x (cache_line_written t v line)) ≡ slice_set (map coherent_word m.cache_lines) x v
+    written_content v = contents_set m.cache_lines x _ ∙ ap (slice_set (map coherent_word m.cache_lines) x) (write_after p t line lt kept v).content
 
-    written_kept : (v : ℕ) → IsKept p (writes v)
+    written_kept : (v : ℕ) → SatisfiesProtocol p (writes v)
     written_kept v = set_kept p m x _ ok loc (write_kept p t line lt kept v)
 
-    old_word : copy_word (copy_of (cache_line_to_write t line) t) ≡ Some (slice_index (map content_of m.cache_lines) x)
+    old_word : copy_word (copy_of (cache_line_to_write t line) t) ≡ Some (slice_index (map coherent_word m.cache_lines) x)
     old_word = write_word p t line lt kept ∙ ap Some (contents_at m.cache_lines x)
 
-  case_served : (r : Request) → IsInRange m.cpus (length m.cache_lines) r → IsPossible (state_in m) r → IsServed r
+  case_served : (r : Request) → IsInRange m.cpus (length m.cache_lines) r → IsEnabled (line_state m) r → IsServed r
   case_served (Ask t x Load) (cpu, loc) possible = record {
     possible = tt;
     answer = load_word p t (cache_line_at m.cache_lines x) (lt t x cpu loc) (kept t x cpu loc) ∙ ap Some (contents_at m.cache_lines x);
@@ -133,10 +133,10 @@ module _ (p : Protocol) (m : Caches) (ok : IsKept p m) where
   case_served (Ask t x (Update change)) (cpu, loc) possible = record {
     possible = tt;
     answer = old_word t x cpu loc;
-    content = written_content t x cpu loc (word_after change (content_of (cache_line_at m.cache_lines x)))
-        ∙ ap (λ w. slice_set (map content_of m.cache_lines) x (word_after change w)) (contents_at m.cache_lines x);
+    content = written_content t x cpu loc (changed_word change (coherent_word (cache_line_at m.cache_lines x)))
+        ∙ ap (λ w. slice_set (map coherent_word m.cache_lines) x (changed_word change w)) (contents_at m.cache_lines x);
     cpus = refl;
-    sound = written_kept t x cpu loc (word_after change (content_of (cache_line_at m.cache_lines x)));
+    sound = written_kept t x cpu loc (changed_word change (coherent_word (cache_line_at m.cache_lines x)));
   }
   case_served (Evict t x) (cpu, loc) possible = record {
     possible = possible;
@@ -147,13 +147,13 @@ module _ (p : Protocol) (m : Caches) (ok : IsKept p m) where
   }
 
 -- The law: caches by each protocol are a memory system that keeps the laws.
-pub protocol_lawful : (p : Protocol) → Lawful (caches_by p) (caches_invariant p)
+pub protocol_lawful : (p : Protocol) → IsLawful (caches_by p) (caches_invariant p)
 protocol_lawful p = record {
   served = λ m r a n ok s.
-      subst (λ k. Served (caches_by p) (caches_invariant p) m r a k) (sym s.cache_lines)
-      (subst (λ b. Served (caches_by p) (caches_invariant p) m r b (caches_after (table_of p) r m)) (sym s.answer) (case_served p m ok r s.there s.possible));
+      subst (λ k. RequestEffect (caches_by p) (caches_invariant p) m r a k) (sym s.cache_lines)
+      (subst (λ b. RequestEffect (caches_by p) (caches_invariant p) m r b (caches_after (table_of p) r m)) (sym s.answer) (case_served p m ok r s.there s.possible));
   serves = λ m r ok there possible.
-      let inside : IsInRange m.cpus (length m.cache_lines) r = subst (λ k. IsInRange m.cpus k r) (length-map m.cache_lines content_of) there in (
+      let inside : IsInRange m.cpus (length m.cache_lines) r = subst (λ k. IsInRange m.cpus k r) (length-map m.cache_lines coherent_word) there in (
         caches_after (table_of p) r m,
         record { there = inside; possible = possible; answer = sym (case_served p m ok r inside possible).answer; cache_lines = refl },
       );

@@ -2,7 +2,8 @@
 use Rattle.lw_orders.proofs.Common.{ℕ, zero, suc, ◌≡◌, ◌+◌, ◌<◌, ◌≤◌, List, [], ◌∷◌, ◌++◌, length, eqb, ap}
 use Rattle.lw_orders.proofs.Common.{sym, subst, refl, inl, inr, arith, eq-eqb, ne_eqb, All, get_or}
 use Rattle.lw_orders.proofs.Common.{length-append, cond-true, cond-false, cases_eq, cases_lt, nat_tests}
-use Rattle.lw_orders.proofs.Common.{All-head, All-tail, index_in, Before, Once, IsOrder, without, indices}
+use Rattle.lw_orders.proofs.Common.{All-head, All-tail, index_in, Before, AreDistinct, IsOrder, without}
+use Rattle.lw_orders.proofs.Common.{indices}
 
 -- the first item stands at index 0
 pub index_in-same : (x : ℕ) (xs : List ℕ) (i : ℕ) → x ≡ i → index_in (x ∷ xs) i ≡ 0
@@ -41,12 +42,12 @@ stands-without [] y i ne l = l
 stands-without (x ∷ xs) y i ne l = grind (arith, nat_tests, stands-without xs y i)
 
 -- where no item stands twice, none does in the list without one
-pub Once-without : (xs : List ℕ) (y : ℕ) → Once xs → Once (without xs y)
-Once-without [] y o = tt
-Once-without (x ∷ xs) y o = grind (arith, nat_tests, Once-without xs y o.1, stands-with xs y x)
+pub AreDistinct-without : (xs : List ℕ) (y : ℕ) → AreDistinct xs → AreDistinct (without xs y)
+AreDistinct-without [] y o = tt
+AreDistinct-without (x ∷ xs) y o = grind (arith, nat_tests, AreDistinct-without xs y o.1, stands-with xs y x)
 
 -- an item that is taken out of a list in which each stands once is in it no more
-pub gone-without : (xs : List ℕ) (y : ℕ) → Once xs → length (without xs y) ≤ index_in (without xs y) y
+pub gone-without : (xs : List ℕ) (y : ℕ) → AreDistinct xs → length (without xs y) ≤ index_in (without xs y) y
 gone-without [] y o = omega arith
 gone-without (x ∷ xs) y o = grind (arith, nat_tests, gone-without xs y o.1)
 
@@ -57,7 +58,7 @@ length-without_le (x ∷ xs) y = grind (arith, nat_tests, length-without_le xs y
 
 -- a list in which each of some different items stands is at least as long as they are many
 pub room : (some xs : List ℕ)
-    → Once some
+    → AreDistinct some
     → ((i : ℕ) → index_in some i < length some → index_in xs i < length xs)
     → length some ≤ length xs
 room [] xs o f = omega arith
@@ -68,13 +69,13 @@ room (s ∷ some) xs o f =
     omega (arith, length-without xs s (f s (omega (arith, index_in-same s some s refl))))
 
 -- a list that has all of a list of different items, and is no longer, has none twice
-pub Once-from_room : (xs some : List ℕ)
-    → Once some
+pub AreDistinct-from_room : (xs some : List ℕ)
+    → AreDistinct some
     → ((i : ℕ) → index_in some i < length some → index_in xs i < length xs)
     → length xs ≤ length some
-    → Once xs
-Once-from_room [] some o f l = tt
-Once-from_room (x ∷ xs) some o f l =
+    → AreDistinct xs
+AreDistinct-from_room [] some o f l = tt
+AreDistinct-from_room (x ∷ xs) some o f l =
     let f' : (i : ℕ) → (i ≡ x → ⊥) → index_in some i < length some → index_in xs i < length xs =
     λ i ne p. omega (arith, f i p, index_in-other x xs i (λ e. ne (sym e))) in
     let gone : length xs ≤ index_in xs x = elim (cases_lt (index_in xs x) (length xs)) [
@@ -85,7 +86,7 @@ Once-from_room (x ∷ xs) some o f l =
       | inr h ↦ h
     ] in (
       gone,
-      Once-from_room xs (without some x) (Once-without some x o)
+      AreDistinct-from_room xs (without some x) (AreDistinct-without some x o)
           (λ i p. f' i (λ e. omega (arith, gone-without some x o, rw e at p)) (stands-with some x i p))
           (omega (arith, length-without_le some x)),
     )
@@ -110,14 +111,14 @@ length-indices k zero = refl
 length-indices k (suc n) = ap suc (length-indices (suc k) n)
 
 -- none of the numbers from k on stands twice
-pub Once-indices : (k n : ℕ) → Once (indices k n)
-Once-indices k zero = tt
-Once-indices k (suc n) = grind (arith, Once-indices (suc k) n, index_in-indices_within (suc k) n k)
+pub AreDistinct-indices : (k n : ℕ) → AreDistinct (indices k n)
+AreDistinct-indices k zero = tt
+AreDistinct-indices k (suc n) = grind (arith, AreDistinct-indices (suc k) n, index_in-indices_within (suc k) n k)
 
 -- in an order no item stands twice
-pub Once-order : (n : ℕ) (xs : List ℕ) → IsOrder n xs → Once xs
-Once-order n xs o =
-    Once-from_room xs (indices 0 n) (Once-indices 0 n) (λ i l. omega (arith, o.1 i (below-indices n i l), o.0))
+pub AreDistinct-order : (n : ℕ) (xs : List ℕ) → IsOrder n xs → AreDistinct xs
+AreDistinct-order n xs o =
+    AreDistinct-from_room xs (indices 0 n) (AreDistinct-indices 0 n) (λ i l. omega (arith, o.1 i (below-indices n i l), o.0))
     (omega (arith, o.0, length-indices 0 n))
 
 -- in an order of n items nothing but these stands
@@ -126,7 +127,7 @@ order_below n xs o i l = elim (cases_lt i n) [
   | inl h ↦ h
   | inr h ↦
       (let all =
-      room (indices 0 n) (without xs i) (Once-indices 0 n)
+      room (indices 0 n) (without xs i) (AreDistinct-indices 0 n)
       (λ j p.
       stands-without xs i j (λ e. omega (arith, below-indices n j p)) (omega (arith, o.1 j (below-indices n j p), o.0))) in
       absurd (omega (arith, length-indices 0 n, length-without xs i l, o.0)))
@@ -138,7 +139,7 @@ found_by [] rest i = omega (arith, index_in-same i rest i refl)
 found_by (x ∷ front) rest i = grind (arith, nat_tests, found_by front rest i)
 
 -- an item of a list in which each stands once is found behind those before it
-index_in-split : (front rest : List ℕ) (i : ℕ) → Once (front ++ i ∷ rest) → index_in (front ++ i ∷ rest) i ≡ length front
+index_in-split : (front rest : List ℕ) (i : ℕ) → AreDistinct (front ++ i ∷ rest) → index_in (front ++ i ∷ rest) i ≡ length front
 index_in-split [] rest i o = index_in-same i rest i refl
 index_in-split (x ∷ front) rest i o =
     grind (arith, nat_tests, index_in-split front rest i o.1, found_by front rest i, length-append front (i ∷ rest))
@@ -149,7 +150,7 @@ pub order_split : (n i : ℕ) (front rest : List ℕ)
     → (i < n) × (index_in (front ++ i ∷ rest) i ≡ length front)
 order_split n i front rest o = (
   order_below n _ o i (omega (arith, found_by front rest i, length-append front (i ∷ rest))),
-  index_in-split front rest i (Once-order n (front ++ i ∷ rest) o),
+  index_in-split front rest i (AreDistinct-order n (front ++ i ∷ rest) o),
 )
 
 -- what holds of all that stands in a list holds of what is found there
@@ -163,11 +164,11 @@ All-stands P (x ∷ xs) i all l = elim (cases_eq x i) [
 -- items below n, each of them there and none twice, are an order
 pub order_from : (n : ℕ) (xs : List ℕ)
     → All (λ i. i < n) xs
-    → Once xs
+    → AreDistinct xs
     → ((i : ℕ) → i < n → index_in xs i < length xs)
     → IsOrder n xs
 order_from n xs below once there =
-    let least = room (indices 0 n) xs (Once-indices 0 n) (λ i l. there i (below-indices n i l)) in
+    let least = room (indices 0 n) xs (AreDistinct-indices 0 n) (λ i l. there i (below-indices n i l)) in
     let most =
     room xs (indices 0 n) once
     (λ i l. index_in-indices 0 n i (omega arith) (omega (arith, All-stands (λ i. i < n) xs i below l))) in

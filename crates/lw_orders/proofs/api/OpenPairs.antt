@@ -2,8 +2,10 @@
 use Rattle.lw_orders.proofs.Common.{◌≡◌, ℕ, zero, suc, ◌^◌, ◌⊎◌, inl, inr, Bool, true, false, not, List, []}
 use Rattle.lw_orders.proofs.Common.{◌∷◌, length, filter, refl, sym, ap, ◌∙◌, subst, arith, All, Contains}
 use Rattle.lw_orders.proofs.Common.{cases_Bool, All-nil, All-cons, All-head, All-weaker, All-filter}
-use Rattle.lw_orders.proofs.Common.{All-contains, Constraints, GoUp, IsBelow, AreSorted, AreOpen, HasWays}
-use Rattle.lw_orders.proofs.Common.{is_decided, open_pairs, count_of, ◌↔◌, All-contains_itself, filter_passes}
+use Rattle.lw_orders.proofs.Common.{All-contains, Constraints, AreAscending, IsLexicographicallyLess}
+use Rattle.lw_orders.proofs.Common.{AreSorted, AreUnorderedConflicts, HasOrientationCount, is_ordered}
+use Rattle.lw_orders.proofs.Common.{unordered_conflicts, orientation_count, ◌↔◌, All-contains_itself}
+use Rattle.lw_orders.proofs.Common.{filter_passes}
 use Rattle.lw_orders.proofs.Walks.{decided_walk, walk_decided}
 
 -- an empty list has no item
@@ -26,22 +28,23 @@ here_or_there p q ps (suc k, l, e) = inr (k, omega arith, e)
 -- ---- sorted pairs
 
 -- a pair below one that is below a third is below the third
-below_on : (p q r : ℕ × ℕ) → IsBelow p q → IsBelow q r → IsBelow p r
+below_on : (p q r : ℕ × ℕ) → IsLexicographicallyLess p q → IsLexicographicallyLess q r → IsLexicographicallyLess p r
 below_on p q r (inl a) (inl b) = inl (omega (arith, a, b))
 below_on p q r (inl a) (inr b) = inl (omega (arith, a, b.0))
 below_on p q r (inr a) (inl b) = inl (omega (arith, a.0, b))
 below_on p q r (inr a) (inr b) = inr (a.0 ∙ b.0, omega (arith, a.1, b.1))
 
 -- a pair is not below itself
-below_differ : (p q : ℕ × ℕ) → IsBelow p q → p ≡ q → ⊥
+below_differ : (p q : ℕ × ℕ) → IsLexicographicallyLess p q → p ≡ q → ⊥
 below_differ p q (inl a) e = absurd (omega (arith, a, ap (λ (r : ℕ × ℕ). r.0) e))
 below_differ p q (inr a) e = absurd (omega (arith, a.1, ap (λ (r : ℕ × ℕ). r.1) e))
 
 -- the first of sorted pairs is below all others
-all_above : (p : ℕ × ℕ) (ps : List (ℕ × ℕ)) → AreSorted (p ∷ ps) → All (IsBelow p) ps
-all_above p [] s = All-nil (IsBelow p)
+all_above : (p : ℕ × ℕ) (ps : List (ℕ × ℕ)) → AreSorted (p ∷ ps) → All (IsLexicographicallyLess p) ps
+all_above p [] s = All-nil (IsLexicographicallyLess p)
 all_above p (q ∷ ps) s =
-    All-cons (IsBelow p) q ps s.0 (All-weaker (IsBelow q) (IsBelow p) (λ r b. below_on p q r s.0 b) ps (all_above q ps s.1))
+    All-cons (IsLexicographicallyLess p) q ps s.0
+    (All-weaker (IsLexicographicallyLess q) (IsLexicographicallyLess p) (λ r b. below_on p q r s.0 b) ps (all_above q ps s.1))
 
 -- without the first, sorted pairs are sorted
 sorted_rest : (p : ℕ × ℕ) (ps : List (ℕ × ℕ)) → AreSorted (p ∷ ps) → AreSorted ps
@@ -49,9 +52,9 @@ sorted_rest p [] s = tt
 sorted_rest p (q ∷ ps) s = s.1
 
 -- a pair that is below all sorted pairs is sorted before them
-sorted_with : (p : ℕ × ℕ) (ps : List (ℕ × ℕ)) → All (IsBelow p) ps → AreSorted ps → AreSorted (p ∷ ps)
+sorted_with : (p : ℕ × ℕ) (ps : List (ℕ × ℕ)) → All (IsLexicographicallyLess p) ps → AreSorted ps → AreSorted (p ∷ ps)
 sorted_with p [] above s = tt
-sorted_with p (q ∷ ps) above s = (All-head (IsBelow p) q ps above, s)
+sorted_with p (q ∷ ps) above s = (All-head (IsLexicographicallyLess p) q ps above, s)
 
 -- of sorted pairs those that pass a test are sorted
 sorted_filter : (test : ℕ × ℕ → Bool) (ps : List (ℕ × ℕ)) → AreSorted ps → AreSorted (filter test ps)
@@ -59,13 +62,13 @@ sorted_filter test [] s = tt
 sorted_filter test (p ∷ ps) s =
     (let rest = sorted_filter test ps (sorted_rest p ps s) in
     elim (cases_Bool (test p)) [
-      | inl e ↦ rw e (sorted_with p (filter test ps) (All-filter test (IsBelow p) ps (all_above p ps s)) rest)
+      | inl e ↦ rw e (sorted_with p (filter test ps) (All-filter test (IsLexicographicallyLess p) ps (all_above p ps s)) rest)
       | inr e ↦ rw e rest
     ])
 
 -- the first of sorted pairs does not stand again among the others
 stands_once : (p : ℕ × ℕ) (ps : List (ℕ × ℕ)) → AreSorted (p ∷ ps) → Contains ps p → ⊥
-stands_once p ps s c = below_differ p p (All-contains (IsBelow p) ps p (all_above p ps s) c) refl
+stands_once p ps s c = below_differ p p (All-contains (IsLexicographicallyLess p) ps p (all_above p ps s) c) refl
 
 -- two sorted lists of the same pairs are one
 same_sorted : (ps qs : List (ℕ × ℕ)) → AreSorted ps → AreSorted qs → ((r : ℕ × ℕ) → Contains ps r ↔ Contains qs r) → ps ≡ qs
@@ -79,8 +82,8 @@ same_sorted (p ∷ ps) (q ∷ qs) s t same =
         | inl e ↦ e
         | inr above_p ↦
             absurd (below_differ p p
-            (below_on p q p (All-contains (IsBelow p) ps q (all_above p ps s) above_p)
-            (All-contains (IsBelow q) qs p (all_above q qs t) above_q)) refl)
+            (below_on p q p (All-contains (IsLexicographicallyLess p) ps q (all_above p ps s) above_p)
+            (All-contains (IsLexicographicallyLess q) qs p (all_above q qs t) above_q)) refl)
       ]
     ] in
     let rest : ps ≡ qs = same_sorted ps qs (sorted_rest p ps s) (sorted_rest q qs t) (λ r. (
@@ -119,35 +122,40 @@ filter_from test ps p c = (
 
 -- ---- the open conflicts
 module _ (t : Constraints) where
-  -- the open pairs that are computed, `open_pairs`, are the open ones by the definition, `AreOpen`
-  pub open_are : GoUp t.len t.fixed → AreSorted t.conflicts → AreOpen t (open_pairs t)
+  -- the open pairs that are computed, `unordered_conflicts`, are the open ones by the definition, `AreUnorderedConflicts`
+  pub open_are : AreAscending t.len t.fixed → AreSorted t.conflicts → AreUnorderedConflicts t (unordered_conflicts t)
   open_are up sorted = record {
     all = λ p. (
       λ c.
-          (let (there, passes) = filter_from (λ q. not (is_decided t.fixed q)) t.conflicts p c in
+          (let (there, passes) = filter_from (λ q. not (is_ordered t.fixed q)) t.conflicts p c in
           (there, λ decided. (let bad : false ≡ true = rw (walk_decided t.len t.fixed p up decided) at passes in absurd cc))),
       λ c.
-          filter_has (λ q. not (is_decided t.fixed q)) t.conflicts p c.0
-          (elim (cases_Bool (is_decided t.fixed p)) [ inl e ↦ absurd (c.1 (decided_walk t.fixed p e)) | inr e ↦ ap not e ]),
+          filter_has (λ q. not (is_ordered t.fixed q)) t.conflicts p c.0
+          (elim (cases_Bool (is_ordered t.fixed p)) [ inl e ↦ absurd (c.1 (decided_walk t.fixed p e)) | inr e ↦ ap not e ]),
     );
-    sorted = sorted_filter (λ q. not (is_decided t.fixed q)) t.conflicts sorted;
+    sorted = sorted_filter (λ q. not (is_ordered t.fixed q)) t.conflicts sorted;
   }
 
-  -- the number of ways that is computed, `count_of`, is one by the definition, `HasWays`
-  pub ways_are : GoUp t.len t.fixed → AreSorted t.conflicts → HasWays t (count_of t)
-  ways_are up sorted = (open_pairs t, open_are up sorted, refl)
+  -- the number of ways that is computed, `orientation_count`, is one by the definition, `HasOrientationCount`
+  pub ways_are : AreAscending t.len t.fixed → AreSorted t.conflicts → HasOrientationCount t (orientation_count t)
+  ways_are up sorted = (unordered_conflicts t, open_are up sorted, refl)
 
   -- of lists that are the open pairs there is only one
-  pub open_are_one : (ps qs : List (ℕ × ℕ)) → AreOpen t ps → AreOpen t qs → ps ≡ qs
+  pub open_are_one : (ps qs : List (ℕ × ℕ)) → AreUnorderedConflicts t ps → AreUnorderedConflicts t qs → ps ≡ qs
   open_are_one ps qs p q =
       same_sorted ps qs p.sorted q.sorted (λ r. ((λ c. (q.all r).1 ((p.all r).0 c)), λ c. (p.all r).1 ((q.all r).0 c)))
 
   -- of numbers that are the number of ways there is only one
-  pub ways_are_one : (n m : ℕ) → HasWays t n → HasWays t m → n ≡ m
+  pub ways_are_one : (n m : ℕ) → HasOrientationCount t n → HasOrientationCount t m → n ≡ m
   ways_are_one n m (ps, p, n_is) (qs, q, m_is) =
       n_is ∙ (ap (λ (rs : List (ℕ × ℕ)). 2 ^ length rs) (open_are_one ps qs p q) ∙ sym m_is)
 
   -- a number is that of the ways exactly if it is the one that is computed
-  pub ways_computed : GoUp t.len t.fixed → AreSorted t.conflicts → (n : ℕ) → HasWays t n ↔ (n ≡ count_of t)
-  ways_computed up sorted n =
-      (λ ways. ways_are_one n (count_of t) ways (ways_are up sorted), λ is. subst (HasWays t) (sym is) (ways_are up sorted))
+  pub ways_computed : AreAscending t.len t.fixed
+      → AreSorted t.conflicts
+      → (n : ℕ)
+      → HasOrientationCount t n ↔ (n ≡ orientation_count t)
+  ways_computed up sorted n = (
+    λ ways. ways_are_one n (orientation_count t) ways (ways_are up sorted),
+    λ is. subst (HasOrientationCount t) (sym is) (ways_are up sorted),
+  )

@@ -1,9 +1,9 @@
 -- Two lists in one strict order that have the same elements are one.
 use Rattle.lw_report.proofs.Common.{◌≡◌, ◌↔◌, ℕ, suc, ◌⊎◌, inl, inr, List, [], ◌∷◌, refl, sym, ap, ◌∙◌, subst}
 use Rattle.lw_report.proofs.Common.{arith, All, Contains, AllPairs, nat_cmp, Less, slice_cmp}
-use Rattle.lw_report.proofs.Common.{nat_list_cmp_total, tied_itself, All-contains, TestHead, Final, IsReport}
-use Rattle.lw_report.proofs.Common.{report_text, Shown, AreStatesOf, Claim, none_in, Contains-here}
-use Rattle.lw_report.proofs.Common.{Contains-there, Contains-cons}
+use Rattle.lw_report.proofs.Common.{nat_list_cmp_total, tied_itself, All-contains, TestHead, FinalState}
+use Rattle.lw_report.proofs.Common.{IsReport, report_text, ProjectedState, AreStatesOf, Claim}
+use Rattle.lw_report.proofs.Common.{not-Contains-nil, Contains-head, Contains-tail, Contains-cons}
 
 -- ---- pairs
 
@@ -25,7 +25,7 @@ module _ {X : Type 0} (R : X → X → Type 0) (strict : (x y : X) → R x y →
       → (s : X)
       → Contains xs s
       → Contains ys s
-  rest_has x y xs ys same above has s h = elim (Contains-cons y s ys (has s (Contains-there x s xs h))) [
+  rest_has x y xs ys same above has s h = elim (Contains-cons y s ys (has s (Contains-tail x s xs h))) [
     | inl e ↦
         let itself : R s s = subst (λ (z : X). R z s) (same ∙ e) (All-contains (R x) xs s above h) in
         absurd (strict s s itself itself)
@@ -40,11 +40,11 @@ module _ {X : Type 0} (R : X → X → Type 0) (strict : (x y : X) → R x y →
       → ((s : X) → Contains ys s → Contains xs s)
       → xs ≡ ys
   one_list [] [] up above h k = refl
-  one_list [] (y ∷ ys) up above h k = absurd (none_in y (k y (Contains-here y y ys refl)))
-  one_list (x ∷ xs) [] up above h k = absurd (none_in x (h x (Contains-here x x xs refl)))
+  one_list [] (y ∷ ys) up above h k = absurd (not-Contains-nil y (k y (Contains-head y y ys refl)))
+  one_list (x ∷ xs) [] up above h k = absurd (not-Contains-nil x (h x (Contains-head x x xs refl)))
   one_list (x ∷ xs) (y ∷ ys) up above h k =
       let same : x ≡ y =
-      fronts (Contains-cons y x ys (h x (Contains-here x x xs refl))) (Contains-cons x y xs (k y (Contains-here y y ys refl))) in
+      fronts (Contains-cons y x ys (h x (Contains-head x x xs refl))) (Contains-cons x y xs (k y (Contains-head y y ys refl))) in
       let rest : xs ≡ ys =
       one_list xs ys (from_rest R x xs up) (from_rest R y ys above) (rest_has x y xs ys same (from_front R x xs up) h)
       (rest_has y x ys xs (sym same) (from_front R y ys above) k) in
@@ -64,21 +64,21 @@ pub not_below_itself : (xs : List ℕ) → slice_cmp nat_cmp xs xs ≡ Less → 
 not_below_itself xs h = let e = tied_itself nat_list_cmp_total xs in cc
 
 -- of two states at most one is below the other
-pub strict_words : (first later : Shown)
+pub strict_words : (first later : ProjectedState)
     → slice_cmp nat_cmp first.words later.words ≡ Less
     → slice_cmp nat_cmp later.words first.words ≡ Less
     → ⊥
 strict_words first later h k = not_below_itself first.words (nat_list_cmp_total.trans first.words later.words first.words h k)
 
-module _ (head : TestHead) (Has Also : Final → Type 0) (same : (o : Final) → Has o ↔ Also o) where
+module _ (head : TestHead) (Has Also : FinalState → Type 0) (same : (o : FinalState) → Has o ↔ Also o) where
   -- sets with the same outcomes have the same states
-  pub one_list_of_states : (states others : List Shown)
+  pub one_list_of_states : (states others : List ProjectedState)
       → AreStatesOf head Has states
       → AreStatesOf head Also others
       → states ≡ others
   one_list_of_states states others a b =
-      one_list (λ (first later : Shown). slice_cmp nat_cmp first.words later.words ≡ Less) strict_words states others a.sorted
-      b.sorted (λ s h. let e = (a.exactly s).0 h in (b.exactly s).1 (e.0, (same e.0).0 e.1, e.2))
+      one_list (λ (first later : ProjectedState). slice_cmp nat_cmp first.words later.words ≡ Less) strict_words states others
+      a.sorted b.sorted (λ s h. let e = (a.exactly s).0 h in (b.exactly s).1 (e.0, (same e.0).0 e.1, e.2))
       (λ s h. let e = (b.exactly s).0 h in (a.exactly s).1 (e.0, (same e.0).1 e.1, e.2))
 
   -- sets with the same outcomes have the same report

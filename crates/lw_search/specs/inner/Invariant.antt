@@ -1,17 +1,17 @@
 -- For readers of this crate, no public call cites it: the invariant of a search.
 -- It speaks of a list `found` of machine states that the code does not keep: one for each key of the table.
 use Rattle.std.specs.Prelude.{◌≡◌, ◌≢◌, ℕ, suc, ◌+◌, ◌<◌, ◌≤◌, ◌==◌, ◌&&◌, Bool, true, false, nat_le, Some, Ok, List, [], ◌++◌, length, slice_get, slice_index, slice_index_or, IsTrue, All, Contains}
-use Rattle.lw_base.specs.Threads.{code_of}
+use Rattle.lw_base.specs.Threads.{thread_code}
 use Rattle.lw_base.specs.declared.event.Event.{Event}
 use Rattle.lw_base.specs.declared.event.Event.TheVariants.{Step, Drain}
-use Rattle.lw_base.specs.Outcomes.{Final}
-use Rattle.lw_listing.specs.Listings.{ListedOutcomes, outcomes_of}
+use Rattle.lw_base.specs.Outcomes.{FinalState}
+use Rattle.lw_outcome_map.specs.Listings.{OutcomeEntries, outcomes_of}
 use Rattle.lw_litmus.specs.declared.instr.Instr.{Instr}
-use Rattle.lw_litmus.specs.Tests.{ProgramTest}
-use Rattle.lw_memory.specs.Flat.{flat}
-use Rattle.lw_tso.specs.Machines.{EventDone}
+use Rattle.lw_litmus.specs.Tests.{X86Test}
+use Rattle.lw_memory.specs.Flat.{flat_memory}
+use Rattle.lw_tso.specs.Machines.{MachineTransition}
 use Rattle.lw_tso.specs.Processors.{Processor}
-use Rattle.lw_tso.specs.Runs.{MachineRan, is_final, machine_start, machine_outcome}
+use Rattle.lw_tso.specs.Runs.{MachineRunsTo, is_final, initial_machine_state, machine_outcome}
 use Rattle.lw_search.specs.declared.states.Origin.{Origin}
 use Rattle.lw_search.specs.inner.InvisibleEvents.{NeverConflicts}
 use Rattle.lw_search.specs.inner.StateKeys.{State, Components, Visited, Extends, Represents, RepresentsOthers, RepresentsThreads, IsPrefix, AreDistinct, events_of, set_thread}
@@ -24,13 +24,13 @@ module _ (program : List (List Instr)) where
   -- State r covers state s: each final state that some run reaches from s is reached from r by a run that is no longer.
   abbrev pub Covers : State → State → Type 0
   Covers r s =
-      (events : List Event) (end : State) → MachineRan flat program events s end → IsTrue (is_final program end)
-      → (more : List Event) × (length more ≤ length events) × MachineRan flat program more r end
+      (events : List Event) (end : State) → MachineRunsTo flat_memory program events s end → IsTrue (is_final program end)
+      → (more : List Event) × (length more ≤ length events) × MachineRunsTo flat_memory program more r end
 
   -- The successor of s by the event, if the event is enabled, is covered by a state of the list.
   abbrev pub IsCovered : List State → State → Event → Type 0
   IsCovered found s e =
-      (next : State) → EventDone flat program e s (Ok tt) next
+      (next : State) → MachineTransition flat_memory program e s (Ok tt) next
       → (r : State) × (i : ℕ) × (slice_get found i ≡ Some r) × Covers r next
 
   -- The successors of s by the step and by the drain of thread t are covered.
@@ -44,7 +44,7 @@ module _ (program : List (List Instr)) where
     pub stood : slice_get found origin.parent ≡ Some from
     pub run : List (ℕ × Bool)
     pub listed : slice_get runs origin.run ≡ Some run
-    pub ran : MachineRan flat program (events_of run) from s
+    pub ran : MachineRunsTo flat_memory program (events_of run) from s
 
   -- The invariant of a search that began at `start`: the keys represent the found states, which are different from each other, the start
   -- first, each other one with a predecessor; and all successors of the first `at` states are covered.
@@ -99,7 +99,7 @@ module _ (program : List (List Instr)) where
 abbrev pub Settles : List (List Instr) → Components → List ℕ → ℕ → List Event → Processor → List ℕ → Processor → List ℕ → Type 0
 Settles program tables key t events p m q n =
     (s : State) → RepresentsOthers tables key t s → length s.processors ≡ length program → slice_get s.processors t ≡ Some p → s.memory ≡ m
-    → MachineRan flat program events s (set_thread s t q n) × Covers program (set_thread s t q n) s
+    → MachineRunsTo flat_memory program events s (set_thread s t q n) × Covers program (set_thread s t q n) s
 
 -- State s of a program has the threads of a key and these words of memory.
 pub record IsWorking (program : List (List Instr)) (tables : Components) (key : List ℕ) (m : List ℕ) (s : State) : Type 0 where
@@ -118,7 +118,7 @@ pub record IsLoaded (program : List (List Instr)) (tables : Components) (key : L
 pub record Settled (program : List (List Instr)) (tables : Components) (key : List ℕ) (m : List ℕ) (events : List Event) (s : State) : Type 0 where
   pub end : State
   pub working : IsWorking program tables key m end
-  pub ran : MachineRan flat program events s end
+  pub ran : MachineRunsTo flat_memory program events s end
   pub covers : Covers program end s
 
 -- Rows were appended to the tables, and events to a run; they lead from each state of which From holds to one that covers it, with
@@ -133,23 +133,23 @@ pub record SettlesFrom (program : List (List Instr)) (From : State → Type 0) (
 abbrev pub OthersNeverConflict : List (List Instr) → Components → List ℕ → ℕ → ℕ → Bool → Type 0
 OthersNeverConflict program tables key t x written =
     (u : ℕ) (p : Processor) → u < length program → u ≢ t → slice_get tables.threads (slice_index key (u + 1)) ≡ Some p
-    → NeverConflicts (code_of program u) p x written
+    → NeverConflicts (thread_code program u) p x written
 
 -- A search has found some states of a test, and has visited none.
-abbrev pub IsStarted : ProgramTest → Components → Visited → Type 0
+abbrev pub IsStarted : X86Test → Components → Visited → Type 0
 IsStarted test tables visited =
-    (found : List State) × SearchInvariant test.threads (machine_start test test.head.init_words) tables visited found 0
+    (found : List State) × SearchInvariant test.threads (initial_machine_state test test.head.init_words) tables visited found 0
 
 -- The events lead from the start to a final state with this outcome.
-abbrev pub ReachesOutcome : List (List Instr) → State → List Event → Final → Type 0
+abbrev pub ReachesOutcome : List (List Instr) → State → List Event → FinalState → Type 0
 ReachesOutcome program start events o =
-    (end : State) × MachineRan flat program events start end × IsTrue (is_final program end) × (o ≡ machine_outcome flat end)
+    (end : State) × MachineRunsTo flat_memory program events start end × IsTrue (is_final program end) × (o ≡ machine_outcome flat_memory end)
 
 -- The events lead from the start to the state that was found at an index.
 abbrev pub ReachesIndex : Visited → ℕ → List Event → Type 0
 ReachesIndex visited index events =
     (program : List (List Instr)) (start : State) (tables : Components) (found : List State) (closed : ℕ) (s : State)
-    → SearchInvariant program start tables visited found closed → slice_get found index ≡ Some s → MachineRan flat program events start s
+    → SearchInvariant program start tables visited found closed → slice_get found index ≡ Some s → MachineRunsTo flat_memory program events start s
 
 -- The answer says whether thread t is past the last of `count` instructions, with an empty store buffer.
 abbrev pub ReportsThreadEnd : Components → List ℕ → ℕ → ℕ → Bool → Type 0
@@ -159,16 +159,16 @@ ReportsThreadEnd tables key t count answer =
 
 -- The outcome of the state at an index is among the new entries, if the state is final; the old outcomes still are; and if all old
 -- schedules lead to their outcomes, so do the new ones.
-pub record CollectsState (program : List (List Instr)) (tables : Components) (visited : Visited) (at : ℕ) (old new : ListedOutcomes) : Type 0 where
+pub record CollectsState (program : List (List Instr)) (tables : Components) (visited : Visited) (at : ℕ) (old new : OutcomeEntries) : Type 0 where
   pub covered : (start : State) (found : List State) (closed : ℕ) (s : State) → SearchInvariant program start tables visited found closed
-      → slice_get found at ≡ Some s → IsTrue (is_final program s) → Contains (outcomes_of new) (machine_outcome flat s)
-  pub kept : (o : Final) → Contains (outcomes_of old) o → Contains (outcomes_of new) o
+      → slice_get found at ≡ Some s → IsTrue (is_final program s) → Contains (outcomes_of new) (machine_outcome flat_memory s)
+  pub kept : (o : FinalState) → Contains (outcomes_of old) o → Contains (outcomes_of new) o
   pub lead : (start : State) (found : List State) (closed : ℕ) → SearchInvariant program start tables visited found closed
       → All (λ e. ReachesOutcome program start e.1 e.0) old → All (λ e. ReachesOutcome program start e.1 e.0) new
 
 -- All final states that were found have their outcomes listed, each with a schedule that leads to it.
-pub record CollectsAll (program : List (List Instr)) (tables : Components) (visited : Visited) (entries : ListedOutcomes) : Type 0 where
+pub record CollectsAll (program : List (List Instr)) (tables : Components) (visited : Visited) (entries : OutcomeEntries) : Type 0 where
   pub covered : (start : State) (found : List State) (closed : ℕ) (i : ℕ) (s : State) → SearchInvariant program start tables visited found closed
-      → slice_get found i ≡ Some s → IsTrue (is_final program s) → Contains (outcomes_of entries) (machine_outcome flat s)
+      → slice_get found i ≡ Some s → IsTrue (is_final program s) → Contains (outcomes_of entries) (machine_outcome flat_memory s)
   pub lead : (start : State) (found : List State) (closed : ℕ) → SearchInvariant program start tables visited found closed
       → All (λ e. ReachesOutcome program start e.1 e.0) entries

@@ -1,14 +1,14 @@
 -- For readers of this crate, no public call cites it: invisible events, which conflict with no event of another thread, now or later.
 use Rattle.std.specs.Prelude.{◌≡◌, ◌≢◌, ℕ, ◌<◌, ◌≤◌, ◌||◌, Bool, true, false, Option, Some, None, List, [], ◌∷◌, length, slice_get}
-use Rattle.lw_base.specs.Threads.{code_of}
+use Rattle.lw_base.specs.Threads.{thread_code}
 use Rattle.lw_base.specs.declared.event.Event.{Event}
 use Rattle.lw_base.specs.declared.event.Event.TheVariants.{Step, Drain, Evict}
 use Rattle.lw_litmus.specs.declared.instr.Instr.{Instr}
 use Rattle.lw_litmus.specs.declared.operation.Operation.{Operation}
 use Rattle.lw_litmus.specs.declared.operation.Operation.TheVariants.{Load, Swap, FetchAdd}
-use Rattle.lw_litmus.specs.Operations.{location_of, writes, Leads}
+use Rattle.lw_litmus.specs.Operations.{location_of, writes, IsSuccessor}
 use Rattle.lw_litmus.specs.Programs.{x86_operation}
-use Rattle.lw_tso.specs.Acts.{cpu_of}
+use Rattle.lw_tso.specs.EventEffects.{cpu_of}
 use Rattle.lw_tso.specs.Processors.{Processor}
 use Rattle.lw_search.specs.inner.StateKeys.{State}
 
@@ -48,14 +48,14 @@ module _ (program : List (List Instr)) where
   pub record IsUncontended (s : State) (t : ℕ) (access : ℕ × Bool) : Type 0 where
     pub in_range : access.0 < length s.memory
     pub others : (u : ℕ) (p : Processor) → u ≢ t → slice_get s.processors u ≡ Some p
-        → NeverConflicts (code_of program u) p access.0 access.1
+        → NeverConflicts (thread_code program u) p access.0 access.1
 
   -- An event is invisible in state s: it accesses no memory, or its access is uncontended.
   abbrev pub IsInvisible : Event → State → Type 0
   IsInvisible e s =
       (p : Processor) (access : ℕ × Bool) → slice_get s.processors (cpu_of e) ≡ Some p
-      → event_access (code_of program (cpu_of e)) e p ≡ Some access → IsUncontended s (cpu_of e) access
+      → event_access (thread_code program (cpu_of e)) e p ≡ Some access → IsUncontended s (cpu_of e) access
 
   -- Each instruction of each thread leads to later positions only.
   abbrev pub IsForward : Type 0
-  IsForward = (t k j : ℕ) (i : Instr) → slice_get (code_of program t) k ≡ Some i → Leads (x86_operation i) k j → k < j
+  IsForward = (t k j : ℕ) (i : Instr) → slice_get (thread_code program t) k ≡ Some i → IsSuccessor (x86_operation i) k j → k < j

@@ -4,8 +4,8 @@ use Rattle.lw_base.specs.WellFormed.{IsWellFormedHead}
 use Rattle.lw_text.specs.Frames.{TestFrame}
 use Rattle.lw_litmus.specs.Tests.{SourceTest}
 use Rattle.lw_litmus.specs.WellFormedTests.{IsWellFormedSource}
-use Rattle.lw_cells.proofs.api.Forms.{names_allowed}
-use Rattle.lw_cells.proofs.api.Tests.{well_formed_test}
+use Rattle.lw_statements.proofs.api.Forms.{names_allowed}
+use Rattle.lw_statements.proofs.api.Tests.{well_formed_test}
 use Rattle.lw_source.specs.Spelling.{source_spelling}
 use Rattle.lw_source.specs.Grammar.{source_grammar, HasSource}
 use Rattle.lw_source.proofs.SourceLaws.{source_lawful}

@@ -4,12 +4,13 @@ use Rattle.lw_text.proofs.Common.{map, length, refl, sym, ap, ◌∙◌, subst, 
 use Rattle.lw_text.proofs.Common.{slice_index_or, flat_map, decimal, AllByRecursion, map-append}
 use Rattle.lw_text.proofs.Common.{All-from_recursion, slice_get-get_or, Bytes, NameTable, TokenList, Arch}
 use Rattle.lw_text.proofs.Common.{Quant, Exists, NotExists, Forall, Seen, Register, Location, is_or}
-use Rattle.lw_text.proofs.Common.{is_joined, Formula, No, Reg_is, Word_is, Not, And, Or, most_threads}
-use Rattle.lw_text.proofs.Common.{EachOnce, IsLocation, IsInTable, index_of-again, register_name, IsSeen}
-use Rattle.lw_text.proofs.Common.{SpeaksOf, SiteSyntax, InMemory, InThread, IsSite, ThreadExists, Value}
-use Rattle.lw_text.proofs.Common.{site_names, seen_in, Ended, Terminal, Open, Close, Negation, Conjunction}
-use Rattle.lw_text.proofs.Common.{Disjunction, Atom, AtomSyntax, Always, Never, Holds, IsTerminal, Terminals}
-use Rattle.lw_text.proofs.Common.{Quantified, sites_in, resolved, all_append}
+use Rattle.lw_text.proofs.Common.{is_binary, Formula, No, Reg_is, Word_is, Not, And, Or, most_threads}
+use Rattle.lw_text.proofs.Common.{IsDuplicateFree, IsLocationName, IsInTable, position_of_name-again}
+use Rattle.lw_text.proofs.Common.{register_name, IsSeenInRange, MentionsOnly, SiteSyntax, InMemory, InThread}
+use Rattle.lw_text.proofs.Common.{IsSite, ThreadExists, Value, site_names, seen_in, ParsesSepEndBy, Terminal}
+use Rattle.lw_text.proofs.Common.{Open, Close, Negation, Conjunction, Disjunction, Atom, AtomSyntax, Always}
+use Rattle.lw_text.proofs.Common.{Never, Holds, IsTerminal, Terminals, Quantified, sites_in, resolved}
+use Rattle.lw_text.proofs.Common.{all_append}
 use Rattle.lw_text.proofs.api.Spelling.{decimal_is_number}
 use Rattle.lw_text.proofs.api.PrintedPropositions.{enclosed, enclosed_if, terminals_of}
 
@@ -61,7 +62,7 @@ quantifier_tokens Forall = codes "forall" ∷ []
 
 -- a site can be printed: it is a location whose name the table has, or a register of one of so many threads
 abbrev pub IsPrintable : ℕ → NameTable → SiteSyntax → Type 0
-IsPrintable threads names (InMemory x) = IsLocation x × IsInTable names x
+IsPrintable threads names (InMemory x) = IsLocationName x × IsInTable names x
 IsPrintable threads names (InThread t r) = (t < threads) × (r < 6)
 
 -- An atom whose site can be printed, with a word.
@@ -145,9 +146,9 @@ pub sites_printable : (threads : ℕ) (names : NameTable) (ss : List (Terminal A
     → AllByRecursion (IsPrintable threads names) (sites_in ss)
 sites_printable threads names = all_sites _ (IsPrintable threads names) (λ s n h. h.0)
 
-module _ (threads : ℕ) (names : NameTable) (table : AllByRecursion IsLocation names) where
+module _ (threads : ℕ) (names : NameTable) (table : AllByRecursion IsLocationName names) where
   -- a register or location of a test can be printed by its names
-  pub named_printable : (s : Seen) → IsSeen threads (length names) s → IsPrintable threads names (named_site names s)
+  pub named_printable : (s : Seen) → IsSeenInRange threads (length names) s → IsPrintable threads names (named_site names s)
   named_printable (Register t r) h = h
   named_printable (Location x) h = (All-from_recursion _ _ table x [] h, (x, slice_get-get_or names x [] h))
 
@@ -169,25 +170,25 @@ module _ (threads : ℕ) (names : NameTable) (table : AllByRecursion IsLocation 
       → AreFine (enclosed_if a ss ++ (t ∷ enclosed_if b us))
   joined_fine a b ss us t k h i = all_append _ (enclosed_if a ss) _ (part_fine a ss h) (k, part_fine b us i)
 
-  terminals_fine : (p : Formula) → SpeaksOf threads (length names) p → AreFine (terminals_of (named_claim names) p)
+  terminals_fine : (p : Formula) → MentionsOnly threads (length names) p → AreFine (terminals_of (named_claim names) p)
   terminals_fine (Reg_is t r n) h = (((h.0, h.1), h.2), tt)
   terminals_fine (Word_is x n) h = ((named_printable (Location x) h.0, h.1), tt)
-  terminals_fine (Not p) h = (tt, part_fine (is_joined p) _ (terminals_fine p h))
+  terminals_fine (Not p) h = (tt, part_fine (is_binary p) _ (terminals_fine p h))
   terminals_fine (And p q) h = joined_fine (is_or p) _ _ _ _ tt (terminals_fine p h.0) (terminals_fine q h.1)
   terminals_fine (Or p q) h = joined_fine false _ _ _ _ tt (terminals_fine p h.0) (terminals_fine q h.1)
   terminals_fine _ h = (tt, tt)
 
   -- all terminals of a condition of the test can be printed
-  pub whole_fine : (p : Formula) → SpeaksOf threads (length names) p → AreFine (enclosed (terminals_of (named_claim names) p))
+  pub whole_fine : (p : Formula) → MentionsOnly threads (length names) p → AreFine (enclosed (terminals_of (named_claim names) p))
   whole_fine p h = enclosed_fine (terminals_of (named_claim names) p) (terminals_fine p h)
 
 -- ---- names are resolved to the numbers again
 
-module _ (threads : ℕ) (names : NameTable) (once : EachOnce names) where
+module _ (threads : ℕ) (names : NameTable) (once : IsDuplicateFree names) where
   -- a site by its names is resolved to the register or location that was named
-  pub seen_again : (s : Seen) → IsSeen threads (length names) s → seen_in names (named_site names s) ≡ s
+  pub seen_again : (s : Seen) → IsSeenInRange threads (length names) s → seen_in names (named_site names s) ≡ s
   seen_again (Register t r) h = refl
-  seen_again (Location x) h = ap (λ (y : ℕ). Location y) (index_of-again names once x h)
+  seen_again (Location x) h = ap (λ (y : ℕ). Location y) (position_of_name-again names once x h)
 
   enclosed_again : (ss : List (Terminal AtomSyntax)) (us : List (Terminal Formula))
       → map (resolved names) ss ≡ us
@@ -217,16 +218,16 @@ module _ (threads : ℕ) (names : NameTable) (once : EachOnce names) where
   abbrev formula_terms : Formula → List (Terminal Formula)
   formula_terms p = terminals_of (λ q. q) p
 
-  terminals_again : (p : Formula) → SpeaksOf threads (length names) p → map (resolved names) (named_terms p) ≡ formula_terms p
-  terminals_again (Word_is x n) h = ap (λ (y : ℕ). Atom (Word_is y n) ∷ []) (index_of-again names once x h.0)
-  terminals_again (Not p) h = ap (λ l. Negation ∷ l) (part_again (is_joined p) _ _ (terminals_again p h))
+  terminals_again : (p : Formula) → MentionsOnly threads (length names) p → map (resolved names) (named_terms p) ≡ formula_terms p
+  terminals_again (Word_is x n) h = ap (λ (y : ℕ). Atom (Word_is y n) ∷ []) (position_of_name-again names once x h.0)
+  terminals_again (Not p) h = ap (λ l. Negation ∷ l) (part_again (is_binary p) _ _ (terminals_again p h))
   terminals_again (And p q) h = joined_again _ _ _ _ _ _ _ (terminals_again p h.0) (terminals_again q h.1)
   terminals_again (Or p q) h = joined_again false _ _ _ _ _ _ (terminals_again p h.0) (terminals_again q h.1)
   terminals_again _ h = refl
 
   -- all terminals of a condition are resolved to those of its formula again
   pub whole_again : (p : Formula)
-      → SpeaksOf threads (length names) p
+      → MentionsOnly threads (length names) p
       → map (resolved names) (enclosed (named_terms p)) ≡ enclosed (formula_terms p)
   whole_again p h = enclosed_again (named_terms p) (formula_terms p) (terminals_again p h)
 
@@ -239,7 +240,7 @@ quantifier_said _ rest = refl
 pub ended_said : {X : Type 0} (P : TokenList → X → TokenList → Type 0) (tokens : X → TokenList) (sep close : Bytes) (xs : List X)
     (rest : TokenList)
     → AllByRecursion (λ x. (l : TokenList) → P (tokens x ++ l) x l) xs
-    → Ended P sep close (flat_map (λ x. tokens x ++ sep ∷ []) xs ++ (close ∷ rest)) xs rest
+    → ParsesSepEndBy P sep close (flat_map (λ x. tokens x ++ sep ∷ []) xs ++ (close ∷ rest)) xs rest
 ended_said P tokens sep close [] rest h = refl
 ended_said P tokens sep close (x ∷ xs) rest h =
     let more = flat_map (λ y. tokens y ++ sep ∷ []) xs in

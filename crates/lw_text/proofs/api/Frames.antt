@@ -1,11 +1,11 @@
 -- A text has at most one frame, whose head is well-formed, with cells for each thread. lw_x86 and lw_bench use this.
 use Rattle.lw_text.proofs.Common.{◌≡◌, length, map, sym, ap, ◌∙◌, subst, length-map-range_with_len, Bytes}
-use Rattle.lw_text.proofs.Common.{Arch, Formula, Tokens, IsProposition, resolved, TestSyntax, table, Parts}
-use Rattle.lw_text.proofs.Common.{TestFrame, HasFrame, made_of}
+use Rattle.lw_text.proofs.Common.{Arch, Formula, Tokens, IsProposition, resolved, TestSyntax, location_table}
+use Rattle.lw_text.proofs.Common.{ParsesTest, TestFrame, HasFrame, frame_of_syntax}
 use Rattle.lw_text.proofs.Preambles.{Preamble-unique}
 use Rattle.lw_text.proofs.PropositionReadings.{IsProposition-unique}
 use Rattle.lw_text.proofs.TokenRows.{Tokens-unique}
-use Rattle.lw_text.proofs.Whole.{Parts-unique}
+use Rattle.lw_text.proofs.Whole.{ParsesTest-unique}
 pub use Rattle.lw_text.proofs.WellFormedHeads.{frame_well_formed}
 
 -- a text has one frame, for its preamble, tokens, parts and proposition are each read in one way
@@ -13,19 +13,19 @@ pub HasFrame-unique : (text : Bytes) (f g : TestFrame) → HasFrame text f → H
 HasFrame-unique text f g p q =
     let head = Preamble-unique text p.arch p.name p.rest q.arch q.name q.rest p.preamble q.preamble in
     let tokens = Tokens-unique p.tokens q.tokens q.rest (subst (λ x. Tokens x p.tokens) head.2 p.stream) q.stream in
-    let parts = subst (λ a. Parts a q.tokens p.syntax) head.0 (subst (λ x. Parts p.arch x p.syntax) tokens p.parts) in
-    let syntax : p.syntax ≡ q.syntax = Parts-unique q.arch q.tokens p.syntax q.syntax parts q.parts in
+    let parts = subst (λ a. ParsesTest a q.tokens p.syntax) head.0 (subst (λ x. ParsesTest p.arch x p.syntax) tokens p.parts) in
+    let syntax : p.syntax ≡ q.syntax = ParsesTest-unique q.arch q.tokens p.syntax q.syntax parts q.parts in
     let condition : p.condition ≡ q.condition =
-    IsProposition-unique (map (resolved (table q.syntax)) q.syntax.terminals) p.condition q.condition
-    (subst (λ (s : TestSyntax). IsProposition (map (resolved (table s)) s.terminals) p.condition) syntax p.proposition)
+    IsProposition-unique (map (resolved (location_table q.syntax)) q.syntax.terminals) p.condition q.condition
+    (subst (λ (s : TestSyntax). IsProposition (map (resolved (location_table s)) s.terminals) p.condition) syntax p.proposition)
     q.proposition in
     let arch : p.arch ≡ q.arch = head.0 in
     let name : p.name ≡ q.name = head.1 in
     p.made
-    ∙ ap (λ (a : Arch). made_of a p.name p.syntax p.condition) arch
-    ∙ ap (λ n. made_of q.arch n p.syntax p.condition) name
-    ∙ ap (λ (s : TestSyntax). made_of q.arch q.name s p.condition) syntax
-    ∙ ap (λ (c : Formula). made_of q.arch q.name q.syntax c) condition
+    ∙ ap (λ (a : Arch). frame_of_syntax a p.name p.syntax p.condition) arch
+    ∙ ap (λ n. frame_of_syntax q.arch n p.syntax p.condition) name
+    ∙ ap (λ (s : TestSyntax). frame_of_syntax q.arch q.name s p.condition) syntax
+    ∙ ap (λ (c : Formula). frame_of_syntax q.arch q.name q.syntax c) condition
     ∙ sym q.made
 
 -- a frame has a column of cells for each thread

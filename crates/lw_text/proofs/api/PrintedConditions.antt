@@ -4,12 +4,12 @@ use Rattle.lw_text.proofs.Common.{◌++◌, length, refl, sym, ap, ◌∙◌, su
 use Rattle.lw_text.proofs.Common.{slice_index_or, flat_map, decimal, AllByRecursion, not-true, nat_tests}
 use Rattle.lw_text.proofs.Common.{decimal_nonempty, flat_map-append, All-from_recursion, Bytes, NameTable}
 use Rattle.lw_text.proofs.Common.{TokenList, Arch, Source, X86, Quant, Exists, NotExists, Forall, Seen}
-use Rattle.lw_text.proofs.Common.{Register, Location, is_name_byte, begins, site_text, assignment}
-use Rattle.lw_text.proofs.Common.{in_parentheses, parenthesized_if, is_joined, proposition_text}
+use Rattle.lw_text.proofs.Common.{Register, Location, is_name_byte, first_byte_is, site_text, assignment}
+use Rattle.lw_text.proofs.Common.{parenthesized, parenthesized_if, is_binary, proposition_text}
 use Rattle.lw_text.proofs.Common.{quantifier_text, Formula, Yes, No, Reg_is, Word_is, Not, And, Or, nodes}
-use Rattle.lw_text.proofs.Common.{most_threads, IsName, IsLocation, register_name, IsSeen, SpeaksOf, is_pair}
-use Rattle.lw_text.proofs.Common.{Terminal, Conjunction, Disjunction, Atom, AtomSyntax, Always, Never, Holds}
-use Rattle.lw_text.proofs.Common.{blank_all}
+use Rattle.lw_text.proofs.Common.{most_threads, IsName, IsLocationName, register_name, IsSeenInRange}
+use Rattle.lw_text.proofs.Common.{MentionsOnly, is_two_byte_symbol, Terminal, Conjunction, Disjunction, Atom}
+use Rattle.lw_text.proofs.Common.{AtomSyntax, Always, Never, Holds, blank_all}
 use Rattle.lw_text.proofs.api.Spelling.{Anything, EndsName, IsBlankNext, HasNoStar, HasNoEquals, Spells}
 use Rattle.lw_text.proofs.api.Spelling.{name_by_test, Spells-then, Spells-on, Spells-before, Spells-within}
 use Rattle.lw_text.proofs.api.Spelling.{Spells-space, Spells-symbol, Spells-mark, Spells-pair, Spells-name}
@@ -31,7 +31,7 @@ pub Spells-register : (arch : Arch) (r : ℕ) → r < 6 → Spells EndsName 32 (
 Spells-register arch r h = Spells-name (register_name arch r) (register_is_name arch r h)
 
 -- a name byte makes no symbol with a `:` before it
-no_equals : (b : ℕ) → is_name_byte b ≡ true → is_pair 58 b ≡ false
+no_equals : (b : ℕ) → is_name_byte b ≡ true → is_two_byte_symbol 58 b ≡ false
 no_equals b h = grind (arith, nat_tests)
 
 -- a name byte is no `*`
@@ -39,7 +39,7 @@ no_star : (b : ℕ) → is_name_byte b ≡ true → (b == 42) ≡ false
 no_star b h = grind (arith, nat_tests)
 
 -- a name makes no symbol with a `:` before it
-name_no_equals : (w rest : Bytes) → IsName w → begins (is_pair 58) (w ++ rest) ≡ false
+name_no_equals : (w rest : Bytes) → IsName w → first_byte_is (is_two_byte_symbol 58) (w ++ rest) ≡ false
 name_no_equals [] rest n = absurd (let h = n.0.some in omega arith)
 name_no_equals (b ∷ w) rest n = no_equals b n.0.all.0
 
@@ -48,9 +48,9 @@ pub Spells-colon : Spells HasNoEquals 1 (58 ∷ []) ((58 ∷ []) ∷ [])
 Spells-colon = Spells-symbol 58 refl (λ rest f. f) (λ rest f. refl) (omega arith)
 
 -- no `=` follows a `:` where a blank does
-pub blank_no_equals : (rest : Bytes) → IsBlankNext rest → begins (is_pair 58) rest ≡ false
+pub blank_no_equals : (rest : Bytes) → IsBlankNext rest → first_byte_is (is_two_byte_symbol 58) rest ≡ false
 blank_no_equals [] h = refl
-blank_no_equals (b ∷ rest) h = not-true (is_pair 58 b) (blank_all (λ c. not (is_pair 58 c)) b refl h)
+blank_no_equals (b ∷ rest) h = not-true (is_two_byte_symbol 58 b) (blank_all (λ c. not (is_two_byte_symbol 58 c)) b refl h)
 
 -- ---- the texts
 
@@ -64,7 +64,7 @@ starts-then a b s = (s.0, s.1 ++ b, ap (λ t. t ++ b) s.2, s.3)
 
 -- no `*` stands before such a text, so a `(` there opens no comment
 starts_no_star : (text rest : Bytes) → Starts text → HasNoStar (text ++ rest)
-starts_no_star text rest s = ap (λ t. begins (λ b. b == 42) (t ++ rest)) s.2 ∙ s.3
+starts_no_star text rest s = ap (λ t. first_byte_is (λ b. b == 42) (t ++ rest)) s.2 ∙ s.3
 
 -- a name run is not empty and begins with no `*`
 starts_name_run : (w : Bytes) → 0 < length w → AllByRecursion (λ b. is_name_byte b ≡ true) w → Starts w
@@ -73,16 +73,16 @@ starts_name_run (b ∷ w) some all = (b, w, refl, no_star b all.0)
 
 -- each name of a table of locations is a location's
 pub name_there : (names : NameTable) (x : ℕ)
-    → AllByRecursion IsLocation names
+    → AllByRecursion IsLocationName names
     → x < length names
-    → IsLocation (slice_index_or names x [])
-name_there names x table h = All-from_recursion IsLocation names table x [] h
+    → IsLocationName (slice_index_or names x [])
+name_there names x table h = All-from_recursion IsLocationName names table x [] h
 
 module _ (arch : Arch) (threads : ℕ) (few : threads ≤ most_threads) (names : NameTable)
-    (table : AllByRecursion IsLocation names) where
+    (table : AllByRecursion IsLocationName names) where
   -- the text of a site spells its tokens, where no name byte follows
   pub site_spelled : (s : Seen)
-      → IsSeen threads (length names) s
+      → IsSeenInRange threads (length names) s
       → Spells EndsName 43 (site_text arch names s) (site_tokens arch (named_site names s))
   site_spelled (Register t r) h =
       let number = Spells-number t (omega (arith, h.0, few)) in
@@ -92,7 +92,7 @@ module _ (arch : Arch) (threads : ℕ) (few : threads ≤ most_threads) (names :
   site_spelled (Location x) h =
       Spells-within 43 (omega arith) (Spells-name (slice_index_or names x []) (name_there names x table h).0)
 
-  site_starts : (s : Seen) → IsSeen threads (length names) s → Starts (site_text arch names s)
+  site_starts : (s : Seen) → IsSeenInRange threads (length names) s → Starts (site_text arch names s)
   site_starts (Register t r) h =
       let small : t < 2 ^ 32 = omega (arith, h.0, few) in
       starts-then (decimal t) (codes ":" ++ register_name arch r)
@@ -102,7 +102,7 @@ module _ (arch : Arch) (threads : ℕ) (few : threads ≤ most_threads) (names :
 
   -- the text of a site with its word, as `x=1`, spells their tokens
   pub assignment_spelled : (s : Seen) (n : ℕ)
-      → IsSeen threads (length names) s
+      → IsSeenInRange threads (length names) s
       → n < 2 ^ 32
       → Spells EndsName 54 (assignment (site_text arch names s) n) (site_tokens arch (named_site names s) ++ value_tokens n)
   assignment_spelled s n h small =
@@ -123,19 +123,18 @@ module _ (arch : Arch) (threads : ℕ) (few : threads ≤ most_threads) (names :
 
   enclosed_spelled : (text : Bytes) (most : ℕ) (ss : List (Terminal AtomSyntax))
       → IsSpelled text most ss
-      → Spells Anything (most + 2) (in_parentheses text) (tokens_of (enclosed ss))
+      → Spells Anything (most + 2) (parenthesized text) (tokens_of (enclosed ss))
   enclosed_spelled text most ss s =
       let opening = Spells-symbol {F = HasNoStar} 40 refl (λ rest f. alone _) (λ rest f. f) (omega arith) in
       let closing = Spells-mark 41 refl (λ c. refl) refl (omega arith) in
-      let whole : Spells Anything (1 + (most + 1)) (in_parentheses text)
-      ((codes "(" ∷ []) ++ (tokens_of ss ++ (codes ")" ∷ []))) =
+      let whole : Spells Anything (1 + (most + 1)) (parenthesized text) ((codes "(" ∷ []) ++ (tokens_of ss ++ (codes ")" ∷ []))) =
       Spells-then
       (λ rest g. subst HasNoStar (sym (append_assoc text (codes ")") rest)) (starts_no_star text (codes ")" ++ rest) s.starts))
       opening (Spells-then (λ rest g. refl) s.spells closing) in
-      subst (λ (ts : TokenList). Spells Anything (most + 2) (in_parentheses text) (codes "(" ∷ ts))
+      subst (λ (ts : TokenList). Spells Anything (most + 2) (parenthesized text) (codes "(" ∷ ts))
       (sym (flat_map-append (terminal_tokens arch) ss _)) (Spells-within (most + 2) (omega arith) whole)
     where
-      alone : (rest : Bytes) → begins (is_pair 40) rest ≡ false
+      alone : (rest : Bytes) → first_byte_is (is_two_byte_symbol 40) rest ≡ false
       alone [] = refl
       alone (b ∷ rest) = refl
 
@@ -180,7 +179,7 @@ module _ (arch : Arch) (threads : ℕ) (few : threads ≤ most_threads) (names :
   }
 
   claim_spelled : (s : Seen) (n : ℕ)
-      → IsSeen threads (length names) s
+      → IsSeenInRange threads (length names) s
       → n < 2 ^ 32
       → IsSpelled (assignment (site_text arch names s) n) 60 (Atom (Holds (named_site names s) n) ∷ [])
   claim_spelled s n h small = record {
@@ -196,7 +195,7 @@ module _ (arch : Arch) (threads : ℕ) (few : threads ≤ most_threads) (names :
       nil_behind (Location x) = refl
 
   proposition_spelled : (p : Formula)
-      → SpeaksOf threads (length names) p
+      → MentionsOnly threads (length names) p
       → IsSpelled (proposition_text arch names p) (60 * nodes p) (terms p)
   proposition_spelled Yes h = word_spelled (codes "true") (name_by_test _ refl) (Atom Always ∷ []) refl
   proposition_spelled No h = word_spelled (codes "false") (name_by_test _ refl) (Atom Never ∷ []) refl
@@ -208,7 +207,7 @@ module _ (arch : Arch) (threads : ℕ) (few : threads ≤ most_threads) (names :
         spells =
             Spells-within (60 * suc (nodes p)) (omega arith)
             (Spells-on (Spells-mark 126 refl (λ c. refl) refl (omega arith)) part.spells);
-        starts = (126, parenthesized_if (is_joined p) (proposition_text arch names p), refl, refl);
+        starts = (126, parenthesized_if (is_binary p) (proposition_text arch names p), refl, refl);
       }
   proposition_spelled (And p q) h =
       let left = part_spelled _ (proposition_text arch names p) _ (terms p) (proposition_spelled p h.0) in
@@ -222,8 +221,8 @@ module _ (arch : Arch) (threads : ℕ) (few : threads ≤ most_threads) (names :
 
   -- the text of a proposition in parentheses spells its tokens
   pub whole_spelled : (p : Formula)
-      → SpeaksOf threads (length names) p
-      → Spells Anything (60 * nodes p + 2) (in_parentheses (proposition_text arch names p)) (tokens_of (enclosed (terms p)))
+      → MentionsOnly threads (length names) p
+      → Spells Anything (60 * nodes p + 2) (parenthesized (proposition_text arch names p)) (tokens_of (enclosed (terms p)))
   whole_spelled p h = enclosed_spelled (proposition_text arch names p) _ (terms p) (proposition_spelled p h)
 
 -- the text of a quantifier spells its tokens

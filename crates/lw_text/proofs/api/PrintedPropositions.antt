@@ -1,6 +1,6 @@
 -- The terminals of a formula as it is printed, and that they say it again. The crates above that print tests use this.
 use Rattle.lw_text.proofs.Common.{◌≡◌, Bool, true, false, List, [], ◌∷◌, ◌++◌, refl, if◌then◌else◌, Formula}
-use Rattle.lw_text.proofs.Common.{Yes, No, Reg_is, Word_is, Not, And, Or, is_or, is_joined, Terminal, Open}
+use Rattle.lw_text.proofs.Common.{Yes, No, Reg_is, Word_is, Not, And, Or, is_or, is_binary, Terminal, Open}
 use Rattle.lw_text.proofs.Common.{Close, Negation, Conjunction, Disjunction, Atom, PartLevel}
 use Rattle.lw_text.proofs.Common.{ConjunctionLevel, DisjunctionLevel, Derives, atom, negated, parens, part}
 use Rattle.lw_text.proofs.Common.{and, conjunction, or, IsProposition}
@@ -19,9 +19,9 @@ terminals_of f Yes = Atom (f Yes) ∷ []
 terminals_of f No = Atom (f No) ∷ []
 terminals_of f (Reg_is t r n) = Atom (f (Reg_is t r n)) ∷ []
 terminals_of f (Word_is x n) = Atom (f (Word_is x n)) ∷ []
-terminals_of f (Not p) = Negation ∷ enclosed_if (is_joined p) (terminals_of f p)
+terminals_of f (Not p) = Negation ∷ enclosed_if (is_binary p) (terminals_of f p)
 terminals_of f (And p q) =
-    enclosed_if (is_or p) (terminals_of f p) ++ (Conjunction ∷ enclosed_if (is_joined q) (terminals_of f q))
+    enclosed_if (is_or p) (terminals_of f p) ++ (Conjunction ∷ enclosed_if (is_binary q) (terminals_of f q))
 terminals_of f (Or p q) = terminals_of f p ++ (Disjunction ∷ enclosed_if (is_or q) (terminals_of f q))
 
 -- ---- what they say
@@ -36,7 +36,7 @@ terms p = terminals_of (λ q. q) p
 
 -- A formula's terminals say it again, by the level that its outermost connective has.
 record Shown (p : Formula) : Type 0 where
-  part : is_joined p ≡ false → Derives PartLevel (terms p) p
+  part : is_binary p ≡ false → Derives PartLevel (terms p) p
   conjuncts : is_or p ≡ false → Derives ConjunctionLevel (terms p) p
   whole : Derives DisjunctionLevel (terms p) p
 
@@ -45,7 +45,7 @@ plain : (p : Formula) → Derives PartLevel (terms p) p → Shown p
 plain p d = record { part = λ h. d; conjuncts = λ h. part d; whole = conjunction (part d) }
 
 -- a formula is a part, in parentheses where it is joined by a connective of two parts
-any_part : (p : Formula) → Shown p → (b : Bool) → is_joined p ≡ b → Derives PartLevel (enclosed_if b (terms p)) p
+any_part : (p : Formula) → Shown p → (b : Bool) → is_binary p ≡ b → Derives PartLevel (enclosed_if b (terms p)) p
 any_part p s true e = parens s.whole
 any_part p s false e = s.part e
 
@@ -60,9 +60,9 @@ shown Yes = plain Yes atom
 shown No = plain No atom
 shown (Reg_is t r n) = plain (Reg_is t r n) atom
 shown (Word_is x n) = plain (Word_is x n) atom
-shown (Not p) = plain (Not p) (negated (any_part p (shown p) (is_joined p) refl))
+shown (Not p) = plain (Not p) (negated (any_part p (shown p) (is_binary p) refl))
 shown (And p q) =
-    let d = and (any_conjuncts p (shown p) (is_or p) refl) (any_part q (shown q) (is_joined q) refl) in
+    let d = and (any_conjuncts p (shown p) (is_or p) refl) (any_part q (shown q) (is_binary q) refl) in
     record { part = λ h. absurd cc; conjuncts = λ h. d; whole = conjunction d }
 shown (Or p q) = record {
   part = λ h. absurd cc;

@@ -1,7 +1,7 @@
 -- The nodes of a proposition are those of its terminals.
 use Rattle.lw_text.proofs.Common.{◌≡◌, ℕ, suc, ◌+◌, List, [], ◌∷◌, ◌++◌, length, map, refl, ap, ◌∙◌}
 use Rattle.lw_text.proofs.Common.{length-append, arith, filter, filter-append, AllByRecursion, Formula, nodes}
-use Rattle.lw_text.proofs.Common.{all_parts, InMemory, InThread, Terminal, Open, Close, Conjunction}
+use Rattle.lw_text.proofs.Common.{All-append_inv, InMemory, InThread, Terminal, Open, Close, Conjunction}
 use Rattle.lw_text.proofs.Common.{Disjunction, Atom, is_node, Level, Derives, atom, negated, parens, part}
 use Rattle.lw_text.proofs.Common.{and, conjunction, or, AtomSyntax, Holds, resolved}
 
@@ -26,14 +26,14 @@ pub proposition_nodes : {k : Level} {ss : List (Terminal Formula)} {p : Formula}
 proposition_nodes atom h = h.0
 proposition_nodes (negated d) h = ap suc (proposition_nodes d h.1)
 proposition_nodes (parens {ss} d) h =
-    let a = proposition_nodes d (all_parts IsSingle ss (Close ∷ []) h.1).0 in omega (arith, a, count_append ss (Close ∷ []))
+    let a = proposition_nodes d (All-append_inv IsSingle ss (Close ∷ []) h.1).0 in omega (arith, a, count_append ss (Close ∷ []))
 proposition_nodes (part d) h = proposition_nodes d h
 proposition_nodes (and {ss} {ts} d e) h =
-    let k = all_parts IsSingle ss (Conjunction ∷ ts) h in
+    let k = All-append_inv IsSingle ss (Conjunction ∷ ts) h in
     omega (arith, proposition_nodes d k.0, proposition_nodes e k.1.1, count_append ss (Conjunction ∷ ts))
 proposition_nodes (conjunction d) h = proposition_nodes d h
 proposition_nodes (or {ss} {ts} d e) h =
-    let k = all_parts IsSingle ss (Disjunction ∷ ts) h in
+    let k = All-append_inv IsSingle ss (Disjunction ∷ ts) h in
     omega (arith, proposition_nodes d k.0, proposition_nodes e k.1.1, count_append ss (Disjunction ∷ ts))
 
 -- atoms by names are resolved to formulas of one node

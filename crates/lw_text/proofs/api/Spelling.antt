@@ -6,8 +6,9 @@ use Rattle.lw_text.proofs.Common.{IsAscii, decimal, ltb-true, AllByRecursion, li
 use Rattle.lw_text.proofs.Common.{digits_value_after, digit_value, is_ascii_digit, not-true, and_parts}
 use Rattle.lw_text.proofs.Common.{nat_tests, decimal_is_IsNumeral, length-decimal-le, IsUtf8-nil}
 use Rattle.lw_text.proofs.Common.{IsUtf8-append, IsUtf8-from_ascii, digit_from_value, Bytes, TokenList}
-use Rattle.lw_text.proofs.Common.{is_blank, is_name_byte, begins, IsName, opens_comment, none, blank, Digits}
-use Rattle.lw_text.proofs.Common.{IsNumber, IsKind, is_pair, is_single, Tokens, blank_all, name_bytes_ascii}
+use Rattle.lw_text.proofs.Common.{is_blank, is_name_byte, first_byte_is, IsName, opens_comment, none, blank}
+use Rattle.lw_text.proofs.Common.{Digits, IsNumber, IsNameOrNumber, is_two_byte_symbol, is_one_byte_symbol}
+use Rattle.lw_text.proofs.Common.{Tokens, blank_all, name_bytes_ascii}
 
 -- ---- what may follow a text: anything, no name byte, a blank, no `*`, or nothing that makes a symbol with a `:`
 
@@ -17,19 +18,19 @@ Anything rest = Unit {0}
 
 -- No name byte follows.
 abbrev pub EndsName : Bytes → Type 0
-EndsName rest = begins is_name_byte rest ≡ false
+EndsName rest = first_byte_is is_name_byte rest ≡ false
 
 -- A blank follows.
 abbrev pub IsBlankNext : Bytes → Type 0
-IsBlankNext rest = begins is_blank rest ≡ true
+IsBlankNext rest = first_byte_is is_blank rest ≡ true
 
 -- No `*` follows, so a `(` opens no comment.
 abbrev pub HasNoStar : Bytes → Type 0
-HasNoStar rest = begins (λ b. b == 42) rest ≡ false
+HasNoStar rest = first_byte_is (λ b. b == 42) rest ≡ false
 
 -- No byte follows that makes a symbol of two with `:`.
 abbrev pub HasNoEquals : Bytes → Type 0
-HasNoEquals rest = begins (is_pair 58) rest ≡ false
+HasNoEquals rest = first_byte_is (is_two_byte_symbol 58) rest ≡ false
 
 -- A text of at most so many bytes, in UTF-8, that spells these tokens before what may follow it.
 pub record Spells (Follows : Bytes → Type 0) (most : ℕ) (text : Bytes) (tokens : TokenList) : Type 0 where
@@ -115,14 +116,17 @@ blank_ends_name (b ∷ rest) h = not-true (is_name_byte b) (blank_all (λ c. not
 -- ---- symbols
 
 -- a byte that begins no symbol of two bytes makes none with what follows
-no_pair : (b : ℕ) → ((c : ℕ) → is_pair b c ≡ false) → (rest : Bytes) → begins (is_pair b) rest ≡ false
+no_pair : (b : ℕ)
+    → ((c : ℕ) → is_two_byte_symbol b c ≡ false)
+    → (rest : Bytes)
+    → first_byte_is (is_two_byte_symbol b) rest ≡ false
 no_pair b h [] = refl
 no_pair b h (c ∷ rest) = h c
 
 -- a symbol of one byte spells itself, where nothing follows that would make it another
 pub Spells-symbol : {F : Bytes → Type 0} (b : ℕ)
-    → is_single b ≡ true
-    → ((rest : Bytes) → F rest → begins (is_pair b) rest ≡ false)
+    → is_one_byte_symbol b ≡ true
+    → ((rest : Bytes) → F rest → first_byte_is (is_two_byte_symbol b) rest ≡ false)
     → ((rest : Bytes) → F rest → opens_comment (b ∷ rest) ≡ false)
     → b < 128
     → Spells F 1 (b ∷ []) ((b ∷ []) ∷ [])
@@ -134,8 +138,8 @@ Spells-symbol b single alone plain low = record {
 
 -- a symbol of one byte that begins no symbol of two and no comment spells one token
 pub Spells-mark : (b : ℕ)
-    → is_single b ≡ true
-    → ((c : ℕ) → is_pair b c ≡ false)
+    → is_one_byte_symbol b ≡ true
+    → ((c : ℕ) → is_two_byte_symbol b c ≡ false)
     → (b == 40) ≡ false
     → b < 128
     → Spells Anything 1 (b ∷ []) ((b ∷ []) ∷ [])
@@ -147,7 +151,11 @@ ascii_two b c h k zero = h
 ascii_two b c h k (suc i) = ascii_one c k i
 
 -- two bytes that make a symbol spell it, whatever follows
-pub Spells-pair : (b c : ℕ) → is_pair b c ≡ true → b < 128 → c < 128 → Spells Anything 2 (b ∷ c ∷ []) ((b ∷ c ∷ []) ∷ [])
+pub Spells-pair : (b c : ℕ)
+    → is_two_byte_symbol b c ≡ true
+    → b < 128
+    → c < 128
+    → Spells Anything 2 (b ∷ c ∷ []) ((b ∷ c ∷ []) ∷ [])
 Spells-pair b c pair h k = record {
   before = λ rest more f t. (rest, (none, inr pair), t);
   short = omega arith;
@@ -159,7 +167,7 @@ Spells-pair b c pair h k = record {
 -- a number or a name spells one token, where no name byte follows
 pub Spells-run : (n : ℕ) (w : Bytes)
     → AllByRecursion (λ b. is_name_byte b ≡ true) w
-    → IsKind w
+    → IsNameOrNumber w
     → length w ≤ n
     → Spells EndsName n w (w ∷ [])
 Spells-run n w all kind short = record {
@@ -170,7 +178,8 @@ Spells-run n w all kind short = record {
 
 -- whether a text is a name, by its bytes: 1 to 32 name bytes, of which the first is no digit
 abbrev pub is_name_text : Bytes → Bool
-is_name_text w = (nat_lt 0 (length w) && nat_lt (length w) 33) && (list_all is_name_byte w && not (begins is_ascii_digit w))
+is_name_text w =
+    (nat_lt 0 (length w) && nat_lt (length w) 33) && (list_all is_name_byte w && not (first_byte_is is_ascii_digit w))
 
 -- a test that all items of a list pass holds of each
 pub all_pass : {X : Type 0} (p : X → Bool) (w : List X) → list_all p w ≡ true → AllByRecursion (λ b. p b ≡ true) w
@@ -181,14 +190,14 @@ all_pass p (b ∷ w) h = let both = and_parts (p b) (list_all p w) h in (both.0,
 pub name_by_test : (w : Bytes) → is_name_text w ≡ true → IsName w
 name_by_test w h =
     let halves =
-    and_parts (nat_lt 0 (length w) && nat_lt (length w) 33) (list_all is_name_byte w && not (begins is_ascii_digit w)) h in
+    and_parts (nat_lt 0 (length w) && nat_lt (length w) 33) (list_all is_name_byte w && not (first_byte_is is_ascii_digit w)) h in
     let long = and_parts (nat_lt 0 (length w)) (nat_lt (length w) 33) halves.0 in
-    let bytes = and_parts (list_all is_name_byte w) (not (begins is_ascii_digit w)) halves.1 in
+    let bytes = and_parts (list_all is_name_byte w) (not (first_byte_is is_ascii_digit w)) halves.1 in
     let most : length w < 33 = ltb-true (length w) 33 long.1 in (
       record {
         some = ltb-true 0 (length w) long.0;
         all = all_pass is_name_byte w bytes.0;
-        front = not-true (begins is_ascii_digit w) bytes.1;
+        front = not-true (first_byte_is is_ascii_digit w) bytes.1;
       },
       omega (arith, most),
     )

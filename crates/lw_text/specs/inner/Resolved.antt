@@ -11,12 +11,12 @@ use Rattle.lw_base.specs.declared.head.Seen.TheVariants as seen
 use Rattle.lw_text.specs.declared.site.Site.{Site}
 use Rattle.lw_text.specs.declared.site.Site.TheVariants as made
 use Rattle.lw_text.specs.declared.block.Initializer.{Initializer}
-use Rattle.lw_text.specs.declared.parts.HeadParts.{HeadParts}
-use Rattle.lw_text.specs.declared.parts.Body.{Body}
+use Rattle.lw_text.specs.declared.parts.ParsedHead.{ParsedHead}
+use Rattle.lw_text.specs.declared.parts.ParsedBody.{ParsedBody}
 use Rattle.lw_text.specs.Sites as syntax
 use Rattle.lw_text.specs.Frames as frames
-use Rattle.lw_base.specs.SeenLists.{same_seen, thread_registers, all_registers, locations}
-use Rattle.lw_text.specs.Frames.{table, Parts}
+use Rattle.lw_base.specs.SeenLists.{seen_eq, thread_registers, all_registers, locations}
+use Rattle.lw_text.specs.Frames.{location_table, ParsesTest}
 use Rattle.lw_text.specs.declared.terminal.Terminal.{Terminal as MadeTerminal}
 use Rattle.lw_text.specs.declared.terminal.Terminal.TheVariants as terminals
 use Rattle.lw_text.specs.declared.terminal.Atom.{Atom}
@@ -26,9 +26,9 @@ use Rattle.lw_text.specs.Conditions.{AtomSyntax, Always, Never, Holds, resolved}
 use Rattle.lw_text.specs.Places.{all_texts}
 
 -- what a site in memory says in a text, by the names of this table
-abbrev pub named : NameTable → Site → syntax.SiteSyntax
-named names (made.Location loc) = syntax.InMemory (slice_index_or names loc [])
-named names (made.Register t r) = syntax.InThread t r
+abbrev pub site_by_name : NameTable → Site → syntax.SiteSyntax
+site_by_name names (made.Location loc) = syntax.InMemory (slice_index_or names loc [])
+site_by_name names (made.Register t r) = syntax.InThread t r
 
 -- a site in memory as a register or a location of a test, by its index
 abbrev pub seen_of : Site → Seen
@@ -56,18 +56,18 @@ IsIn names site = names_needed site ≤ length names
 
 -- an initializer, by the names of this table
 abbrev pub named_initializer : NameTable → Initializer → frames.InitializerSyntax
-named_initializer names e = record { site = named names e.site; word = e.word }
+named_initializer names e = record { site = site_by_name names e.site; word = e.word }
 
 -- the word of the last initializer for a register or a location, or 0
 abbrev pub word_at : List Initializer → Seen → ℕ
-word_at initializers s = fold (λ w e. if same_seen (seen_of e.site) s then e.word else w) 0 initializers
+word_at initializers s = fold (λ w e. if seen_eq (seen_of e.site) s then e.word else w) 0 initializers
 
 -- whether a register or a location is among the sites
 abbrev pub is_listed : List Site → Seen → Bool
-is_listed sites s = list_any (λ site. same_seen (seen_of site) s) sites
+is_listed sites s = list_any (λ site. seen_eq (seen_of site) s) sites
 
 -- the head that parts in memory make, of a test of the language with this name: locations stand in them by their indices
-abbrev pub resolved_head : {A : Type 0} → Arch → Bytes → HeadParts A → TestHead
+abbrev pub resolved_head : {A : Type 0} → Arch → Bytes → ParsedHead A → TestHead
 resolved_head arch name s =
     record {
       name = name;
@@ -81,23 +81,23 @@ resolved_head arch name s =
       condition = formula_of s.prop;
     }
 
--- what a `Body` in memory says by the names of its table, where its proposition was read from these terminals
-abbrev pub syntax_of : {A : Type 0} → Body A → List (Terminal AtomSyntax) → frames.TestSyntax
+-- what a `ParsedBody` in memory says by the names of its table, where its proposition was read from these terminals
+abbrev pub syntax_of : {A : Type 0} → ParsedBody A → List (Terminal AtomSyntax) → frames.TestSyntax
 syntax_of b terminals =
     record {
       initializers = map (named_initializer b.parts.locs) b.parts.initializers;
       threads = b.parts.threads;
       rows = all_texts b.rows;
-      listed = map (named b.parts.locs) b.parts.listed;
+      listed = map (site_by_name b.parts.locs) b.parts.listed;
       quant = b.parts.quant;
       terminals = terminals;
     }
 
 -- The body says the parts and the proposition of a text of the language, whose tokens these are.
-pub record HasSyntax {A : Type 0} (arch : Arch) (ts : TokenList) (b : Body A) : Type 0 where
+pub record HasSyntax {A : Type 0} (arch : Arch) (ts : TokenList) (b : ParsedBody A) : Type 0 where
   pub terminals : List (Terminal AtomSyntax)
-  pub parts : Parts arch ts (syntax_of b terminals)
-  pub names : b.parts.locs ≡ table (syntax_of b terminals)
+  pub parts : ParsesTest arch ts (syntax_of b terminals)
+  pub names : b.parts.locs ≡ location_table (syntax_of b terminals)
   pub proposition : IsProposition (map (resolved b.parts.locs) terminals) (formula_of b.parts.prop)
   pub initializers_in : All (λ e. IsIn b.parts.locs e.site) b.parts.initializers
   pub listed_in : All (IsIn b.parts.locs) b.parts.listed

@@ -1,9 +1,10 @@
 -- What acts and events come to over the flat memory.
 use Rattle.lw_tso.proofs.Common.{◌≡◌, ℕ, List, length, Ok, Option, Some, None, Bool, true, false, refl, sym}
 use Rattle.lw_tso.proofs.Common.{ap, ap₂, ◌∙◌, subst, nat_lt, if◌then◌else◌, slice_get, slice_set, unwrap_or}
-use Rattle.lw_tso.proofs.Common.{answer_at, words_after, Event, Evict, NoLocation, flat, Instr, Processor}
-use Rattle.lw_tso.proofs.Common.{Act, Refused, Goes, Asks, Evicts, cpu_of, event_act, MachineState, Answer}
-use Rattle.lw_tso.proofs.Common.{ActDone, DoneBy, EventDone}
+use Rattle.lw_tso.proofs.Common.{value_returned, words_after, Event, Evict, NoLocation, flat_memory, Instr}
+use Rattle.lw_tso.proofs.Common.{Processor, EventEffect, Refused, LocalStep, MemoryAccess, Eviction, cpu_of}
+use Rattle.lw_tso.proofs.Common.{event_effect, MachineState, EventResult, EffectTransition}
+use Rattle.lw_tso.proofs.Common.{ProcessorTransition, MachineTransition}
 
 -- a state of the flat machine, of its processors and its words
 abbrev pub state : List Processor → List ℕ → MachineState (List ℕ)
@@ -12,16 +13,16 @@ state processors m = record { processors = processors; memory = m }
 -- ---- one answer, and one state after it
 
 -- What an act of processor t, which is p, did over the words m: the answer, and the processor and the words after it.
-record ActDid (t : ℕ) (act : Act) (p : Processor) (m : List ℕ) : Type 0 where
-  answer : Answer
+record ActDid (t : ℕ) (act : EventEffect) (p : Processor) (m : List ℕ) : Type 0 where
+  answer : EventResult
   to : Processor
   words : List ℕ
-  done : ActDone flat t act p m answer to words
+  done : EffectTransition flat_memory t act p m answer to words
 
 -- over flat memory an act has one answer, and leaves one processor and one memory
-act_once : (t : ℕ) (act : Act) (p : Processor) (m : List ℕ) (x y : ActDid t act p m)
+act_once : (t : ℕ) (act : EventEffect) (p : Processor) (m : List ℕ) (x y : ActDid t act p m)
     → (x.answer ≡ y.answer) × (x.to ≡ y.to) × (x.words ≡ y.words)
-act_once t (Asks l access next) p m x y =
+act_once t (MemoryAccess l access next) p m x y =
     let d = x.done in
     let e = y.done in
     (d.1 ∙ sym e.1, d.2 ∙ ap (λ w. next (unwrap_or w 0)) (d.3.0 ∙ sym e.3.0) ∙ sym e.2, d.3.1 ∙ sym e.3.1)
@@ -31,15 +32,16 @@ act_once t _ p m x y =
     (d.0 ∙ sym e.0, d.1 ∙ sym e.1, d.2 ∙ sym e.2)
 
 -- the flat machine is deterministic: an event has one answer, and one state after it
-pub event_once : (program : List (List Instr)) (e : Event) (s after other : MachineState (List ℕ)) (a b : Answer)
-    → EventDone flat program e s a after
-    → EventDone flat program e s b other
+pub MachineTransition-deterministic : (program : List (List Instr)) (e : Event) (s after other : MachineState (List ℕ))
+    (a b : EventResult)
+    → MachineTransition flat_memory program e s a after
+    → MachineTransition flat_memory program e s b other
     → (a ≡ b) × (after ≡ other)
-event_once program e s after other a b = go (slice_get s.processors (cpu_of e))
+MachineTransition-deterministic program e s after other a b = go (slice_get s.processors (cpu_of e))
   where
     go : (o : Option Processor)
-        → DoneBy flat o program e s a after
-        → DoneBy flat o program e s b other
+        → ProcessorTransition flat_memory o program e s a after
+        → ProcessorTransition flat_memory o program e s b other
         → (a ≡ b) × (after ≡ other)
     go None d f = (d.0 ∙ sym f.0, d.1 ∙ sym f.1)
     go (Some p) d f =
@@ -51,11 +53,11 @@ event_once program e s after other a b = go (slice_get s.processors (cpu_of e))
 -- ---- acts that are possible
 
 -- what an act that is possible leaves: the processor, and the words
-abbrev pub act_after : Act → List ℕ → Option (Processor × List ℕ)
+abbrev pub act_after : EventEffect → List ℕ → Option (Processor × List ℕ)
 act_after (Refused stop) m = None
-act_after (Goes next) m = Some (next, m)
-act_after (Asks x access next) m = Some (next (unwrap_or (answer_at m x access) 0), words_after m x access)
-act_after (Evicts x) m = None
+act_after (LocalStep next) m = Some (next, m)
+act_after (MemoryAccess x access next) m = Some (next (unwrap_or (value_returned m x access) 0), words_after m x access)
+act_after (Eviction x) m = None
 
 -- of what `act_after` gives: the act is possible, and leaves this processor and these words
 abbrev pub Leaves : Option (Processor × List ℕ) → Processor → List ℕ → Type 0
@@ -63,67 +65,74 @@ Leaves None q n = ⊥
 Leaves (Some end) q n = (q ≡ end.0) × (n ≡ end.1)
 
 -- an act that is possible leaves this processor and these words
-abbrev pub Does : List ℕ → Act → Processor → List ℕ → Type 0
-Does m act q n = Leaves (act_after act m) q n
+abbrev pub EffectLeadsTo : List ℕ → EventEffect → Processor → List ℕ → Type 0
+EffectLeadsTo m act q n = Leaves (act_after act m) q n
 
 -- an act that is possible is done, with the answer that it was carried out
-pub does_done : (t : ℕ) (act : Act) (p q : Processor) (m n : List ℕ) → Does m act q n → ActDone flat t act p m (Ok tt) q n
-does_done t (Goes next) p q m n d = (refl, d.0, d.1)
-does_done t (Asks x access next) p q m n d = (answer_at m x access, refl, d.0, (refl, d.1))
+pub does_done : (t : ℕ) (act : EventEffect) (p q : Processor) (m n : List ℕ)
+    → EffectLeadsTo m act q n
+    → EffectTransition flat_memory t act p m (Ok tt) q n
+does_done t (LocalStep next) p q m n d = (refl, d.0, d.1)
+does_done t (MemoryAccess x access next) p q m n d = (value_returned m x access, refl, d.0, (refl, d.1))
 does_done t _ p q m n d = absurd d
 
--- an act that is done, and not refused, is possible, and leaves the processor and the words that `Does` says
-pub done_does : (t : ℕ) (act : Act) (p q : Processor) (m n : List ℕ) → ActDone flat t act p m (Ok tt) q n → Does m act q n
-done_does t (Goes next) p q m n d = (d.1, d.2)
-done_does t (Asks x access next) p q m n d = (d.2 ∙ ap (λ w. next (unwrap_or w 0)) d.3.0, d.3.1)
+-- an act that is done, and not refused, is possible, and leaves the processor and the words that `EffectLeadsTo` says
+pub done_does : (t : ℕ) (act : EventEffect) (p q : Processor) (m n : List ℕ)
+    → EffectTransition flat_memory t act p m (Ok tt) q n
+    → EffectLeadsTo m act q n
+done_does t (LocalStep next) p q m n d = (d.1, d.2)
+done_does t (MemoryAccess x access next) p q m n d = (d.2 ∙ ap (λ w. next (unwrap_or w 0)) d.3.0, d.3.1)
 done_does t _ p q m n d = absurd (let e = d.0 in cc)
 
 -- over flat memory no eviction is possible
 evicts_none : (m : List ℕ) (x : ℕ) (q : Processor) (n : List ℕ) (there : Bool)
-    → Does m (if there then Evicts x else Refused NoLocation) q n
+    → EffectLeadsTo m (if there then Eviction x else Refused NoLocation) q n
     → ⊥
 evicts_none m x q n true d = d
 evicts_none m x q n false d = d
 
 -- on the flat machine no eviction is possible: no cache holds a line
 pub no_eviction : (program : List (List Instr)) (locs t x : ℕ) (p q : Processor) (m n : List ℕ)
-    → Does m (event_act program locs (Evict t x) p) q n
+    → EffectLeadsTo m (event_effect program locs (Evict t x) p) q n
     → ⊥
 no_eviction program locs t x p q m n d = evicts_none m x q n (nat_lt x locs) d
 
 -- What an event of a run did: its processor before and after it, and the words of memory after it.
-pub record Did (program : List (List Instr)) (e : Event) (s mid : MachineState (List ℕ)) : Type 0 where
+pub record EventOccurrence (program : List (List Instr)) (e : Event) (s mid : MachineState (List ℕ)) : Type 0 where
   pub from : Processor
   pub to : Processor
   pub words : List ℕ
   pub was : slice_get s.processors (cpu_of e) ≡ Some from
-  pub does : Does s.memory (event_act program (length s.memory) e from) to words
+  pub does : EffectLeadsTo s.memory (event_effect program (length s.memory) e from) to words
   pub is : mid ≡ state (slice_set s.processors (cpu_of e) to) words
 
 module _ (program : List (List Instr)) where
   -- what an event's act does is what the event does in the whole machine
-  pub leads_from : (e : Event) (processors : List Processor) (p q : Processor) (m n : List ℕ)
+  pub event_of_effect : (e : Event) (processors : List Processor) (p q : Processor) (m n : List ℕ)
       → slice_get processors (cpu_of e) ≡ Some p
-      → Does m (event_act program (length m) e p) q n
-      → EventDone flat program e (state processors m) (Ok tt) (state (slice_set processors (cpu_of e) q) n)
-  leads_from e processors p q m n was d =
-      subst (λ o. DoneBy flat o program e (state processors m) (Ok tt) (state (slice_set processors (cpu_of e) q) n)) (sym was)
-      (q, n, does_done (cpu_of e) (event_act program (length m) e p) p q m n d, refl)
+      → EffectLeadsTo m (event_effect program (length m) e p) q n
+      → MachineTransition flat_memory program e (state processors m) (Ok tt) (state (slice_set processors (cpu_of e) q) n)
+  event_of_effect e processors p q m n was d =
+      subst (λ o.
+      ProcessorTransition flat_memory o program e (state processors m) (Ok tt) (state (slice_set processors (cpu_of e) q) n))
+      (sym was) (q, n, does_done (cpu_of e) (event_effect program (length m) e p) p q m n d, refl)
 
   -- an event that is carried out is an act of its processor, which it changes alone
-  pub leads_to : (e : Event) (s mid : MachineState (List ℕ)) → EventDone flat program e s (Ok tt) mid → Did program e s mid
-  leads_to e s mid done = go (slice_get s.processors (cpu_of e)) refl done
+  pub effect_of_event : (e : Event) (s mid : MachineState (List ℕ))
+      → MachineTransition flat_memory program e s (Ok tt) mid
+      → EventOccurrence program e s mid
+  effect_of_event e s mid done = go (slice_get s.processors (cpu_of e)) refl done
     where
       go : (o : Option Processor)
           → slice_get s.processors (cpu_of e) ≡ o
-          → DoneBy flat o program e s (Ok tt) mid
-          → Did program e s mid
+          → ProcessorTransition flat_memory o program e s (Ok tt) mid
+          → EventOccurrence program e s mid
       go None was d = absurd (let f = d.0 in cc)
       go (Some p) was d = record {
         from = p;
         to = d.0;
         words = d.1;
         was = was;
-        does = done_does (cpu_of e) (event_act program (length s.memory) e p) p d.0 s.memory d.1 d.2;
+        does = done_does (cpu_of e) (event_effect program (length s.memory) e p) p d.0 s.memory d.1 d.2;
         is = d.3;
       }

@@ -6,16 +6,18 @@ use Rattle.lw_tso.proofs.Common.{ap, ap₂, ◌∙◌, subst, arith, ⊎_elim, s
 use Rattle.lw_tso.proofs.Common.{IsTrue, zip, le-leb, list_all, cases_eq, cases_lt, sum_by-append}
 use Rattle.lw_tso.proofs.Common.{sum_by-cons, count_by-le-length, slice_get_within, slice_get-get_or}
 use Rattle.lw_tso.proofs.Common.{same_Some, slice_get-set_same, slice_get-set_other, Event, Step, Drain}
-use Rattle.lw_tso.proofs.Common.{Evict, Invariant, Lawful, Memory, IsThread, Instr, Mfence, x86_operation}
-use Rattle.lw_tso.proofs.Common.{x86, IsWellFormedProgram, ProgramTest, Processor, code_of, Ran-append, Act}
-use Rattle.lw_tso.proofs.Common.{Goes, Asks, answer_at, cpu_of, event_act, operation_act, step_act, drain_act}
-use Rattle.lw_tso.proofs.Common.{MachineState, ActDone, DoneBy, EventDone, HasRoom, makes_entry, stores_from}
-use Rattle.lw_tso.proofs.Common.{MachineRan, machine_start, is_done, is_final, without_evictions, events_of}
-use Rattle.lw_tso.proofs.Common.{CanEnd, CanStart}
+use Rattle.lw_tso.proofs.Common.{Evict, Invariant, IsLawful, Memory, IsWellFormedThread, Instr, Mfence}
+use Rattle.lw_tso.proofs.Common.{x86_operation, x86_language, IsWellFormedProgram, X86Test, Processor}
+use Rattle.lw_tso.proofs.Common.{thread_code, RunsTo-append, EventEffect, LocalStep, MemoryAccess}
+use Rattle.lw_tso.proofs.Common.{value_returned, cpu_of, event_effect, operation_effect, step_effect}
+use Rattle.lw_tso.proofs.Common.{drain_effect, MachineState, EffectTransition, ProcessorTransition}
+use Rattle.lw_tso.proofs.Common.{MachineTransition, HasRoom, makes_entry, stores_from, MachineRunsTo}
+use Rattle.lw_tso.proofs.Common.{initial_machine_state, has_terminated, is_final, without_evictions}
+use Rattle.lw_tso.proofs.Common.{events_of, CanTerminate, IsInitialMemory}
 use Rattle.lw_tso.proofs.EventActs.{event_becomes}
 use Rattle.lw_tso.proofs.Rooms.{forward, event_room}
-use Rattle.lw_tso.proofs.api.Lift.{IsWithin, asks_within, thread_at, within_after, within_reached}
-use Rattle.lw_tso.proofs.api.Operations.{Comes, operation_comes}
+use Rattle.lw_tso.proofs.api.FlatSimulation.{IsWithin, asks_within, thread_at, within_after, within_reached}
+use Rattle.lw_tso.proofs.api.Operations.{EffectSatisfies, operation_comes}
 use Rattle.lw_memory.specs.declared.request.Request.TheVariants as request
 
 -- without evictions, two lists of events come one behind the other as before
@@ -30,34 +32,34 @@ and_true : {a b : Bool} → a ≡ true → b ≡ true → (a && b) ≡ true
 and_true e f = rw (e, f) refl
 
 -- a processor past the end of its code, with an empty buffer, is done
-done_at : (code : List Instr) (p : Processor) → length code ≤ p.position → p.buffer ≡ [] → is_done code p ≡ true
+done_at : (code : List Instr) (p : Processor) → length code ≤ p.position → p.buffer ≡ [] → has_terminated code p ≡ true
 done_at code p past empty = and_true (le-leb _ p.position past) (ap (λ b. length b == 0) empty)
 
 -- the test for all processors passes where each processor is done
 all_done : (codes : List (List Instr)) (ps : List Processor)
-    → ((t : ℕ) (p : Processor) → slice_get ps t ≡ Some p → is_done (code_of codes t) p ≡ true)
-    → list_all (λ p. is_done p.0 p.1) (zip codes ps) ≡ true
+    → ((t : ℕ) (p : Processor) → slice_get ps t ≡ Some p → has_terminated (thread_code codes t) p ≡ true)
+    → list_all (λ p. has_terminated p.0 p.1) (zip codes ps) ≡ true
 all_done (code ∷ codes) (p ∷ ps) each = and_true (each 0 p refl) (all_done codes ps (λ t q at. each (suc t) q at))
 all_done _ _ each = refl
 
-module _ {M : Type 0} (mem : Memory M) (inv : Invariant M) (laws : Lawful mem inv) where
+module _ {M : Type 0} (mem : Memory M) (inv : Invariant M) (laws : IsLawful mem inv) where
   -- an act, done, makes such a processor
-  abbrev IsPossible : ℕ → Act → Processor → M → (Processor → Type 0) → Type 0
-  IsPossible t act p m Makes = (q : Processor) × (n : M) × ActDone mem t act p m (Ok tt) q n × Makes q
+  abbrev IsPossible : ℕ → EventEffect → Processor → M → (Processor → Type 0) → Type 0
+  IsPossible t act p m Makes = (q : Processor) × (n : M) × EffectTransition mem t act p m (Ok tt) q n × Makes q
 
   -- what is not refused, and asks for locations that are there, can be done
-  possible : (t : ℕ) (act : Act) (p : Processor) (m : M) (Makes : Processor → Type 0)
+  possible : (t : ℕ) (act : EventEffect) (p : Processor) (m : M) (Makes : Processor → Type 0)
       → inv.sound m
       → t < inv.cpus m
-      → Comes ⊥ (λ x written. x < length (mem.content m)) Makes act
+      → EffectSatisfies ⊥ (λ x written. x < length (mem.content m)) Makes act
       → IsPossible t act p m Makes
-  possible t (Goes next) p m Makes sound cpu comes = (next, m, (refl, refl, refl), comes)
-  possible t (Asks x access next) p m Makes sound cpu comes =
+  possible t (LocalStep next) p m Makes sound cpu comes = (next, m, (refl, refl, refl), comes)
+  possible t (MemoryAccess x access next) p m Makes sound cpu comes =
       let g = laws.serves m (request.Ask t x access) sound (cpu, comes.0) tt in
-      (next _, g.0, (answer_at (mem.content m) x access, refl, refl, g.1), comes.1 _)
+      (next _, g.0, (value_returned (mem.content m) x access, refl, refl, g.1), comes.1 _)
   possible t _ p m Makes sound cpu comes = absurd comes
 
-  module _ (program : List (List Instr)) (locs : ℕ) (threads : All (IsThread x86 locs) program) where
+  module _ (program : List (List Instr)) (locs : ℕ) (threads : All (IsWellFormedThread x86_language locs) program) where
     abbrev Within : MachineState M → Type 0
     Within s = IsWithin mem inv laws program locs threads s
 
@@ -65,8 +67,8 @@ module _ {M : Type 0} (mem : Memory M) (inv : Invariant M) (laws : Lawful mem in
     record Finished (t k : ℕ) (s : MachineState M) : Type 0 where
       events : List Event
       end : MachineState M
-      ran : MachineRan mem program events s end
-      done : (p : Processor) → slice_get end.processors t ≡ Some p → is_done (code_of program t) p ≡ true
+      ran : MachineRunsTo mem program events s end
+      done : (p : Processor) → slice_get end.processors t ≡ Some p → has_terminated (thread_code program t) p ≡ true
       others : (u : ℕ) → u ≢ t → slice_get end.processors u ≡ slice_get s.processors u
       within : Within end
       few : length events ≤ k
@@ -76,7 +78,7 @@ module _ {M : Type 0} (mem : Memory M) (inv : Invariant M) (laws : Lawful mem in
     ended : (t k : ℕ) (s : MachineState M) (p : Processor)
         → Within s
         → slice_get s.processors t ≡ Some p
-        → length (code_of program t) ≤ p.position
+        → length (thread_code program t) ≤ p.position
         → p.buffer ≡ []
         → Finished t k s
     ended t k s p within at past empty = record {
@@ -84,8 +86,8 @@ module _ {M : Type 0} (mem : Memory M) (inv : Invariant M) (laws : Lawful mem in
       end = s;
       ran = refl;
       done = λ q got.
-          subst (λ (r : Processor). is_done (code_of program t) r ≡ true) (same_Some p q (sym at ∙ got))
-          (done_at (code_of program t) p past empty);
+          subst (λ (r : Processor). has_terminated (thread_code program t) r ≡ true) (same_Some p q (sym at ∙ got))
+          (done_at (thread_code program t) p past empty);
       others = λ u ne. refl;
       within = within;
       few = omega arith;
@@ -97,7 +99,7 @@ module _ {M : Type 0} (mem : Memory M) (inv : Invariant M) (laws : Lawful mem in
     first : (e : Event) (s : MachineState M) (p q : Processor) (n : M) (k : ℕ)
         → Within s
         → slice_get s.processors (cpu_of e) ≡ Some p
-        → ActDone mem (cpu_of e) (event_act program (length (mem.content s.memory)) e p) p s.memory (Ok tt) q n
+        → EffectTransition mem (cpu_of e) (event_effect program (length (mem.content s.memory)) e p) p s.memory (Ok tt) q n
         → ((es : List Event) → without_evictions (e ∷ es) ≡ e ∷ without_evictions es)
         → ((mid : MachineState M) → Within mid → slice_get mid.processors (cpu_of e) ≡ Some q → Finished (cpu_of e) k mid)
         → Finished (cpu_of e) (suc k) s
@@ -109,7 +111,7 @@ module _ {M : Type 0} (mem : Memory M) (inv : Invariant M) (laws : Lawful mem in
         record {
           events = e ∷ f.events;
           end = f.end;
-          ran = (mid, subst (λ o. DoneBy mem o program e s (Ok tt) mid) (sym at) (q, n, done, refl), f.ran);
+          ran = (mid, subst (λ o. ProcessorTransition mem o program e s (Ok tt) mid) (sym at) (q, n, done, refl), f.ran);
           done = f.done;
           others = λ u ne. f.others u ne ∙ slice_get-set_other s.processors (cpu_of e) u q ne;
           within = f.within;
@@ -125,10 +127,10 @@ module _ {M : Type 0} (mem : Memory M) (inv : Invariant M) (laws : Lawful mem in
         → Within s
         → slice_get s.processors t ≡ Some p
         → p.buffer ≡ []
-        → p.position < length (code_of program t)
-        → IsPossible t (event_act program (length (mem.content s.memory)) (Step t) p) p s.memory (λ q. p.position < q.position)
+        → p.position < length (thread_code program t)
+        → IsPossible t (event_effect program (length (mem.content s.memory)) (Step t) p) p s.memory (λ q. p.position < q.position)
     stepped t s p within at empty lt =
-        let code = code_of program t in
+        let code = thread_code program t in
         let thread = thread_at mem inv laws program locs threads s t p within at in
         let i : Instr = get_or code p.position Mfence in
         let next : slice_get code p.position ≡ Some i = slice_get-get_or code p.position Mfence lt in
@@ -137,29 +139,29 @@ module _ {M : Type 0} (mem : Memory M) (inv : Invariant M) (laws : Lawful mem in
         operation_comes ⊥ (λ x written. x < length (mem.content s.memory)) (λ q. p.position < q.position) _ p
         (λ waits full. full empty) (λ x is. asks_within mem inv laws _ locs threads t p s within at x (inl (i, next, is)))
         (λ q went. forward locs code thread _ _ i next went.leads) in
-        subst (λ o. IsPossible t (step_act o p) p s.memory (λ q. p.position < q.position)) (sym next)
-        (possible t (operation_act (x86_operation i) p) p s.memory _ within.sound cpu comes)
+        subst (λ o. IsPossible t (step_effect o p) p s.memory (λ q. p.position < q.position)) (sym next)
+        (possible t (operation_effect (x86_operation i) p) p s.memory _ within.sound cpu comes)
 
     drained : (t : ℕ) (s : MachineState M) (p : Processor) (entry : ℕ × ℕ) (newer : List (ℕ × ℕ))
         → Within s
         → slice_get s.processors t ≡ Some p
         → p.buffer ≡ entry ∷ newer
-        → IsPossible t (drain_act p.buffer p) p s.memory (λ q. q ≡ record p { buffer = newer })
+        → IsPossible t (drain_effect p.buffer p) p s.memory (λ q. q ≡ record p { buffer = newer })
     drained t s p entry newer within at full =
         let cpu : t < inv.cpus s.memory = omega (arith, slice_get_within s.processors t p at, within.cpus) in
         let lt = asks_within _ _ laws _ _ threads t p s within at entry.0 (inr (entry, newer, full, refl)) in
-        possible t (drain_act p.buffer p) p s.memory _ within.sound cpu
-        (subst
-        (λ b. Comes ⊥ (λ x written. x < length (mem.content s.memory)) (λ q. q ≡ record p { buffer = newer }) (drain_act b p))
-        (sym full) (lt, λ none. refl))
+        possible t (drain_effect p.buffer p) p s.memory _ within.sound cpu
+        (subst (λ b.
+        EffectSatisfies ⊥ (λ x written. x < length (mem.content s.memory)) (λ q. q ≡ record p { buffer = newer })
+        (drain_effect b p)) (sym full) (lt, λ none. refl))
 
     -- with at most r steps ahead, and k events
     finish : (t k r : ℕ) (s : MachineState M) (p : Processor) (b : List (ℕ × ℕ))
         → Within s
         → slice_get s.processors t ≡ Some p
         → p.buffer ≡ b
-        → length (code_of program t) ≤ r + p.position
-        → r + (length b + stores_from p.position (code_of program t)) ≤ k
+        → length (thread_code program t) ≤ r + p.position
+        → r + (length b + stores_from p.position (thread_code program t)) ≤ k
         → Finished t k s
     finish t zero r s p [] within at is ahead small = ended t 0 s p within at (omega arith) is
     finish t zero r s p (entry ∷ newer) within at is ahead small = absurd (omega arith)
@@ -170,19 +172,19 @@ module _ {M : Type 0} (mem : Memory M) (inv : Invariant M) (laws : Lawful mem in
     finish t (suc k) zero s p [] within at is ahead small = ended t (suc k) s p within at (omega arith) is
     finish t (suc k) (suc r) s p [] within at is ahead small =
         ⊎_elim (λ lt. go lt (λ mid q w got. finish t k r mid q q.buffer w got refl))
-        (λ past. ended t (suc k) s p within at past is) (cases_lt p.position (length (code_of program t)))
+        (λ past. ended t (suc k) s p within at past is) (cases_lt p.position (length (thread_code program t)))
       where
-        go : p.position < length (code_of program t)
+        go : p.position < length (thread_code program t)
             → ((mid : MachineState M) (q : Processor)
             → Within mid
             → slice_get mid.processors t ≡ Some q
-            → length (code_of program t) ≤ r + q.position
-            → r + (length q.buffer + stores_from q.position (code_of program t)) ≤ k
+            → length (thread_code program t) ≤ r + q.position
+            → r + (length q.buffer + stores_from q.position (thread_code program t)) ≤ k
             → Finished t k mid)
             → Finished t (suc k) s
         go lt later =
             let g = stepped t s p within at is lt in
-            let had : HasRoom locs (code_of program t) p (stores_from p.position (code_of program t)) =
+            let had : HasRoom locs (thread_code program t) p (stores_from p.position (thread_code program t)) =
             record { fits = omega (arith, ap length is); there = (within.rooms t p at).there } in
             let thread = thread_at mem inv laws program locs threads s t p within at in
             let becomes = event_becomes program (length (mem.content s.memory)) mem p g.0 s.memory g.1 (Ok tt) (Step t) g.2 in
@@ -194,9 +196,12 @@ module _ {M : Type 0} (mem : Memory M) (inv : Invariant M) (laws : Lawful mem in
     record Part (k : ℕ) (s : MachineState M) : Type 0 where
       events : List Event
       end : MachineState M
-      ran : MachineRan mem program events s end
+      ran : MachineRunsTo mem program events s end
       within : Within end
-      done : (t : ℕ) (p : Processor) → t < k → slice_get end.processors t ≡ Some p → is_done (code_of program t) p ≡ true
+      done : (t : ℕ) (p : Processor)
+          → t < k
+          → slice_get end.processors t ≡ Some p
+          → has_terminated (thread_code program t) p ≡ true
       few : (t : ℕ) → events_of t events ≤ 64
       none : (t : ℕ) → k ≤ t → events_of t events ≡ 0
       kept : without_evictions events ≡ events
@@ -208,11 +213,11 @@ module _ {M : Type 0} (mem : Memory M) (inv : Invariant M) (laws : Lawful mem in
     one_more k s a f = record {
       events = a.events ++ f.events;
       end = f.end;
-      ran = Ran-append (EventDone mem program) a.events f.events s a.end f.end a.ran f.ran;
+      ran = RunsTo-append (MachineTransition mem program) a.events f.events s a.end f.end a.ran f.ran;
       within = f.within;
       done = λ t p lt got.
           ⊎_elim (λ same.
-          subst (λ (u : ℕ). is_done (code_of program u) p ≡ true) (sym same)
+          subst (λ (u : ℕ). has_terminated (thread_code program u) p ≡ true) (sym same)
           (f.done p (subst (λ (u : ℕ). slice_get f.end.processors u ≡ Some p) same got)))
           (λ ne. a.done t p (omega arith) (sym (f.others t ne) ∙ got)) (cases_eq t k);
       few = λ t.
@@ -270,14 +275,14 @@ module _ {M : Type 0} (mem : Memory M) (inv : Invariant M) (laws : Lawful mem in
             go : (o : Option Processor) → slice_get a.end.processors k ≡ o → Finished k 64 a.end
             go None at = idle s a at
             go (Some p) at =
-                let code = code_of program k in
+                let code = thread_code program k in
                 let thread = thread_at mem inv laws program locs threads a.end k p a.within at in
                 let most : stores_from 0 code ≤ length code = count_by-le-length makes_entry code in
                 finish k 64 (length code) a.end p p.buffer a.within at refl (omega arith)
                 (omega (arith, thread.short, (a.within.rooms k p at).fits, most))
 
     -- it ends from each state that runs lead to
-    ends_from : (s : MachineState M) → Within s → CanEnd mem program s
+    ends_from : (s : MachineState M) → Within s → CanTerminate mem program s
     ends_from s within =
         let a = parts (length program) s within in
         let all : IsTrue (is_final program a.end) =
@@ -286,10 +291,10 @@ module _ {M : Type 0} (mem : Memory M) (inv : Invariant M) (laws : Lawful mem in
         record { more = a.events; end = a.end; ran = a.ran; final = all; few = a.few; no_evictions = a.kept }
 
   -- every run of a well-formed test can be brought to a final state
-  pub can_end : (test : ProgramTest)
+  pub can_end : (test : X86Test)
       → IsWellFormedProgram test
       → (m : M) (es : List Event) (s : MachineState M)
-      → CanStart mem inv test m
-      → MachineRan mem test.threads es (machine_start test m) s
-      → CanEnd mem test.threads s
+      → IsInitialMemory mem inv test m
+      → MachineRunsTo mem test.threads es (initial_machine_state test m) s
+      → CanTerminate mem test.threads s
   can_end test ok m es s start ran = ends_from _ _ ok.code s (within_reached _ inv laws _ ok m es s start ran)

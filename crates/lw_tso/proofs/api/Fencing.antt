@@ -3,23 +3,26 @@ use Rattle.lw_tso.proofs.Common.{◌≡◌, ℕ, ◌+◌, ◌≤◌, Bool, true,
 use Rattle.lw_tso.proofs.Common.{length, map, Option, Some, None, ◌⊎◌, inl, inr, ⊎_elim, refl, sym, ap, ◌∙◌}
 use Rattle.lw_tso.proofs.Common.{subst, arith, IsTrue, ◌==◌, le-leb, cases_lt, get_or_past, same_Some}
 use Rattle.lw_tso.proofs.Common.{slice_get, slice_set, slice_index, length-set, slice_get_within}
-use Rattle.lw_tso.proofs.Common.{get_or_from_slice_get, sum_of, value_of, code_of, set_own, Final, Event}
-use Rattle.lw_tso.proofs.Common.{Step, Drain, Evict, flat, Instr, ProgramTest, x86_operation, holds}
-use Rattle.lw_tso.proofs.Common.{Operation, Set, Sum, Compare, Store, Load, Fence, Branch, Ran-append}
-use Rattle.lw_tso.proofs.Common.{Processor, starting, going_on, getting, newest, Act, Goes, cpu_of, event_act}
-use Rattle.lw_tso.proofs.Common.{operation_act, step_act, drain_act, load_act, once_empty, MachineState}
-use Rattle.lw_tso.proofs.Common.{EventDone, MachineRan, MachineOutcome, machine_start, is_done, is_final}
-use Rattle.lw_tso.proofs.Common.{flagging, buffering, in_blocks, IsInserted, EndsBlock, IsFencedCode}
-use Rattle.lw_tso.proofs.Common.{IsFencedTest, get_some, fellows_after, got_map, same_maps, zip_pass}
-use Rattle.lw_tso.proofs.Common.{zip_passes, Je, Jne, Jmp, Stop, FenceWaits, leb-true, nat_le, and_from}
-use Rattle.lw_tso.proofs.Common.{and_parts}
-use Rattle.lw_tso.proofs.api.Effects.{Did, Does, leads_from, leads_to, no_eviction, state}
+use Rattle.lw_tso.proofs.Common.{get_or_from_slice_get, wrapping_sum, operand_value, thread_code}
+use Rattle.lw_tso.proofs.Common.{set-get_same, FinalState, Event, Step, Drain, Evict, flat_memory, Instr}
+use Rattle.lw_tso.proofs.Common.{X86Test, x86_operation, guard_holds, Operation, Set, Sum, Compare, Store}
+use Rattle.lw_tso.proofs.Common.{Load, Fence, Branch, RunsTo-append, Processor, initial_processor}
+use Rattle.lw_tso.proofs.Common.{advance_processor, set_register, newest_buffered, EventEffect, LocalStep}
+use Rattle.lw_tso.proofs.Common.{cpu_of, event_effect, operation_effect, step_effect, drain_effect, load_effect}
+use Rattle.lw_tso.proofs.Common.{if_buffer_empty, MachineState, MachineTransition, MachineRunsTo}
+use Rattle.lw_tso.proofs.Common.{IsMachineOutcome, initial_machine_state, has_terminated, is_final}
+use Rattle.lw_tso.proofs.Common.{set_zero_flag, enqueue_store, retarget_to_blocks, IsInserted, EndsBlock}
+use Rattle.lw_tso.proofs.Common.{IsFencedCode, IsFencedTest, get_some, fellows_after, get-map, same_maps}
+use Rattle.lw_tso.proofs.Common.{zip_pass, zip_passes, Je, Jne, Jmp, Stop, FenceWaits, leb-true, nat_le}
+use Rattle.lw_tso.proofs.Common.{and_from, and_parts}
+use Rattle.lw_tso.proofs.api.Effects.{EventOccurrence, EffectLeadsTo, event_of_effect, effect_of_event}
+use Rattle.lw_tso.proofs.api.Effects.{no_eviction, state}
 
 -- ---- one processor
 
 -- a fence, once the buffer is empty, changes nothing but where its processor goes
 fence_does : (buffer : List (ℕ × ℕ)) (p q : Processor) (m n : List ℕ)
-    → Does m (once_empty buffer FenceWaits (Goes p)) q n
+    → EffectLeadsTo m (if_buffer_empty buffer FenceWaits (LocalStep p)) q n
     → (q ≡ p) × (n ≡ m)
 fence_does [] p q m n does = does
 fence_does (entry ∷ newer) p q m n does = absurd does
@@ -37,7 +40,7 @@ module _ (block : ℕ → ℕ) where
   operation_without (Branch c to) = Branch c (block to)
   operation_without o = o
 
-  instruction_without : (i : Instr) → x86_operation (in_blocks block i) ≡ operation_without (x86_operation i)
+  instruction_without : (i : Instr) → x86_operation (retarget_to_blocks block i) ≡ operation_without (x86_operation i)
   instruction_without (Je to) = refl
   instruction_without (Jne to) = refl
   instruction_without (Jmp to) = refl
@@ -45,8 +48,8 @@ module _ (block : ℕ → ℕ) where
 
   load_does : (found : Option ℕ) (x : ℕ) (before after : ℕ → Processor) (q : Processor) (m n : List ℕ)
       → ((w : ℕ) → without (before w) ≡ after w)
-      → Does m (load_act found x before) q n
-      → Does m (load_act found x after) (without q) n
+      → EffectLeadsTo m (load_effect found x before) q n
+      → EffectLeadsTo m (load_effect found x after) (without q) n
   load_does (Some w) x before after q m n same does = (ap without does.0 ∙ same w, does.1)
   load_does None x before after q m n same does = (ap without does.0 ∙ same (slice_index m x), does.1)
 
@@ -61,32 +64,33 @@ module _ (block : ℕ → ℕ) where
     jumped false to = next
 
     -- what is done once the buffer is empty
-    same_once : (buffer : List (ℕ × ℕ)) (stop : Stop) (a b : Act)
-        → (Does m a q n → Does m b (without q) n)
-        → Does m (once_empty buffer stop a) q n
-        → Does m (once_empty buffer stop b) (without q) n
+    same_once : (buffer : List (ℕ × ℕ)) (stop : Stop) (a b : EventEffect)
+        → (EffectLeadsTo m a q n → EffectLeadsTo m b (without q) n)
+        → EffectLeadsTo m (if_buffer_empty buffer stop a) q n
+        → EffectLeadsTo m (if_buffer_empty buffer stop b) (without q) n
     same_once [] stop a b same does = same does
     same_once (entry ∷ newer) stop a b same does = does
 
     -- an operation that ends its block does there what it does here
     same_operation : (o : Operation)
-        → Does m (operation_act o p) q n
-        → Does m (operation_act (operation_without o) (without p)) (without q) n
-    same_operation (Set d v) does = (ap without does.0 ∙ on (getting p d (value_of v p.regs)), does.1)
+        → EffectLeadsTo m (operation_effect o p) q n
+        → EffectLeadsTo m (operation_effect (operation_without o) (without p)) (without q) n
+    same_operation (Set d v) does = (ap without does.0 ∙ on (set_register p d (operand_value v p.regs)), does.1)
     same_operation (Sum d a v) does =
-        let sum = sum_of (slice_index p.regs a) (value_of v p.regs) in
-        (ap without does.0 ∙ on (flagging (getting p d sum) (sum == 0)), does.1)
-    same_operation (Compare a v) does = (ap without does.0 ∙ on (flagging p (slice_index p.regs a == value_of v p.regs)), does.1)
-    same_operation (Store x v) does = (ap without does.0 ∙ on (buffering p x (value_of v p.regs)), does.1)
-    same_operation (Load d x) does = load_does (newest p.buffer x) x _ _ q m n (λ w. on (getting p d w)) does
+        let sum = wrapping_sum (slice_index p.regs a) (operand_value v p.regs) in
+        (ap without does.0 ∙ on (set_zero_flag (set_register p d sum) (sum == 0)), does.1)
+    same_operation (Compare a v) does =
+        (ap without does.0 ∙ on (set_zero_flag p (slice_index p.regs a == operand_value v p.regs)), does.1)
+    same_operation (Store x v) does = (ap without does.0 ∙ on (enqueue_store p x (operand_value v p.regs)), does.1)
+    same_operation (Load d x) does = load_does (newest_buffered p.buffer x) x _ _ q m n (λ w. on (set_register p d w)) does
     same_operation Fence does = same_once p.buffer _ _ _ (λ goes. (ap without goes.0 ∙ on p, goes.1)) does
-    same_operation (Branch c to) does = (ap without does.0 ∙ ap (at p) (jumped (holds c p.regs p.zero_flag) to), does.1)
+    same_operation (Branch c to) does = (ap without does.0 ∙ ap (at p) (jumped (guard_holds c p.regs p.zero_flag) to), does.1)
     same_operation o does = same_once p.buffer _ _ _ (λ asks. (ap without asks.0 ∙ rw next refl, asks.1)) does
 
   -- a drain does what it does here
   same_drain : (buffer : List (ℕ × ℕ)) (p q : Processor) (m n : List ℕ)
-      → Does m (drain_act buffer p) q n
-      → Does m (drain_act buffer (without p)) (without q) n
+      → EffectLeadsTo m (drain_effect buffer p) q n
+      → EffectLeadsTo m (drain_effect buffer (without p)) (without q) n
   same_drain [] p q m n does = does
   same_drain (entry ∷ newer) p q m n does = (ap without does.0, does.1)
 
@@ -95,33 +99,34 @@ module _ (code fenced : List Instr) (f : IsFencedCode code fenced) where
   abbrev pub IsStep : Processor → Processor → List ℕ → List ℕ → Type 0
   IsStep p q m n =
       ((without f.block q ≡ without f.block p) × (n ≡ m))
-      ⊎ Does m (step_act (slice_get code (f.block p.position)) (without f.block p)) (without f.block q) n
+      ⊎ EffectLeadsTo m (step_effect (slice_get code (f.block p.position)) (without f.block p)) (without f.block q) n
 
   step_of : (p q : Processor) (m n : List ℕ) (i : Instr)
       → IsInserted f.block p.position i ⊎ EndsBlock f.block code p.position i
-      → Does m (step_act (Some i) p) q n
+      → EffectLeadsTo m (step_effect (Some i) p) q n
       → IsStep p q m n
   step_of p q m n i (inl inserted) does =
-      let fence = subst (λ (j : Instr). Does m (step_act (Some j) p) q n) inserted.0 does in
-      let passed = fence_does p.buffer (going_on p) q m n fence in
+      let fence = subst (λ (j : Instr). EffectLeadsTo m (step_effect (Some j) p) q n) inserted.0 does in
+      let passed = fence_does p.buffer (advance_processor p) q m n fence in
       inl (ap (without f.block) passed.0 ∙ ap (at f.block p) inserted.1, passed.1)
   step_of p q m n i (inr ends) does =
       let from = without f.block p in
       let to = without f.block q in
       let same = same_operation f.block p q m n ends.1 (x86_operation i) does in
-      let here = subst (λ (o : Operation). Does m (operation_act o from) to n) (sym (instruction_without f.block i)) same in
-      inr (subst (λ (o : Option Instr). Does m (step_act o from) to n) (sym ends.0) here)
+      let here =
+      subst (λ (o : Operation). EffectLeadsTo m (operation_effect o from) to n) (sym (instruction_without f.block i)) same in
+      inr (subst (λ (o : Option Instr). EffectLeadsTo m (step_effect o from) to n) (sym ends.0) here)
 
   -- a step of the fenced program is a step of the program, or one of an MFENCE that was inserted
-  pub step : (p q : Processor) (m n : List ℕ) → Does m (step_act (slice_get fenced p.position) p) q n → IsStep p q m n
+  pub step : (p q : Processor) (m n : List ℕ) → EffectLeadsTo m (step_effect (slice_get fenced p.position) p) q n → IsStep p q m n
   step p q m n = go (slice_get fenced p.position) refl
     where
-      go : (o : Option Instr) → slice_get fenced p.position ≡ o → Does m (step_act o p) q n → IsStep p q m n
+      go : (o : Option Instr) → slice_get fenced p.position ≡ o → EffectLeadsTo m (step_effect o p) q n → IsStep p q m n
       go None there does = absurd does
       go (Some i) there does = step_of p q m n i (f.each p.position i there) does
 
   -- a processor that is done with the fenced code is done with the code without the fences
-  pub ended : (p : Processor) → is_done fenced p ≡ true → is_done code (without f.block p) ≡ true
+  pub ended : (p : Processor) → has_terminated fenced p ≡ true → has_terminated code (without f.block p) ≡ true
   ended p done =
       let both = and_parts (nat_le (length fenced) p.position) (length p.buffer == 0) done in
       let last = f.last p.position (leb-true (length fenced) p.position both.0) in
@@ -134,15 +139,15 @@ module _ (code fenced : List Instr) (f : IsFencedCode code fenced) where
 no_code : IsFencedCode [] []
 no_code = record { block = λ index. 0; first = refl; each = λ index i there. absurd cc; last = λ index past. refl }
 
-module _ (test fenced : ProgramTest) (f : IsFencedTest test fenced) where
-  code_at : (t : ℕ) → IsFencedCode (code_of test.threads t) (code_of fenced.threads t)
+module _ (test fenced : X86Test) (f : IsFencedTest test fenced) where
+  code_at : (t : ℕ) → IsFencedCode (thread_code test.threads t) (thread_code fenced.threads t)
   code_at t = ⊎_elim (f.threads t) past (cases_lt t (length test.threads))
     where
-      past : length test.threads ≤ t → IsFencedCode (code_of test.threads t) (code_of fenced.threads t)
+      past : length test.threads ≤ t → IsFencedCode (thread_code test.threads t) (thread_code fenced.threads t)
       past beyond =
           let one = get_or_past test.threads t [] beyond in
           let other = get_or_past fenced.threads t [] (omega (arith, beyond, f.as_many)) in
-          subst (λ (code : List Instr). IsFencedCode code (code_of fenced.threads t)) (sym one)
+          subst (λ (code : List Instr). IsFencedCode code (thread_code fenced.threads t)) (sym one)
           (subst (λ (code : List Instr). IsFencedCode [] code) (sym other) no_code)
 
   -- a processor of thread t in the test without the fences
@@ -180,36 +185,38 @@ module _ (test fenced : ProgramTest) (f : IsFencedTest test fenced) where
   record Follows (s after : MachineState (List ℕ)) : Type 0 where
     events : List Event
     end : MachineState (List ℕ)
-    ran : MachineRan flat test.threads events s end
+    ran : MachineRunsTo flat_memory test.threads events s end
     alike : AreAlike end after
 
   module _ (s r after : MachineState (List ℕ)) (alike : AreAlike s r) where
     -- the same event
-    same_event : (e : Event) (d : Did fenced.threads e r after)
-        → Does r.memory (event_act test.threads (length s.memory) e (there (cpu_of e) d.from)) (there (cpu_of e) d.to) d.words
+    same_event : (e : Event) (d : EventOccurrence fenced.threads e r after)
+        → EffectLeadsTo r.memory (event_effect test.threads (length s.memory) e (there (cpu_of e) d.from)) (there (cpu_of e) d.to)
+        d.words
         → Follows s after
     same_event e d does =
         let t = cpu_of e in
-        let act = event_act test.threads (length s.memory) e (there t d.from) in
-        let here = subst (λ (m : List ℕ). Does m act (there t d.to) d.words) (sym alike.words) does in
+        let act = event_effect test.threads (length s.memory) e (there t d.from) in
+        let here = subst (λ (m : List ℕ). EffectLeadsTo m act (there t d.to) d.words) (sym alike.words) does in
         let was = own s r t d.from alike d.was in
         let end = state (slice_set s.processors t (there t d.to)) d.words in
         record {
           events = e ∷ [];
           end = end;
-          ran = (end, leads_from test.threads e s.processors (there t d.from) (there t d.to) s.memory d.words was here, refl);
+          ran =
+              (end, event_of_effect test.threads e s.processors (there t d.from) (there t d.to) s.memory d.words was here, refl);
           alike = subst (AreAlike end) (sym d.is) (moved s r t d.from d.to d.words alike d.was);
         }
 
     -- no event, where nothing has changed
-    no_event : (e : Event) (d : Did fenced.threads e r after)
+    no_event : (e : Event) (d : EventOccurrence fenced.threads e r after)
         → there (cpu_of e) d.to ≡ there (cpu_of e) d.from
         → d.words ≡ r.memory
         → Follows s after
     no_event e d same words =
         let t = cpu_of e in
         let was = own s r t d.from alike d.was in
-        let processors = ap (slice_set s.processors t) same ∙ set_own s.processors t (there t d.from) was in
+        let processors = ap (slice_set s.processors t) same ∙ set-get_same s.processors t (there t d.from) was in
         let end = state (slice_set s.processors t (there t d.to)) d.words in
         record {
           events = [];
@@ -218,25 +225,25 @@ module _ (test fenced : ProgramTest) (f : IsFencedTest test fenced) where
           alike = subst (AreAlike end) (sym d.is) (moved s r t d.from d.to d.words alike d.was);
         }
 
-    follow : (e : Event) → Did fenced.threads e r after → Follows s after
+    follow : (e : Event) → EventOccurrence fenced.threads e r after → Follows s after
     follow (Step t) d =
         ⊎_elim (λ none. no_event (Step t) d none.0 none.1) (same_event (Step t) d)
-        (step (code_of test.threads t) (code_of fenced.threads t) (code_at t) d.from d.to r.memory d.words d.does)
+        (step (thread_code test.threads t) (thread_code fenced.threads t) (code_at t) d.from d.to r.memory d.words d.does)
     follow (Drain t) d = same_event (Drain t) d (same_drain (code_at t).block d.from.buffer d.from d.to r.memory d.words d.does)
     follow (Evict t x) d = absurd (no_eviction fenced.threads (length r.memory) t x d.from d.to r.memory d.words d.does)
 
   follow_all : (events : List Event) (s r end : MachineState (List ℕ))
       → AreAlike s r
-      → MachineRan flat fenced.threads events r end
+      → MachineRunsTo flat_memory fenced.threads events r end
       → Follows s end
   follow_all [] s r end alike ran = record { events = []; end = s; ran = refl; alike = subst (AreAlike s) (sym ran) alike }
   follow_all (e ∷ events) s r end alike ran =
-      let a = follow s r ran.0 alike e (leads_to fenced.threads e r ran.0 ran.1) in
+      let a = follow s r ran.0 alike e (effect_of_event fenced.threads e r ran.0 ran.1) in
       let b = follow_all events a.end ran.0 end a.alike ran.2 in
       record {
         events = a.events ++ b.events;
         end = b.end;
-        ran = Ran-append (EventDone flat test.threads) a.events b.events s a.end b.end a.ran b.ran;
+        ran = RunsTo-append (MachineTransition flat_memory test.threads) a.events b.events s a.end b.end a.ran b.ran;
         alike = b.alike;
       }
 
@@ -245,23 +252,23 @@ module _ (test fenced : ProgramTest) (f : IsFencedTest test fenced) where
   regs_same : fenced.head.init_regs ≡ test.head.init_regs
   regs_same = ap (λ h. h.init_regs) f.head
 
-  starts : AreAlike (machine_start test test.head.init_words) (machine_start fenced fenced.head.init_words)
+  starts : AreAlike (initial_machine_state test test.head.init_words) (initial_machine_state fenced fenced.head.init_words)
   starts = record {
-    as_many = ap (λ (rows : List (List ℕ)). length (map starting rows)) (sym regs_same);
+    as_many = ap (λ (rows : List (List ℕ)). length (map initial_processor rows)) (sym regs_same);
     each = each;
     words = ap (λ h. h.init_words) (sym f.head);
   }
     where
       each : (t : ℕ) (p q : Processor)
-          → slice_get (map starting test.head.init_regs) t ≡ Some p
-          → slice_get (map starting fenced.head.init_regs) t ≡ Some q
+          → slice_get (map initial_processor test.head.init_regs) t ≡ Some p
+          → slice_get (map initial_processor fenced.head.init_regs) t ≡ Some q
           → p ≡ there t q
       each t p q one other =
-          let first = got_map starting test.head.init_regs t p one in
-          let one_start = ap (λ (rows : List (List ℕ)). slice_get (map starting rows) t) regs_same in
+          let first = get-map initial_processor test.head.init_regs t p one in
+          let one_start = ap (λ (rows : List (List ℕ)). slice_get (map initial_processor rows) t) regs_same in
           let same : q ≡ p = same_Some q p (sym other ∙ one_start ∙ one) in
           let block = code_at t in
-          first.2 ∙ ap (at block.block (starting first.0)) (sym block.first) ∙ sym (ap (there t) (same ∙ first.2))
+          first.2 ∙ ap (at block.block (initial_processor first.0)) (sym block.first) ∙ sym (ap (there t) (same ∙ first.2))
 
   final : (s r : MachineState (List ℕ)) → AreAlike s r → IsTrue (is_final fenced.threads r) → IsTrue (is_final test.threads s)
   final s r alike over = zip_pass _ test.threads s.processors each
@@ -269,22 +276,22 @@ module _ (test fenced : ProgramTest) (f : IsFencedTest test fenced) where
       each : (t : ℕ) (code : List Instr) (p : Processor)
           → slice_get test.threads t ≡ Some code
           → slice_get s.processors t ≡ Some p
-          → is_done code p ≡ true
+          → has_terminated code p ≡ true
       each t code p one was =
           let other = get_some fenced.threads t (omega (arith, slice_get_within test.threads t code one, f.as_many)) in
           let q = get_some r.processors t (omega (arith, slice_get_within s.processors t p was, alike.as_many)) in
-          let done = zip_passes (λ x. is_done x.0 x.1) fenced.threads r.processors t other.0 q.0 over other.1 q.1 in
+          let done = zip_passes (λ x. has_terminated x.0 x.1) fenced.threads r.processors t other.0 q.0 over other.1 q.1 in
           let its_code = get_or_from_slice_get fenced.threads t other.0 [] other.1 in
-          let here = subst (λ (c : List Instr). is_done c q.0 ≡ true) (sym its_code) done in
-          let own_code = code_of test.threads t in
-          let without = ended own_code (code_of fenced.threads t) (code_at t) q.0 here in
-          subst (λ (c : List Instr). is_done c p ≡ true) (get_or_from_slice_get test.threads t code [] one)
-          (subst (λ (x : Processor). is_done own_code x ≡ true) (sym (alike.each t p q.0 was q.1)) without)
+          let here = subst (λ (c : List Instr). has_terminated c q.0 ≡ true) (sym its_code) done in
+          let own_code = thread_code test.threads t in
+          let without = ended own_code (thread_code fenced.threads t) (code_at t) q.0 here in
+          subst (λ (c : List Instr). has_terminated c p ≡ true) (get_or_from_slice_get test.threads t code [] one)
+          (subst (λ (x : Processor). has_terminated own_code x ≡ true) (sym (alike.each t p q.0 was q.1)) without)
 
   -- An outcome of the test with the fences is one of the test.
-  pub outcome_without : (o : Final)
-      → MachineOutcome flat fenced fenced.head.init_words o
-      → MachineOutcome flat test test.head.init_words o
+  pub outcome_without : (o : FinalState)
+      → IsMachineOutcome flat_memory fenced fenced.head.init_words o
+      → IsMachineOutcome flat_memory test test.head.init_words o
   outcome_without o (events, r) =
       let a = follow_all events _ _ r.end starts r.ran in
       let regs_of = λ (p : Processor). p.regs in

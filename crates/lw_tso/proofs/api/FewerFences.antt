@@ -1,10 +1,11 @@
 -- What is left of a well-formed test without some of its MFENCEs is well-formed.
 use Rattle.lw_tso.proofs.Common.{◌≡◌, ℕ, zero, suc, ◌+◌, ◌<◌, ◌≤◌, List, [], length, Some, ◌⊎◌, inl, inr}
 use Rattle.lw_tso.proofs.Common.{⊎_elim, refl, sym, ap, ◌∙◌, subst, arith, All, cases_lt, same_Some}
-use Rattle.lw_tso.proofs.Common.{slice_get, code_of, slice_get_within, slice_get-get_or, ForSome, Instr}
-use Rattle.lw_tso.proofs.Common.{IsStatement, IsThread, IsWellFormedProgram, ProgramTest, x86, x86_operation}
-use Rattle.lw_tso.proofs.Common.{in_blocks, IsInserted, EndsBlock, IsFencedCode, IsFencedTest, get_some}
-use Rattle.lw_tso.proofs.Common.{TestHead, IsTestName, IsWellFormedHead, target_of, Je, Jne, Jmp}
+use Rattle.lw_tso.proofs.Common.{slice_get, thread_code, slice_get_within, slice_get-get_or, ForSome, Instr}
+use Rattle.lw_tso.proofs.Common.{IsWellFormedStatement, IsWellFormedThread, IsWellFormedProgram, X86Test}
+use Rattle.lw_tso.proofs.Common.{x86_language, x86_operation, retarget_to_blocks, IsInserted, EndsBlock}
+use Rattle.lw_tso.proofs.Common.{IsFencedCode, IsFencedTest, get_some, TestHead, IsTestName, IsWellFormedHead}
+use Rattle.lw_tso.proofs.Common.{branch_target, Je, Jne, Jmp}
 
 module _ (code fenced : List Instr) (f : IsFencedCode code fenced) where
   -- from index to index the block is the same or the next
@@ -65,8 +66,10 @@ module _ (code fenced : List Instr) (f : IsFencedCode code fenced) where
   at_of : (k : ℕ) → k < length code → IsAt k
   at_of k within = is_at k (length fenced) (omega arith) (omega (arith, within, f.last (length fenced) (omega arith)))
 
-  module _ (locs : ℕ) (ok : IsThread x86 locs fenced) where
-    same_statement : (i : Instr) → IsStatement x86 locs i → IsStatement x86 locs (in_blocks f.block i)
+  module _ (locs : ℕ) (ok : IsWellFormedThread x86_language locs fenced) where
+    same_statement : (i : Instr)
+        → IsWellFormedStatement x86_language locs i
+        → IsWellFormedStatement x86_language locs (retarget_to_blocks f.block i)
     same_statement (Je to) statement = statement
     same_statement (Jne to) statement = statement
     same_statement (Jmp to) statement = statement
@@ -87,39 +90,40 @@ module _ (code fenced : List Instr) (f : IsFencedCode code fenced) where
     jump k here to u there e = subst (λ v. (k < v) × (v ≤ length code)) (same_Some (f.block to) u e) (same_target k here to there)
 
     forward : (k : ℕ) (here : IsAt k) (i : Instr)
-        → ForSome (target_of (x86_operation i)) (λ to. (here.index < to) × (to ≤ length fenced))
-        → ForSome (target_of (x86_operation (in_blocks f.block i))) (λ to. (k < to) × (to ≤ length code))
+        → ForSome (branch_target (x86_operation i)) (λ to. (here.index < to) × (to ≤ length fenced))
+        → ForSome (branch_target (x86_operation (retarget_to_blocks f.block i))) (λ to. (k < to) × (to ≤ length code))
     forward k here (Je to) goes u e = jump k here to u (goes to refl) e
     forward k here (Jne to) goes u e = jump k here to u (goes to refl) e
     forward k here (Jmp to) goes u e = jump k here to u (goes to refl) e
     forward k here i goes u e = absurd cc
 
     -- a thread is well formed if it is with MFENCEs inserted
-    pub thread_formed : IsThread x86 locs code
+    pub thread_formed : IsWellFormedThread x86_language locs code
     thread_formed = record {
       short = omega (arith, ok.short, low (length fenced) (omega arith), f.last (length fenced) (omega arith));
       there = there;
       forward = onward;
     }
       where
-        code_has : (k : ℕ) (here : IsAt k) → slice_get code k ≡ Some (in_blocks f.block here.i)
+        code_has : (k : ℕ) (here : IsAt k) → slice_get code k ≡ Some (retarget_to_blocks f.block here.i)
         code_has k here = ap (slice_get code) (sym here.block) ∙ here.ends.0
 
-        there : All (IsStatement x86 locs) code
+        there : All (IsWellFormedStatement x86_language locs) code
         there k d within =
             let here = at_of k within in
             let same = same_Some _ _ (sym (code_has k here) ∙ slice_get-get_or code k d within) in
             let lt = slice_get_within fenced here.index here.i here.there in
             let it = same_Some _ _ (sym (slice_get-get_or fenced here.index d lt) ∙ here.there) in
-            subst (IsStatement x86 locs) same (same_statement here.i (subst (IsStatement x86 locs) it (ok.there here.index d lt)))
+            subst (IsWellFormedStatement x86_language locs) same
+            (same_statement here.i (subst (IsWellFormedStatement x86_language locs) it (ok.there here.index d lt)))
 
         onward : (k : ℕ) (s : Instr)
             → slice_get code k ≡ Some s
-            → ForSome (target_of (x86_operation s)) (λ to. (k < to) × (to ≤ length code))
+            → ForSome (branch_target (x86_operation s)) (λ to. (k < to) × (to ≤ length code))
         onward k s at =
             let here = at_of k (slice_get_within code k s at) in
             let same = same_Some _ _ (sym (code_has k here) ∙ at) in
-            subst (λ (i : Instr). ForSome (target_of (x86_operation i)) (λ to. (k < to) × (to ≤ length code))) same
+            subst (λ (i : Instr). ForSome (branch_target (x86_operation i)) (λ to. (k < to) × (to ≤ length code))) same
             (forward k here here.i (ok.forward here.index here.i here.there))
 
 -- a head is well-formed if it is so with another name, and if its own is one that a test may have
@@ -144,7 +148,7 @@ head_formed h name named ok = record {
 }
 
 -- a test is well-formed if it is so with MFENCEs inserted, and if it has a name that a test may have
-pub test_formed : (test fenced : ProgramTest)
+pub test_formed : (test fenced : X86Test)
     → IsTestName test.head.name
     → IsWellFormedProgram fenced
     → IsFencedTest test fenced
@@ -157,7 +161,9 @@ test_formed test fenced named ok f = record {
       let locs = ap (λ (h : TestHead). length h.locs) f.head in
       let there = ok.code t [] (omega (arith, within, f.as_many)) in
       let left =
-      thread_formed (code_of test.threads t) (code_of fenced.threads t) (f.threads t within) (length fenced.head.locs) there in
+      thread_formed (thread_code test.threads t) (thread_code fenced.threads t) (f.threads t within) (length fenced.head.locs)
+      there in
       let same = same_Some _ _ (sym (slice_get-get_or test.threads t [] within) ∙ slice_get-get_or test.threads t d within) in
-      subst (IsThread x86 (length test.head.locs)) same (subst (λ n. IsThread x86 n (code_of test.threads t)) locs left);
+      subst (IsWellFormedThread x86_language (length test.head.locs)) same
+      (subst (λ n. IsWellFormedThread x86_language n (thread_code test.threads t)) locs left);
 }

@@ -1,14 +1,16 @@
 -- Independent neighbouring events of the flat machine are exchanged.
 use Rattle.lw_tso.proofs.Common.{◌≡◌, ◌≢◌, ℕ, List, ◌∷◌, length, Ok, Option, Some, ⊎_elim, refl, sym, ap, ◌∙◌}
 use Rattle.lw_tso.proofs.Common.{subst, slice_get, slice_set, option_map, set-set, cases_eq, set_comm}
-use Rattle.lw_tso.proofs.Common.{same_Some, slice_get-map, code_of, Event, Step, Drain, Evict, flat}
-use Rattle.lw_tso.proofs.Common.{got_set_same, got_set_other, Instr, x86_operation, Processor, Act, Asks}
-use Rattle.lw_tso.proofs.Common.{cpu_of, event_act, step_act, drain_act, MachineState, position_of, EventDone}
-use Rattle.lw_tso.proofs.Common.{MayPass, MayPassOldest, ArePassing, AreIndependent, StandsAt, DoneAt}
-use Rattle.lw_tso.proofs.Common.{IsExchangeable}
+use Rattle.lw_tso.proofs.Common.{same_Some, slice_get-map, thread_code, Event, Step, Drain, Evict}
+use Rattle.lw_tso.proofs.Common.{flat_memory, get-set_same, get-set_other, Instr, x86_operation, Processor}
+use Rattle.lw_tso.proofs.Common.{EventEffect, MemoryAccess, cpu_of, event_effect, step_effect, drain_effect}
+use Rattle.lw_tso.proofs.Common.{MachineState, position_of, MachineTransition, CommutesWithDrain}
+use Rattle.lw_tso.proofs.Common.{MayPassOldest, AreDrainAndPassing, AreIndependent, IsAtPosition}
+use Rattle.lw_tso.proofs.Common.{TransitionAt, EventsCommute}
 use Rattle.lw_tso.proofs.Commuting.{DoneInTurn, acts_exchange, with_oldest, keeping, keeping_does, does_kept}
 use Rattle.lw_tso.proofs.Commuting.{LeavesAlone, operation_alone}
-use Rattle.lw_tso.proofs.api.Effects.{state, Does, no_eviction, Did, leads_from, leads_to}
+use Rattle.lw_tso.proofs.api.Effects.{state, EffectLeadsTo, no_eviction, EventOccurrence, event_of_effect}
+use Rattle.lw_tso.proofs.api.Effects.{effect_of_event}
 use Rattle.lw_memory.specs.declared.request.Access.TheVariants as to
 
 -- ---- positions
@@ -27,7 +29,7 @@ position_at s t at = slice_get-map _ s.processors t ∙ ap (option_map (λ (q : 
 -- if an event stands at position j by the machine's state, it does so by its processor
 index : (e : Event) (j : ℕ) (s : MachineState (List ℕ)) (p : Processor)
     → slice_get s.processors (cpu_of e) ≡ Some p
-    → StandsAt e j s
+    → IsAtPosition e j s
     → StandsAtIndex e j p
 index (Step t) j s p at stands = same_Some p.position j (sym (position_at s t at) ∙ stands)
 index _ j s p at stands = tt
@@ -36,7 +38,7 @@ index _ j s p at stands = tt
 stands_there : (e : Event) (j : ℕ) (s : MachineState (List ℕ)) (p : Processor)
     → slice_get s.processors (cpu_of e) ≡ Some p
     → StandsAtIndex e j p
-    → StandsAt e j s
+    → IsAtPosition e j s
 stands_there (Step t) j s p at is = position_at s t at ∙ ap Some is
 stands_there _ j s p at is = tt
 
@@ -49,7 +51,7 @@ record Passing (buffer : List (ℕ × ℕ)) (o : Option Instr) : Type 0 where
   instr : Instr
   full : buffer ≡ entry ∷ newer
   at : o ≡ Some instr
-  may : MayPass entry.0 (x86_operation instr)
+  may : CommutesWithDrain entry.0 (x86_operation instr)
 
 -- an instruction that may pass the drain of a buffer's oldest entry has such an entry in the buffer
 passing : (buffer : List (ℕ × ℕ)) (o : Option Instr) → MayPassOldest buffer o → Passing buffer o
@@ -59,31 +61,34 @@ passing _ _ may = absurd may
 module _ (program : List (List Instr)) where
   -- an act that is possible does not depend on the number of locations
   same_act : (e : Event) (k l : ℕ) (p q : Processor) (m n : List ℕ)
-      → Does m (event_act program k e p) q n
-      → event_act program k e p ≡ event_act program l e p
+      → EffectLeadsTo m (event_effect program k e p) q n
+      → event_effect program k e p ≡ event_effect program l e p
   same_act (Evict t x) k l p q m n d = absurd (no_eviction program k t x p q m n d)
   same_act _ k l p q m n d = refl
 
-  done_at : (e : Event) (j : ℕ) (s mid : MachineState (List ℕ)) (d : Did program e s mid)
+  done_at : (e : Event) (j : ℕ) (s mid : MachineState (List ℕ)) (d : EventOccurrence program e s mid)
       → StandsAtIndex e j d.from
-      → DoneAt flat program e j s mid
+      → TransitionAt flat_memory program e j s mid
   done_at e j s mid d is = record {
     stands = stands_there e j s d.from d.was is;
     done =
-        subst (λ after. EventDone flat program e s (Ok tt) after) (sym d.is)
-        (leads_from program e s.processors d.from d.to s.memory d.words d.was d.does);
+        subst (λ after. MachineTransition flat_memory program e s (Ok tt) after) (sym d.is)
+        (event_of_effect program e s.processors d.from d.to s.memory d.words d.was d.does);
   }
 
   -- the two events the other way round
   abbrev Exchanged : Event → Event → ℕ → ℕ → MachineState (List ℕ) → MachineState (List ℕ) → Type 0
-  Exchanged e f j k s end = (other : MachineState (List ℕ)) × DoneAt flat program f k s other × DoneAt flat program e j other end
+  Exchanged e f j k s end =
+      (other : MachineState (List ℕ))
+      × TransitionAt flat_memory program f k s other
+      × TransitionAt flat_memory program e j other end
 
   module _ (s mid end : MachineState (List ℕ)) where
     -- of two processors
     two : (e f : Event) (j k : ℕ)
         → cpu_of e ≢ cpu_of f
         → AreIndependent program e f s
-        → (x : Did program e s mid) (y : Did program f mid end)
+        → (x : EventOccurrence program e s mid) (y : EventOccurrence program f mid end)
         → StandsAtIndex e j x.from
         → StandsAtIndex f k y.from
         → Exchanged e f j k s end
@@ -91,20 +96,20 @@ module _ (program : List (List Instr)) where
       where
         there : slice_get s.processors (cpu_of f) ≡ Some y.from
         there =
-            sym (got_set_other s.processors (cpu_of e) (cpu_of f) x.to ne)
+            sym (get-set_other s.processors (cpu_of e) (cpu_of f) x.to ne)
             ∙ ap (λ (z : MachineState (List ℕ)). slice_get z.processors (cpu_of f)) (sym x.is)
             ∙ y.was
 
-        a : Act
-        a = event_act program (length s.memory) e x.from
+        a : EventEffect
+        a = event_effect program (length s.memory) e x.from
 
-        b : Act
-        b = event_act program (length s.memory) f y.from
+        b : EventEffect
+        b = event_effect program (length s.memory) f y.from
 
-        then_b : Does x.words b y.to y.words
+        then_b : EffectLeadsTo x.words b y.to y.words
         then_b =
-            subst (λ (z : MachineState (List ℕ)). Does z.memory b y.to y.words) x.is
-            (subst (λ act. Does mid.memory act y.to y.words) (same_act f _ _ y.from y.to _ _ y.does) y.does)
+            subst (λ (z : MachineState (List ℕ)). EffectLeadsTo z.memory b y.to y.words) x.is
+            (subst (λ act. EffectLeadsTo mid.memory act y.to y.words) (same_act f _ _ y.from y.to _ _ y.does) y.does)
 
         way : DoneInTurn b a y.to x.to s.memory y.words
         way =
@@ -114,17 +119,17 @@ module _ (program : List (List Instr)) where
         other : MachineState (List ℕ)
         other = state (slice_set s.processors (cpu_of f) y.to) way.between
 
-        first : Did program f s other
+        first : EventOccurrence program f s other
         first = record { from = y.from; to = y.to; words = way.between; was = there; does = way.first; is = refl }
 
-        second : Did program e other end
+        second : EventOccurrence program e other end
         second = record {
           from = x.from;
           to = x.to;
           words = y.words;
-          was = got_set_other s.processors (cpu_of f) (cpu_of e) y.to (λ same. ne (sym same)) ∙ x.was;
+          was = get-set_other s.processors (cpu_of f) (cpu_of e) y.to (λ same. ne (sym same)) ∙ x.was;
           does =
-              subst (λ act. Does way.between act x.to y.words)
+              subst (λ act. EffectLeadsTo way.between act x.to y.words)
               (same_act e (length s.memory) (length way.between) x.from x.to way.between y.words way.second) way.second;
           is =
               y.is
@@ -133,27 +138,27 @@ module _ (program : List (List Instr)) where
         }
 
     -- of one processor, which is at first this one, with this entry before the others
-    module _ (t : ℕ) (from : Processor) (pass : Passing from.buffer (slice_get (code_of program t) from.position)) where
+    module _ (t : ℕ) (from : Processor) (pass : Passing from.buffer (slice_get (thread_code program t) from.position)) where
       abbrev behind : Processor
       behind = record from { buffer = pass.newer }
 
       from_is : from ≡ with_oldest pass.entry behind
       from_is = ap (λ b. record from { buffer = b }) pass.full
 
-      abbrev stepping : Act
-      stepping = step_act (Some pass.instr) behind
+      abbrev stepping : EventEffect
+      stepping = step_effect (Some pass.instr) behind
 
-      abbrev draining : Act
-      draining = Asks pass.entry.0 (to.Store pass.entry.1) (λ none. behind)
+      abbrev draining : EventEffect
+      draining = MemoryAccess pass.entry.0 (to.Store pass.entry.1) (λ none. behind)
 
-      leaves : LeavesAlone pass.entry stepping (step_act (Some pass.instr) (with_oldest pass.entry behind))
+      leaves : LeavesAlone pass.entry stepping (step_effect (Some pass.instr) (with_oldest pass.entry behind))
       leaves = operation_alone pass.entry (x86_operation pass.instr) behind pass.may
 
-      first_act : step_act (slice_get (code_of program t) from.position) from ≡ keeping pass.entry stepping
-      first_act = ap (λ o. step_act o from) pass.at ∙ ap (step_act (Some pass.instr)) from_is ∙ leaves.same
+      first_act : step_effect (slice_get (thread_code program t) from.position) from ≡ keeping pass.entry stepping
+      first_act = ap (λ o. step_effect o from) pass.at ∙ ap (step_effect (Some pass.instr)) from_is ∙ leaves.same
 
       -- a step and then the drain
-      step_drain : (j k : ℕ) (x : Did program (Step t) s mid) (y : Did program (Drain t) mid end)
+      step_drain : (j k : ℕ) (x : EventOccurrence program (Step t) s mid) (y : EventOccurrence program (Drain t) mid end)
           → x.from ≡ from
           → from.position ≡ j
           → Exchanged (Step t) (Drain t) j k s end
@@ -162,23 +167,23 @@ module _ (program : List (List Instr)) where
           was : slice_get s.processors t ≡ Some from
           was = x.was ∙ ap Some is
 
-          step : (new : Processor) × (x.to ≡ with_oldest pass.entry new) × Does s.memory stepping new x.words
+          step : (new : Processor) × (x.to ≡ with_oldest pass.entry new) × EffectLeadsTo s.memory stepping new x.words
           step =
               does_kept pass.entry stepping s.memory x.words x.to
-              (subst (λ act. Does s.memory act x.to x.words) first_act
-              (subst (λ (p : Processor). Does s.memory (step_act (slice_get (code_of program t) p.position) p) x.to x.words) is
-              x.does))
+              (subst (λ act. EffectLeadsTo s.memory act x.to x.words) first_act
+              (subst (λ (p : Processor).
+              EffectLeadsTo s.memory (step_effect (slice_get (thread_code program t) p.position) p) x.to x.words) is x.does))
 
           now : y.from ≡ with_oldest pass.entry step.0
           now =
               same_Some y.from _
               (sym y.was
               ∙ ap (λ (z : MachineState (List ℕ)). slice_get z.processors t) x.is
-              ∙ got_set_same s.processors t x.to x.from x.was)
+              ∙ get-set_same s.processors t x.to x.from x.was)
               ∙ step.1
 
           drain : (y.to ≡ step.0) × (y.words ≡ slice_set mid.memory pass.entry.0 pass.entry.1)
-          drain = subst (λ (p : Processor). Does mid.memory (drain_act p.buffer p) y.to y.words) now y.does
+          drain = subst (λ (p : Processor). EffectLeadsTo mid.memory (drain_effect p.buffer p) y.to y.words) now y.does
 
           words : y.words ≡ slice_set x.words pass.entry.0 pass.entry.1
           words = drain.1 ∙ ap (λ (z : MachineState (List ℕ)). slice_set z.memory pass.entry.0 pass.entry.1) x.is
@@ -191,23 +196,25 @@ module _ (program : List (List Instr)) where
           other : MachineState (List ℕ)
           other = state (slice_set s.processors t behind) way.between
 
-          first : Did program (Drain t) s other
+          first : EventOccurrence program (Drain t) s other
           first = record {
             from = from;
             to = behind;
             words = way.between;
             was = was;
-            does = subst (λ (p : Processor). Does s.memory (drain_act p.buffer p) behind way.between) (sym from_is) way.first;
+            does =
+                subst (λ (p : Processor). EffectLeadsTo s.memory (drain_effect p.buffer p) behind way.between) (sym from_is)
+                way.first;
             is = refl;
           }
 
-          second : Did program (Step t) other end
+          second : EventOccurrence program (Step t) other end
           second = record {
             from = behind;
             to = step.0;
             words = y.words;
-            was = got_set_same s.processors t behind from was;
-            does = subst (λ o. Does way.between (step_act o behind) step.0 y.words) (sym pass.at) way.second;
+            was = get-set_same s.processors t behind from was;
+            does = subst (λ o. EffectLeadsTo way.between (step_effect o behind) step.0 y.words) (sym pass.at) way.second;
             is =
                 y.is
                 ∙ ap (λ (z : MachineState (List ℕ)). state (slice_set z.processors t y.to) y.words) x.is
@@ -218,7 +225,7 @@ module _ (program : List (List Instr)) where
           }
 
       -- the drain and then a step
-      drain_step : (j k : ℕ) (x : Did program (Drain t) s mid) (y : Did program (Step t) mid end)
+      drain_step : (j k : ℕ) (x : EventOccurrence program (Drain t) s mid) (y : EventOccurrence program (Step t) mid end)
           → x.from ≡ from
           → y.from.position ≡ k
           → Exchanged (Drain t) (Step t) j k s end
@@ -239,16 +246,16 @@ module _ (program : List (List Instr)) where
               same_Some y.from _
               (sym y.was
               ∙ ap (λ (z : MachineState (List ℕ)). slice_get z.processors t) x.is
-              ∙ got_set_same s.processors t x.to x.from x.was)
+              ∙ get-set_same s.processors t x.to x.from x.was)
               ∙ drain.0
 
-          step : Does x.words stepping y.to y.words
+          step : EffectLeadsTo x.words stepping y.to y.words
           step =
-              subst (λ o. Does x.words (step_act o behind) y.to y.words) pass.at
+              subst (λ o. EffectLeadsTo x.words (step_effect o behind) y.to y.words) pass.at
               (subst (λ (z : MachineState (List ℕ)).
-              Does z.memory (step_act (slice_get (code_of program t) behind.position) behind) y.to y.words) x.is
-              (subst (λ (p : Processor). Does mid.memory (step_act (slice_get (code_of program t) p.position) p) y.to y.words) now
-              y.does))
+              EffectLeadsTo z.memory (step_effect (slice_get (thread_code program t) behind.position) behind) y.to y.words) x.is
+              (subst (λ (p : Processor).
+              EffectLeadsTo mid.memory (step_effect (slice_get (thread_code program t) p.position) p) y.to y.words) now y.does))
 
           way : DoneInTurn stepping draining y.to behind s.memory y.words
           way =
@@ -261,7 +268,7 @@ module _ (program : List (List Instr)) where
           other : MachineState (List ℕ)
           other = state (slice_set s.processors t new) way.between
 
-          first : Did program (Step t) s other
+          first : EventOccurrence program (Step t) s other
           first = record {
             from = from;
             to = new;
@@ -271,12 +278,12 @@ module _ (program : List (List Instr)) where
             is = refl;
           }
 
-          second : Did program (Drain t) other end
+          second : EventOccurrence program (Drain t) other end
           second = record {
             from = new;
             to = y.to;
             words = y.words;
-            was = got_set_same s.processors t new from was;
+            was = get-set_same s.processors t new from was;
             does = (refl, way.second.1);
             is =
                 y.is
@@ -287,45 +294,45 @@ module _ (program : List (List Instr)) where
   module _ (s : MachineState (List ℕ)) where
     -- the events of one processor that may pass each other
     abbrev Pass : Event → Event → Type 0
-    Pass e f = (p : Processor) → slice_get s.processors (cpu_of e) ≡ Some p → ArePassing program e f p
+    Pass e f = (p : Processor) → slice_get s.processors (cpu_of e) ≡ Some p → AreDrainAndPassing program e f p
 
-    step_drain_exchange : (t : ℕ) → Pass (Step t) (Drain t) → IsExchangeable program (Step t) (Drain t) s
+    step_drain_exchange : (t : ℕ) → Pass (Step t) (Drain t) → EventsCommute program (Step t) (Drain t) s
     step_drain_exchange t pass j k mid end a b =
-        let x = leads_to program (Step t) s mid a.done in
-        step_drain s mid end t x.from (passing _ _ (pass x.from x.was)) j k x (leads_to program (Drain t) mid end b.done) refl
-        (index (Step t) j s x.from x.was a.stands)
+        let x = effect_of_event program (Step t) s mid a.done in
+        step_drain s mid end t x.from (passing _ _ (pass x.from x.was)) j k x (effect_of_event program (Drain t) mid end b.done)
+        refl (index (Step t) j s x.from x.was a.stands)
 
-    drain_step_exchange : (t : ℕ) → Pass (Drain t) (Step t) → IsExchangeable program (Drain t) (Step t) s
+    drain_step_exchange : (t : ℕ) → Pass (Drain t) (Step t) → EventsCommute program (Drain t) (Step t) s
     drain_step_exchange t pass j k mid end a b =
-        let x = leads_to program (Drain t) s mid a.done in
-        let y = leads_to program (Step t) mid end b.done in
+        let x = effect_of_event program (Drain t) s mid a.done in
+        let y = effect_of_event program (Step t) mid end b.done in
         drain_step s mid end t x.from (passing _ _ (pass x.from x.was)) j k x y refl (index (Step t) k mid y.from y.was b.stands)
 
     -- where nothing passes, no event is possible
     none_pass : {e : Event} (f : Event)
         → ((p : Processor) → slice_get s.processors (cpu_of e) ≡ Some p → ⊥)
-        → IsExchangeable program e f s
-    none_pass {e = e} f never j k mid end a b = let x = leads_to _ e s _ a.done in absurd (never x.from x.was)
+        → EventsCommute program e f s
+    none_pass {e = e} f never j k mid end a b = let x = effect_of_event _ e s _ a.done in absurd (never x.from x.was)
 
-    one_exchange : (e f : Event) → cpu_of e ≡ cpu_of f → Pass e f → IsExchangeable program e f s
+    one_exchange : (e f : Event) → cpu_of e ≡ cpu_of f → Pass e f → EventsCommute program e f s
     one_exchange (Step t) (Step u) same pass = none_pass (Step u) pass
     one_exchange (Step t) (Drain u) same pass =
-        subst (λ v. IsExchangeable program (Step t) (Drain v) s) same (step_drain_exchange t pass)
+        subst (λ v. EventsCommute program (Step t) (Drain v) s) same (step_drain_exchange t pass)
     one_exchange (Step t) (Evict u x) same pass = none_pass (Evict u x) pass
     one_exchange (Drain t) (Step u) same pass =
-        subst (λ v. Pass (Drain v) (Step u) → IsExchangeable program (Drain v) (Step u) s) (sym same) (drain_step_exchange u) pass
+        subst (λ v. Pass (Drain v) (Step u) → EventsCommute program (Drain v) (Step u) s) (sym same) (drain_step_exchange u) pass
     one_exchange (Drain t) (Drain u) same pass = none_pass (Drain u) pass
     one_exchange (Drain t) (Evict u x) same pass = none_pass (Evict u x) pass
     one_exchange (Evict t x) f same pass = none_pass f pass
 
-    two_exchange : (e f : Event) → cpu_of e ≢ cpu_of f → AreIndependent program e f s → IsExchangeable program e f s
+    two_exchange : (e f : Event) → cpu_of e ≢ cpu_of f → AreIndependent program e f s → EventsCommute program e f s
     two_exchange e f ne free j k mid end a b =
-        let x = leads_to program e s mid a.done in
-        let y = leads_to program f mid end b.done in
+        let x = effect_of_event program e s mid a.done in
+        let y = effect_of_event program f mid end b.done in
         two s mid end e f j k ne free x y (index e j s _ x.was a.stands) (index f k mid y.from y.was b.stands)
 
   -- independent events are exchanged
-  pub exchanged : (e f : Event) (s : MachineState (List ℕ)) → AreIndependent program e f s → IsExchangeable program e f s
+  pub exchanged : (e f : Event) (s : MachineState (List ℕ)) → AreIndependent program e f s → EventsCommute program e f s
   exchanged e f s free =
       ⊎_elim (λ same. one_exchange s e f same (free.of_one same)) (λ ne. two_exchange s e f ne free)
       (cases_eq (cpu_of e) (cpu_of f))

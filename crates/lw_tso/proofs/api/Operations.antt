@@ -2,13 +2,14 @@
 -- processor.
 use Rattle.lw_tso.proofs.Common.{◌≡◌, ◌≢◌, ℕ, ◌+◌, Bool, true, false, true≢false, if◌then◌else◌, List, []}
 use Rattle.lw_tso.proofs.Common.{◌∷◌, ◌++◌, length, length-set, Ok, Err, Option, Some, None, refl, sym, subst}
-use Rattle.lw_tso.proofs.Common.{inl, inr, ◌⊎◌, ⊎_elim, value_of, Stop, SwapWaits, flat, Memory, Guard}
-use Rattle.lw_tso.proofs.Common.{Always, Equal, NotEqual, Zero, NotZero, Operation, Set, Sum, Compare, Store}
-use Rattle.lw_tso.proofs.Common.{Load, FetchAdd, Fence, Branch, location_of, is_store, is_locked, waits}
-use Rattle.lw_tso.proofs.Common.{goes_on, Leads, holds, Processor, newest, Act, Refused, Goes, Asks, Evicts}
-use Rattle.lw_tso.proofs.Common.{operation_act, load_act, once_empty, accessed, is_write, event_writes}
-use Rattle.lw_tso.proofs.Common.{Answer, ActDone, Change, length-with_word}
-use Rattle.lw_tso.proofs.api.Effects.{Does, does_done}
+use Rattle.lw_tso.proofs.Common.{inl, inr, ◌⊎◌, ⊎_elim, operand_value, Stop, SwapWaits, flat_memory, Memory}
+use Rattle.lw_tso.proofs.Common.{Guard, Always, Equal, NotEqual, Zero, NotZero, Operation, Set, Sum, Compare}
+use Rattle.lw_tso.proofs.Common.{Store, Load, FetchAdd, Fence, Branch, location_of, is_store, is_locked}
+use Rattle.lw_tso.proofs.Common.{needs_empty_buffer, falls_through, IsSuccessor, guard_holds, Processor}
+use Rattle.lw_tso.proofs.Common.{newest_buffered, EventEffect, Refused, LocalStep, MemoryAccess, Eviction}
+use Rattle.lw_tso.proofs.Common.{operation_effect, load_effect, if_buffer_empty, accessed_location, is_write}
+use Rattle.lw_tso.proofs.Common.{event_writes, EventResult, EffectTransition, Change, length-set_word_if_some}
+use Rattle.lw_tso.proofs.api.Effects.{EffectLeadsTo, does_done}
 use Rattle.lw_memory.specs.declared.request.Access.TheVariants as to
 
 -- a store adds an entry for its location to the buffer p, and nothing else does
@@ -18,11 +19,11 @@ Buffers o p q =
     ⊎ ((entry : ℕ × ℕ) × (is_store o ≡ true) × (location_of o ≡ Some entry.0) × (q ≡ p ++ entry ∷ []))
 
 -- how an operation that is carried out leads from the processor p to q: position, buffer and registers, and what it waited for
-pub record Went (o : Operation) (p q : Processor) : Type 0 where
-  pub leads : Leads o p.position q.position
+pub record OperationTransition (o : Operation) (p q : Processor) : Type 0 where
+  pub leads : IsSuccessor o p.position q.position
   pub buffers : Buffers o p.buffer q.buffer
   pub regs : length q.regs ≡ length p.regs
-  pub waited : waits o ≡ true → p.buffer ≡ []
+  pub waited : needs_empty_buffer o ≡ true → p.buffer ≡ []
 
 -- a test that fails does not pass
 never : {X : Type 0} → false ≡ true → X
@@ -30,26 +31,28 @@ never e = absurd (true≢false (sym e))
 
 -- from p to q leads an operation that is no store, if q is at the next position and has the same buffer and as many registers
 next : (o : Operation) (p q : Processor)
-    → goes_on o ≡ true
+    → falls_through o ≡ true
     → is_store o ≡ false
-    → (waits o ≡ true → p.buffer ≡ [])
+    → (needs_empty_buffer o ≡ true → p.buffer ≡ [])
     → q.position ≡ p.position + 1
     → q.buffer ≡ p.buffer
     → length q.regs ≡ length p.regs
-    → Went o p q
+    → OperationTransition o p q
 next o p q on none waited position buffer regs =
     record { leads = inl (on, position); buffers = inl (none, buffer); regs = regs; waited = waited }
 
 -- a branch leads to its target where its guard holds, and else to the next statement
 pub branch_leads : (c : Guard) (to k : ℕ) (regs : List ℕ) (flag : Bool)
-    → Leads (Branch c to) k (if holds c regs flag then to else (k + 1))
+    → IsSuccessor (Branch c to) k (if guard_holds c regs flag then to else (k + 1))
 branch_leads c to k regs flag = go c
   where
-    either : (c : Guard) (jumps : Bool) → goes_on (Branch c to) ≡ true → Leads (Branch c to) k (if jumps then to else (k + 1))
+    either : (c : Guard) (jumps : Bool)
+        → falls_through (Branch c to) ≡ true
+        → IsSuccessor (Branch c to) k (if jumps then to else (k + 1))
     either c true on = inr refl
     either c false on = inl (on, refl)
 
-    go : (c : Guard) → Leads (Branch c to) k (if holds c regs flag then to else (k + 1))
+    go : (c : Guard) → IsSuccessor (Branch c to) k (if guard_holds c regs flag then to else (k + 1))
     go Always = inr refl
     go (Equal a n) = either (Equal a n) _ refl
     go (NotEqual a n) = either (NotEqual a n) _ refl
@@ -60,61 +63,69 @@ branch_leads c to k regs flag = go c
 -- only such processors.
 module _ (Reason : Type 0) (MayAsk : ℕ → Bool → Type 0) (Makes : Processor → Type 0) where
   -- a claim on an act: refused, it has a `Reason`; what it asks memory for it `MayAsk`; of the processor after it `Makes` holds
-  abbrev pub Comes : Act → Type 0
-  Comes (Refused stop) = Reason
-  Comes (Goes next) = Makes next
-  Comes (Asks x access next) = MayAsk x (is_write access) × ((w : ℕ) → Makes (next w))
-  Comes (Evicts x) = ⊥
+  abbrev pub EffectSatisfies : EventEffect → Type 0
+  EffectSatisfies (Refused stop) = Reason
+  EffectSatisfies (LocalStep next) = Makes next
+  EffectSatisfies (MemoryAccess x access next) = MayAsk x (is_write access) × ((w : ℕ) → Makes (next w))
+  EffectSatisfies (Eviction x) = ⊥
 
   -- if the claim holds of an act, then the act may ask for the location that it accesses
-  pub comes_accessed : (act : Act) (x : ℕ) → Comes act → accessed act ≡ Some x → MayAsk x (event_writes act)
-  comes_accessed (Asks y access next) x comes at = let e : y ≡ x = cc in subst (λ z. MayAsk z (is_write access)) e comes.0
-  comes_accessed (Evicts y) x comes at = absurd comes
+  pub comes_accessed : (act : EventEffect) (x : ℕ)
+      → EffectSatisfies act
+      → accessed_location act ≡ Some x
+      → MayAsk x (event_writes act)
+  comes_accessed (MemoryAccess y access next) x comes at = let e : y ≡ x = cc in subst (λ z. MayAsk z (is_write access)) e comes.0
+  comes_accessed (Eviction y) x comes at = absurd comes
   comes_accessed _ x comes at = absurd cc
 
   -- if the claim holds of an act that is done, it was refused and left the processor as it was, or `Makes` holds of the new one
-  pub comes_made : {M : Type 0} (mem : Memory M) (t : ℕ) (act : Act) (p q : Processor) (m n : M) (answer : Answer)
-      → Comes act
-      → ActDone mem t act p m answer q n
+  pub comes_made : {M : Type 0} (mem : Memory M) (t : ℕ) (act : EventEffect) (p q : Processor) (m n : M) (answer : EventResult)
+      → EffectSatisfies act
+      → EffectTransition mem t act p m answer q n
       → ((stop : Stop) × (answer ≡ Err stop) × (q ≡ p)) ⊎ Makes q
   comes_made mem t (Refused stop) p q m n answer comes done = inl (stop, done.0, done.1)
-  comes_made mem t (Goes next) p q m n answer comes done = inr (subst Makes (sym done.1) comes)
-  comes_made mem t (Evicts x) p q m n answer comes done = absurd comes
+  comes_made mem t (LocalStep next) p q m n answer comes done = inr (subst Makes (sym done.1) comes)
+  comes_made mem t (Eviction x) p q m n answer comes done = absurd comes
   comes_made mem t _ p q m n answer comes done = inr (subst Makes (sym done.2) (comes.1 _))
 
   load_comes : (found : Option ℕ) (x : ℕ) (next : ℕ → Processor)
       → MayAsk x false
       → ((w : ℕ) → Makes (next w))
-      → Comes (load_act found x next)
+      → EffectSatisfies (load_effect found x next)
   load_comes (Some w) x next asks makes = makes w
   load_comes None x next asks makes = (asks, makes)
 
-  once_comes : (buffer : List (ℕ × ℕ)) (stop : Stop) (act : Act)
+  once_comes : (buffer : List (ℕ × ℕ)) (stop : Stop) (act : EventEffect)
       → (buffer ≢ [] → Reason)
-      → (buffer ≡ [] → Comes act)
-      → Comes (once_empty buffer stop act)
+      → (buffer ≡ [] → EffectSatisfies act)
+      → EffectSatisfies (if_buffer_empty buffer stop act)
   once_comes [] stop act reason comes = comes refl
   once_comes (entry ∷ newer) stop act reason comes = reason (λ e. absurd cc)
 
   -- An operation is refused only where it waits and the buffer has an entry, asks only for its location, and writes that
   -- at once only where it is locked.
   pub operation_comes : (o : Operation) (p : Processor)
-      → (waits o ≡ true → p.buffer ≢ [] → Reason)
+      → (needs_empty_buffer o ≡ true → p.buffer ≢ [] → Reason)
       → ((x : ℕ) → location_of o ≡ Some x → MayAsk x (is_locked o))
-      → ((q : Processor) → Went o p q → Makes q)
-      → Comes (operation_act o p)
+      → ((q : Processor) → OperationTransition o p q → Makes q)
+      → EffectSatisfies (operation_effect o p)
   operation_comes (Set d v) p reason asks makes = makes _ (next (Set d v) p _ refl refl never refl refl (length-set p.regs d _))
   operation_comes (Sum d a v) p reason asks makes =
       makes _ (next (Sum d a v) p _ refl refl never refl refl (length-set p.regs d _))
   operation_comes (Compare a v) p reason asks makes = makes _ (next _ p _ refl refl never refl refl refl)
-  operation_comes (Store x v) p reason asks makes =
-      makes _
-      (record { leads = inl (refl, refl); buffers = inr ((x, value_of v p.regs), refl, refl, refl); regs = refl; waited = never })
+  operation_comes (Store x v) p reason asks makes = makes _ (record {
+    leads = inl (refl, refl);
+    buffers = inr ((x, operand_value v p.regs), refl, refl, refl);
+    regs = refl;
+    waited = never;
+  })
   operation_comes (Load d x) p reason asks makes =
-      load_comes (newest p.buffer x) x _ (asks x refl)
+      load_comes (newest_buffered p.buffer x) x _ (asks x refl)
       (λ w. makes _ (next (Load d x) p _ refl refl never refl refl (length-set p.regs d w)))
-  operation_comes (FetchAdd d x v) p reason asks makes = once_comes p.buffer SwapWaits _ (reason refl) (λ empty.
-      (asks x refl, λ w. makes _ (next (FetchAdd d x v) p _ refl refl (λ e. empty) refl refl (length-with_word p.regs d w))))
+  operation_comes (FetchAdd d x v) p reason asks makes = once_comes p.buffer SwapWaits _ (reason refl) (λ empty. (
+    asks x refl,
+    λ w. makes _ (next (FetchAdd d x v) p _ refl refl (λ e. empty) refl refl (length-set_word_if_some p.regs d w)),
+  ))
   operation_comes Fence p reason asks makes =
       once_comes _ _ _ (reason refl) (λ empty. makes _ (next Fence p _ refl refl (λ e. empty) refl refl refl))
   operation_comes (Branch c to) p reason asks makes = makes _ (record {
@@ -132,7 +143,7 @@ pub record Updates (o : Operation) (p : Processor) : Type 0 where
   pub location : ℕ
   pub change : Change
   pub next : ℕ → Processor
-  pub act : operation_act o p ≡ once_empty p.buffer SwapWaits (Asks location (to.Update change) next)
+  pub act : operation_effect o p ≡ if_buffer_empty p.buffer SwapWaits (MemoryAccess location (to.Update change) next)
 
 -- a locked operation comes to one act, that of its change
 pub updates : (o : Operation) (p : Processor) → is_locked o ≡ true → Updates o p
@@ -147,39 +158,45 @@ updates _ p e = record { location = _; change = _; next = _; act = refl }
 
 -- what an operation accesses is its location, which it writes at once only if it is locked
 pub operation_accessed : (o : Operation) (p : Processor) (x : ℕ)
-    → accessed (operation_act o p) ≡ Some x
-    → (location_of o ≡ Some x) × (is_locked o ≡ event_writes (operation_act o p))
+    → accessed_location (operation_effect o p) ≡ Some x
+    → (location_of o ≡ Some x) × (is_locked o ≡ event_writes (operation_effect o p))
 operation_accessed o p x =
     let asks = λ (y : ℕ) (w : Bool). (location_of o ≡ Some y) × (is_locked o ≡ w) in
-    comes_accessed (Unit {0}) asks (λ q. Unit {0}) (operation_act o p) x
+    comes_accessed (Unit {0}) asks (λ q. Unit {0}) (operation_effect o p) x
     (operation_comes (Unit {0}) asks (λ q. Unit {0}) o p (λ waits full. tt) (λ y e. (e, refl)) (λ q went. tt))
 
--- an operation that is carried out makes of its processor what `Went` says
-pub operation_does : (o : Operation) (p q : Processor) (m n : List ℕ) → Does m (operation_act o p) q n → Went o p q
+-- an operation that is carried out makes of its processor what `OperationTransition` says
+pub operation_does : (o : Operation) (p q : Processor) (m n : List ℕ)
+    → EffectLeadsTo m (operation_effect o p) q n
+    → OperationTransition o p q
 operation_does o p q m n d =
-    let comes = operation_comes (Unit {0}) (λ x w. Unit {0}) (Went o p) o p (λ waits full. tt) (λ x e. tt) (λ q went. went) in
-    let done = does_done 0 (operation_act o p) p q m n d in
+    let comes =
+    operation_comes (Unit {0}) (λ x w. Unit {0}) (OperationTransition o p) o p (λ waits full. tt) (λ x e. tt) (λ q went. went) in
+    let done = does_done 0 (operation_effect o p) p q m n d in
     ⊎_elim (λ refused. absurd (let e = refused.1 in cc)) (λ went. went)
-    (comes_made (Unit {0}) (λ x w. Unit {0}) (Went o p) flat 0 (operation_act o p) p q m n (Ok tt) comes done)
+    (comes_made (Unit {0}) (λ x w. Unit {0}) (OperationTransition o p) flat_memory 0 (operation_effect o p) p q m n (Ok tt) comes
+    done)
 
 -- what is done only once the buffer is empty has found it so
-pub once_done : (buffer : List (ℕ × ℕ)) (stop : Stop) (act : Act) (m n : List ℕ) (q : Processor)
-    → Does m (once_empty buffer stop act) q n
-    → (buffer ≡ []) × Does m act q n
+pub once_done : (buffer : List (ℕ × ℕ)) (stop : Stop) (act : EventEffect) (m n : List ℕ) (q : Processor)
+    → EffectLeadsTo m (if_buffer_empty buffer stop act) q n
+    → (buffer ≡ []) × EffectLeadsTo m act q n
 once_done [] stop act m n q d = (refl, d)
 once_done (entry ∷ newer) stop act m n q d = absurd d
 
 -- an act over these words is possible: it leaves some processor and some words
-abbrev pub Can : List ℕ → Act → Type 0
-Can m act = (q : Processor) × (n : List ℕ) × Does m act q n
+abbrev pub Can : List ℕ → EventEffect → Type 0
+Can m act = (q : Processor) × (n : List ℕ) × EffectLeadsTo m act q n
 
 -- an operation can be carried out where the buffer is empty, if it waits for that
-pub can_step : (o : Operation) (p : Processor) (m : List ℕ) → (waits o ≡ true → p.buffer ≡ []) → Can m (operation_act o p)
+pub can_step : (o : Operation) (p : Processor) (m : List ℕ)
+    → (needs_empty_buffer o ≡ true → p.buffer ≡ [])
+    → Can m (operation_effect o p)
 can_step o p m waited =
-    go (operation_act o p)
+    go (operation_effect o p)
     (operation_comes ⊥ (λ x w. Unit {0}) (λ q. Unit {0}) o p (λ w full. full (waited w)) (λ x e. tt) (λ q went. tt))
   where
-    go : (act : Act) → Comes ⊥ (λ x w. Unit {0}) (λ q. Unit {0}) act → Can m act
-    go (Goes next) comes = (next, m, (refl, refl))
-    go (Asks x access next) comes = (_, _, (refl, refl))
+    go : (act : EventEffect) → EffectSatisfies ⊥ (λ x w. Unit {0}) (λ q. Unit {0}) act → Can m act
+    go (LocalStep next) comes = (next, m, (refl, refl))
+    go (MemoryAccess x access next) comes = (_, _, (refl, refl))
     go _ comes = absurd comes

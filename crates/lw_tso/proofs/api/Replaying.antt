@@ -2,11 +2,12 @@
 use Rattle.lw_tso.proofs.Common.{◌≡◌, ℕ, zero, suc, ◌<◌, ◌≤◌, Bool, true, false, nat_lt, if◌then◌else◌, List}
 use Rattle.lw_tso.proofs.Common.{[], ◌∷◌, length, map, Ok, Err, Option, Some, None, refl, sym, ap, ◌∙◌, subst}
 use Rattle.lw_tso.proofs.Common.{slice_get, slice_set, arith, ltb-true, AllByRecursion, length-map}
-use Rattle.lw_tso.proofs.Common.{slice_get_within, Final, IsOutcomeOf, IsEvent, NameTable, Event, Evict}
-use Rattle.lw_tso.proofs.Common.{most_threads, registers, NoCpu, NoLocation, Invariant, Lawful, Memory, Instr}
-use Rattle.lw_tso.proofs.Common.{IsWellFormedProgram, ProgramTest, Processor, starting, Refused, Evicts}
-use Rattle.lw_tso.proofs.Common.{cpu_of, event_act, MachineState, Answer, ActDone, DoneBy, EventDone}
-use Rattle.lw_tso.proofs.Common.{MachineRan, Replays, machine_start, CanStart}
+use Rattle.lw_tso.proofs.Common.{slice_get_within, FinalState, HasOutcomeShape, IsEvent, NameTable, Event}
+use Rattle.lw_tso.proofs.Common.{Evict, most_threads, registers, NoCpu, NoLocation, Invariant, IsLawful}
+use Rattle.lw_tso.proofs.Common.{Memory, Instr, IsWellFormedProgram, X86Test, Processor, initial_processor}
+use Rattle.lw_tso.proofs.Common.{Refused, Eviction, cpu_of, event_effect, MachineState, EventResult}
+use Rattle.lw_tso.proofs.Common.{EffectTransition, ProcessorTransition, MachineTransition, MachineRunsTo}
+use Rattle.lw_tso.proofs.Common.{ReplaysTo, initial_machine_state, IsInitialMemory}
 use Rattle.lw_tso.proofs.Acts.{IsSameSize, event_kept}
 use Rattle.lw_tso.proofs.EventActs.{Becomes, Stays, Steps, Drains, event_becomes}
 
@@ -43,7 +44,7 @@ module _ {M : Type 0} (mem : Memory M) (inv : Invariant M) where
   -- an eviction that is carried out is of a location that is there
   evicted_there : (there : Bool) (t x locs : ℕ) (p q : Processor) (m n : M)
       → nat_lt x locs ≡ there
-      → ActDone mem t (if there then Evicts x else Refused NoLocation) p m (Ok tt) q n
+      → EffectTransition mem t (if there then Eviction x else Refused NoLocation) p m (Ok tt) q n
       → x < locs
   evicted_there true t x locs p q m n lt done = ltb-true x locs lt
   evicted_there false t x locs p q m n lt done = absurd (let e = done.0 in cc)
@@ -52,7 +53,7 @@ module _ {M : Type 0} (mem : Memory M) (inv : Invariant M) where
   there : (program : List (List Instr)) (names : NameTable) (e : Event) (p q : Processor) (m n : M)
       → cpu_of e < most_threads
       → length (mem.content m) ≡ length names
-      → ActDone mem (cpu_of e) (event_act program (length (mem.content m)) e p) p m (Ok tt) q n
+      → EffectTransition mem (cpu_of e) (event_effect program (length (mem.content m)) e p) p m (Ok tt) q n
       → IsEvent names e
   there program names (Evict t x) p q m n lt locs done =
       (lt, subst (λ k. x < k) locs (evicted_there _ t x (length (mem.content m)) p q m n refl done))
@@ -66,11 +67,11 @@ module _ {M : Type 0} (mem : Memory M) (inv : Invariant M) where
     words : length (mem.content s.memory) ≡ locs
     sound : inv.sound s.memory
 
-  module _ (laws : Lawful mem inv) (program : List (List Instr)) (names : NameTable) (threads : ℕ)
+  module _ (laws : IsLawful mem inv) (program : List (List Instr)) (names : NameTable) (threads : ℕ)
       (few : threads ≤ most_threads) where
     event_of : (e : Event) (s after : MachineState M)
         → IsMachineOf threads (length names) s
-        → EventDone mem program e s (Ok tt) after
+        → MachineTransition mem program e s (Ok tt) after
         → IsEvent names e × IsMachineOf threads (length names) after
     event_of e s after is done = go (slice_get s.processors (cpu_of e)) refl done
       where
@@ -79,9 +80,9 @@ module _ {M : Type 0} (mem : Memory M) (inv : Invariant M) where
 
         go : (o : Option Processor)
             → slice_get s.processors (cpu_of e) ≡ o
-            → DoneBy mem o program e s (Ok tt) after
+            → ProcessorTransition mem o program e s (Ok tt) after
             → IsEvent names e × IsMachineOf threads (length names) after
-        go None at by = absurd (let e : ◌≡◌ {A = Answer} (Ok tt) (Err NoCpu) = by.0 in cc)
+        go None at by = absurd (let e : ◌≡◌ {A = EventResult} (Ok tt) (Err NoCpu) = by.0 in cc)
         go (Some p) at by =
             let lt = slice_get_within s.processors (cpu_of e) p at in
             let becomes = event_becomes _ (length (mem.content s.memory)) mem p by.0 _ by.1 (Ok tt) e by.2 in
@@ -99,7 +100,7 @@ module _ {M : Type 0} (mem : Memory M) (inv : Invariant M) where
 
     run_of : (es : List Event) {s : MachineState M} (end : MachineState M)
         → IsMachineOf threads (length names) s
-        → MachineRan mem program es s end
+        → MachineRunsTo mem program es s end
         → AllByRecursion (IsEvent names) es × IsMachineOf threads (length names) end
     run_of [] end is ran = (tt, subst (IsMachineOf threads (length names)) (sym ran) is)
     run_of (e ∷ es) {s = s} end is ran =
@@ -117,27 +118,27 @@ rows_have (p ∷ ps) all = (all.0, rows_have ps all.1)
 -- where all rows of first words are of all registers, processors start with all registers
 starts_have : (rows : List (List ℕ))
     → AllByRecursion (λ row. length row ≡ registers) rows
-    → AllByRecursion HasRegisters (map starting rows)
+    → AllByRecursion HasRegisters (map initial_processor rows)
 starts_have [] all = tt
 starts_have (row ∷ rows) all = (all.0, starts_have rows all.1)
 
 -- a run of a test to its end has an outcome of the test's threads and locations, and events of these
-pub replayed_of_test : {M : Type 0} {mem : Memory M} {inv : Invariant M} (laws : Lawful mem inv) (test : ProgramTest) (m : M)
-    (events : List Event) (o : Final)
+pub replayed_of_test : {M : Type 0} {mem : Memory M} {inv : Invariant M} (laws : IsLawful mem inv) (test : X86Test) (m : M)
+    (events : List Event) (o : FinalState)
     → IsWellFormedProgram test
-    → CanStart mem inv test m
-    → Replays mem test m events o
-    → IsOutcomeOf test.head.threads (length test.head.locs) o × AllByRecursion (IsEvent test.head.locs) events
+    → IsInitialMemory mem inv test m
+    → ReplaysTo mem test m events o
+    → HasOutcomeShape test.head.threads (length test.head.locs) o × AllByRecursion (IsEvent test.head.locs) events
 replayed_of_test {mem = mem} {inv = inv} laws test m events o ok start r =
     let head = ok.head in
-    let first : IsMachineOf mem inv test.head.threads (length test.head.locs) (machine_start test m) = record {
-      processors = length-map test.head.init_regs starting ∙ head.regs;
+    let first : IsMachineOf mem inv test.head.threads (length test.head.locs) (initial_machine_state test m) = record {
+      processors = length-map test.head.init_regs initial_processor ∙ head.regs;
       have = starts_have test.head.init_regs head.six;
       words = ap length start.words ∙ head.words;
       sound = start.sound;
     } in
     let ran = run_of mem inv laws test.threads test.head.locs test.head.threads head.few events r.end first r.ran in (
-      subst (IsOutcomeOf test.head.threads (length test.head.locs)) (sym r.is) (record {
+      subst (HasOutcomeShape test.head.threads (length test.head.locs)) (sym r.is) (record {
         regs_of = length-map r.end.processors (λ p. p.regs) ∙ ran.1.processors;
         six = rows_have r.end.processors ran.1.have;
         words_of = ran.1.words;

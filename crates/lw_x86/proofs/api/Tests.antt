@@ -1,10 +1,10 @@
 -- The x86 test of a frame is well-formed.
-use Rattle.lw_x86.proofs.Common.{◌≡◌, length, IsWellFormedHead, TestFrame, ProgramTest, IsWellFormedProgram}
+use Rattle.lw_x86.proofs.Common.{◌≡◌, length, IsWellFormedHead, TestFrame, X86Test, IsWellFormedProgram}
 use Rattle.lw_x86.proofs.Common.{names_allowed, well_formed_test, x86_spelling, x86_grammar, HasProgram}
 use Rattle.lw_x86.proofs.X86Laws.{x86_lawful}
 
 -- where the frame's head is well-formed, so is its test, by the rule of cells
-pub well_formed_program : (frame : TestFrame) (test : ProgramTest)
+pub well_formed_program : (frame : TestFrame) (test : X86Test)
     → IsWellFormedHead frame.head
     → length frame.cells ≡ frame.head.threads
     → HasProgram frame test

@@ -4,8 +4,8 @@ use Rattle.lw_base.specs.declared.operand.Operand.{Operand}
 use Rattle.lw_base.specs.declared.operand.Operand.TheVariants.{Number}
 use Rattle.lw_litmus.specs.declared.instr.Instr.{Instr}
 use Rattle.lw_litmus.specs.declared.instr.Instr.TheVariants as instr
-use Rattle.lw_cells.specs.declared.draft.Operands.{Operands}
-use Rattle.lw_cells.specs.Found.{of_one, of_two}
+use Rattle.lw_statements.specs.declared.draft.Operands.{Operands}
+use Rattle.lw_statements.specs.Bindings.{map_some, map_some2}
 use Rattle.lw_x86.specs.declared.language.X86Form.{X86Form}
 use Rattle.lw_x86.specs.declared.language.X86Form.TheVariants.{Store, StoreNumber, Load, Set, SetNumber, Add, AddNumber, Compare, CompareNumber, Exchange}
 use Rattle.lw_x86.specs.declared.language.X86Form.TheVariants.{ExchangeLast, LockedExchange, LockedExchangeLast, ExchangeAdd, Fence, JumpEqual, JumpNotEqual}
@@ -21,22 +21,22 @@ abbrev pub value_of : Operands → Option Operand
 value_of o = value_in o.num o.val
 
 -- the instruction of a form, where the operands that it needs are there
-abbrev pub made : X86Form → Operands → Option Instr
-made Store o = of_two instr.Store o.loc (value_of o)
-made StoreNumber o = of_two instr.Store o.loc (value_of o)
-made Load o = of_two instr.Load o.reg o.loc
-made Set o = of_two instr.Set o.reg (value_of o)
-made SetNumber o = of_two instr.Set o.reg (value_of o)
-made Add o = of_two instr.Add o.reg (value_of o)
-made AddNumber o = of_two instr.Add o.reg (value_of o)
-made Compare o = of_two instr.Cmp o.reg (value_of o)
-made CompareNumber o = of_two instr.Cmp o.reg (value_of o)
-made Exchange o = of_two instr.Xchg o.loc o.reg
-made ExchangeLast o = of_two instr.Xchg o.loc o.reg
-made LockedExchange o = of_two instr.Xchg o.loc o.reg
-made LockedExchangeLast o = of_two instr.Xchg o.loc o.reg
-made ExchangeAdd o = of_two instr.Xadd o.loc o.reg
-made Fence o = Some instr.Mfence
-made JumpEqual o = of_one instr.Je o.to
-made JumpNotEqual o = of_one instr.Jne o.to
-made Jump o = of_one instr.Jmp o.to
+abbrev pub instruction_of_operands : X86Form → Operands → Option Instr
+instruction_of_operands Store o = map_some2 instr.Store o.loc (value_of o)
+instruction_of_operands StoreNumber o = map_some2 instr.Store o.loc (value_of o)
+instruction_of_operands Load o = map_some2 instr.Load o.reg o.loc
+instruction_of_operands Set o = map_some2 instr.Set o.reg (value_of o)
+instruction_of_operands SetNumber o = map_some2 instr.Set o.reg (value_of o)
+instruction_of_operands Add o = map_some2 instr.Add o.reg (value_of o)
+instruction_of_operands AddNumber o = map_some2 instr.Add o.reg (value_of o)
+instruction_of_operands Compare o = map_some2 instr.Cmp o.reg (value_of o)
+instruction_of_operands CompareNumber o = map_some2 instr.Cmp o.reg (value_of o)
+instruction_of_operands Exchange o = map_some2 instr.Xchg o.loc o.reg
+instruction_of_operands ExchangeLast o = map_some2 instr.Xchg o.loc o.reg
+instruction_of_operands LockedExchange o = map_some2 instr.Xchg o.loc o.reg
+instruction_of_operands LockedExchangeLast o = map_some2 instr.Xchg o.loc o.reg
+instruction_of_operands ExchangeAdd o = map_some2 instr.Xadd o.loc o.reg
+instruction_of_operands Fence o = Some instr.Mfence
+instruction_of_operands JumpEqual o = map_some instr.Je o.to
+instruction_of_operands JumpNotEqual o = map_some instr.Jne o.to
+instruction_of_operands Jump o = map_some instr.Jmp o.to

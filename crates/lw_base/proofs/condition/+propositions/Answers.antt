@@ -1,11 +1,12 @@
 use Rattle.lw_base.proofs.Common.{◌++◌, [], refl, sym, ap, codes, decimal, get_or_from_slice_get, Bytes}
-use Rattle.lw_base.proofs.Common.{is_or, is_joined}
+use Rattle.lw_base.proofs.Common.{is_or, is_binary}
 use Rattle.lw_base.proofs.api.Writing.{then_written, written_as, pushed}
 use Rattle.lw_base.proofs.Conditions.{enclosed, joined_written, text_of, told_of, part_told}
 use Rattle.lw_base.proofs.condition.+propositions.Goals as goal
 
-pub write_behind-returns : goal.write_behind-returns
-write_behind-returns g t c = then_written c.write_part.result _ _ _ _ c.in_ok-push_str.ensures.bytes refl c.write_part.ensures
+pub write_right_operand-returns : goal.write_right_operand-returns
+write_right_operand-returns g t c =
+    then_written c.write_part.result _ _ _ _ c.in_ok-push_str.ensures.bytes refl c.write_part.ensures
 
 pub write_part-returns : goal.write_part-returns
 write_part-returns g t c =
@@ -28,8 +29,8 @@ write_proposition-returns-in-Neg g t c =
     told_of c.args.head.now.arch c.args.head.now.locs _ _ _ c.args.prop.now _ c.in-Neg.is
     (written_as _ _ _ _ _
     (ap (λ (part : Bytes). codes "~" ++ part)
-    (part_told c.args.head.now.arch c.args.head.now.locs is_joined _ _ _ _ c.deref.ensures c.deref-in-Neg.ensures
-    c.is_joined.ensures)) c.write_behind.ensures)
+    (part_told c.args.head.now.arch c.args.head.now.locs is_binary _ _ _ _ c.deref.ensures c.deref-in-Neg.ensures
+    c.is_joined.ensures)) c.write_right_operand.ensures)
 
 pub write_proposition-returns-in_ok-write_part-in-Both : goal.write_proposition-returns-in_ok-write_part-in-Both
 write_proposition-returns-in_ok-write_part-in-Both g t c =
@@ -37,13 +38,13 @@ write_proposition-returns-in_ok-write_part-in-Both g t c =
     (joined_written _ _ _ (codes " /\\ ")
     (part_told c.args.head.now.arch c.args.head.now.locs is_or _ _ _ _ c.deref-in-Both.ensures c.deref-in-Both-2.ensures
     c.is_either.ensures)
-    (part_told c.args.head.now.arch c.args.head.now.locs is_joined _ _ _ _ c.deref-in-Both-3.ensures c.deref-in-Both-4.ensures
-    c.is_joined-in-Both.ensures) c.in_ok-write_part-in-Both.ensures c.write_behind-in-Both.ensures)
+    (part_told c.args.head.now.arch c.args.head.now.locs is_binary _ _ _ _ c.deref-in-Both-3.ensures c.deref-in-Both-4.ensures
+    c.is_joined-in-Both.ensures) c.in_ok-write_part-in-Both.ensures c.write_right_operand-in-Both.ensures)
 
 pub write_proposition-returns-in_ok-write_proposition-in-Either : goal.write_proposition-returns-in_ok-write_proposition-in-Either
 write_proposition-returns-in_ok-write_proposition-in-Either g t c =
     told_of c.args.head.now.arch c.args.head.now.locs _ _ _ c.args.prop.now _ c.in-Either.is
-    (joined_written c.write_behind-in-Either.result _ _ (codes " \\/ ")
+    (joined_written c.write_right_operand-in-Either.result _ _ (codes " \\/ ")
     (ap (text_of c.args.head.now.arch c.args.head.now.locs) c.deref-in-Either.ensures)
     (part_told c.args.head.now.arch c.args.head.now.locs is_or _ _ _ _ c.deref-in-Either-2.ensures c.deref-in-Either-3.ensures
-    c.is_either-in-Either.ensures) c.in_ok-write_proposition-in-Either.ensures c.write_behind-in-Either.ensures)
+    c.is_either-in-Either.ensures) c.in_ok-write_proposition-in-Either.ensures c.write_right_operand-in-Either.ensures)

@@ -1,5 +1,5 @@
-use Rattle.lw_base.proofs.Common.{◌≤◌, ◌++◌, ◌∙◌, ap, sym, map, length, arith, is_blank, begins, event_texts}
-use Rattle.lw_base.proofs.Common.{event_text, Memory}
+use Rattle.lw_base.proofs.Common.{◌≤◌, ◌++◌, ◌∙◌, ap, sym, map, length, arith, is_blank, first_byte_is}
+use Rattle.lw_base.proofs.Common.{event_texts, event_text, Memory}
 use Rattle.lw_base.proofs.Shapes.{no_event}
 use Rattle.lw_base.proofs.api.Returns.{turned, out_of_memory}
 use Rattle.lw_base.proofs.EventTexts.{no_schedule, event_texts-first, event_texts-behind, behind_more}
@@ -9,53 +9,60 @@ use Rattle.lw_base.proofs.schedule.read_schedule.Goals as goal
 
 pub loop-rest-init : goal.loop-rest-init
 loop-rest-init g c =
-    let back = sym c.as_bytes.ensures.value ∙ c.front.ensures.parts in
+    let back = sym c.as_bytes.ensures.value ∙ c.prefix_of_kind.ensures.parts in
     record {
       events = rw c.new-events.ensures tt;
-      event_texts = rw c.new-events.ensures (event_texts-behind _ _ _ back c.front.ensures.all);
-      others = c.front.ensures.longest;
+      event_texts = rw c.new-events.ensures (event_texts-behind _ _ _ back c.prefix_of_kind.ensures.all);
+      others = c.prefix_of_kind.ensures.longest;
       shorter = no_longer _ _ _ back;
-      back = (c.front.result.0.now, back);
+      back = (c.prefix_of_kind.result.0.now, back);
     }
 
 pub loop-rest-preserved : goal.loop-rest-preserved
 loop-rest-preserved g c =
     let back =
-    behind_more _ _ _ _ c.loop-rest.invariant.back.1 c.front-in-loop-rest.ensures.parts c.front-in-loop-rest-2.ensures.parts in
+    behind_more _ _ _ _ c.loop-rest.invariant.back.1 c.prefix_of_kind-in-loop-rest.ensures.parts
+    c.prefix_of_kind-in-loop-rest-2.ensures.parts in
     record {
       events =
           more_events c.args.names.now c.loop-rest.events c.push.new.self c.in-Ok.event c.in_ok-push-in-Ok.ensures.ok
           c.loop-rest.invariant.events c.in-Ok.ensures.ok.0;
       event_texts =
-          more_pieces c.args.names.now c.args.text.now c.front-in-loop-rest-2.result.1.now c.loop-rest.events c.push.new.self
-          c.in-Ok.event (record {
+          more_pieces c.args.names.now c.args.text.now c.prefix_of_kind-in-loop-rest-2.result.1.now c.loop-rest.events
+          c.push.new.self c.in-Ok.event (record {
             rest = c.loop-rest.rest.now;
-            piece = c.front-in-loop-rest.result.0.now;
-            after = c.front-in-loop-rest.result.1.now;
+            piece = c.prefix_of_kind-in-loop-rest.result.0.now;
+            after = c.prefix_of_kind-in-loop-rest.result.1.now;
             before = c.loop-rest.invariant.event_texts;
             first = event_texts-first _ _ _ (record {
-              parts = c.front-in-loop-rest.ensures.parts;
+              parts = c.prefix_of_kind-in-loop-rest.ensures.parts;
               some = not_zero (length c.loop-rest.rest.now) c.loop-rest-test.ensures;
               front = c.loop-rest.invariant.others;
-              others = c.front-in-loop-rest.ensures.all;
-              ends = c.front-in-loop-rest.ensures.longest;
+              others = c.prefix_of_kind-in-loop-rest.ensures.all;
+              ends = c.prefix_of_kind-in-loop-rest.ensures.longest;
             });
-            behind = event_texts-behind _ _ _ c.front-in-loop-rest-2.ensures.parts c.front-in-loop-rest-2.ensures.all;
+            behind =
+                event_texts-behind _ _ _ c.prefix_of_kind-in-loop-rest-2.ensures.parts
+                c.prefix_of_kind-in-loop-rest-2.ensures.all;
             says = c.in-Ok.ensures.ok.1;
           }) c.in_ok-push-in-Ok.ensures.ok;
-      others = c.front-in-loop-rest-2.ensures.longest;
+      others = c.prefix_of_kind-in-loop-rest-2.ensures.longest;
       shorter = no_longer _ _ _ back;
-      back = (c.loop-rest.invariant.back.0 ++ c.front-in-loop-rest.result.0.now ++ c.front-in-loop-rest-2.result.0.now, back);
+      back = (
+        c.loop-rest.invariant.back.0 ++ c.prefix_of_kind-in-loop-rest.result.0.now
+            ++ c.prefix_of_kind-in-loop-rest-2.result.0.now,
+        back,
+      );
     }
 
 pub returns-in-Err-clause-fault : goal.returns-in-Err-clause-fault
 returns-in-Err-clause-fault g c known =
     let first = event_texts-first _ _ _ (record {
-      parts = c.front-in-loop-rest.ensures.parts;
+      parts = c.prefix_of_kind-in-loop-rest.ensures.parts;
       some = not_zero (length c.loop-rest.rest.now) c.loop-rest-test.ensures;
       front = c.loop-rest.invariant.others;
-      others = c.front-in-loop-rest.ensures.all;
-      ends = c.front-in-loop-rest.ensures.longest;
+      others = c.prefix_of_kind-in-loop-rest.ensures.all;
+      ends = c.prefix_of_kind-in-loop-rest.ensures.longest;
     }) in
     let whole = c.loop-rest.invariant.event_texts ∙ ap (λ ws. map (event_text c.args.names.now) c.loop-rest.events ++ ws) first in
     no_schedule c.args.names.now c.args.text.now c.loop-rest.events _ _ whole
@@ -64,20 +71,20 @@ returns-in-Err-clause-fault g c known =
 pub returns-in-Err-clause-first : goal.returns-in-Err-clause-first
 returns-in-Err-clause-first g c known =
     let first = event_texts-first _ _ _ (record {
-      parts = c.front-in-loop-rest.ensures.parts;
+      parts = c.prefix_of_kind-in-loop-rest.ensures.parts;
       some = not_zero (length c.loop-rest.rest.now) c.loop-rest-test.ensures;
       front = c.loop-rest.invariant.others;
-      others = c.front-in-loop-rest.ensures.all;
-      ends = c.front-in-loop-rest.ensures.longest;
+      others = c.prefix_of_kind-in-loop-rest.ensures.all;
+      ends = c.prefix_of_kind-in-loop-rest.ensures.longest;
     }) in
     let back = drop-back c.args.text.now _ c.loop-rest.rest.now c.loop-rest.invariant.back.1 in
     record {
       before = c.loop-rest.events;
-      piece = c.front-in-loop-rest.result.0.now;
-      further = event_texts c.front-in-loop-rest.result.1.now;
+      piece = c.prefix_of_kind-in-loop-rest.result.0.now;
+      further = event_texts c.prefix_of_kind-in-loop-rest.result.1.now;
       events = c.loop-rest.invariant.events;
       place = ap event_texts back ∙ first;
-      front = ap (begins is_blank) back ∙ c.loop-rest.invariant.others;
+      front = ap (first_byte_is is_blank) back ∙ c.loop-rest.invariant.others;
       whole = c.loop-rest.invariant.event_texts ∙ ap (λ ws. map (event_text c.args.names.now) c.loop-rest.events ++ ws) first;
       fault = c.in-Err.ensures.err;
     }
@@ -98,12 +105,12 @@ returns-in-Err-clause-place g c = omega arith
 pub loop-rest-smaller : goal.loop-rest-smaller
 loop-rest-smaller g c =
     shrinks _ _ _ _ _ (record {
-      parts = c.front-in-loop-rest.ensures.parts;
+      parts = c.prefix_of_kind-in-loop-rest.ensures.parts;
       some = not_zero _ c.loop-rest-test.ensures;
       front = c.loop-rest.invariant.others;
-      others = c.front-in-loop-rest.ensures.all;
-      ends = c.front-in-loop-rest.ensures.longest;
-    }) c.front-in-loop-rest-2.ensures.parts
+      others = c.prefix_of_kind-in-loop-rest.ensures.all;
+      ends = c.prefix_of_kind-in-loop-rest.ensures.longest;
+    }) c.prefix_of_kind-in-loop-rest-2.ensures.parts
 
 pub returns-clause-found : goal.returns-clause-found
 returns-clause-found g c = (

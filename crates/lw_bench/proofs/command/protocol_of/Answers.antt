@@ -3,7 +3,7 @@ use Rattle.lw_bench.proofs.Commands.{option_told, no_option, other_option}
 use Rattle.lw_bench.proofs.command.protocol_of.Goals as goal
 
 pub returns : goal.returns
-returns c = option_told _ c.in-len2.len_at_least c.in-len2.len_below _ c.ne.ensures _ c.if-ne.false c.named.ensures
+returns c = option_told _ c.in-len2.len_at_least c.in-len2.len_below _ c.ne.ensures _ c.if-ne.false c.from_name.ensures
 
 pub returns-in_default : goal.returns-in_default
 returns-in_default c = λ p.

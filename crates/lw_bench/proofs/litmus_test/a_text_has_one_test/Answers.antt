@@ -1,9 +1,9 @@
-use Rattle.lw_bench.proofs.Common.{subst, TestFrame, FrameSays}
+use Rattle.lw_bench.proofs.Common.{subst, TestFrame, FrameHasTest}
 use Rattle.lw_bench.proofs.LitmusTests.{one_test}
 use Rattle.lw_bench.proofs.litmus_test.a_text_has_one_test.Goals as goal
 
 pub returns : goal.returns
 returns c text s t has other =
     one_test c.a_frame_has_one_source.ensures c.a_frame_has_one_program.ensures other.frame s t
-    (subst (λ (f : TestFrame). FrameSays f s) (c.a_text_has_one_frame.ensures text _ _ has.has_frame other.has_frame) has.says)
+    (subst (λ (f : TestFrame). FrameHasTest f s) (c.a_text_has_one_frame.ensures text _ _ has.has_frame other.has_frame) has.says)
     other.says

@@ -1,4 +1,4 @@
-use Rattle.lw_bench.proofs.Common.{passed_on}
+use Rattle.lw_bench.proofs.Common.{Err-clause_propagated}
 use Rattle.lw_bench.proofs.LitmusTests.{no_source, no_program}
 use Rattle.lw_bench.proofs.litmus_test.read_cells.Goals as goal
 
@@ -16,10 +16,10 @@ returns-in_ok-program-in-X86-clause-found g c = c.in_ok-program-in-X86.ensures.f
 
 pub returns-in_err-source-in-Source-clause-fault : goal.returns-in_err-source-in-Source-clause-fault
 returns-in_err-source-in-Source-clause-fault g c =
-    passed_on _ _ c.from_residual.ensures.1
+    Err-clause_propagated _ _ c.from_residual.ensures.1
     (λ other. no_source _ (rw c.head.ensures at c.in-Source.is) (c.in_err-source-in-Source.ensures.fault other))
 
 pub returns-in_err-program-in-X86-clause-fault : goal.returns-in_err-program-in-X86-clause-fault
 returns-in_err-program-in-X86-clause-fault g c =
-    passed_on _ _ c.from_residual-in_err-program-in-X86.ensures.1
+    Err-clause_propagated _ _ c.from_residual-in_err-program-in-X86.ensures.1
     (λ other. no_program _ (rw c.head.ensures at c.in-X86.is) (c.in_err-program-in-X86.ensures.fault other))

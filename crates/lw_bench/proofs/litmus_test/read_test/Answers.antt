@@ -1,12 +1,13 @@
-use Rattle.lw_bench.proofs.Common.{arith, passed_on, frame_of, placed_cells, grid_placed, TellsTest}
+use Rattle.lw_bench.proofs.Common.{arith, Err-clause_propagated, frame_of, placed_cells, grid_placed}
+use Rattle.lw_bench.proofs.Common.{ReadFaultIsTrue}
 use Rattle.lw_bench.proofs.DeviceFaults.{err_is}
-use Rattle.lw_bench.proofs.Told.{text_is_told, cell_is_told, text_no_device, cell_no_device}
+use Rattle.lw_bench.proofs.FaultTruths.{text_is_told, cell_is_told, text_no_device, cell_no_device}
 use Rattle.lw_bench.proofs.litmus_test.read_test.Goals as goal
 
 pub returns-in_err-frame-clause-told : goal.returns-in_err-frame-clause-told
 returns-in_err-frame-clause-told g c =
     let f = c.in_err-frame in
-    passed_on _ _ c.from_residual.ensures.1 (text_is_told (TellsTest c.args.text.now) tt _ (λ known. record {
+    Err-clause_propagated _ _ c.from_residual.ensures.1 (text_is_told (ReadFaultIsTrue c.args.text.now) tt _ (λ known. record {
       none = f.ensures.fault known;
       place = f.ensures.place;
       too_long = λ long. err_is (f.ensures.too_long long);
@@ -17,11 +18,12 @@ returns-in_err-frame-clause-told g c =
     }))
 
 pub returns-in_err-frame-clause-device : goal.returns-in_err-frame-clause-device
-returns-in_err-frame-clause-device g c = passed_on _ _ c.from_residual.ensures.1 (text_no_device _)
+returns-in_err-frame-clause-device g c = Err-clause_propagated _ _ c.from_residual.ensures.1 (text_no_device _)
 
 pub returns-in_err-read_cells-clause-told : goal.returns-in_err-read_cells-clause-told
 returns-in_err-read_cells-clause-told g c =
-    passed_on _ _ c.from_residual-in_err-read_cells.ensures.1 (cell_is_told (TellsTest c.args.text.now) tt _ (λ known. record {
+    Err-clause_propagated _ _ c.from_residual-in_err-read_cells.ensures.1
+    (cell_is_told (ReadFaultIsTrue c.args.text.now) tt _ (λ known. record {
       frame = frame_of c.in_ok-frame.frame;
       has_frame = c.in_ok-frame.ensures.found;
       cells = placed_cells c.in_ok-frame.frame.cells;
@@ -34,4 +36,5 @@ returns-in_err-read_cells-clause-told g c =
     }))
 
 pub returns-in_err-read_cells-clause-device : goal.returns-in_err-read_cells-clause-device
-returns-in_err-read_cells-clause-device g c = passed_on _ _ c.from_residual-in_err-read_cells.ensures.1 (cell_no_device _)
+returns-in_err-read_cells-clause-device g c =
+    Err-clause_propagated _ _ c.from_residual-in_err-read_cells.ensures.1 (cell_no_device _)

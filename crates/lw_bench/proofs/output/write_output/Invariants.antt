@@ -1,10 +1,10 @@
-use Rattle.lw_bench.proofs.Common.{◌≡◌, false, length, Puts}
+use Rattle.lw_bench.proofs.Common.{◌≡◌, false, length, WritesPrefix}
 use Rattle.lw_bench.proofs.output.write_output.Given as goal
 
 abbrev pub invariant-loop-rest : goal.invariant-loop-rest
 invariant-loop-rest g l = record {
   working : g.W.ByteWriter.failed l.writer ≡ false;
-  bytes : Puts (g.W.ByteWriter.contents l.fn.writer) (g.W.ByteWriter.contents l.writer) l.bytes l.rest;
+  bytes : WritesPrefix (g.W.ByteWriter.contents l.fn.writer) (g.W.ByteWriter.contents l.writer) l.bytes l.rest;
 }
 
 abbrev pub decreases-loop-rest : goal.decreases-loop-rest

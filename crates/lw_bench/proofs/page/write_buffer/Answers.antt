@@ -1,6 +1,6 @@
 use Rattle.lw_bench.proofs.Common.{◌≤◌, [], codes, decimal, length, refl, sym, ap, arith}
 use Rattle.lw_bench.proofs.Common.{get_or_from_slice_get, buffer_of, named}
-use Rattle.lw_bench.proofs.Pages.{told_more, told_all, line_ended, titled}
+use Rattle.lw_bench.proofs.Pages.{AllWritten-step, AllWritten-of_every, line_ended, titled}
 use Rattle.lw_bench.proofs.page.write_buffer.Goals as goal
 
 pub loop-index-init : goal.loop-index-init
@@ -10,13 +10,13 @@ pub loop-index-preserved : goal.loop-index-preserved
 loop-index-preserved g c =
     let entry = c.entry-loc.result in
     let name = sym (get_or_from_slice_get c.args.locs.now entry.0 c.name.result.now [] c.name.ensures) in
-    told_more c.loop-index.invariant entry _ _ c.entry-loc.ensures.entry (ap (λ n. named (λ _. decimal entry.1) 0 n) name)
-    c.in_ok-write_named.ensures
+    AllWritten-step c.loop-index.invariant entry _ _ c.entry-loc.ensures.entry (ap (λ n. named (λ _. decimal entry.1) 0 n) name)
+    c.in_ok-write_assignment.ensures
 
 pub returns : goal.returns
 returns g c =
     let begun = rw c.index.ensures.value at c.in_ok-write.ensures.bytes in
     let whole : length (buffer_of c.args.machine.now.state c.args.cpu) ≤ c.loop-index.index =
     omega (arith, c.loop-index-test.false, c.buffered-index-end.ensures) in
-    line_ended c.push_str.result _ _ _ begun (told_all c.loop-index.invariant whole) (titled c.args.cpu (codes " buffer") _)
-    c.push_str.ensures.bytes
+    line_ended c.push_str.result _ _ _ begun (AllWritten-of_every c.loop-index.invariant whole)
+    (titled c.args.cpu (codes " buffer") _) c.push_str.ensures.bytes

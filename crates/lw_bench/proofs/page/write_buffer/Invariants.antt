@@ -1,7 +1,7 @@
 use Rattle.lw_bench.proofs.Common.{string_bytes, buffer_of, entry_text}
-use Rattle.lw_bench.proofs.Pages.{Told}
+use Rattle.lw_bench.proofs.Pages.{AllWritten}
 use Rattle.lw_bench.proofs.page.write_buffer.Given as goal
 
 abbrev pub invariant-loop-index : goal.invariant-loop-index
 invariant-loop-index g l =
-    Told (entry_text l.locs) (buffer_of l.machine.state l.cpu) (string_bytes l.initial.out) l.index (string_bytes l.out)
+    AllWritten (entry_text l.locs) (buffer_of l.machine.state l.cpu) (string_bytes l.initial.out) l.index (string_bytes l.out)

@@ -1,6 +1,6 @@
 use Rattle.lw_bench.proofs.Common.{◌≤◌, codes, length, slice_get, refl, sym, ap, ◌∙◌, arith, length-take}
 use Rattle.lw_bench.proofs.Common.{is_index, named, letter}
-use Rattle.lw_bench.proofs.Pages.{told_more, told_all, line_ended, titled}
+use Rattle.lw_bench.proofs.Pages.{AllWritten-step, AllWritten-of_every, line_ended, titled}
 use Rattle.lw_bench.proofs.page.write_cache_line.Goals as goal
 
 pub loop-loc-init : goal.loop-loc-init
@@ -10,8 +10,8 @@ pub loop-loc-preserved : goal.loop-loc-preserved
 loop-loc-preserved g c =
     let is = is_index 8 _ c.all.ensures refl c.loop-loc-test.true c.loc-item.is in
     let held = c.state_of.ensures.letter ∙ ap (g.M.MemorySystem.state c.args.memory.now c.args.cpu) is in
-    told_more c.loop-loc.invariant _ _ _ (ap (slice_get c.args.locs.now) (sym is) ∙ c.name.ensures)
-    (ap (λ s. named (λ _. letter s) 0 c.name.result.now) held) c.in_ok-write_held.ensures
+    AllWritten-step c.loop-loc.invariant _ _ _ (ap (slice_get c.args.locs.now) (sym is) ∙ c.name.ensures)
+    (ap (λ s. named (λ _. letter s) 0 c.name.result.now) held) c.in_ok-write_line_state.ensures
 
 pub returns : goal.returns
 returns g c =
@@ -26,7 +26,7 @@ returns g c =
       c.loop-loc-test.false,
     ) in
     line_ended c.push_str.result _ _ _ (rw c.index.ensures.value at c.in_ok-write.ensures.bytes)
-    (told_all c.loop-loc.invariant whole) (titled c.args.cpu (codes " lines") _) c.push_str.ensures.bytes
+    (AllWritten-of_every c.loop-loc.invariant whole) (titled c.args.cpu (codes " lines") _) c.push_str.ensures.bytes
 
 pub name-requires : goal.name-requires
 name-requires g c =

@@ -1,8 +1,8 @@
 use Rattle.lw_bench.proofs.Common.{string_bytes, named, letter}
-use Rattle.lw_bench.proofs.Pages.{Told}
+use Rattle.lw_bench.proofs.Pages.{AllWritten}
 use Rattle.lw_bench.proofs.page.write_cache_line.Given as goal
 
 abbrev pub invariant-loop-loc : goal.invariant-loop-loc
 invariant-loop-loc g l =
-    Told (named (λ x. letter (g.M.MemorySystem.state l.memory l.cpu x))) l.locs (string_bytes l.initial.out) l.loc-index
+    AllWritten (named (λ x. letter (g.M.MemorySystem.state l.memory l.cpu x))) l.locs (string_bytes l.initial.out) l.loc-index
     (string_bytes l.out)

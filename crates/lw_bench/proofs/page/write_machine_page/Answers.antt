@@ -1,4 +1,4 @@
-use Rattle.lw_bench.proofs.Common.{◌∙◌, length, ap, on_ok_weaker, head_of, string_bytes, Final}
+use Rattle.lw_bench.proofs.Common.{◌∙◌, length, ap, on_ok_weaker, head_of, string_bytes, FinalState}
 use Rattle.lw_bench.proofs.Pages.{machine_page_told}
 use Rattle.lw_bench.proofs.page.write_machine_page.Goals as goal
 
@@ -7,7 +7,7 @@ write_processors-requires g c = record {
   few = c.requires.few;
   threads = c.requires.threads;
   words = c.requires.words;
-  regs = c.as_slice.ensures ∙ ap (λ (o : Final). o.regs) (c.state.view_is ∙ c.requires.outcome);
+  regs = c.as_slice.ensures ∙ ap (λ (o : FinalState). o.regs) (c.state.view_is ∙ c.requires.outcome);
 }
 
 pub write_memory-requires : goal.write_memory-requires
@@ -15,7 +15,7 @@ write_memory-requires g c = ap (λ m. length (g.M.MemorySystem.content m)) c.mem
 
 pub write_words-requires : goal.write_words-requires
 write_words-requires g c =
-    ap length (c.as_slice-2.ensures ∙ ap (λ (o : Final). o.words) (c.state.view_is ∙ c.requires.outcome)) ∙ c.requires.words
+    ap length (c.as_slice-2.ensures ∙ ap (λ (o : FinalState). o.words) (c.state.view_is ∙ c.requires.outcome)) ∙ c.requires.words
 
 pub returns : goal.returns
 returns g c =
@@ -30,5 +30,5 @@ returns g c =
       below = c.in_ok-write_memory.ensures;
       last = is;
       is_memory = ap (λ m. g.M.MemorySystem.memory m) c.memory.ensures.memory;
-      is_content = c.as_slice-2.ensures ∙ ap (λ (o : Final). o.words) (c.state.view_is ∙ c.requires.outcome);
+      is_content = c.as_slice-2.ensures ∙ ap (λ (o : FinalState). o.words) (c.state.view_is ∙ c.requires.outcome);
     })) c.write_words.ensures

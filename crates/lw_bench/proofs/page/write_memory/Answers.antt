@@ -1,6 +1,6 @@
 use Rattle.lw_bench.proofs.Common.{◌≤◌, codes, decimal, length, slice_get, slice_index, refl, sym, ap, ◌∙◌}
 use Rattle.lw_bench.proofs.Common.{arith, length-take, is_index, named}
-use Rattle.lw_bench.proofs.Pages.{told_more, told_all, line_ended}
+use Rattle.lw_bench.proofs.Pages.{AllWritten-step, AllWritten-of_every, line_ended}
 use Rattle.lw_bench.proofs.page.write_memory.Goals as goal
 
 pub loop-loc-init : goal.loop-loc-init
@@ -10,8 +10,8 @@ pub loop-loc-preserved : goal.loop-loc-preserved
 loop-loc-preserved g c =
     let is = is_index 8 _ c.all.ensures refl c.loop-loc-test.true c.loc-item.is in
     let word = c.word_in_memory.ensures.word ∙ ap (slice_index (g.M.MemorySystem.memory c.args.memory.now)) is in
-    told_more c.loop-loc.invariant _ _ _ (ap (slice_get c.args.locs.now) (sym is) ∙ c.name.ensures)
-    (ap (λ w. named (λ _. decimal w) 0 c.name.result.now) word) c.in_ok-write_named.ensures
+    AllWritten-step c.loop-loc.invariant _ _ _ (ap (slice_get c.args.locs.now) (sym is) ∙ c.name.ensures)
+    (ap (λ w. named (λ _. decimal w) 0 c.name.result.now) word) c.in_ok-write_assignment.ensures
 
 pub returns : goal.returns
 returns g c =
@@ -25,8 +25,8 @@ returns g c =
       table,
       c.loop-loc-test.false,
     ) in
-    line_ended c.push_str-2.result _ (codes "Memory") _ c.in_ok-push_str.ensures.bytes (told_all c.loop-loc.invariant whole) refl
-    c.push_str-2.ensures.bytes
+    line_ended c.push_str-2.result _ (codes "Memory") _ c.in_ok-push_str.ensures.bytes
+    (AllWritten-of_every c.loop-loc.invariant whole) refl c.push_str-2.ensures.bytes
 
 pub name-requires : goal.name-requires
 name-requires g c =

@@ -1,7 +1,7 @@
 use Rattle.lw_bench.proofs.Common.{List, ℕ, [], length, length-take, map, slice_get, slice_index_or, refl, ap}
 use Rattle.lw_bench.proofs.Common.{◌∙◌, arith, length-map, head_of, most_threads, is_index, Processor}
 use Rattle.lw_bench.proofs.Common.{get_some, processor_lines}
-use Rattle.lw_bench.proofs.Pages.{told_more, told_all}
+use Rattle.lw_bench.proofs.Pages.{AllWritten-step, AllWritten-of_every}
 use Rattle.lw_bench.proofs.page.write_processors.Goals as goal
 
 pub loop-cpu-init : goal.loop-cpu-init
@@ -15,12 +15,12 @@ loop-cpu-preserved g c =
     let here =
     get_some processors k
     (omega (arith, c.requires.threads, c.loop-cpu-test.true, length-take c.args.head.now.threads c.all.result)) in
-    told_more c.loop-cpu.invariant here.0 _ _ here.1
+    AllWritten-step c.loop-cpu.invariant here.0 _ _ here.1
     (ap (λ k. processor_lines (head_of c.args.head.now) (g.M.MemorySystem.state c.args.machine.now.state.memory) k here.0) is)
     (c.in_ok-write_processor.ensures here.0 (ap (slice_get processors) is ∙ here.1))
 
 pub returns : goal.returns
-returns g c = told_all c.loop-cpu.invariant (omega (
+returns g c = AllWritten-of_every c.loop-cpu.invariant (omega (
   arith,
   length-take c.args.head.now.threads c.all.result,
   ap length c.all.ensures,

@@ -1,4 +1,4 @@
-use Rattle.lw_bench.proofs.Common.{◌∙◌, length, ap, on_ok_weaker, head_of, string_bytes, Final}
+use Rattle.lw_bench.proofs.Common.{◌∙◌, length, ap, on_ok_weaker, head_of, string_bytes, FinalState}
 use Rattle.lw_bench.proofs.Pages.{source_page_told}
 use Rattle.lw_bench.proofs.page.write_source_page.Goals as goal
 
@@ -6,12 +6,12 @@ pub write_threads-requires : goal.write_threads-requires
 write_threads-requires g c = record {
   few = c.requires.few;
   threads = c.requires.threads;
-  regs = c.as_slice.ensures ∙ ap (λ (o : Final). o.regs) (c.state.view_is ∙ c.requires.outcome);
+  regs = c.as_slice.ensures ∙ ap (λ (o : FinalState). o.regs) (c.state.view_is ∙ c.requires.outcome);
 }
 
 pub write_words-requires : goal.write_words-requires
 write_words-requires g c =
-    ap length (c.as_slice-2.ensures ∙ ap (λ (o : Final). o.words) (c.state.view_is ∙ c.requires.outcome)) ∙ c.requires.words
+    ap length (c.as_slice-2.ensures ∙ ap (λ (o : FinalState). o.words) (c.state.view_is ∙ c.requires.outcome)) ∙ c.requires.words
 
 pub returns : goal.returns
 returns g c =
@@ -22,5 +22,5 @@ returns g c =
       begun = c.in_ok-write_first_lines.ensures;
       threads = c.in_ok-write_threads.ensures;
       memory = is;
-      is_memory = c.as_slice-2.ensures ∙ ap (λ (o : Final). o.words) (c.state.view_is ∙ c.requires.outcome);
+      is_memory = c.as_slice-2.ensures ∙ ap (λ (o : FinalState). o.words) (c.state.view_is ∙ c.requires.outcome);
     })) c.write_words.ensures

@@ -1,7 +1,7 @@
 use Rattle.lw_bench.proofs.Common.{string_bytes, named, word_at, register_names}
-use Rattle.lw_bench.proofs.Pages.{Told}
+use Rattle.lw_bench.proofs.Pages.{AllWritten}
 use Rattle.lw_bench.proofs.page.write_thread.Given as goal
 
 abbrev pub invariant-loop-reg : goal.invariant-loop-reg
 invariant-loop-reg g l =
-    Told (named (word_at l.regs)) (register_names l.arch) (string_bytes l.initial.out) l.reg-index (string_bytes l.out)
+    AllWritten (named (word_at l.regs)) (register_names l.arch) (string_bytes l.initial.out) l.reg-index (string_bytes l.out)

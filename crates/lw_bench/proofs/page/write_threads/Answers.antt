@@ -1,7 +1,7 @@
 use Rattle.lw_bench.proofs.Common.{[], length, length-take, map, slice_get, slice_index_or, refl, sym, ap}
 use Rattle.lw_bench.proofs.Common.{ap₂, ◌∙◌, arith, option_map, slice_get-map, get_or_from_slice_get}
 use Rattle.lw_bench.proofs.Common.{length-map, Thread, most_threads, is_index, get_some, thread_line}
-use Rattle.lw_bench.proofs.Pages.{told_more, told_all, told_of}
+use Rattle.lw_bench.proofs.Pages.{AllWritten-step, AllWritten-of_every, told_of}
 use Rattle.lw_bench.proofs.page.write_threads.Goals as goal
 
 pub loop-cpu-init : goal.loop-cpu-init
@@ -28,10 +28,10 @@ loop-cpu-preserved g c =
     let line =
     ap (λ t. thread_line c.args.head.now.arch t c.position.result (slice_index_or c.args.regs.now c.index.result [])) is
     ∙ ap₂ (thread_line c.args.head.now.arch k) position regs in
-    told_more c.loop-cpu.invariant here.0 _ _ here.1 line c.in_ok-write_thread.ensures
+    AllWritten-step c.loop-cpu.invariant here.0 _ _ here.1 line c.in_ok-write_thread.ensures
 
 pub returns : goal.returns
-returns g c = told_all c.loop-cpu.invariant (omega (
+returns g c = AllWritten-of_every c.loop-cpu.invariant (omega (
   arith,
   length-take c.args.head.now.threads c.all.result,
   ap length c.all.ensures,

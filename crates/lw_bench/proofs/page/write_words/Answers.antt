@@ -1,6 +1,6 @@
 use Rattle.lw_bench.proofs.Common.{◌≤◌, decimal, length, slice_get, slice_index, refl, sym, ap, ◌∙◌, arith}
 use Rattle.lw_bench.proofs.Common.{length-take, is_index, named}
-use Rattle.lw_bench.proofs.Pages.{told_more, told_all, line_ended}
+use Rattle.lw_bench.proofs.Pages.{AllWritten-step, AllWritten-of_every, line_ended}
 use Rattle.lw_bench.proofs.page.write_words.Goals as goal
 
 pub loop-loc-init : goal.loop-loc-init
@@ -9,9 +9,9 @@ loop-loc-init g c = record { left = refl }
 pub loop-loc-preserved : goal.loop-loc-preserved
 loop-loc-preserved g c =
     let is = is_index 8 _ c.all.ensures refl c.loop-loc-test.true c.loc-item.is in
-    told_more c.loop-loc.invariant c.name.result.now _ _ (ap (slice_get c.args.locs.now) (sym is) ∙ c.name.ensures)
+    AllWritten-step c.loop-loc.invariant c.name.result.now _ _ (ap (slice_get c.args.locs.now) (sym is) ∙ c.name.ensures)
     (ap (λ k. named (λ _. decimal (slice_index c.args.words.now k)) 0 c.name.result.now) (c.index.ensures.value ∙ is))
-    c.in_ok-write_named.ensures
+    c.in_ok-write_assignment.ensures
 
 pub returns : goal.returns
 returns g c =
@@ -25,8 +25,8 @@ returns g c =
       table,
       c.loop-loc-test.false,
     ) in
-    line_ended c.push_str-2.result _ c.args.title.now _ c.in_ok-push_str.ensures.bytes (told_all c.loop-loc.invariant whole) refl
-    c.push_str-2.ensures.bytes
+    line_ended c.push_str-2.result _ c.args.title.now _ c.in_ok-push_str.ensures.bytes
+    (AllWritten-of_every c.loop-loc.invariant whole) refl c.push_str-2.ensures.bytes
 
 pub name-requires : goal.name-requires
 name-requires g c =

@@ -1,6 +1,6 @@
 use Rattle.lw_bench.proofs.Common.{string_bytes, named, word_at}
-use Rattle.lw_bench.proofs.Pages.{Told}
+use Rattle.lw_bench.proofs.Pages.{AllWritten}
 use Rattle.lw_bench.proofs.page.write_words.Given as goal
 
 abbrev pub invariant-loop-loc : goal.invariant-loop-loc
-invariant-loop-loc g l = Told (named (word_at l.words)) l.locs (string_bytes l.initial.out) l.loc-index (string_bytes l.out)
+invariant-loop-loc g l = AllWritten (named (word_at l.words)) l.locs (string_bytes l.initial.out) l.loc-index (string_bytes l.out)

@@ -1,21 +1,22 @@
-use Rattle.lw_bench.proofs.Common.{◌≡◌, ◌⊎◌, inl, inr, ap, refl, IfOk-weaker, IfErr-weaker, passed_on}
-use Rattle.lw_bench.proofs.Common.{TestHead, litmus_test_of, IsReplayPage, TellsReplay, Memory}
+use Rattle.lw_bench.proofs.Common.{◌≡◌, ◌⊎◌, inl, inr, ap, refl, IfOk-weaker, IfErr-weaker}
+use Rattle.lw_bench.proofs.Common.{Err-clause_propagated, TestHead, litmus_test_of, IsReplayPage}
+use Rattle.lw_bench.proofs.Common.{ReplayFaultIsTrue, Memory}
 use Rattle.lw_bench.proofs.Replays.{page_told}
-use Rattle.lw_bench.proofs.Told.{schedule_is_told, schedule_no_device, memory_is_no_device}
+use Rattle.lw_bench.proofs.FaultTruths.{schedule_is_told, schedule_no_device, memory_is_no_device}
 use Rattle.lw_bench.proofs.replay.page_of.Goals as goal
 
 pub returns-in_err-events-clause-told : goal.returns-in_err-events-clause-told
 returns-in_err-events-clause-told g c =
     let test = litmus_test_of c.args.test.now in
     let table = ap (λ (h : TestHead). h.locs) c.head.ensures.head in
-    passed_on _ _ c.from_residual.ensures.1
-    (schedule_is_told (λ f. (f ≡ Memory) ⊎ TellsReplay c.args.schedule.now test f) (inl refl) _ (λ known. inr (record {
+    Err-clause_propagated _ _ c.from_residual.ensures.1
+    (schedule_is_told (λ f. (f ≡ Memory) ⊎ ReplayFaultIsTrue c.args.schedule.now test f) (inl refl) _ (λ known. inr (record {
       none = λ events is. c.in_err-events.ensures.fault known events (rw table is);
       first = rw table at (c.in_err-events.ensures.first known);
     })))
 
 pub returns-in_err-events-clause-device : goal.returns-in_err-events-clause-device
-returns-in_err-events-clause-device g c = passed_on _ _ c.from_residual.ensures.1 (schedule_no_device _)
+returns-in_err-events-clause-device g c = Err-clause_propagated _ _ c.from_residual.ensures.1 (schedule_no_device _)
 
 pub returns-clause-found : goal.returns-clause-found
 returns-clause-found g c =

@@ -1,6 +1,4 @@
-use Rattle.lw_bench.proofs.Common.{IfOk, inr, sym, subst}
-use Rattle.std.specs.Result.{IfErr}
-use Rattle.lw_bench.specs.Endings.{EndsTask, Reports}
+use Rattle.lw_bench.proofs.Common.{IfOk, inr, sym, subst, IfErr, EndsTask, Reports}
 use Rattle.lw_bench.proofs.whole_command.run_command.Goals as goal
 
 pub returns-in-Ok-clause-ended : goal.returns-in-Ok-clause-ended

@@ -1,4 +1,4 @@
-use Rattle.lw_fence.proofs.Common.{source_of, start_of, schedule}
+use Rattle.lw_fence.proofs.Common.{source_of, initial_state, compiled_schedule}
 use Rattle.lw_fence.proofs.Endings.{compiled_ends}
 use Rattle.lw_fence.proofs.MachineToSource.{machine_to_source}
 use Rattle.lw_fence.proofs.Programs.{compiled_of, is_program}
@@ -23,7 +23,10 @@ returns g c =
       compiled = compiled;
       outcomes = λ o. (
         machine_to_source source _ codes.starts o ok compiled,
-        λ run. (schedule source.threads codes.starts run.0 (start_of source), schedule_replays _ run.0 o ok compiled run.1),
+        λ run. (
+          compiled_schedule source.threads codes.starts run.0 (initial_state source),
+          schedule_replays _ run.0 o ok compiled run.1,
+        ),
       );
       ends = compiled_ends source _ codes.starts ok compiled;
     }

@@ -1,18 +1,18 @@
-use Rattle.lw_fence.proofs.Common.{◌∙◌, ap, arith, get_or, length, refl, subst, sym, slice_get_read, source}
-use Rattle.lw_fence.proofs.Common.{IsThread}
+use Rattle.lw_fence.proofs.Common.{◌∙◌, ap, arith, get_or, length, refl, subst, sym, slice_get_read}
+use Rattle.lw_fence.proofs.Common.{source_language, IsWellFormedThread}
 use Rattle.lw_fence.proofs.CompiledThreads.{none_compiled, one_compiled}
 use Rattle.lw_fence.proofs.compiler.compile_threads.Given as given
 use Rattle.lw_fence.proofs.compiler.compile_threads.Goals as goal
 
 -- the thread of this turn is well-formed
 thread_known : (g : given.Over) (c : goal.After-as_slice g)
-    → IsThread source (length c.args.source.now.head.locs) c.as_slice.result.now
+    → IsWellFormedThread source_language (length c.args.source.now.head.locs) c.as_slice.result.now
 thread_known g c =
     let stmts = c.stmts-item.result in
     let k = c.loop-stmts.stmts-index in
     let all = c.as_slice-stmts-items.ensures in
     let is = c.as_slice.ensures ∙ (c.stmts-item.is ∙ ap (λ codes. get_or codes k stmts) all) in
-    subst (IsThread source (length c.args.source.now.head.locs)) (sym is)
+    subst (IsWellFormedThread source_language (length c.args.source.now.head.locs)) (sym is)
     (c.args.source.now.well_formed.code k stmts (omega (arith, c.loop-stmts-test.true, ap length all)))
 
 pub loop-stmts-init : goal.loop-stmts-init

@@ -16,7 +16,7 @@ loop-index-preserved g c =
     (omega (arith, c.in_ok-marks.ensures.as_many, c.loop-index-test.true)) c.index.ensures in
     let mark = sym (get_or_from_slice_get marks c.loop-index.index c.index.result.now false there) in
     found_more c.args.code.now marks _ _ _ c.loop-index.invariant at
-    (c.is_load_behind.ensures ∙ ap₂ (λ o b. is_load o && b) c.operation-operation.ensures mark) c.in_ok-push.ensures.items
+    (c.needs_fence.ensures ∙ ap₂ (λ o b. is_load o && b) c.operation-operation.ensures mark) c.in_ok-push.ensures.items
 
 pub returns-clause-needed : goal.returns-clause-needed
 returns-clause-needed g c =

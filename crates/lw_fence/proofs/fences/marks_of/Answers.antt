@@ -1,5 +1,5 @@
 use Rattle.lw_fence.proofs.Common.{◌+◌, ℕ, ap, arith, length, refl, sym, ◌∙◌, subst, slice_get_read}
-use Rattle.lw_fence.proofs.Common.{target_of, common_steps}
+use Rattle.lw_fence.proofs.Common.{branch_target, common_steps}
 use Rattle.lw_fence.proofs.Marks.{Marked, mark_step, marked_behind_stores, given_back}
 use Rattle.lw_fence.proofs.fences.marks_of.Goals as goal
 
@@ -10,8 +10,8 @@ loop-index-preserved g c =
     let stmt = c.index-code-index.result in
     let at = slice_get_read _ _ c.loop-index.index stmt refl c.loop-index-test.true c.index-code-index.is in
     let next = mark_step code c.requires.forward c.loop-index.index stmt _ _ at refl c.loop-index.invariant in
-    let new : Marked code (c.loop-index.index + 1) c.pass_operation.new.marks =
-    rw (c.pass_operation.ensures, c.operation.ensures, c.deref_mut.ensures.value) next in
+    let new : Marked code (c.loop-index.index + 1) c.propagate_marks.new.marks =
+    rw (c.propagate_marks.ensures, c.operation.ensures, c.deref_mut.ensures.value) next in
     let back = given_back marks _ _ _ (omega arith) (new.as_many ∙ sym c.loop-index.invariant.as_many) in
     subst (Marked code (c.loop-index.index + 1)) (sym back) new
 
@@ -29,8 +29,8 @@ overflow_add-code g c = omega (arith, c.requires.short)
 pub bounds-code-index : goal.bounds-code-index
 bounds-code-index g c = c.loop-index-test.true
 
-pub pass_operation-requires : goal.pass_operation-requires
-pass_operation-requires g c =
+pub propagate_marks-requires : goal.propagate_marks-requires
+propagate_marks-requires g c =
     let at = slice_get_read c.args.code.now _ _ _ refl c.loop-index-test.true c.index-code-index.is in
     let many = ap length c.deref_mut.ensures.value in
     record {
@@ -39,7 +39,7 @@ pass_operation-requires g c =
         arith,
         many,
         c.loop-index.invariant.as_many,
-        c.requires.forward c.loop-index.index c.index-code-index.result at x (ap target_of (sym c.operation.ensures) ∙ is),
+        c.requires.forward c.loop-index.index c.index-code-index.result at x (ap branch_target (sym c.operation.ensures) ∙ is),
       );
     }
 

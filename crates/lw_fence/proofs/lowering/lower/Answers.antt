@@ -1,5 +1,5 @@
 use Rattle.lw_fence.proofs.Common.{ap, ◌++◌, ◌∙◌, instrs_of}
-use Rattle.lw_fence.proofs.Placed.{lowered_code_on}
+use Rattle.lw_fence.proofs.CodeLayout.{lowered_code_on}
 use Rattle.lw_fence.proofs.lowering.lower.Goals as goal
 
 pub loop-index-preserved : goal.loop-index-preserved

@@ -1,6 +1,7 @@
 use Rattle.lw_fence.proofs.Common.{◌≡◌, ◌+◌, ◌++◌, ◌∙◌, ℕ, List, map, drop, ap, ap₂, sym, subst, append-nil}
-use Rattle.lw_fence.proofs.Common.{drop_all, slice_get_within, Event, Step, flat, Stmt, State, SourceRan}
-use Rattle.lw_fence.proofs.Common.{source_step, program_of, possible, Replays, schedule}
+use Rattle.lw_fence.proofs.Common.{drop_all, slice_get_within, Event, Step, flat_memory, Stmt, State}
+use Rattle.lw_fence.proofs.Common.{SourceRunsTo, source_step, program_of, possible, ReplaysTo}
+use Rattle.lw_fence.proofs.Common.{compiled_schedule}
 use Rattle.lw_fence.proofs.Scheduling.{answered_ok, next_turn, placed_in, one_further}
 use Rattle.lw_fence.proofs.SourceToMachine.{schedule_replays}
 use Rattle.lw_fence.proofs.schedule.schedule_of.Goals as goal
@@ -26,7 +27,7 @@ loop-cpu-preserved g c =
       program = c.step.ensures.program ∙ program;
       possible =
           let rest = map Step (drop (c.loop-cpu.cpu-index + 1) c.args.order.now) in
-          subst (λ s. (end : State) × SourceRan c.args.source.now.threads rest s end) same turn.more;
+          subst (λ s. (end : State) × SourceRunsTo c.args.source.now.threads rest s end) same turn.more;
       so_far =
           one_further _ _ _ _ c.loop-cpu-test.true c.cpu-item.is _ _ _ _ _ c.position-index.ensures step
           c.in_ok-push_next.ensures.ok c.loop-cpu.invariant.so_far;
@@ -36,12 +37,12 @@ pub loop-cpu-init : goal.loop-cpu-init
 loop-cpu-init g c =
     let program = c.args.source.now.threads in
     let order = c.args.order.now in
-    let begun = λ (s : State). (end : State) × SourceRan program (map Step order) s end in
+    let begun = λ (s : State). (end : State) × SourceRunsTo program (map Step order) s end in
     record {
       program = c.in_ok-run.ensures.program;
       possible = subst begun (sym c.in_ok-run.ensures.state) c.requires.possible;
       so_far =
-          ap₂ (λ (es : List Event) (s : State). es ++ schedule program c.args.compiled.now.starts order s)
+          ap₂ (λ (es : List Event) (s : State). es ++ compiled_schedule program c.args.compiled.now.starts order s)
           c.new-events.ensures.items c.in_ok-run.ensures.state;
     }
 
@@ -51,7 +52,8 @@ bounds-order-cpu-index g c = c.loop-cpu-test.true
 pub returns-clause-schedule : goal.returns-clause-schedule
 returns-clause-schedule g c =
     let events = c.loop-cpu.events.items in
-    let rest = λ (order : List ℕ). schedule c.args.source.now.threads c.args.compiled.now.starts order c.loop-cpu.run.state in
+    let rest =
+    λ (order : List ℕ). compiled_schedule c.args.source.now.threads c.args.compiled.now.starts order c.loop-cpu.run.state in
     sym (append-nil events)
     ∙ ap (λ (order : List ℕ). events ++ rest order) (sym (drop_all _ c.args.order.now c.loop-cpu-test.false))
     ∙ c.loop-cpu.invariant.so_far
@@ -61,10 +63,11 @@ returns-clause-replays g c = λ o runs.
     let events = c.loop-cpu.events.items in
     let program = program_of c.args.compiled.now.program in
     let none = drop_all c.loop-cpu.cpu-index c.args.order.now c.loop-cpu-test.false in
-    let rest = λ (order : List ℕ). schedule c.args.source.now.threads c.args.compiled.now.starts order c.loop-cpu.run.state in
+    let rest =
+    λ (order : List ℕ). compiled_schedule c.args.source.now.threads c.args.compiled.now.starts order c.loop-cpu.run.state in
     let all = sym (append-nil events) ∙ ap (λ (order : List ℕ). events ++ rest order) (sym none) ∙ c.loop-cpu.invariant.so_far in
     let replays = schedule_replays program _ o c.args.source.now.well_formed c.requires.compiled runs in
-    subst (λ (es : List Event). Replays flat program program.head.init_words es o) (sym all) replays
+    subst (λ (es : List Event). ReplaysTo flat_memory program program.head.init_words es o) (sym all) replays
 
 pub unwrap-requires : goal.unwrap-requires
 unwrap-requires g c =

@@ -1,5 +1,5 @@
 use Rattle.lw_fence.proofs.Common.{ap, ap₂, arith, length, sym, ◌++◌, ◌∙◌, drop_all, instrs_of, starts_from}
-use Rattle.lw_fence.proofs.Placed.{starts_on}
+use Rattle.lw_fence.proofs.CodeLayout.{starts_on}
 use Rattle.lw_fence.proofs.starts.starts_of.Goals as goal
 
 pub loop-index-preserved : goal.loop-index-preserved

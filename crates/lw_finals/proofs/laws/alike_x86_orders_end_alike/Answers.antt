@@ -1,4 +1,4 @@
-use Rattle.lw_finals.proofs.X86Alike.{x86_orders_end_alike}
+use Rattle.lw_finals.proofs.X86TraceEquivalence.{x86_orders_end_alike}
 use Rattle.lw_finals.proofs.laws.alike_x86_orders_end_alike.Goals as goal
 
 pub returns : goal.returns

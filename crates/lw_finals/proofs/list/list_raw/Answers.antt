@@ -1,5 +1,5 @@
-use Rattle.lw_finals.proofs.Common.{arith, IfOk, IfOk-weaker, IsComplete, MachineOutcome, flat, program_of}
-use Rattle.lw_finals.proofs.Common.{visitable}
+use Rattle.lw_finals.proofs.Common.{arith, IfOk, IfOk-weaker, IsComplete, IsMachineOutcome, flat_memory}
+use Rattle.lw_finals.proofs.Common.{program_of, visitable}
 use Rattle.lw_finals.proofs.X86List.{program_listed}
 use Rattle.lw_finals.proofs.list.list_raw.Given.{Over}
 use Rattle.lw_finals.proofs.list.list_raw.Goals.{After-drop-runner-inside-4}
@@ -8,7 +8,7 @@ use Rattle.lw_finals.proofs.list.list_raw.Goals as goal
 -- the list is complete, where there is one
 whole : (g : Over) (c : After-drop-runner-inside-4 g)
     → let program = program_of c.args.program.now in
-    IfOk c.list_program.result (IsComplete (MachineOutcome flat program program.head.init_words) program)
+    IfOk c.list_program.result (IsComplete (IsMachineOutcome flat_memory program program.head.init_words) program)
 whole g c =
     let program = c.args.program.now in
     program_listed (program_of program) program.well_formed c.lists_are_complete.ensures.complete

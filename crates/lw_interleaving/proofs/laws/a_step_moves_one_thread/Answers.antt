@@ -1,4 +1,4 @@
-use Rattle.lw_interleaving.proofs.api.Exchange.{others_placed}
+use Rattle.lw_interleaving.proofs.api.Commutation.{others_placed}
 use Rattle.lw_interleaving.proofs.laws.a_step_moves_one_thread.Goals as goal
 
 pub returns : goal.returns

@@ -1,4 +1,4 @@
-use Rattle.lw_interleaving.proofs.api.Exchange.{exchange}
+use Rattle.lw_interleaving.proofs.api.Commutation.{exchange}
 use Rattle.lw_interleaving.proofs.laws.steps_can_be_exchanged.Goals as goal
 
 pub returns : goal.returns

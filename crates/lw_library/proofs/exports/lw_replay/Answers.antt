@@ -2,12 +2,12 @@
 use Rattle.std.proofs.Common.{subst}
 use Rattle.lw_base.specs.Types.{Bytes}
 use Rattle.lw_mesi.specs.declared.protocol.Protocol.{Protocol}
-use Rattle.lw_bench.specs.Told.{TellsReplay}
-use Rattle.lw_library.specs.Told.{IsReplayed, IsTold}
+use Rattle.lw_bench.specs.FaultTruth.{ReplayFaultIsTrue}
+use Rattle.lw_library.specs.CallResults.{IsReplayed, IsCallResult}
 use Rattle.lw_library.proofs.exports.lw_replay.Goals as goal
 
 pub returns-in-Ok-clause-told : goal.returns-in-Ok-clause-told
 returns-in-Ok-clause-told c = λ utf8.
     subst (λ (w : Bytes × Protocol).
-    IsTold (IsReplayed w.0 w.1) (TellsReplay w.0) c.args.text.now c.run.result c.args.room.now c.run.new.room)
+    IsCallResult (IsReplayed w.0 w.1) (ReplayFaultIsTrue w.0) c.args.text.now c.run.result c.args.room.now c.run.new.room)
     (λ i. (c.in-Ok.ensures.cases.0 i, c.protocol_of-protocol.ensures i)) c.run.ensures.told

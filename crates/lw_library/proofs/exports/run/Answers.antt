@@ -1,20 +1,21 @@
 -- What is told is what `answer` made, or the fault that it tells.
 use Rattle.std.proofs.Common.{ℕ, sym, subst, ◌∙◌}
 use Rattle.lw_base.specs.Types.{Bytes}
-use Rattle.lw_bench.specs.Tasks.{IsDone, TellsTask}
-use Rattle.lw_library.specs.Told.{IsAnswer}
+use Rattle.lw_bench.specs.Tasks.{IsTaskOutput, TaskFaultIsTrue}
+use Rattle.lw_library.specs.CallResults.{IsAnswer}
 use Rattle.lw_library.proofs.Calls.{answered, refused}
 use Rattle.lw_library.proofs.exports.run.Goals as goal
 
 pub returns-in-Ok-clause-told : goal.returns-in-Ok-clause-told
 returns-in-Ok-clause-told c =
     let bytes_are = sym (c.as_bytes.ensures.value ∙ c.as_str.ensures) in
-    let status_is = sym c.tell.ensures.status in
-    answered (IsDone c.args.task) (TellsTask c.args.task) c.args.text.now c.tell.result _ _ c.as_bytes.result.now
-    (subst (λ (w : ℕ × Bytes). IsAnswer (IsDone c.args.task) (TellsTask c.args.task) c.args.text.now w.0 w.1)
-    (λ i. (status_is i, bytes_are i)) c.in-Ok.ensures.made) c.tell.ensures.bytes
+    let status_is = sym c.write_result.ensures.status in
+    answered (IsTaskOutput c.args.task) (TaskFaultIsTrue c.args.task) c.args.text.now c.write_result.result _ _
+    c.as_bytes.result.now
+    (subst (λ (w : ℕ × Bytes). IsAnswer (IsTaskOutput c.args.task) (TaskFaultIsTrue c.args.task) c.args.text.now w.0 w.1)
+    (λ i. (status_is i, bytes_are i)) c.in-Ok.ensures.made) c.write_result.ensures.bytes
 
 pub returns-in-Err-clause-told : goal.returns-in-Err-clause-told
 returns-in-Err-clause-told c =
-    refused (IsDone c.args.task) (TellsTask c.args.task) c.args.text.now c.refuse.result _ _ c.in-Err.fault c.in-Err.ensures.told
-    c.in-Err.ensures.device c.refuse.ensures
+    refused (IsTaskOutput c.args.task) (TaskFaultIsTrue c.args.task) c.args.text.now c.write_fault.result _ _ c.in-Err.fault
+    c.in-Err.ensures.told c.in-Err.ensures.device c.write_fault.ensures

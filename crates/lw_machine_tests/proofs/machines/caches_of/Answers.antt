@@ -1,9 +1,9 @@
 use Rattle.std.proofs.Common.{map, ap, ◌∙◌}
-use Rattle.lw_mesi.specs.CacheLines.{content_of}
+use Rattle.lw_mesi.specs.CacheLines.{coherent_word}
 use Rattle.lw_machine_tests.proofs.machines.caches_of.Goals as goal
 
 pub returns-in-Ok-clause-words : goal.returns-in-Ok-clause-words
 returns-in-Ok-clause-words g c =
-    ap (map content_of) c.in-Ok.ensures.cache_lines
+    ap (map coherent_word) c.in-Ok.ensures.cache_lines
     ∙ c.empty_caches_are_kept.ensures.content 0 c.as_slice.result.now
     ∙ c.as_slice.ensures

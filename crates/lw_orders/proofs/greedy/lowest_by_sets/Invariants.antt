@@ -1,4 +1,4 @@
-use Rattle.lw_orders.proofs.Common.{most_items, ℕ, ◌≡◌, ◌<◌, ◌^◌, List, length, IsDrawn}
+use Rattle.lw_orders.proofs.Common.{most_items, ℕ, ◌≡◌, ◌<◌, ◌^◌, List, length, AreGraphTables}
 use Rattle.lw_orders.proofs.LowestBySets.{Searching}
 use Rattle.lw_orders.proofs.greedy.lowest_by_sets.Given as goal
 
@@ -8,7 +8,7 @@ invariant-loop-turn g l = record {
   fits : g.S.ItemBits.number l.left < 2 ^ most_items;
   searching :
       (pairs : List (ℕ × ℕ))
-      → IsDrawn l.len pairs l.predecessors l.reach l.neighbours
+      → AreGraphTables l.len pairs l.predecessors l.reach l.neighbours
       → Searching pairs l.len l.predecessors l.reach l.items (g.S.ItemBits.number l.left) (g.S.ItemBits.number l.candidates)
       l.turn;
 }

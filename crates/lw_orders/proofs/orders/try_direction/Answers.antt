@@ -1,15 +1,15 @@
 use Rattle.lw_orders.proofs.Common.{◌≡◌, ℕ, List, ◌+◌, ◌<◌, ◌≤◌, Bool, true, false, ◌⊎◌, inl, inr, Option}
 use Rattle.lw_orders.proofs.Common.{length, get_or, set, take, ap, sym, ◌∙◌, subst, refl, arith}
-use Rattle.lw_orders.proofs.Common.{get_or-set_same, length-set, take-set, get_or_past, has, reach, Chosen}
-use Rattle.lw_orders.proofs.Common.{TriedAs, Tried, pair_at}
+use Rattle.lw_orders.proofs.Common.{get_or-set_same, length-set, take-set, get_or_past, has, reach}
+use Rattle.lw_orders.proofs.Common.{SearchState, TriedAs, TriesOrientation, pair_at}
 use Rattle.lw_orders.proofs.orders.try_direction.Goals.{then-level-undecided, else-level-undecided}
 use Rattle.lw_orders.proofs.orders.try_direction.Goals as goal
 
-tried_from : (len level : ℕ) (undecided : List (ℕ × ℕ)) (old new : Chosen) (found : Option ℕ) (q : ℕ × ℕ) (b : Bool)
+tried_from : (len level : ℕ) (undecided : List (ℕ × ℕ)) (old new : SearchState) (found : Option ℕ) (q : ℕ × ℕ) (b : Bool)
     → q ≡ pair_at undecided old.ways level
     → reach old.saved level q.1 q.0 ≡ b
     → TriedAs b len q level old new found
-    → Tried len undecided level old new found
+    → TriesOrientation len undecided level old new found
 tried_from len level undecided old new found q b e f h =
     subst (λ (p : ℕ × ℕ). TriedAs (reach old.saved level p.1 p.0) len p level old new found) e
     (subst (λ (c : Bool). TriedAs c len q level old new found) (sym f) h)
@@ -27,9 +27,9 @@ put_back ways now k (inr (l, e)) = (ap length e, ap (take k) e, ap (λ ws. get_o
 
 pub returns-then-contains : goal.returns-then-contains
 returns-then-contains c =
-    tried_from c.args.len c.args.level c.args.undecided.now _ _ _ c.turn-pair.result true c.turn-pair.ensures
-    (sym (c.contains.ensures ∙ ap (λ set. has set c.turn-pair.result.0) c.set_of.ensures) ∙ c.if-contains.true)
-    (c.turn_last.ensures, refl, refl)
+    tried_from c.args.len c.args.level c.args.undecided.now _ _ _ c.reverse_if-pair.result true c.reverse_if-pair.ensures
+    (sym (c.contains.ensures ∙ ap (λ set. has set c.reverse_if-pair.result.0) c.set_of.ensures) ∙ c.if-contains.true)
+    (c.reverse_last.ensures, refl, refl)
 
 pub returns : goal.returns
 returns c =
@@ -37,8 +37,8 @@ returns c =
       | then-level-undecided w ↦ inl (omega (arith, w.if-level-undecided.true, c.requires.ways), w.ways-is)
       | else-level-undecided w ↦ inr (omega (arith, w.if-level-undecided.false, c.requires.ways), w.ways-is)
     ]) in
-    tried_from c.args.len c.args.level c.args.undecided.now _ _ _ c.turn-pair.result false c.turn-pair.ensures
-    (sym (c.contains.ensures ∙ ap (λ set. has set c.turn-pair.result.0) c.set_of.ensures) ∙ c.if-contains.false) (
+    tried_from c.args.len c.args.level c.args.undecided.now _ _ _ c.reverse_if-pair.result false c.reverse_if-pair.ensures
+    (sym (c.contains.ensures ∙ ap (λ set. has set c.reverse_if-pair.result.0) c.set_of.ensures) ∙ c.if-contains.false) (
       record {
         chosen = refl;
         saved = c.reach_next.ensures.others;

@@ -1,34 +1,36 @@
-use Rattle.lw_orders.proofs.Common.{◌≡◌, ◌^◌, ◌||◌, not, arith, ap, sym, ◌∙◌, has, apart, leads_by}
+use Rattle.lw_orders.proofs.Common.{◌≡◌, ◌^◌, ◌||◌, not, arith, ap, sym, ◌∙◌, has, are_disjoint, reaches_in}
 use Rattle.lw_orders.proofs.Common.{common_steps}
 use Rattle.lw_orders.proofs.Bits.{has-bit}
 use Rattle.lw_orders.proofs.WalkSets.{joined_set, kept_set}
 use Rattle.lw_orders.proofs.reach.reach_more.Given.{Over}
-use Rattle.lw_orders.proofs.reach.reach_more.Goals.{After-is_apart, then-not-is_apart, else-not-is_apart}
+use Rattle.lw_orders.proofs.reach.reach_more.Goals.{After-is_disjoint, then-not-is_disjoint}
+use Rattle.lw_orders.proofs.reach.reach_more.Goals.{else-not-is_disjoint}
 use Rattle.lw_orders.proofs.reach.reach_more.Goals as goal
 
 -- the set of an item is apart from the pair's first where that isn't reached from the item
-leads : (g : Over) (c : After-is_apart g) → not c.is_apart.result ≡ leads_by c.args.sets.now c.loop-item.item c.args.from
+leads : (g : Over) (c : After-is_disjoint g) → not c.is_disjoint.result ≡ reaches_in c.args.sets.now c.loop-item.item c.args.from
 leads g c =
     ap not
-    (c.is_apart.ensures
-    ∙ (ap (apart c.set_of-in-loop-item.result) c.only-first.ensures
-    ∙ ap (λ set_of. apart set_of (2 ^ c.args.from)) c.set_of-in-loop-item.ensures))
+    (c.is_disjoint.ensures
+    ∙ (ap (are_disjoint c.set_of-in-loop-item.result) c.only-first.ensures
+    ∙ ap (λ set_of. are_disjoint set_of (2 ^ c.args.from)) c.set_of-in-loop-item.ensures))
     ∙ has-bit _ c.args.from
 
 pub loop-item-preserved : goal.loop-item-preserved
 loop-item-preserved g c =
-    let d = (goal.at.loop-item-preserved g c).After-is_apart in
-    elim c.if-not-is_apart.branch [
-      | then-not-is_apart w ↦
+    let d = (goal.at.loop-item-preserved g c).After-is_disjoint in
+    elim c.if-not-is_disjoint.branch [
+      | then-not-is_disjoint w ↦
           rw w.more-is
           (joined_set c.requires.few c.loop-item-test.true c.loop-item.invariant w.union.result (λ j l.
           w.union.ensures j l
-          ∙ (ap (λ set_of. has set_of j || has c.set_of-behind.result j) w.set_of-then-not-is_apart.ensures
-          ∙ ap (λ set_of. leads_by c.args.sets.now c.loop-item.item j || has set_of j) c.set_of-behind.ensures))
-          (sym (leads g d) ∙ ap not w.if-not-is_apart.true))
-      | else-not-is_apart w ↦
+          ∙ (ap (λ set_of. has set_of j || has c.set_of-reached_from_to.result j) w.set_of-then-not-is_disjoint.ensures
+          ∙ ap (λ set_of. reaches_in c.args.sets.now c.loop-item.item j || has set_of j) c.set_of-reached_from_to.ensures))
+          (sym (leads g d) ∙ ap not w.if-not-is_disjoint.true))
+      | else-not-is_disjoint w ↦
           rw w.more-is
-          (kept_set c.requires.few c.loop-item-test.true c.loop-item.invariant (sym (leads g d) ∙ ap not w.if-not-is_apart.false))
+          (kept_set c.requires.few c.loop-item-test.true c.loop-item.invariant
+          (sym (leads g d) ∙ ap not w.if-not-is_disjoint.false))
     ]
 
 pub returns : goal.returns

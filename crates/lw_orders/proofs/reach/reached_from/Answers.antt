@@ -1,5 +1,5 @@
 use Rattle.lw_orders.proofs.Common.{most_items, ℕ, ◌≡◌, ◌<◌, ap, ◌∙◌, ◌||◌, eqb, arith, bit_at-zero, has}
-use Rattle.lw_orders.proofs.Common.{leads_by}
+use Rattle.lw_orders.proofs.Common.{reaches_in}
 use Rattle.lw_orders.proofs.ReachedFrom.{reaching_start, reaching_more, reaching_end, goes_further}
 use Rattle.lw_orders.proofs.reach.reached_from.Goals.{After-lowest-next-in-loop-next}
 use Rattle.lw_orders.proofs.reach.reached_from.Goals as goal
@@ -12,7 +12,7 @@ loop-next-init c =
 
 join : (c : After-lowest-next-in-loop-next) (k : ℕ)
     → k < most_items
-    → has c.union-set.result k ≡ (has c.loop-next.set k || leads_by c.args.sets.now c.loop-next.next k)
+    → has c.union-set.result k ≡ (has c.loop-next.set k || reaches_in c.args.sets.now c.loop-next.next k)
 join c k lk = c.union-set.ensures k lk ∙ ap (λ r. has c.loop-next.set k || has r k) c.set_of.ensures
 
 pub loop-next-preserved : goal.loop-next-preserved

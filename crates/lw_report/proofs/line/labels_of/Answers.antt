@@ -1,10 +1,10 @@
-use Rattle.lw_report.proofs.Common.{length, refl, subst, sym, All-get_or, head_of, IsSeen}
+use Rattle.lw_report.proofs.Common.{length, refl, subst, sym, All-get_or, head_of, IsSeenInRange}
 use Rattle.lw_report.proofs.Lines.{label_more, label_all, next_gap}
 use Rattle.lw_report.proofs.line.labels_of.Goals as goal
 
 pub label_of-requires : goal.label_of-requires
 label_of-requires g c =
-    let P = IsSeen c.args.head.now.threads (length c.args.head.now.locs) in
+    let P = IsSeenInRange c.args.head.now.threads (length c.args.head.now.locs) in
     subst P (sym c.name-item.is) (All-get_or P c.args.names.now _ _ c.loop-name-test.true c.requires)
 
 pub loop-name-init : goal.loop-name-init

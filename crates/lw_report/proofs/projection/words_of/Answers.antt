@@ -1,4 +1,4 @@
-use Rattle.lw_report.proofs.Common.{◌∙◌, length, subst, sym, All-get_or, IsSeen}
+use Rattle.lw_report.proofs.Common.{◌∙◌, length, subst, sym, All-get_or, IsSeenInRange}
 use Rattle.lw_report.proofs.Names.{made_more, made_all}
 use Rattle.lw_report.proofs.projection.words_of.Goals as goal
 
@@ -6,10 +6,10 @@ pub word_of-requires : goal.word_of-requires
 word_of-requires g c =
     let outcome = c.args.outcome.now in
     let there =
-    All-get_or (IsSeen (length outcome.regs) (length outcome.words)) c.args.names.now c.loop-name.name-index c.name-item.result
-    c.loop-name-test.true c.requires.names in
+    All-get_or (IsSeenInRange (length outcome.regs) (length outcome.words)) c.args.names.now c.loop-name.name-index
+    c.name-item.result c.loop-name-test.true c.requires.names in
     record {
-      name = subst (IsSeen (length outcome.regs) (length outcome.words)) (sym c.name-item.is) there;
+      name = subst (IsSeenInRange (length outcome.regs) (length outcome.words)) (sym c.name-item.is) there;
       outcome = c.requires.outcome;
     }
 

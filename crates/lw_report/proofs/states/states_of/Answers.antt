@@ -12,4 +12,4 @@ returns g c =
     c.in_ok-states.ensures in
     let are : AreStatesOfFirst head outcomes (length outcomes) all =
     subst (λ (n : ℕ). AreStatesOfFirst head outcomes n all) (sym (length-map c.args.listing.now (λ e. e.0))) sorted in
-    listed_states head outcomes all c.firsts.result c.requires.condition are c.firsts.ensures
+    listed_states head outcomes all c.first_of_each.result c.requires.condition are c.first_of_each.ensures

@@ -1,4 +1,4 @@
-use Rattle.lw_report.proofs.Common.{not, length, sym, ap, ◌∙◌, arith, Final, formula_of, is_true}
+use Rattle.lw_report.proofs.Common.{not, length, sym, ap, ◌∙◌, arith, FinalState, formula_of, is_true}
 use Rattle.lw_report.proofs.Truths.{or_left_is, or_right_is, and_left_is, and_right_is, register_is}
 use Rattle.lw_report.proofs.Truths.{location_is}
 use Rattle.lw_report.proofs.truth.+holds.Goals as goal
@@ -9,7 +9,7 @@ bounds-as_slice-index g n c = omega (
   arith,
   (rw c.in-RegIs.is at c.requires.prop).0,
   c.index.ensures.value,
-  ap length (c.as_slice.ensures ∙ ap (λ (p : Final). p.regs) c.outcome.view_is),
+  ap length (c.as_slice.ensures ∙ ap (λ (p : FinalState). p.regs) c.outcome.view_is),
 )
 
 pub bounds-as_slice-index-in-RegIs : goal.bounds-as_slice-index-in-RegIs
@@ -20,7 +20,7 @@ bounds-as_slice-index-in-WordIs g n c = omega (
   arith,
   (rw c.in-WordIs.is at c.requires.prop).0,
   c.index-in-WordIs.ensures.value,
-  ap length (c.as_slice-in-WordIs.ensures ∙ ap (λ (p : Final). p.words) c.outcome.view_is),
+  ap length (c.as_slice-in-WordIs.ensures ∙ ap (λ (p : FinalState). p.words) c.outcome.view_is),
 )
 
 pub returns-in-RegIs : goal.returns-in-RegIs
@@ -32,7 +32,8 @@ returns-in-RegIs g n c =
 pub returns-in-WordIs : goal.returns-in-WordIs
 returns-in-WordIs g n c =
     let o = c.args.outcome.now in
-    location_is o _ (c.as_slice-in-WordIs.ensures ∙ ap (λ (p : Final). p.words) c.outcome.view_is) c.index-in-WordIs.ensures.value
+    location_is o _ (c.as_slice-in-WordIs.ensures ∙ ap (λ (p : FinalState). p.words) c.outcome.view_is)
+    c.index-in-WordIs.ensures.value
     ∙ ap (λ p. is_true (formula_of p) o) (sym c.in-WordIs.is)
 
 pub returns-in-Neg : goal.returns-in-Neg

@@ -1,8 +1,8 @@
 use Rattle.lw_search.proofs.Common.{arith}
-use Rattle.lw_search.proofs.ThreadStates.{newest-take}
+use Rattle.lw_search.proofs.ThreadStates.{newest_buffered-take}
 use Rattle.lw_search.proofs.buffer.newest_in.Goals as goal
 
 pub loop-index-preserved : goal.loop-index-preserved
 loop-index-preserved c =
-    newest-take c.args.loc c.loop-index.index c.args.entries.now c.loop-index.found c.newer_of-found.result (omega arith)
+    newest_buffered-take c.args.loc c.loop-index.index c.args.entries.now c.loop-index.found c.newer_of-found.result (omega arith)
     c.loop-index.invariant c.newer_of-found.ensures

@@ -1,5 +1,5 @@
-use Rattle.lw_search.proofs.Common.{◌≡◌, take, newest}
+use Rattle.lw_search.proofs.Common.{◌≡◌, take, newest_buffered}
 use Rattle.lw_search.proofs.buffer.newest_in.Given as goal
 
 abbrev pub invariant-loop-index : goal.invariant-loop-index
-invariant-loop-index l = l.found ≡ newest (take l.index l.entries) l.loc
+invariant-loop-index l = l.found ≡ newest_buffered (take l.index l.entries) l.loc

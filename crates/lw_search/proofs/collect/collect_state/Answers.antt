@@ -11,7 +11,7 @@ returns-then-contains g c =
 pub returns : goal.returns
 returns g c =
     let search = c.args.search.now in
-    on_ok_weaker c.add_new.result
+    on_ok_weaker c.insert_new.result
     (collects-new search.program.now.threads search.tables search.states c.args.at c.key-key.result c.in_ok-outcome.outcome
-    c.in_ok-schedule.schedule c.args.found.now c.add_new.new.self c.key-key.ensures c.in_ok-outcome.ensures
-    (c.is_final.ensures.yes c.if-not-is_final.false) c.in_ok-schedule.ensures) c.add_new.ensures.added
+    c.in_ok-schedule.schedule c.args.found.now c.insert_new.new.self c.key-key.ensures c.in_ok-outcome.ensures
+    (c.is_final.ensures.yes c.if-not-is_final.false) c.in_ok-schedule.ensures) c.insert_new.ensures.inserted

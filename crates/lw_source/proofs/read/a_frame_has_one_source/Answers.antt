@@ -1,4 +1,4 @@
-use Rattle.lw_cells.proofs.api.Tests.{one_test}
+use Rattle.lw_statements.proofs.api.Tests.{one_test}
 use Rattle.lw_source.specs.Grammar.{source_grammar}
 use Rattle.lw_source.proofs.SourceLaws.{source_lawful}
 use Rattle.lw_source.proofs.read.a_frame_has_one_source.Goals as goal

@@ -1,4 +1,4 @@
-use Rattle.lw_base.proofs.api.Returns.{passed_on}
+use Rattle.lw_base.proofs.api.Returns.{Err-clause_propagated}
 use Rattle.lw_source.proofs.SourceLaws.{source_spelled}
 use Rattle.lw_source.proofs.read.read_source.Goals as goal
 
@@ -6,4 +6,4 @@ pub read_test-requires : goal.read_test-requires
 read_test-requires g c = (λ a there. there, (λ a there. there, (c.requires, source_spelled)))
 
 pub returns-in_err-parts-clause-fault : goal.returns-in_err-parts-clause-fault
-returns-in_err-parts-clause-fault g c = passed_on _ _ c.from_residual.ensures.1 c.in_err-parts.ensures.fault
+returns-in_err-parts-clause-fault g c = Err-clause_propagated _ _ c.from_residual.ensures.1 c.in_err-parts.ensures.fault

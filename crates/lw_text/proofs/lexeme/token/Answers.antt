@@ -1,14 +1,14 @@
-use Rattle.lw_text.proofs.Common.{refl, sym, ◌∙◌, ap, subst, length, arith, false≢true, is_name_byte, begins}
-use Rattle.lw_text.proofs.Common.{IsKind, inl, name_bytes_ascii}
+use Rattle.lw_text.proofs.Common.{refl, sym, ◌∙◌, ap, subst, length, arith, false≢true, is_name_byte}
+use Rattle.lw_text.proofs.Common.{first_byte_is, IsNameOrNumber, inl, name_bytes_ascii}
 use Rattle.lw_text.proofs.NameRuns.{no_kind, no_token, long_symbol, short_symbol, long_ascii, short_ascii}
 use Rattle.lw_text.proofs.lexeme.token.Goals as goal
 
 pub returns-in_default-kind_of_run-clause-none : goal.returns-in_default-kind_of_run-clause-none
 returns-in_default-kind_of_run-clause-none c =
-    let run = c.front.ensures in
+    let run = c.prefix_of_kind.ensures in
     no_kind (record { parts = run.parts; all = run.all; longest = run.longest })
-    (ap (begins is_name_byte) c.in-Some.ensures ∙ sym c.is_name_byte.ensures ∙ c.if-is_name_byte.true)
-    (λ k. c.in_default-kind_of_run.ensures (subst IsKind (sym c.ascii_text-text.ensures) k))
+    (ap (first_byte_is is_name_byte) c.in-Some.ensures ∙ sym c.is_name_byte.ensures ∙ c.if-is_name_byte.true)
+    (λ k. c.in_default-kind_of_run.ensures (subst IsNameOrNumber (sym c.ascii_text-text.ensures) k))
 
 pub split_at-requires : goal.split_at-requires
 split_at-requires c = omega (arith, ap length (c.if-begins_long.ensures.0 refl).3)
@@ -25,8 +25,8 @@ pub returns-then-is_name_byte-clause-found : goal.returns-then-is_name_byte-clau
 returns-then-is_name_byte-clause-found c =
     let same = c.ascii_text-text.ensures in
     let kind = c.in-Some-kind_of_run.ensures in (
-      rw same c.front.ensures.parts,
-      inl (record { all = rw same c.front.ensures.all; longest = c.front.ensures.longest; kind = kind.0 }),
+      rw same c.prefix_of_kind.ensures.parts,
+      inl (record { all = rw same c.prefix_of_kind.ensures.all; longest = c.prefix_of_kind.ensures.longest; kind = kind.0 }),
       kind.1,
     )
 
@@ -50,7 +50,7 @@ ascii_text-requires-then-begins_short c =
     (c.if-begins_short.ensures.0 refl).0 c.split_at-then-begins_short.ensures.front
 
 pub ascii_text-text-requires : goal.ascii_text-text-requires
-ascii_text-text-requires c = name_bytes_ascii _ c.front.ensures.all
+ascii_text-text-requires c = name_bytes_ascii _ c.prefix_of_kind.ensures.all
 
 pub kind_of_run-requires : goal.kind_of_run-requires
-kind_of_run-requires c = rw c.ascii_text-text.ensures c.front.ensures.all
+kind_of_run-requires c = rw c.ascii_text-text.ensures c.prefix_of_kind.ensures.all

@@ -4,21 +4,21 @@ use Rattle.lw_text.proofs.notes.after_key_line.Goals as goal
 
 pub returns-then-is_empty : goal.returns-then-is_empty
 returns-then-is_empty c =
-    let k = c.front.ensures in
-    (no_key c.args.bytes.now c.front.result.0.now _ k.parts k.longest (grind (arith, nat_tests)), omega arith)
+    let k = c.prefix_of_kind.ensures in
+    (no_key c.args.bytes.now c.prefix_of_kind.result.0.now _ k.parts k.longest (grind (arith, nat_tests)), omega arith)
 
 pub returns-in-Some : goal.returns-in-Some
 returns-in-Some c =
-    let k = c.front.ensures in
-    let s = c.front-2.ensures in
-    let u = c.front-in-Some.ensures in
+    let k = c.prefix_of_kind.ensures in
+    let s = c.prefix_of_kind-2.ensures in
+    let u = c.prefix_of_kind-in-Some.ensures in
     KeyLine-made c.args.bytes.now _ _ _ _ k.parts k.all k.longest s.parts s.all s.longest _ _ _ (grind (arith, nat_tests))
     c.in-Some.ensures u.parts u.all u.longest
 
 pub returns-in-None : goal.returns-in-None
 returns-in-None c =
-    let k = c.front.ensures in
-    let s = c.front-2.ensures in (
+    let k = c.prefix_of_kind.ensures in
+    let s = c.prefix_of_kind-2.ensures in (
       no_equals c.args.bytes.now _ _ _ _ k.parts k.all k.longest s.parts s.all s.longest c.in-None.ensures,
       omega (arith, ap length k.parts, ap length s.parts, length-append {A = ℕ}),
     )

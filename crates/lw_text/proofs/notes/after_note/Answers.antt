@@ -1,5 +1,5 @@
 use Rattle.lw_text.proofs.Common.{ℕ, inl, inr, ap, length, length-append, arith, ◌==◌, MatchResult-weaker}
-use Rattle.lw_text.proofs.Common.{begins}
+use Rattle.lw_text.proofs.Common.{first_byte_is}
 use Rattle.lw_text.proofs.NoteRows.{no_note, no_quote, Quoted-made, Quoted-open}
 use Rattle.lw_text.proofs.notes.after_note.Goals as goal
 
@@ -10,12 +10,13 @@ returns-in_default c =
 
 pub returns-in-Some-split : goal.returns-in-Some-split
 returns-in-Some-split c =
-    let u = c.front.ensures in inl (Quoted-made _ _ _ _ c.in-Some.ensures u.parts u.all u.longest _ _ c.in-Some-split.ensures)
+    let u = c.prefix_of_kind.ensures in
+    inl (Quoted-made _ _ _ _ c.in-Some.ensures u.parts u.all u.longest _ _ c.in-Some-split.ensures)
 
 pub returns-in-None : goal.returns-in-None
 returns-in-None c =
-    let u = c.front.ensures in (
-      no_quote c.args.bytes.now (ap (begins (λ b. b == 34)) c.in-Some.ensures)
+    let u = c.prefix_of_kind.ensures in (
+      no_quote c.args.bytes.now (ap (first_byte_is (λ b. b == 34)) c.in-Some.ensures)
           (Quoted-open c.args.bytes.now c.in-Some.inside.now _ _ c.in-Some.ensures u.parts u.all u.longest c.in-None.ensures),
       omega (arith, ap length c.in-Some.ensures, ap length u.parts, length-append {A = ℕ}),
     )

@@ -1,14 +1,14 @@
 use Rattle.lw_text.proofs.Common.{◌≡◌, ◌≢◌, ℕ, ◌≤◌, length, sym, ap, ◌∙◌, subst, arith, All, IfSome, Option}
 use Rattle.lw_text.proofs.Common.{None, Some, MatchOption, Result, IsErrAnd, MatchResult, Fault, Memory}
-use Rattle.lw_text.proofs.Common.{MatchOption-at_none, texts, PlacedTokens, head_of, columns, Preamble}
-use Rattle.lw_text.proofs.Common.{formula_of, head_of_syntax, syntax_of, cell_texts, all_texts, placed_tokens}
+use Rattle.lw_text.proofs.Common.{MatchOption-at_none, token_texts, PlacedTokens, head_of, columns, Preamble}
+use Rattle.lw_text.proofs.Common.{formula_of, head_of_syntax, syntax_of, cell_texts, all_texts, with_spans}
 use Rattle.lw_text.proofs.Common.{placed_cells, CellGrid, TestFrame, TestHead}
 use Rattle.lw_text.proofs.TokenRows.{read_whole}
 use Rattle.lw_text.proofs.CellPlaces.{HasRows-within}
 use Rattle.lw_text.proofs.RowColumns.{columns-map}
 use Rattle.lw_text.proofs.WellFormedHeads.{head_made, body_proposition}
 use Rattle.lw_text.proofs.Whole.{no_frame, no_test}
-use Rattle.lw_text.proofs.Faults.{exits, refused}
+use Rattle.lw_text.proofs.Faults.{exits, Err-clause_known}
 use Rattle.lw_text.proofs.read.read_text.Goals as goal
 
 some_within : {F : Type 0} (P : Type 0) (Q R : F → Type 0) (o : Option F) → MatchOption o P Q → ((f : F) → Q f → R f) → IfSome o R
@@ -21,7 +21,7 @@ no_memory : {T : Type 0} (P : T → Type 0) (X : Type 0) (len : ℕ) (r : Result
 no_memory P X len r h = exits P _ r h (λ f k. (λ other. absurd (other k.1), omega (arith, k.0)))
 
 pub returns-in_err-preamble : goal.returns-in_err-preamble
-returns-in_err-preamble g c = refused _ _ _ c.from_residual.ensures.1 (
+returns-in_err-preamble g c = Err-clause_known _ _ _ c.from_residual.ensures.1 (
   λ _ frame h.
       c.in_err-preamble.ensures.reads.0 h.arch h.name h.rest
       (subst (λ t. Preamble t h.arch h.name h.rest) (sym c.new-lexer.ensures.rest) h.preamble),
@@ -39,7 +39,7 @@ body-read-requires-clause-fault g c =
     some_within _ _ _ c.in_ok-stream.stream.fault c.in_ok-stream.ensures.0 (λ f h. omega (arith, h.1, ap length whole))
 
 pub returns-in_err-body : goal.returns-in_err-body
-returns-in_err-body g c = refused _ _ _ c.from_residual-in_err-body.ensures.1 (
+returns-in_err-body g c = Err-clause_known _ _ _ c.from_residual-in_err-body.ensures.1 (
   (let stream = c.in_ok-stream.stream in
       let preamble =
       subst (λ t. Preamble t c.in_ok-preamble.preamble.arch c.in_ok-preamble.preamble.name.now c.take_preamble.new.self.rest.now)
@@ -79,7 +79,7 @@ returns g c =
     ap all_texts c.in_ok-finish.ensures.cells ∙ columns-map cell_texts body.parts.threads body.rows in
     let whole = c.in_ok-preamble.ensures.same ∙ c.new-lexer.ensures.text in
     let stream =
-    subst (λ t. PlacedTokens (length t) rest (placed_tokens all.tokens)) whole
+    subst (λ t. PlacedTokens (length t) rest (with_spans all.tokens)) whole
     (MatchOption-at_none _ _ c.in_ok-body.ensures.0 c.in_ok-stream.ensures.0) in (
       record {
         short = c.requires.short;
@@ -87,13 +87,13 @@ returns g c =
         arch = arch;
         name = name;
         rest = rest;
-        tokens = texts all.tokens;
+        tokens = token_texts all.tokens;
         syntax = syntax_of body says.terminals;
         condition = formula_of body.parts.prop;
         preamble = preamble;
         stream = read_whole (length c.args.text.now) rest all.tokens stream;
         parts = says.parts;
-        proposition = body_proposition arch (texts all.tokens) body says;
+        proposition = body_proposition arch (token_texts all.tokens) body says;
         made = same_frame _ head cells;
       },
       record {
@@ -101,7 +101,7 @@ returns g c =
         name = name;
         rest = rest;
         preamble = preamble;
-        tokens = placed_tokens all.tokens;
+        tokens = with_spans all.tokens;
         stream = stream;
         threads = body.parts.threads;
         rows = placed_cells body.rows;
@@ -121,4 +121,4 @@ pub finish-requires-clause-name : goal.finish-requires-clause-name
 finish-requires-clause-name g c = c.in_ok-preamble.ensures.reads.3.is_name
 
 pub finish-requires-clause-says : goal.finish-requires-clause-says
-finish-requires-clause-says g c = (texts c.in_ok-stream.stream.tokens, c.in_ok-body.ensures.1)
+finish-requires-clause-says g c = (token_texts c.in_ok-stream.stream.tokens, c.in_ok-body.ensures.1)

@@ -1,15 +1,18 @@
 use Rattle.lw_text.proofs.Comments.{Progress_open, Progress_other, Progress_close, Progress_done}
 use Rattle.lw_text.proofs.trivia.after_comment.Goals as goal
 
-pub loop-next-preserved-in-Some-behind : goal.loop-next-preserved-in-Some-behind
-loop-next-preserved-in-Some-behind c = Progress_open c.loop-next.invariant c.in-Some-behind.ensures
+pub loop-next-preserved-in-Some-strip_two_bytes : goal.loop-next-preserved-in-Some-strip_two_bytes
+loop-next-preserved-in-Some-strip_two_bytes c = Progress_open c.loop-next.invariant c.in-Some-strip_two_bytes.ensures
 
 pub loop-next-preserved : goal.loop-next-preserved
 loop-next-preserved c =
-    Progress_other c.loop-next.invariant c.in-Some.ensures c.in_default-behind.ensures c.in_default-behind-2.ensures
+    Progress_other c.loop-next.invariant c.in-Some.ensures c.in_default-strip_two_bytes.ensures
+    c.in_default-strip_two_bytes-2.ensures
 
 pub returns-then-depth-eq0-clause-found : goal.returns-then-depth-eq0-clause-found
-returns-then-depth-eq0-clause-found c = Progress_done c.loop-next.invariant c.in-Some-behind-2.ensures c.if-depth-eq0.true
+returns-then-depth-eq0-clause-found c =
+    Progress_done c.loop-next.invariant c.in-Some-strip_two_bytes-2.ensures c.if-depth-eq0.true
 
-pub loop-next-preserved-in-Some-behind-2 : goal.loop-next-preserved-in-Some-behind-2
-loop-next-preserved-in-Some-behind-2 c = Progress_close c.loop-next.invariant c.in-Some-behind-2.ensures c.if-depth-eq0.false
+pub loop-next-preserved-in-Some-strip_two_bytes-2 : goal.loop-next-preserved-in-Some-strip_two_bytes-2
+loop-next-preserved-in-Some-strip_two_bytes-2 c =
+    Progress_close c.loop-next.invariant c.in-Some-strip_two_bytes-2.ensures c.if-depth-eq0.false

@@ -7,7 +7,7 @@ use Rattle.lw_text.proofs.trivia.after_trivia.Goals as goal
 
 pub loop-inner-init : goal.loop-inner-init
 loop-inner-init c =
-    let b = c.front.ensures in
+    let b = c.prefix_of_kind.ensures in
     record { skipped = Skipped-blanks _ _ c.args.bytes.now _ (Skipped-none c.args.bytes.now) b.parts b.all; no_blank = b.longest }
 
 pub returns-in_err-after_comment-clause-none : goal.returns-in_err-after_comment-clause-none
@@ -19,15 +19,18 @@ loop-inner-smaller c = omega (
   arith,
   Comment-shorter c.in_ok-after_comment.ensures.found,
   ap length c.in-Some.ensures,
-  ap length c.front-in-Some.ensures.parts,
-  length-append c.front-in-Some.result.0.now c.front-in-Some.result.1.now,
+  ap length c.prefix_of_kind-in-Some.ensures.parts,
+  length-append c.prefix_of_kind-in-Some.result.0.now c.prefix_of_kind-in-Some.result.1.now,
 )
 
 pub loop-inner-preserved : goal.loop-inner-preserved
 loop-inner-preserved c =
-    let b = c.front-in-Some.ensures in
+    let b = c.prefix_of_kind-in-Some.ensures in
     let s = Skipped-comment c.loop-inner.invariant.skipped c.in-Some.ensures c.in_ok-after_comment.ensures.found in
-    record { skipped = Skipped-blanks c.front-in-Some.result.0.now c.args.bytes.now _ _ s b.parts b.all; no_blank = b.longest }
+    record {
+      skipped = Skipped-blanks c.prefix_of_kind-in-Some.result.0.now c.args.bytes.now _ _ s b.parts b.all;
+      no_blank = b.longest;
+    }
 
 pub returns-clause-found : goal.returns-clause-found
 returns-clause-found c = Skipped-done c.loop-inner.invariant.skipped

@@ -1,11 +1,11 @@
-use Rattle.lw_tso.proofs.Common.{arith, sym, ap, ◌∙◌, option_copied, drop_all, newest, ◌-◌}
+use Rattle.lw_tso.proofs.Common.{arith, sym, ap, ◌∙◌, option_copied, drop_all, newest_buffered, ◌-◌}
 use Rattle.lw_tso.proofs.Newest.{found_within, passed_one_more, found_newest}
 use Rattle.lw_tso.proofs.buffer.newest_in.Goals as goal
 
 pub loop-index-init : goal.loop-index-init
 loop-index-init g c = record {
   within = omega arith;
-  passed = ap (λ es. newest es c.args.loc) (drop_all c.len-index.result c.args.ring.now.items (omega arith));
+  passed = ap (λ es. newest_buffered es c.args.loc) (drop_all c.len-index.result c.args.ring.now.items (omega arith));
 }
 
 pub loop-index-preserved : goal.loop-index-preserved

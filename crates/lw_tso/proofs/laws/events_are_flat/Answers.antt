@@ -1,4 +1,4 @@
-use Rattle.lw_tso.proofs.api.Lift.{reached_flat, reached_lift}
+use Rattle.lw_tso.proofs.api.FlatSimulation.{reached_flat, reached_lift}
 use Rattle.lw_tso.proofs.laws.events_are_flat.Goals as goal
 
 pub returns : goal.returns

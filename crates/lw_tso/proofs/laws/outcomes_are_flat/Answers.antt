@@ -1,4 +1,4 @@
-use Rattle.lw_tso.proofs.api.Lift.{outcomes_flat}
+use Rattle.lw_tso.proofs.api.FlatSimulation.{outcomes_flat}
 use Rattle.lw_tso.proofs.laws.outcomes_are_flat.Goals as goal
 
 pub returns : goal.returns

@@ -1,4 +1,4 @@
-use Rattle.lw_tso.proofs.api.Lift.{replays_alike}
+use Rattle.lw_tso.proofs.api.FlatSimulation.{replays_alike}
 use Rattle.lw_tso.proofs.laws.replays_are_flat.Goals as goal
 
 pub returns : goal.returns

@@ -1,5 +1,6 @@
 use Rattle.lw_tso.proofs.Common.{◌≡◌, ◌<◌, ◌≤◌, [], get_or, length, map, arith, ap, sym, refl, ◌∙◌, take_all}
-use Rattle.lw_tso.proofs.Common.{get_or_from_slice_get, code_of, stores_from, starting, processor_of}
+use Rattle.lw_tso.proofs.Common.{get_or_from_slice_get, thread_code, stores_from, initial_processor}
+use Rattle.lw_tso.proofs.Common.{processor_of}
 use Rattle.lw_tso.proofs.Events.{read}
 use Rattle.lw_tso.proofs.Starts.{none_started, one_more}
 use Rattle.lw_tso.proofs.machine.processors_of.Goals as goal
@@ -13,9 +14,10 @@ loop-thread-preserved g c =
     omega (arith, within, known.head.regs, known.as_many) in
     let code = read _ _ _ c.loop-thread.thread _ c.as_slice.ensures refl there c.index-as_slice-thread.is in
     let of = get_or_from_slice_get _ c.loop-thread.thread _ [] code ∙ sym c.as_slice-in-loop-thread.ensures in
-    let started : processor_of c.in_ok-new.field-0 ≡ starting (get_or c.args.program.now.head.init_regs c.loop-thread.thread []) =
+    let started : processor_of c.in_ok-new.field-0
+    ≡ initial_processor (get_or c.args.program.now.head.init_regs c.loop-thread.thread []) =
     rw (← c.as_slice-regs-items.ensures) c.in_ok-new.ensures.processor in
-    let roomy : stores_from 0 (code_of c.args.program.now.threads c.loop-thread.thread) ≤ c.in_ok-new.field-0.buffer.room =
+    let roomy : stores_from 0 (thread_code c.args.program.now.threads c.loop-thread.thread) ≤ c.in_ok-new.field-0.buffer.room =
     rw of (omega (arith, c.in_ok-new.ensures.room)) in
     one_more _ _ _ _ _ _ c.loop-thread.invariant within c.in_ok-push.ensures.items started roomy
 
@@ -33,7 +35,8 @@ bounds-as_slice-thread g c =
 
 pub returns-clause-start : goal.returns-clause-start
 returns-clause-start g c =
-    c.loop-thread.invariant.start ∙ ap (map starting) (take_all c.loop-thread.thread c.args.program.now.head.init_regs
+    c.loop-thread.invariant.start
+    ∙ ap (map initial_processor) (take_all c.loop-thread.thread c.args.program.now.head.init_regs
     (omega (arith, c.loop-thread-test.false, ap length c.as_slice-regs-items.ensures)))
 
 pub returns-clause-rooms : goal.returns-clause-rooms

@@ -1,4 +1,5 @@
-use Rattle.lw_tso.proofs.Common.{◌<◌, arith, length, length-set, [], refl, ◌∙◌, starting, processor_of}
+use Rattle.lw_tso.proofs.Common.{◌<◌, arith, length, length-set, [], refl, ◌∙◌, initial_processor}
+use Rattle.lw_tso.proofs.Common.{processor_of}
 use Rattle.lw_tso.proofs.Events.{read}
 use Rattle.lw_tso.proofs.Refilled.{refilled, refilled_all, kept_in_place}
 use Rattle.lw_tso.proofs.machine.restart_all.Goals as goal
@@ -11,7 +12,7 @@ loop-thread-preserved g c =
     record {
       many = length-set before t c.restart.new.self ∙ c.loop-thread.invariant.many;
       start =
-          refilled processor_of starting before c.args.init_regs.now t c.restart.new.self []
+          refilled processor_of initial_processor before c.args.init_regs.now t c.restart.new.self []
           (record { so_far = c.loop-thread.invariant.start; within = within; there = c.loop-thread-test.true })
           c.restart.ensures.processor;
       rooms =
@@ -25,8 +26,8 @@ bounds-processors-thread g c = omega (arith, c.loop-thread-test.true, c.loop-thr
 
 pub returns-clause-start : goal.returns-clause-start
 returns-clause-start g c =
-    refilled_all processor_of starting _ _ c.loop-thread.invariant.start (omega (arith, c.loop-thread.invariant.many, c.requires))
-    c.loop-thread-test.false
+    refilled_all processor_of initial_processor _ _ c.loop-thread.invariant.start
+    (omega (arith, c.loop-thread.invariant.many, c.requires)) c.loop-thread-test.false
 
 pub returns-clause-rooms : goal.returns-clause-rooms
 returns-clause-rooms g c = c.loop-thread.invariant.rooms

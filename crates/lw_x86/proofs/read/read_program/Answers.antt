@@ -1,4 +1,4 @@
-use Rattle.lw_x86.proofs.Common.{passed_on}
+use Rattle.lw_x86.proofs.Common.{Err-clause_propagated}
 use Rattle.lw_x86.proofs.X86Laws.{x86_spelled}
 use Rattle.lw_x86.proofs.read.read_program.Goals as goal
 
@@ -6,4 +6,4 @@ pub read_test-requires : goal.read_test-requires
 read_test-requires g c = (λ a there. there, (λ a there. there, (c.requires, x86_spelled)))
 
 pub returns-in_err-parts-clause-fault : goal.returns-in_err-parts-clause-fault
-returns-in_err-parts-clause-fault g c = passed_on _ _ c.from_residual.ensures.1 c.in_err-parts.ensures.fault
+returns-in_err-parts-clause-fault g c = Err-clause_propagated _ _ c.from_residual.ensures.1 c.in_err-parts.ensures.fault

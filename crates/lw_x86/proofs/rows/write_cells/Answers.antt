@@ -1,5 +1,5 @@
 use Rattle.lw_x86.proofs.Common.{arith, append-nil, codes, map, sym, string_bytes, both_written, cells_of}
-use Rattle.lw_x86.proofs.Common.{row_of}
+use Rattle.lw_x86.proofs.Common.{row_at}
 use Rattle.lw_x86.proofs.CellLists.{row_length, part_of_row}
 use Rattle.lw_x86.proofs.SeparatedTexts.{parts_more, parts_all}
 use Rattle.lw_x86.proofs.rows.write_cells.Goals as goal
@@ -14,7 +14,7 @@ write_cell-requires g c =
 pub loop-index-preserved : goal.loop-index-preserved
 loop-index-preserved g c =
     let cell = rw c.as_slice.ensures at c.in_ok-write_cell.ensures in
-    parts_more (codes " | ") (row_of (map (cells_of c.args.names.now) c.args.threads.now) c.args.row) c.loop-index.index _ _
+    parts_more (codes " | ") (row_at (map (cells_of c.args.names.now) c.args.threads.now) c.args.row) c.loop-index.index _ _
     c.loop-index.invariant _ _
     (part_of_row c.args.names.now c.args.threads.now c.args.row c.loop-index.index c.index-threads-index.result
     c.loop-index-test.true c.index-threads-index.is) (both_written _ _ _ _ _ c.in_ok-write_separator.ensures cell)

@@ -1,7 +1,7 @@
-use Rattle.lw_x86.proofs.Common.{◌≡◌, ◌++◌, map, take, codes, string_bytes, joined, cells_of, row_of}
+use Rattle.lw_x86.proofs.Common.{◌≡◌, ◌++◌, map, take, codes, string_bytes, joined, cells_of, row_at}
 use Rattle.lw_x86.proofs.rows.write_cells.Given as goal
 
 abbrev pub invariant-loop-index : goal.invariant-loop-index
 invariant-loop-index g l =
     string_bytes l.out
-    ≡ string_bytes l.fn.out ++ joined (codes " | ") (take l.index (row_of (map (cells_of l.names) l.threads) l.row))
+    ≡ string_bytes l.fn.out ++ joined (codes " | ") (take l.index (row_at (map (cells_of l.names) l.threads) l.row))

@@ -1,4 +1,4 @@
-use Rattle.lw_base.proofs.Common.{◌∙◌, map, ap, sym, subst, arith, take_all, string_bytes, IsTable}
+use Rattle.lw_base.proofs.Common.{◌∙◌, map, ap, sym, subst, arith, take_all, string_bytes, IsNameTable}
 use Rattle.lw_base.proofs.api.Tables.{copied_more}
 use Rattle.lw_base.proofs.location.LocNames.copy.Goals as goal
 
@@ -25,4 +25,4 @@ pub invariant_of-result : goal.invariant_of-result
 invariant_of-result g c =
     let same =
     take_all c.loop-name.name-index c.deref-name-items.result.now c.loop-name-test.false ∙ c.deref-name-items.ensures.value in
-    subst IsTable (sym (c.loop-name.invariant ∙ ap (map string_bytes) same)) c.self.invariant
+    subst IsNameTable (sym (c.loop-name.invariant ∙ ap (map string_bytes) same)) c.self.invariant

@@ -1,24 +1,25 @@
 use Rattle.lw_base.proofs.Common.{[], ◌∷◌, ◌<◌, length, sym, ◌∙◌, length-append, arith}
-use Rattle.lw_base.proofs.api.Tables.{with_name-there, with_name-new, index_of-at, index_of-new}
+use Rattle.lw_base.proofs.api.Tables.{insert_name-there, insert_name-new, position_of_name-at}
+use Rattle.lw_base.proofs.api.Tables.{position_of_name-new}
 use Rattle.lw_base.proofs.location.LocNames.find_or_add.Goals as goal
 
 pub returns-in-Some-clause-index : goal.returns-in-Some-clause-index
-returns-in-Some-clause-index g c = sym (index_of-at _ _ _ c.len-len.ensures.table.once c.in-Some.ensures)
+returns-in-Some-clause-index g c = sym (position_of_name-at _ _ _ c.len-len.ensures.table.once c.in-Some.ensures)
 
 pub returns-in-Some-clause-names : goal.returns-in-Some-clause-names
-returns-in-Some-clause-names g c = sym (with_name-there _ _ _ c.in-Some.ensures)
+returns-in-Some-clause-names g c = sym (insert_name-there _ _ _ c.in-Some.ensures)
 
 pub returns-then-len-eq-MAX_LOCATIONS-clause-index : goal.returns-then-len-eq-MAX_LOCATIONS-clause-index
 returns-then-len-eq-MAX_LOCATIONS-clause-index g c =
-    rw (with_name-new c.args.self.now c.args.name.now c.in_default.ensures)
+    rw (insert_name-new c.args.self.now c.args.name.now c.in_default.ensures)
     (omega (arith, length-append c.args.self.now (c.args.name.now ∷ [])))
 
 pub returns-in-Ok-clause-index : goal.returns-in-Ok-clause-index
 returns-in-Ok-clause-index g c =
-    rw c.in-Ok.ensures.ok (c.in-Ok.ensures.index ∙ sym (index_of-new _ c.args.name.now c.in_default.ensures))
+    rw c.in-Ok.ensures.ok (c.in-Ok.ensures.index ∙ sym (position_of_name-new _ c.args.name.now c.in_default.ensures))
 
 pub returns-in-Ok-clause-names : goal.returns-in-Ok-clause-names
-returns-in-Ok-clause-names g c = c.in-Ok.ensures.ok ∙ sym (with_name-new _ _ c.in_default.ensures)
+returns-in-Ok-clause-names g c = c.in-Ok.ensures.ok ∙ sym (insert_name-new _ _ c.in_default.ensures)
 
 pub add-requires-clause-few : goal.add-requires-clause-few
 add-requires-clause-few g c =

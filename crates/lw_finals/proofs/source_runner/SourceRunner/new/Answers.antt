@@ -1,4 +1,4 @@
-use Rattle.lw_finals.proofs.Common.{arith, ap, ◌∙◌, ◌≡◌, length, length-map, Final, common_steps}
+use Rattle.lw_finals.proofs.Common.{arith, ap, ◌∙◌, ◌≡◌, length, length-map, FinalState, common_steps}
 use Rattle.lw_finals.proofs.source_runner.SourceRunner.new.Goals as goal
 
 pub invariant_of-result : goal.invariant_of-result
@@ -12,6 +12,6 @@ invariant_of-result g c =
       run.start,
       threads,
       words,
-      ap (λ (o : Final). length o.regs) c.in_ok-end.ensures ∙ (length-map state.threads _ ∙ threads),
-      ap (λ (o : Final). length o.words) c.in_ok-end.ensures ∙ words,
+      ap (λ (o : FinalState). length o.regs) c.in_ok-end.ensures ∙ (length-map state.threads _ ∙ threads),
+      ap (λ (o : FinalState). length o.words) c.in_ok-end.ensures ∙ words,
     )

@@ -1,5 +1,6 @@
-use Rattle.lw_finals.proofs.Common.{◌≡◌, List, ap, sym, ◌∙◌, subst, Final, Event, SourceTest, source_of}
-use Rattle.lw_finals.proofs.Common.{program_of, start_of, StaysAndEnds, LeadsFlat, Running, CompiledSource}
+use Rattle.lw_finals.proofs.Common.{◌≡◌, List, ap, sym, ◌∙◌, subst, FinalState, Event, SourceTest, source_of}
+use Rattle.lw_finals.proofs.Common.{program_of, initial_state, SourceFollowsPathsToEnd, ReplaysFlatTo}
+use Rattle.lw_finals.proofs.Common.{RunnerState, CompiledSource}
 use Rattle.lw_finals.proofs.SourceRunners.{all_there, leads}
 use Rattle.lw_finals.proofs.source_runner.SourceRunnerOrderRunner.entry.Goals as goal
 
@@ -8,10 +9,10 @@ schedule_of_items-requires-clause-there g c =
     let source = c.self.inside.source.now in
     let items = c.args.items.now in
     let order = c.args.order.now in
-    let run : StaysAndEnds (source_of source) items order c.args.self.now.end =
-    subst (λ (s : SourceTest). StaysAndEnds s items order c.args.self.now.end)
-    (sym (ap (λ (r : Running CompiledSource). r.test.source) c.self.view_is)) c.requires.ran in
-    all_there (source_of source) items order (start_of (source_of source)) run.end run.ran
+    let run : SourceFollowsPathsToEnd (source_of source) items order c.args.self.now.end =
+    subst (λ (s : SourceTest). SourceFollowsPathsToEnd s items order c.args.self.now.end)
+    (sym (ap (λ (r : RunnerState CompiledSource). r.test.source) c.self.view_is)) c.requires.ran in
+    all_there (source_of source) items order (initial_state (source_of source)) run.end run.ran
 
 pub returns-clause-leads : goal.returns-clause-leads
 returns-clause-leads g c =
@@ -22,17 +23,17 @@ returns-clause-leads g c =
     let test : CompiledSource =
     record { source = source_of source; program = program_of compiled.program; starts = compiled.starts } in
     let end = c.args.self.now.end in
-    let same : test ≡ c.args.self.now.test = ap (λ (r : Running CompiledSource). r.test) c.self.view_is in
-    let run : StaysAndEnds (source_of source) items order end =
-    subst (λ (s : SourceTest). StaysAndEnds s items order end) (sym (ap (λ (t : CompiledSource). t.source) same))
+    let same : test ≡ c.args.self.now.test = ap (λ (r : RunnerState CompiledSource). r.test) c.self.view_is in
+    let run : SourceFollowsPathsToEnd (source_of source) items order end =
+    subst (λ (s : SourceTest). SourceFollowsPathsToEnd s items order end) (sym (ap (λ (t : CompiledSource). t.source) same))
     c.requires.ran in
     let events = c.in_ok-events.events.items in
-    let led : LeadsFlat test.program events end = leads test items order events end run c.in_ok-events.ensures (λ p runs.
+    let led : ReplaysFlatTo test.program events end = leads test items order events end run c.in_ok-events.ensures (λ p runs.
     c.schedules_replay.ensures (source_of source) (program_of compiled.program) compiled.starts _ p source.well_formed
     c.self.invariant.0 runs) in
-    let told : LeadsFlat test.program c.from.result end =
-    subst (λ (es : List Event). LeadsFlat test.program es end) (sym c.from.ensures) led in
-    let at : LeadsFlat c.args.self.now.test.program c.from.result end =
-    subst (λ (t : CompiledSource). LeadsFlat t.program c.from.result end) same told in
-    subst (λ (o : Final). LeadsFlat c.args.self.now.test.program c.from.result o)
-    (sym (c.in_ok-outcome.ensures ∙ ap (λ (r : Running CompiledSource). r.end) c.self.view_is)) at
+    let told : ReplaysFlatTo test.program c.from.result end =
+    subst (λ (es : List Event). ReplaysFlatTo test.program es end) (sym c.from.ensures) led in
+    let at : ReplaysFlatTo c.args.self.now.test.program c.from.result end =
+    subst (λ (t : CompiledSource). ReplaysFlatTo t.program c.from.result end) same told in
+    subst (λ (o : FinalState). ReplaysFlatTo c.args.self.now.test.program c.from.result o)
+    (sym (c.in_ok-outcome.ensures ∙ ap (λ (r : RunnerState CompiledSource). r.end) c.self.view_is)) at

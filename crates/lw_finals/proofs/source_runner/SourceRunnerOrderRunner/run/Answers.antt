@@ -1,29 +1,28 @@
 use Rattle.lw_finals.proofs.Common.{arith, ◌≡◌, ◌∙◌, ℕ, List, Ok, ap, sym, subst, true, true≢false}
-use Rattle.lw_finals.proofs.Common.{length-map, Stmt, Final, State, is_source_final, outcome_of, Item}
-use Rattle.lw_finals.proofs.Common.{SourceTest, source_of, system_of, StaysAndEnds, Running, CompiledSource}
-use Rattle.lw_finals.proofs.Common.{refl, common_steps}
-use Rattle.lw_finals.specs.SourceRuns.{CarriedOut}
+use Rattle.lw_finals.proofs.Common.{length-map, Stmt, FinalState, State, is_source_final, source_outcome}
+use Rattle.lw_finals.proofs.Common.{Item, SourceTest, source_of, source_item_system, SourceFollowsPathsToEnd}
+use Rattle.lw_finals.proofs.Common.{RunnerState, CompiledSource, refl, common_steps, SourceItemTransition}
 use Rattle.lw_finals.proofs.OrderSteps.{ran_off, ran_on, ends_alone, ends_so}
 use Rattle.lw_finals.proofs.source_runner.SourceRunnerOrderRunner.run.Goals as goal
 
 -- an item leads to one state
 led_once : (program : List (List Stmt)) (item : Item) (now next other : State)
-    → CarriedOut program item now next
-    → CarriedOut program item now other
+    → SourceItemTransition program item now next
+    → SourceItemTransition program item now other
     → other ≡ next
 led_once program item now next other one two = let both : Ok other ≡ Ok next = sym two.1 ∙ one.1 in cc
 
 -- what a run ends with, for the test and the outcome that these are
-ends_of : (items : List Item) (order : List ℕ) (test given : SourceTest) (o end : Final)
+ends_of : (items : List Item) (order : List ℕ) (test given : SourceTest) (o end : FinalState)
     → test ≡ given
     → end ≡ o
-    → StaysAndEnds test items order o
-    → ((p : Final) → StaysAndEnds test items order p → p ≡ o)
-    → StaysAndEnds given items order end × ((p : Final) → StaysAndEnds given items order p → p ≡ end)
+    → SourceFollowsPathsToEnd test items order o
+    → ((p : FinalState) → SourceFollowsPathsToEnd test items order p → p ≡ o)
+    → SourceFollowsPathsToEnd given items order end × ((p : FinalState) → SourceFollowsPathsToEnd given items order p → p ≡ end)
 ends_of items order test given o end same is run alone = (
-  subst (λ (t : SourceTest). StaysAndEnds t items order end) same
-      (subst (λ (p : Final). StaysAndEnds test items order p) (sym is) run),
-  λ p h. alone p (subst (λ (t : SourceTest). StaysAndEnds t items order p) (sym same) h) ∙ sym is,
+  subst (λ (t : SourceTest). SourceFollowsPathsToEnd t items order end) same
+      (subst (λ (p : FinalState). SourceFollowsPathsToEnd test items order p) (sym is) run),
+  λ p h. alone p (subst (λ (t : SourceTest). SourceFollowsPathsToEnd t items order p) (sym same) h) ∙ sym is,
 )
 
 pub bounds-items-from : goal.bounds-items-from
@@ -36,7 +35,7 @@ loop-index-preserved g c =
     let now = c.loop-index.self-inside.run.state in
     let next = c.carry_out.new.run.state in
     let carried =
-    subst (λ (p : List (List Stmt)). CarriedOut p item now next) c.loop-index.invariant.program
+    subst (λ (p : List (List Stmt)). SourceItemTransition p item now next) c.loop-index.invariant.program
     (c.carry_out.ensures.done c.if-not-carry_out.false) in
     record {
       source = c.loop-index.invariant.source;
@@ -61,9 +60,9 @@ loop-index-preserved g c =
 pub returns-then-not-is_final-clause-ends : goal.returns-then-not-is_final-clause-ends
 returns-then-not-is_final-clause-ends g c o stays =
     let source = source_of c.self.inside.source.now in
-    let run : StaysAndEnds source c.args.items.now c.args.order.now o =
-    subst (λ (s : SourceTest). StaysAndEnds s c.args.items.now c.args.order.now o)
-    (sym (ap (λ (r : Running CompiledSource). r.test.source) c.self.view_is)) stays in
+    let run : SourceFollowsPathsToEnd source c.args.items.now c.args.order.now o =
+    subst (λ (s : SourceTest). SourceFollowsPathsToEnd s c.args.items.now c.args.order.now o)
+    (sym (ap (λ (r : RunnerState CompiledSource). r.test.source) c.self.view_is)) stays in
     let at_end = ends_alone _ c.args.items.now c.loop-index-test.false c.loop-index.invariant.ran o run in
     let final =
     subst (λ (p : List (List Stmt)). is_source_final p c.loop-index.self-inside.run.state ≡ true)
@@ -77,8 +76,8 @@ returns-clause-ends g c =
     let final =
     subst (λ (p : List (List Stmt)). is_source_final p now ≡ true) c.loop-index.invariant.program
     (sym c.is_final.ensures ∙ c.if-not-is_final.false) in
-    ends_of _ _ source _ (outcome_of now) _ (ap (λ r. r.test.source) c.self.view_is) c.write_outcome.ensures
-    (ends_so (system_of source) c.args.items.now c.loop-index-test.false c.loop-index.invariant.ran final)
+    ends_of _ _ source _ (source_outcome now) _ (ap (λ r. r.test.source) c.self.view_is) c.write_outcome.ensures
+    (ends_so (source_item_system source) c.args.items.now c.loop-index-test.false c.loop-index.invariant.ran final)
     (λ o run. (ends_alone _ _ c.loop-index-test.false c.loop-index.invariant.ran o run).0)
 
 -- an item could not be carried out
@@ -89,10 +88,10 @@ returns-then-not-carry_out-clause-ends g c o stays =
     let order = c.args.order.now in
     let k = c.loop-index.index-index in
     let now = c.loop-index.self-inside.run.state in
-    let run : StaysAndEnds (source_of source) items order o =
-    subst (λ s. StaysAndEnds s items order o) (sym (ap (λ r. r.test.source) c.self.view_is)) stays in
+    let run : SourceFollowsPathsToEnd (source_of source) items order o =
+    subst (λ s. SourceFollowsPathsToEnd s items order o) (sym (ap (λ r. r.test.source) c.self.view_is)) stays in
     let none =
-    subst (λ (p : List (List Stmt)). (next : State) → CarriedOut p c.index-items-from.result now next → ⊥)
+    subst (λ (p : List (List Stmt)). (next : State) → SourceItemTransition p c.index-items-from.result now next → ⊥)
     c.loop-index.invariant.program (c.carry_out.ensures.left c.if-not-carry_out.true) in
     ran_off _ items order k c.index-items-from.result now (record {
       index = c.from.result;

@@ -1,4 +1,4 @@
-use Rattle.lw_finals.proofs.Common.{◌≡◌, length, source_of, start_of, system_of}
+use Rattle.lw_finals.proofs.Common.{◌≡◌, length, source_of, initial_state, source_item_system}
 use Rattle.lw_finals.proofs.OrderSteps.{RanFirst}
 use Rattle.lw_finals.proofs.source_runner.SourceRunnerOrderRunner.run.Given as goal
 
@@ -9,8 +9,10 @@ invariant-loop-index g l = record {
   compiled : l.self-inside.compiled ≡ l.initial.self-inside.compiled;
   end : l.self-inside.end ≡ l.initial.self-inside.end;
   program : l.self-inside.run.program ≡ l.initial.self-inside.source.now.threads;
-  start : l.self-inside.run.start ≡ start_of (source_of l.initial.self-inside.source.now);
+  start : l.self-inside.run.start ≡ initial_state (source_of l.initial.self-inside.source.now);
   many : length l.self-inside.run.state.threads ≡ length l.initial.self-inside.source.now.threads;
   words : length l.self-inside.run.state.words ≡ length l.initial.self-inside.source.now.head.locs;
-  ran : RanFirst (system_of (source_of l.initial.self-inside.source.now)) l.items l.order l.index-index l.self-inside.run.state;
+  ran :
+      RanFirst (source_item_system (source_of l.initial.self-inside.source.now)) l.items l.order l.index-index
+      l.self-inside.run.state;
 }

@@ -1,5 +1,5 @@
-use Rattle.lw_finals.proofs.Common.{List, ap, sym, ◌∙◌, subst, Final, Event, ProgramTest, Running, events_of}
-use Rattle.lw_finals.proofs.Common.{LeadsFlat}
+use Rattle.lw_finals.proofs.Common.{List, ap, sym, ◌∙◌, subst, FinalState, Event, X86Test, RunnerState}
+use Rattle.lw_finals.proofs.Common.{events_of, ReplaysFlatTo}
 use Rattle.lw_finals.proofs.X86Outcomes.{order_replays}
 use Rattle.lw_finals.proofs.x86_runner.X86RunnerOrderRunner.entry.Goals as goal
 
@@ -9,8 +9,8 @@ returns-clause-leads g c =
     let items = c.args.items.now in
     let order = c.args.order.now in
     let end = c.args.self.now.end in
-    let led : LeadsFlat test (events_of items order) end = order_replays test _ order end c.requires.ran in
-    let told : LeadsFlat test c.in_ok-events.events end =
-    subst (λ (es : List Event). LeadsFlat test es end) (sym c.in_ok-events.ensures) led in
-    subst (λ (o : Final). LeadsFlat test c.in_ok-events.events o)
-    (sym (c.in_ok-outcome.ensures ∙ ap (λ (r : Running ProgramTest). r.end) c.self.view_is)) told
+    let led : ReplaysFlatTo test (events_of items order) end = order_replays test _ order end c.requires.ran in
+    let told : ReplaysFlatTo test c.in_ok-events.events end =
+    subst (λ (es : List Event). ReplaysFlatTo test es end) (sym c.in_ok-events.ensures) led in
+    subst (λ (o : FinalState). ReplaysFlatTo test c.in_ok-events.events o)
+    (sym (c.in_ok-outcome.ensures ∙ ap (λ (r : RunnerState X86Test). r.end) c.self.view_is)) told

@@ -1,24 +1,24 @@
-use Rattle.lw_finals.proofs.Common.{arith, ◌≡◌, ◌∙◌, ℕ, List, Err, ap, subst, sym, true, true≢false, Final}
-use Rattle.lw_finals.proofs.Common.{Stop, flat, caches_by, caches_invariant, Mesi, StandsAt, EventDone}
-use Rattle.lw_finals.proofs.Common.{Initial, is_final, Instr, ProgramTest, program_of, Item, Running}
-use Rattle.lw_finals.proofs.Common.{event_of, CarriedOut, common_steps}
-use Rattle.lw_finals.specs.X86Runs.{system_of, StaysAndEnds}
+use Rattle.lw_finals.proofs.Common.{arith, ◌≡◌, ◌∙◌, ℕ, List, Err, ap, subst, sym, true, true≢false}
+use Rattle.lw_finals.proofs.Common.{FinalState, Stop, flat_memory, caches_by, caches_invariant, Mesi}
+use Rattle.lw_finals.proofs.Common.{IsAtPosition, MachineTransition, InitialWords, is_final, Instr, X86Test}
+use Rattle.lw_finals.proofs.Common.{program_of, Item, RunnerState, event_of, X86ItemTransition, common_steps}
+use Rattle.lw_finals.proofs.Common.{x86_item_system, X86FollowsPathsToEnd}
 use Rattle.lw_finals.proofs.OrderSteps.{ends_alone, ends_so}
 use Rattle.lw_finals.proofs.X86Runners.{can_start, carried_on, left_off}
 use Rattle.lw_finals.proofs.x86_runner.X86RunnerOrderRunner.run.Goals as goal
 
 -- what a run ends with, for the test and the outcome that these are
-ends_of : (items : List Item) (order : List ℕ) (test given : ProgramTest) (o end : Final)
+ends_of : (items : List Item) (order : List ℕ) (test given : X86Test) (o end : FinalState)
     → test ≡ given
     → end ≡ o
-    → StaysAndEnds flat test test.head.init_words items order o
-    → ((p : Final) → StaysAndEnds flat test test.head.init_words items order p → p ≡ o)
-    → StaysAndEnds flat given given.head.init_words items order end
-    × ((p : Final) → StaysAndEnds flat given given.head.init_words items order p → p ≡ end)
+    → X86FollowsPathsToEnd flat_memory test test.head.init_words items order o
+    → ((p : FinalState) → X86FollowsPathsToEnd flat_memory test test.head.init_words items order p → p ≡ o)
+    → X86FollowsPathsToEnd flat_memory given given.head.init_words items order end
+    × ((p : FinalState) → X86FollowsPathsToEnd flat_memory given given.head.init_words items order p → p ≡ end)
 ends_of items order test given o end same is run alone = (
-  subst (λ (t : ProgramTest). StaysAndEnds flat t t.head.init_words items order end) same
-      (subst (λ (p : Final). StaysAndEnds flat test test.head.init_words items order p) (sym is) run),
-  λ p h. alone p (subst (λ t. StaysAndEnds flat t t.head.init_words items order p) (sym same) h) ∙ sym is,
+  subst (λ (t : X86Test). X86FollowsPathsToEnd flat_memory t t.head.init_words items order end) same
+      (subst (λ (p : FinalState). X86FollowsPathsToEnd flat_memory test test.head.init_words items order p) (sym is) run),
+  λ p h. alone p (subst (λ t. X86FollowsPathsToEnd flat_memory t t.head.init_words items order p) (sym same) h) ∙ sym is,
 )
 
 -- the machine over caches, which was put back to the start, is done over flat memory
@@ -29,10 +29,11 @@ loop-index-preserved g c =
     let m = c.restart.new.self.state.memory in
     let start =
     can_start mem test m (caches_invariant Mesi) c.restart.ensures.sound c.restart.ensures.cpus c.restart.ensures.words
-    c.restart.ensures.program c.self.invariant.0 (ap (λ (i : Initial). i.words) c.self.invariant.1) in
+    c.restart.ensures.program c.self.invariant.0 (ap (λ (i : InitialWords). i.words) c.self.invariant.1) in
     let item = c.index-items-from.result in
     let carried =
-    subst (λ (p : List (List Instr)). CarriedOut mem p item c.loop-index.self-inside.machine.state c.carry_out.new.machine.state)
+    subst
+    (λ (p : List (List Instr)). X86ItemTransition mem p item c.loop-index.self-inside.machine.state c.carry_out.new.machine.state)
     c.loop-index.invariant.threads (c.carry_out.ensures.done c.if-not-carry_out.false) in
     record {
       program = c.loop-index.invariant.program;
@@ -62,17 +63,17 @@ returns-then-not-carry_out-clause-ends g c o stays =
     let m = c.restart.new.self.state.memory in
     let start =
     can_start mem test m (caches_invariant Mesi) c.restart.ensures.sound c.restart.ensures.cpus c.restart.ensures.words
-    c.restart.ensures.program c.self.invariant.0 (ap (λ (i : Initial). i.words) c.self.invariant.1) in
+    c.restart.ensures.program c.self.invariant.0 (ap (λ (i : InitialWords). i.words) c.self.invariant.1) in
     let item = c.index-items-from.result in
     let now = c.loop-index.self-inside.machine.state in
     let run =
-    subst (λ (t : ProgramTest). StaysAndEnds flat t t.head.init_words c.args.items.now c.args.order.now o)
-    (sym (ap (λ (r : Running ProgramTest). r.test) c.self.view_is)) stays in
+    subst (λ (t : X86Test). X86FollowsPathsToEnd flat_memory t t.head.init_words c.args.items.now c.args.order.now o)
+    (sym (ap (λ (r : RunnerState X86Test). r.test) c.self.view_is)) stays in
     let refused =
     subst (λ (p : List (List Instr)).
-    StandsAt (event_of item) item.position now
-    → (stop : Stop) × EventDone mem p (event_of item) now (Err stop) c.carry_out.new.machine.state) c.loop-index.invariant.threads
-    (c.carry_out.ensures.left c.if-not-carry_out.true) in
+    IsAtPosition (event_of item) item.position now
+    → (stop : Stop) × MachineTransition mem p (event_of item) now (Err stop) c.carry_out.new.machine.state)
+    c.loop-index.invariant.threads (c.carry_out.ensures.left c.if-not-carry_out.true) in
     left_off mem _ m c.args.items.now (λ events s after e answer.
     c.events_are_flat.ensures.over_flat test m events s after e answer c.self.inside.program.now.well_formed start)
     c.args.order.now c.loop-index.index-index item now c.carry_out.new.machine.state (record {
@@ -89,8 +90,8 @@ pub returns-then-not-is_final-clause-ends : goal.returns-then-not-is_final-claus
 returns-then-not-is_final-clause-ends g c o stays =
     let test = program_of c.self.inside.program.now in
     let run =
-    subst (λ (t : ProgramTest). StaysAndEnds flat t t.head.init_words c.args.items.now c.args.order.now o)
-    (sym (ap (λ (r : Running ProgramTest). r.test) c.self.view_is)) stays in
+    subst (λ (t : X86Test). X86FollowsPathsToEnd flat_memory t t.head.init_words c.args.items.now c.args.order.now o)
+    (sym (ap (λ (r : RunnerState X86Test). r.test) c.self.view_is)) stays in
     let at_end = ends_alone _ _ c.loop-index-test.false c.loop-index.invariant.ran.first o run in
     let final =
     subst (λ (p : List (List Instr)). is_final p c.loop-index.self-inside.machine.state ≡ true)
@@ -100,7 +101,7 @@ returns-then-not-is_final-clause-ends g c o stays =
 pub returns-clause-ends : goal.returns-clause-ends
 returns-clause-ends g c =
     let test = program_of c.self.inside.program.now in
-    let system = system_of flat test test.head.init_words in
+    let system = x86_item_system flat_memory test test.head.init_words in
     let now = c.loop-index.self-inside.machine.state in
     let final =
     subst (λ (p : List (List Instr)). is_final p now ≡ true) c.loop-index.invariant.threads

@@ -1,10 +1,10 @@
-use Rattle.lw_interleaving.proofs.Common.{ap, refl, sym, ◌∙◌, length, length-map, starting_thread}
+use Rattle.lw_interleaving.proofs.Common.{ap, refl, sym, ◌∙◌, length, length-map, initial_thread}
 use Rattle.lw_interleaving.proofs.api.Runs.{made, mapped_on, mapped_all}
 use Rattle.lw_interleaving.proofs.run.SourceRun.new.Goals as goal
 
 pub loop-regs-preserved : goal.loop-regs-preserved
 loop-regs-preserved g c =
-    mapped_on starting_thread c.loop-regs.regs-index _ c.as_slice-regs-items.ensures c.loop-regs-test.true c.loop-regs.invariant
+    mapped_on initial_thread c.loop-regs.regs-index _ c.as_slice-regs-items.ensures c.loop-regs-test.true c.loop-regs.invariant
     c.in_ok-push.ensures.ok
 
 pub loop-regs-init : goal.loop-regs-init
@@ -19,18 +19,17 @@ returns-clause-start g c = refl
 pub returns-clause-state : goal.returns-clause-state
 returns-clause-state g c =
     let threads =
-    mapped_all starting_thread c.loop-regs.regs-index c.as_slice-regs-items.ensures c.loop-regs-test.false
-    c.loop-regs.invariant in
+    mapped_all initial_thread c.loop-regs.regs-index c.as_slice-regs-items.ensures c.loop-regs-test.false c.loop-regs.invariant in
     made _ _ _ _ threads (c.in_ok-words.ensures ∙ c.as_slice.ensures)
 
 pub invariant_of-result : goal.invariant_of-result
 invariant_of-result g c =
     let source = c.args.source.now in
     let threads =
-    mapped_all starting_thread c.loop-regs.regs-index c.as_slice-regs-items.ensures c.loop-regs-test.false
+    mapped_all initial_thread c.loop-regs.regs-index c.as_slice-regs-items.ensures c.loop-regs-test.false
     c.loop-regs.invariant in (
       ap length threads
-          ∙ length-map source.head.init_regs starting_thread
+          ∙ length-map source.head.init_regs initial_thread
           ∙ source.well_formed.head.regs
           ∙ sym source.well_formed.as_many,
       ap length (c.in_ok-words.ensures ∙ c.as_slice.ensures) ∙ source.well_formed.head.words,

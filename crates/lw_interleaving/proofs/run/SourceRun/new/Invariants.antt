@@ -1,5 +1,5 @@
-use Rattle.lw_interleaving.proofs.Common.{◌≡◌, map, take, starting_thread}
+use Rattle.lw_interleaving.proofs.Common.{◌≡◌, map, take, initial_thread}
 use Rattle.lw_interleaving.proofs.run.SourceRun.new.Given as goal
 
 abbrev pub invariant-loop-regs : goal.invariant-loop-regs
-invariant-loop-regs g l = l.threads ≡ map starting_thread (take l.regs-index l.source.head.init_regs)
+invariant-loop-regs g l = l.threads ≡ map initial_thread (take l.regs-index l.source.head.init_regs)

@@ -1,4 +1,4 @@
-use Rattle.lw_interleaving.proofs.Common.{◌≡◌, ◌++◌, map, take, drop, starting_thread}
+use Rattle.lw_interleaving.proofs.Common.{◌≡◌, ◌++◌, map, take, drop, initial_thread}
 use Rattle.lw_interleaving.proofs.run.SourceRun.restart.Given as goal
 
 abbrev pub invariant-loop-cpu : goal.invariant-loop-cpu
@@ -6,7 +6,7 @@ invariant-loop-cpu g l = record {
   source : l.self-inside.source ≡ l.initial.self-inside.source;
   threads :
       l.self-inside.threads
-      ≡ map starting_thread (take l.cpu l.initial.self-inside.source.now.head.init_regs)
+      ≡ map initial_thread (take l.cpu l.initial.self-inside.source.now.head.init_regs)
       ++ drop l.cpu l.initial.self-inside.threads;
   words : l.self-inside.words ≡ l.initial.self-inside.words;
 }

@@ -1,4 +1,4 @@
-use Rattle.lw_interleaving.proofs.Common.{◌≡◌, ◌∙◌, ap, refl, sym, true≢false, Ran-more, SourceEventDone}
+use Rattle.lw_interleaving.proofs.Common.{◌≡◌, ◌∙◌, ap, refl, sym, true≢false, RunsTo-more, SourceTransition}
 use Rattle.lw_interleaving.proofs.Common.{SourceRunState}
 use Rattle.lw_interleaving.proofs.api.Runs.{event_kept, possible, stopped, replayed_all}
 use Rattle.lw_interleaving.proofs.run.SourceRun.run.Goals as goal
@@ -12,7 +12,7 @@ loop-done-preserved g c =
       program = c.carry_out_event.ensures.program ∙ c.loop-done.invariant.program;
       start = c.carry_out_event.ensures.start ∙ c.loop-done.invariant.start;
       ran =
-          Ran-more (SourceEventDone c.args.self.now.program) c.args.events.now c.loop-done.done c.index-events-done.result
+          RunsTo-more (SourceTransition c.args.self.now.program) c.args.events.now c.loop-done.done c.index-events-done.result
           c.args.self.now.state c.loop-done.self.state c.carry_out_event.new.self.state c.loop-done-test.true
           c.index-events-done.is c.loop-done.invariant.ran one;
       threads = kept.0 ∙ c.loop-done.invariant.threads;

@@ -1,11 +1,11 @@
-use Rattle.lw_interleaving.proofs.Common.{ap, arith, length, ◌∙◌, Final, common_steps}
+use Rattle.lw_interleaving.proofs.Common.{ap, arith, length, ◌∙◌, FinalState, common_steps}
 use Rattle.lw_interleaving.proofs.api.Runs.{written_on}
 use Rattle.lw_interleaving.proofs.run.SourceRun.write_outcome.Goals as goal
 
 pub loop-cpu-preserved : goal.loop-cpu-preserved
 loop-cpu-preserved g c =
     let threads = c.as_slice-thread-items.ensures ∙ ap (λ r. r.state.threads) c.self.view_is in
-    let many = ap (λ (o : Final). length o.regs) c.outcome.view_is ∙ c.requires.threads in
+    let many = ap (λ (o : FinalState). length o.regs) c.outcome.view_is ∙ c.requires.threads in
     record {
       regs =
           c.set.ensures

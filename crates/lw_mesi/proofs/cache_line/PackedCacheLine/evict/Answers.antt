@@ -1,4 +1,4 @@
-use Rattle.lw_mesi.proofs.Common.{◌≡◌, ℕ, sym, ap, ◌∙◌, CacheLine, Inside, unpacked, copy_of, letter_of}
+use Rattle.lw_mesi.proofs.Common.{◌≡◌, ℕ, sym, ap, ◌∙◌, CacheLine, Inside, unpacked, copy_of, copy_state}
 use Rattle.lw_mesi.proofs.Common.{LineState}
 use Rattle.lw_mesi.proofs.PackedWrites.{sharer_gone, dirty_gone, clean_gone}
 use Rattle.lw_mesi.proofs.cache_line.PackedCacheLine.evict.Goals as goal
@@ -6,9 +6,9 @@ use Rattle.lw_mesi.proofs.cache_line.PackedCacheLine.evict.Goals as goal
 -- The state that was found is that of the processor's copy of the packed cache line.
 state_is : (p : Inside) {line : CacheLine} (t : ℕ) {found : LineState}
     → unpacked p ≡ line
-    → found ≡ letter_of (copy_of line t)
-    → found ≡ letter_of (copy_of (unpacked p) t)
-state_is p t is here = here ∙ ap (λ l. letter_of (copy_of l t)) (sym is)
+    → found ≡ copy_state (copy_of line t)
+    → found ≡ copy_state (copy_of (unpacked p) t)
+state_is p t is here = here ∙ ap (λ l. copy_state (copy_of l t)) (sym is)
 
 pub returns-in-S-clause-ok : goal.returns-in-S-clause-ok
 returns-in-S-clause-ok c =

@@ -1,5 +1,5 @@
 use Rattle.lw_mesi.proofs.Common.{◌≡◌, ◌<◌, ℕ, Some, false, sym, ◌∙◌, subst, length-set, true≢false, Invalid}
-use Rattle.lw_mesi.proofs.Common.{copy_of, HasStatesOf, table_of, Moesi, CacheLine, Protocol, Inside}
+use Rattle.lw_mesi.proofs.Common.{copy_of, HasProtocolStates, table_of, Moesi, CacheLine, Protocol, Inside}
 use Rattle.lw_mesi.proofs.Common.{IsPacked, unpacked, most_threads, copy_word, cache_line_to_read}
 use Rattle.lw_mesi.proofs.PackedReads.{IsReader, read_word, dirty_shared, owner_shared, first_reader}
 use Rattle.lw_mesi.proofs.PackedReads.{next_reader, unowned_then, no_owner}
@@ -16,7 +16,7 @@ clean c e = elim c.in_default.branch [
 unowned : (c : goal.After-insert-in_default-2) → c.self.inside.is_owned ≡ false
 unowned c =
     unowned_then c.self.inside c.args.protocol c.self.invariant
-    (subst (HasStatesOf c.args.protocol) (sym c.self.view_is) c.requires.states) (clean c)
+    (subst (HasProtocolStates c.args.protocol) (sym c.self.view_is) c.requires.states) (clean c)
 
 pub invariant_of-self-in_default : goal.invariant_of-self-in_default
 invariant_of-self-in_default c =

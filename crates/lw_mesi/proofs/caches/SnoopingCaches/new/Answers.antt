@@ -1,6 +1,6 @@
 use Rattle.lw_mesi.proofs.Common.{◌≡◌, ◌≤◌, ◌++◌, ◌∙◌, ℕ, List, arith, drop, length, map, sym, ap, subst}
 use Rattle.lw_mesi.proofs.Common.{append-nil, drop_all, length-map, CacheLine, Caches, unheld_cache_line}
-use Rattle.lw_mesi.proofs.Common.{IsKept, common_steps}
+use Rattle.lw_mesi.proofs.Common.{SatisfiesProtocol, common_steps}
 use Rattle.lw_mesi.proofs.Start.{empty_kept}
 use Rattle.lw_mesi.proofs.caches.SnoopingCaches.new.Goals as goal
 
@@ -18,7 +18,7 @@ invariant_of-result g c =
     let cache_lines = all_cache_lines _ c.args.words.now _ c.loop-word.invariant c.loop-word-test.false in (
       omega (arith, ap length cache_lines, length-map c.args.words.now unheld_cache_line, c.requires.words),
       subst (λ (ls : List CacheLine).
-          let m : Caches = record { cpus = c.args.cpus; cache_lines = ls } in IsKept g.P.KeptProtocol.protocol m)
+          let m : Caches = record { cpus = c.args.cpus; cache_lines = ls } in SatisfiesProtocol g.P.ProtocolType.protocol m)
           (sym cache_lines) (empty_kept _ c.args.cpus _ c.requires.cpus),
     )
 

@@ -1,5 +1,5 @@
-use Rattle.lw_mesi.proofs.Common.{◌∙◌, copy_of, is_held, letter_of}
-use Rattle.lw_mesi.proofs.Kept.{line_is, line_there, still_kept, still_evicted}
+use Rattle.lw_mesi.proofs.Common.{◌∙◌, copy_of, is_held, copy_state}
+use Rattle.lw_mesi.proofs.ProtocolInvariant.{line_is, line_there, still_kept, still_evicted}
 use Rattle.lw_mesi.proofs.caches.SnoopingCachesMemorySystem.evict.Goals as goal
 
 pub index_mut-line-requires : goal.index_mut-line-requires
@@ -9,11 +9,11 @@ pub returns-clause-held : goal.returns-clause-held
 returns-clause-held g c =
     c.evict.ensures.held
     ∙ line_is _ _ c.self.inside.cache_lines c.args.loc _ c.self.view_is c.index.ensures.value c.requires.loc
-    (λ line. is_held (letter_of (copy_of line c.args.cpu))) _ c.index_mut-line.ensures.value
+    (λ line. is_held (copy_state (copy_of line c.args.cpu))) _ c.index_mut-line.ensures.value
 
 pub invariant_of-self : goal.invariant_of-self
 invariant_of-self g c =
-    still_kept g.P.KeptProtocol.protocol _ _ c.args.cpu c.args.loc c.index.result _ (record {
+    still_kept g.P.ProtocolType.protocol _ _ c.args.cpu c.args.loc c.index.result _ (record {
       same = c.self.view_is;
       kept = c.self.invariant.1;
       few = c.self.invariant.0;
@@ -22,5 +22,5 @@ invariant_of-self g c =
       index = c.index.ensures.value;
       found = c.index_mut-line.ensures.value;
     }) _ (λ lt s.
-    still_evicted g.P.KeptProtocol.protocol c.evict.result c.args.cpu _ _ lt s
+    still_evicted g.P.ProtocolType.protocol c.evict.result c.args.cpu _ _ lt s
     (record { held = c.evict.ensures.held; ok = c.evict.ensures.ok; err = c.evict.ensures.err }))

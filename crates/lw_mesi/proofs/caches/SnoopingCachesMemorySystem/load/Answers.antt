@@ -1,6 +1,6 @@
-use Rattle.lw_mesi.proofs.Common.{ap, sym, ◌∙◌, subst, cache_line_to_read, table_of, IsKeptCacheLine}
+use Rattle.lw_mesi.proofs.Common.{ap, sym, ◌∙◌, subst, cache_line_to_read, table_of, LineSatisfiesProtocol}
 use Rattle.lw_mesi.proofs.Common.{load_kept, Caches, Load}
-use Rattle.lw_mesi.proofs.Kept.{Borrowed, before_states, line_there, served, still_kept}
+use Rattle.lw_mesi.proofs.ProtocolInvariant.{Borrowed, before_states, line_there, served, still_kept}
 use Rattle.lw_mesi.proofs.caches.SnoopingCachesMemorySystem.load.Given.{Over}
 use Rattle.lw_mesi.proofs.caches.SnoopingCachesMemorySystem.load.Goals.{After-index_mut-line}
 use Rattle.lw_mesi.proofs.caches.SnoopingCachesMemorySystem.load.Goals as goal
@@ -8,7 +8,7 @@ use Rattle.lw_mesi.proofs.caches.SnoopingCachesMemorySystem.load.Goals as goal
 -- the cache line that is read from, as it was
 borrowed : (g : Over) (c : After-index_mut-line g)
     → (let m : Caches = record { cpus = c.self.inside.cpus; cache_lines = c.self.inside.cache_lines.items } in
-    Borrowed g.P.KeptProtocol.protocol m c.args.self.now c.args.cpu c.args.loc c.index.result c.index_mut-line.result.now)
+    Borrowed g.P.ProtocolType.protocol m c.args.self.now c.args.cpu c.args.loc c.index.result c.index_mut-line.result.now)
 borrowed g c = record {
   same = c.self.view_is;
   kept = c.self.invariant.1;
@@ -29,15 +29,15 @@ load-requires-clause-states g c =
 
 pub invariant_of-self : goal.invariant_of-self
 invariant_of-self g c =
-    still_kept g.P.KeptProtocol.protocol _ _ c.args.cpu _ _ _ (borrowed g (goal.at.invariant_of-self g c).After-index_mut-line) _
+    still_kept g.P.ProtocolType.protocol _ _ c.args.cpu _ _ _ (borrowed g (goal.at.invariant_of-self g c).After-index_mut-line) _
     (λ lt s.
-    subst (IsKeptCacheLine g.P.KeptProtocol.protocol)
+    subst (LineSatisfiesProtocol g.P.ProtocolType.protocol)
     (sym (c.load.ensures.line
     ∙ ap (λ p. cache_line_to_read (table_of p) c.args.cpu c.index_mut-line.result.now) c.protocol.ensures))
     (load_kept _ c.args.cpu _ lt s))
 
 pub returns-clause-served : goal.returns-clause-served
 returns-clause-served g c =
-    served g.P.KeptProtocol.protocol _ _ c.args.cpu _ _ _ (borrowed g (goal.at.returns-clause-served g c).After-index_mut-line)
-    (table_of g.P.KeptProtocol.protocol) Load _ _ (rw c.protocol.ensures at c.load.ensures.word)
+    served g.P.ProtocolType.protocol _ _ c.args.cpu _ _ _ (borrowed g (goal.at.returns-clause-served g c).After-index_mut-line)
+    (table_of g.P.ProtocolType.protocol) Load _ _ (rw c.protocol.ensures at c.load.ensures.word)
     (rw c.protocol.ensures at c.load.ensures.line)

@@ -1,7 +1,7 @@
 use Rattle.lw_mesi.proofs.Common.{◌≡◌, ◌≤◌, ◌<◌, ◌∙◌, ℕ, List, arith, length, length-set, map, take, refl}
 use Rattle.lw_mesi.proofs.Common.{sym, ap, subst, take_all, length-map, map_more, take_more_set, most_threads}
-use Rattle.lw_mesi.proofs.Common.{Caches, CacheLine, unheld_cache_line, empty_caches, content_of, contents_of}
-use Rattle.lw_mesi.proofs.Common.{IsKept}
+use Rattle.lw_mesi.proofs.Common.{Caches, CacheLine, unheld_cache_line, empty_caches, coherent_word}
+use Rattle.lw_mesi.proofs.Common.{coherent_words, SatisfiesProtocol}
 use Rattle.lw_mesi.proofs.Start.{empty_content, empty_kept}
 use Rattle.lw_mesi.proofs.caches.SnoopingCachesMemorySystem.restart.Goals as goal
 
@@ -12,10 +12,10 @@ emptied : (before : Caches) (cache_lines old : List CacheLine) (cpus was k : ℕ
     → length cache_lines ≡ length old
     → take k cache_lines ≡ map unheld_cache_line (take k words)
     → length words ≤ k
-    → length words ≡ length (contents_of before)
+    → length words ≡ length (coherent_words before)
     → (let m : Caches = record { cpus = cpus; cache_lines = cache_lines } in m) ≡ empty_caches before.cpus words
 emptied before cache_lines old cpus was k words is same many each past as_many =
-    let olds = sym (length-map old content_of) ∙ ap (λ m. length (contents_of m)) is ∙ sym as_many in
+    let olds = sym (length-map old coherent_word) ∙ ap (λ m. length (coherent_words m)) is ∙ sym as_many in
     let all : cache_lines ≡ map unheld_cache_line words =
     sym (take_all k cache_lines (omega (arith, many, olds))) ∙ each ∙ ap (map unheld_cache_line) (take_all k words past) in
     rw (all, same ∙ ap (λ (m : Caches). m.cpus) is) refl
@@ -26,8 +26,8 @@ loop-index-preserved g c =
     let k = c.loop-index.index in
     let words = c.args.words.now in
     let as_many : length c.self.inside.cache_lines.items ≡ length words =
-    sym (length-map c.self.inside.cache_lines.items content_of)
-    ∙ ap (λ (m : Caches). length (contents_of m)) c.self.view_is
+    sym (length-map c.self.inside.cache_lines.items coherent_word)
+    ∙ ap (λ (m : Caches). length (coherent_words m)) c.self.view_is
     ∙ sym c.requires in
     let within : k < length cache_lines = omega (arith, c.loop-index.invariant.many, as_many) in
     record {
@@ -45,13 +45,13 @@ returns-clause-start g c =
     c.loop-index.invariant.cache_lines c.loop-index-test.false c.requires
 
 pub returns-clause-words : goal.returns-clause-words
-returns-clause-words g c = ap contents_of (returns-clause-start g c) ∙ empty_content c.args.self.now.cpus _
+returns-clause-words g c = ap coherent_words (returns-clause-start g c) ∙ empty_content c.args.self.now.cpus _
 
 pub returns-clause-sound : goal.returns-clause-sound
 returns-clause-sound g c =
     let few : c.args.self.now.cpus ≤ most_threads =
     omega (arith, ap (λ (m : Caches). m.cpus) c.self.view_is, c.self.invariant.1.coherent.few) in
-    subst (IsKept g.P.KeptProtocol.protocol) (sym (returns-clause-start g c)) (empty_kept _ _ _ few)
+    subst (SatisfiesProtocol g.P.ProtocolType.protocol) (sym (returns-clause-start g c)) (empty_kept _ _ _ few)
 
 pub invariant_of-self : goal.invariant_of-self
 invariant_of-self g c = (omega (arith, c.loop-index.invariant.many, c.self.invariant.0), returns-clause-sound g c)

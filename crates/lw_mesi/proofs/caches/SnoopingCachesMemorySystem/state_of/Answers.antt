@@ -1,5 +1,5 @@
-use Rattle.lw_mesi.proofs.Common.{◌∙◌, copy_of, letter_of}
-use Rattle.lw_mesi.proofs.Kept.{line_is, line_there}
+use Rattle.lw_mesi.proofs.Common.{◌∙◌, copy_of, copy_state}
+use Rattle.lw_mesi.proofs.ProtocolInvariant.{line_is, line_there}
 use Rattle.lw_mesi.proofs.caches.SnoopingCachesMemorySystem.state_of.Goals as goal
 
 pub index-requires-2 : goal.index-requires-2
@@ -9,4 +9,4 @@ pub returns-clause-letter : goal.returns-clause-letter
 returns-clause-letter g c =
     c.state_of.ensures
     ∙ line_is _ _ c.self.inside.cache_lines c.args.loc _ c.self.view_is c.index.ensures.value c.requires.loc
-    (λ line. letter_of (copy_of line c.args.cpu)) _ c.index-2.ensures
+    (λ line. copy_state (copy_of line c.args.cpu)) _ c.index-2.ensures

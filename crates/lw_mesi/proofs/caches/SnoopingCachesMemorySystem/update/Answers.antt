@@ -1,5 +1,5 @@
-use Rattle.lw_mesi.proofs.Common.{sym, subst, IsKeptCacheLine, write_kept, Caches, table_of, Update}
-use Rattle.lw_mesi.proofs.Kept.{Borrowed, line_there, served, still_kept}
+use Rattle.lw_mesi.proofs.Common.{sym, subst, LineSatisfiesProtocol, write_kept, Caches, table_of, Update}
+use Rattle.lw_mesi.proofs.ProtocolInvariant.{Borrowed, line_there, served, still_kept}
 use Rattle.lw_mesi.proofs.caches.SnoopingCachesMemorySystem.update.Given.{Over}
 use Rattle.lw_mesi.proofs.caches.SnoopingCachesMemorySystem.update.Goals.{After-index_mut-line}
 use Rattle.lw_mesi.proofs.caches.SnoopingCachesMemorySystem.update.Goals as goal
@@ -7,7 +7,7 @@ use Rattle.lw_mesi.proofs.caches.SnoopingCachesMemorySystem.update.Goals as goal
 -- the cache line that is written to, as it was
 borrowed : (g : Over) (c : After-index_mut-line g)
     → (let m : Caches = record { cpus = c.self.inside.cpus; cache_lines = c.self.inside.cache_lines.items } in
-    Borrowed g.P.KeptProtocol.protocol m c.args.self.now c.args.cpu c.args.loc c.index.result c.index_mut-line.result.now)
+    Borrowed g.P.ProtocolType.protocol m c.args.self.now c.args.cpu c.args.loc c.index.result c.index_mut-line.result.now)
 borrowed g c = record {
   same = c.self.view_is;
   kept = c.self.invariant.1;
@@ -23,10 +23,11 @@ index_mut-line-requires g c = line_there _ _ c.self.inside.cache_lines _ _ c.sel
 
 pub invariant_of-self : goal.invariant_of-self
 invariant_of-self g c =
-    still_kept g.P.KeptProtocol.protocol _ _ c.args.cpu _ _ _ (borrowed g (goal.at.invariant_of-self g c).After-index_mut-line) _
-    (λ lt s. subst (IsKeptCacheLine g.P.KeptProtocol.protocol) (sym c.write.ensures.line) (write_kept _ c.args.cpu _ lt s _))
+    still_kept g.P.ProtocolType.protocol _ _ c.args.cpu _ _ _ (borrowed g (goal.at.invariant_of-self g c).After-index_mut-line) _
+    (λ lt s.
+    subst (LineSatisfiesProtocol g.P.ProtocolType.protocol) (sym c.write.ensures.line) (write_kept _ c.args.cpu _ lt s _))
 
 pub returns-clause-served : goal.returns-clause-served
 returns-clause-served g c =
-    served g.P.KeptProtocol.protocol _ _ c.args.cpu _ _ _ (borrowed g (goal.at.returns-clause-served g c).After-index_mut-line)
-    (table_of g.P.KeptProtocol.protocol) (Update c.args.change) _ _ c.write.ensures.word (cc)
+    served g.P.ProtocolType.protocol _ _ c.args.cpu _ _ _ (borrowed g (goal.at.returns-clause-served g c).After-index_mut-line)
+    (table_of g.P.ProtocolType.protocol) (Update c.args.change) _ _ c.write.ensures.word (cc)

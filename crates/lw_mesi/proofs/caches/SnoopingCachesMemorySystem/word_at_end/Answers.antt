@@ -1,5 +1,5 @@
-use Rattle.lw_mesi.proofs.Common.{content_of}
-use Rattle.lw_mesi.proofs.Kept.{line_there, word_is}
+use Rattle.lw_mesi.proofs.Common.{coherent_word}
+use Rattle.lw_mesi.proofs.ProtocolInvariant.{line_there, word_is}
 use Rattle.lw_mesi.proofs.caches.SnoopingCachesMemorySystem.word_at_end.Goals as goal
 
 pub index-requires-2 : goal.index-requires-2
@@ -8,6 +8,6 @@ index-requires-2 g c = line_there _ _ c.self.inside.cache_lines _ _ c.self.view_
 pub returns-clause-word : goal.returns-clause-word
 returns-clause-word g c =
     let seen =
-    word_is _ _ c.self.inside.cache_lines c.args.loc _ c.self.view_is c.index.ensures.value c.requires content_of _
+    word_is _ _ c.self.inside.cache_lines c.args.loc _ c.self.view_is c.index.ensures.value c.requires coherent_word _
     c.index-2.ensures in
     cc

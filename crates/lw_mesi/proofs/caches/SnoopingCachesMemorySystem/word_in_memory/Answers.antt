@@ -1,5 +1,5 @@
 use Rattle.lw_mesi.proofs.Common.{◌∙◌}
-use Rattle.lw_mesi.proofs.Kept.{line_there, word_is}
+use Rattle.lw_mesi.proofs.ProtocolInvariant.{line_there, word_is}
 use Rattle.lw_mesi.proofs.caches.SnoopingCachesMemorySystem.word_in_memory.Goals as goal
 
 pub index-requires-2 : goal.index-requires-2

@@ -1,6 +1,6 @@
 use Rattle.lw_search.proofs.Common.{◌∙◌, ap, sym, slice_get, IsLoaded, IsWorking}
-use Rattle.lw_search.proofs.Settling.{settles_from-loaded, settles_from-none, settles_from-unmoved, settles_from-weaker}
-use Rattle.lw_search.proofs.Settling.{working-loaded}
+use Rattle.lw_search.proofs.Settling.{settles_from-loaded, settles_from-none, settles_from-unmoved}
+use Rattle.lw_search.proofs.Settling.{settles_from-weaker, working-loaded}
 use Rattle.lw_search.proofs.search.Search.settle_thread.Goals as goal
 
 pub returns-then-not-may_settle-clause-settled : goal.returns-then-not-may_settle-clause-settled

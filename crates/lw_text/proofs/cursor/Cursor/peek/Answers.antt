@@ -1,11 +1,11 @@
-use Rattle.lw_text.proofs.Common.{ap, texts}
+use Rattle.lw_text.proofs.Common.{ap, token_texts}
 use Rattle.lw_text.proofs.Texts.{token_next, nothing_left}
 use Rattle.lw_text.proofs.cursor.Cursor.peek.Goals as goal
 
 pub returns-in-Some : goal.returns-in-Some
 returns-in-Some c =
     let next = token_next _ _ c.in-Some.token.now c.in-Some.ensures.lookup.3.0 c.in-Some.ensures.lookup.1 in
-    (c.in-Some.ensures.lookup.3.0, next, ap texts next)
+    (c.in-Some.ensures.lookup.3.0, next, ap token_texts next)
 
 pub returns-in-None : goal.returns-in-None
 returns-in-None c = nothing_left c.args.self.now.tokens.now c.args.self.now.next c.in-None.ensures.lookup.3

@@ -1,6 +1,6 @@
-use Rattle.lw_text.proofs.Common.{ℕ, ◌≡◌, ◌<◌, ap, arith, left, remaining, Leaves}
-use Rattle.lw_text.proofs.Faults.{refused, ran_out, unexpected}
-use Rattle.lw_text.proofs.Lists.{Leaves-join, shorter_behind}
+use Rattle.lw_text.proofs.Common.{ℕ, ◌≡◌, ◌<◌, ap, arith, remaining_texts, remaining, IsSuffix}
+use Rattle.lw_text.proofs.Faults.{Err-clause_known, ran_out, unexpected}
+use Rattle.lw_text.proofs.Lists.{IsSuffix-join, shorter_behind}
 use Rattle.lw_text.proofs.Atoms.{IsSite-shorter, Value-shorter, value_missing}
 use Rattle.lw_text.proofs.SiteLists.{initializers, initializers_fault}
 use Rattle.lw_text.proofs.Readings.{read_none, read_end, read_more, read_last, read_no_mark, More}
@@ -10,11 +10,11 @@ use Rattle.lw_text.proofs.cursor.Cursor.take_block.Goals as goal
 
 pub returns-in_err-expect : goal.returns-in_err-expect
 returns-in_err-expect g c =
-    refused _ _ _ c.from_residual.ensures.1 (λ _ es rest block few. c.in_err-expect.ensures.err block.0 block.1)
+    Err-clause_known _ _ _ c.from_residual.ensures.1 (λ _ es rest block few. c.in_err-expect.ensures.err block.0 block.1)
 
 pub initializers-init : goal.initializers-init
 initializers-init g c = rw c.new-initializers.ensures (record {
-  read = read_none (initializers c.args.arch) c.args.locs.now (left c.args.self.now) _ c.in_ok-expect.ensures.ok;
+  read = read_none (initializers c.args.arch) c.args.locs.now (remaining_texts c.args.self.now) _ c.in_ok-expect.ensures.ok;
   leaves = c.in_ok-expect.ensures.leaves;
 })
 
@@ -25,37 +25,38 @@ returns-then-take_if g c =
       is = whole.whole;
       names_are = whole.names_are;
       within = whole.within;
-      leaves = Leaves-join c.initializers.invariant.leaves c.take_if.ensures.leaves;
+      leaves = IsSuffix-join c.initializers.invariant.leaves c.take_if.ensures.leaves;
     }
 
 -- Where no `}` stands, a site is read where the cursor was.
-kept : (g : Over) (c : After-take_site g) → left c.take_if.new.self ≡ left c.initializers.self
-kept g c = ap left (c.take_if.ensures.kept c.if-take_if.false)
+kept : (g : Over) (c : After-take_site g) → remaining_texts c.take_if.new.self ≡ remaining_texts c.initializers.self
+kept g c = ap remaining_texts (c.take_if.ensures.kept c.if-take_if.false)
 
 -- An initializer was read.
 entry_read : (g : Over) (c : In_ok-word g)
-    → More (initializers c.args.arch) c.initializers.locs c.take_site.new.locs (left c.initializers.self)
-    (left c.take_value.new.self) (record { token = c.take_if.new.self.next; site = c.in_ok-site.site; word = c.in_ok-word.word })
+    → More (initializers c.args.arch) c.initializers.locs c.take_site.new.locs (remaining_texts c.initializers.self)
+    (remaining_texts c.take_value.new.self)
+    (record { token = c.take_if.new.self.next; site = c.in_ok-site.site; word = c.in_ok-word.word })
 entry_read g c = record {
   grows = c.in_ok-site.ensures.names_are;
   is_in = c.in_ok-site.ensures.within;
   fits = tt;
   stands =
-      (let same = ap left (c.take_if.ensures.kept c.if-take_if.false) in
-      (left c.take_site.new.self, rw same at c.in_ok-site.ensures.is, c.in_ok-word.ensures.0));
+      (let same = ap remaining_texts (c.take_if.ensures.kept c.if-take_if.false) in
+      (remaining_texts c.take_site.new.self, rw same at c.in_ok-site.ensures.is, c.in_ok-word.ensures.0));
 }
 
 -- What is left behind it and its mark is left of the text.
-leaves : (g : Over) (c : In_ok-take_either g) → Leaves (remaining c.args.self.now) (remaining c.take_either.new.self)
+leaves : (g : Over) (c : In_ok-take_either g) → IsSuffix (remaining c.args.self.now) (remaining c.take_either.new.self)
 leaves g c =
-    Leaves-join c.initializers.invariant.leaves
-    (Leaves-join c.take_if.ensures.leaves
-    (Leaves-join c.in_ok-site.ensures.leaves (Leaves-join c.in_ok-word.ensures.1 c.in_ok-take_either.ensures.1)))
+    IsSuffix-join c.initializers.invariant.leaves
+    (IsSuffix-join c.take_if.ensures.leaves
+    (IsSuffix-join c.in_ok-site.ensures.leaves (IsSuffix-join c.in_ok-word.ensures.1 c.in_ok-take_either.ensures.1)))
 
 pub returns-in_err-site : goal.returns-in_err-site
 returns-in_err-site g c =
     let same = kept g (goal.at.returns-in_err-site g c).After-take_site in
-    refused _ _ _ c.from_residual-in_err-site.ensures.1
+    Err-clause_known _ _ _ c.from_residual-in_err-site.ensures.1
     (λ ne.
     initializers_fault c.args.arch c.initializers.invariant.read (c.take_if.ensures.other c.if-take_if.false)
     (λ e back initializer some. (rw same at (c.in_err-site.ensures ne)) e.site initializer.0 initializer.1 tt some))
@@ -63,7 +64,7 @@ returns-in_err-site g c =
 pub returns-in_err-word : goal.returns-in_err-word
 returns-in_err-word g c =
     let same = kept g (goal.at.returns-in_err-word g c).After-take_site in
-    refused _ _ _ c.from_residual-in_err-word.ensures.1
+    Err-clause_known _ _ _ c.from_residual-in_err-word.ensures.1
     (λ ne.
     initializers_fault c.args.arch c.initializers.invariant.read (c.take_if.ensures.other c.if-take_if.false)
     (λ e back initializer some.
@@ -72,7 +73,7 @@ returns-in_err-word g c =
 pub returns-in_err-take_either : goal.returns-in_err-take_either
 returns-in_err-take_either g c =
     let initializer = entry_read g (goal.at.returns-in_err-take_either g c).In_ok-word in
-    refused _ _ _ c.from_residual-in_err-take_either.ensures.1 (λ ne es rest block few.
+    Err-clause_known _ _ _ c.from_residual-in_err-take_either.ensures.1 (λ ne es rest block few.
     read_no_mark c.initializers.invariant.read _ _ initializer.stands c.in_err-take_either.ensures.1
     c.in_err-take_either.ensures.0 es rest block)
 
@@ -80,7 +81,8 @@ pub returns-then-branch : goal.returns-then-branch
 returns-then-branch g c =
     let d = goal.at.returns-then-branch g c in
     let mark = rw c.if-branch.true at c.in_ok-take_either.ensures.0 in
-    let whole = read_last c.initializers.invariant.read (entry_read g d.In_ok-word) (left c.take_either.new.self) mark in
+    let whole =
+    read_last c.initializers.invariant.read (entry_read g d.In_ok-word) (remaining_texts c.take_either.new.self) mark in
     rw c.in_ok-push.ensures.ok
     (record { is = whole.whole; names_are = whole.names_are; within = whole.within; leaves = leaves g d.In_ok-take_either })
 
@@ -101,7 +103,7 @@ initializers-preserved g c =
     let d = goal.at.initializers-preserved g c in
     let mark = rw c.if-branch.false at c.in_ok-take_either.ensures.0 in
     rw c.in_ok-push.ensures.ok (record {
-      read = read_more c.initializers.invariant.read (entry_read g d.In_ok-word) (left c.take_either.new.self) mark;
+      read = read_more c.initializers.invariant.read (entry_read g d.In_ok-word) (remaining_texts c.take_either.new.self) mark;
       leaves = leaves g d.In_ok-take_either;
     })
 

@@ -1,5 +1,5 @@
 use Rattle.lw_text.proofs.Common.{◌∷◌, [], ◌∙◌, ap}
-use Rattle.lw_text.proofs.Lists.{Leaves-join}
+use Rattle.lw_text.proofs.Lists.{IsSuffix-join}
 use Rattle.lw_text.proofs.cursor.Cursor.take_bracketed.Goals as goal
 
 pub returns : goal.returns
@@ -8,5 +8,5 @@ returns g c =
       name.text.now,
       c.in_ok-name.ensures.ok ∙ ap (λ l. name.text.now ∷ l) c.in_ok-expect.ensures.ok,
       c.in_ok-loc.ensures,
-      Leaves-join (name ∷ [], c.in_ok-name.ensures.token) c.in_ok-expect.ensures.leaves,
+      IsSuffix-join (name ∷ [], c.in_ok-name.ensures.token) c.in_ok-expect.ensures.leaves,
     )

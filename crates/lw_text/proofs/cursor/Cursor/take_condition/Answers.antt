@@ -1,29 +1,29 @@
-use Rattle.lw_text.proofs.Common.{map, sym, subst, arith, EachOnce, once-along, with_names-longer, site_names}
-use Rattle.lw_text.proofs.Common.{with_sites, sites_in, named, left}
+use Rattle.lw_text.proofs.Common.{map, sym, subst, arith, IsDuplicateFree, once-along, insert_names-longer}
+use Rattle.lw_text.proofs.Common.{site_names, with_sites, sites_in, site_by_name, remaining_texts}
 use Rattle.lw_text.proofs.Bodies.{taken_condition}
 use Rattle.lw_text.proofs.SiteLists.{Listed-unique}
 use Rattle.lw_text.proofs.Whole.{no_terminals}
-use Rattle.lw_text.proofs.Faults.{refused}
+use Rattle.lw_text.proofs.Faults.{Err-clause_known}
 use Rattle.lw_text.proofs.cursor.Cursor.take_condition.Goals as goal
 
 pub returns-in_err-listed : goal.returns-in_err-listed
 returns-in_err-listed g c =
-    refused _ _ _ c.from_residual.ensures.1
+    Err-clause_known _ _ _ c.from_residual.ensures.1
     (λ ne all q ss p condition fits.
     c.in_err-listed.ensures ne all condition.behind_list condition.lists condition.there
-    (omega (arith, fits.room, with_names-longer (with_sites c.args.locs.now all) (site_names (sites_in ss)))))
+    (omega (arith, fits.room, insert_names-longer (with_sites c.args.locs.now all) (site_names (sites_in ss)))))
 
 pub returns-in_err-quant : goal.returns-in_err-quant
-returns-in_err-quant g c = refused _ _ _ c.from_residual-in_err-quant.ensures.1 (λ ne all q ss p condition fits.
+returns-in_err-quant g c = Err-clause_known _ _ _ c.from_residual-in_err-quant.ensures.1 (λ ne all q ss p condition fits.
     let u =
-    Listed-unique c.args.arch (left c.args.self.now) all _ condition.behind_list (left c.take_listed.new.self) condition.lists
-    c.in_ok-listed.ensures.is in
+    Listed-unique c.args.arch (remaining_texts c.args.self.now) all _ condition.behind_list
+    (remaining_texts c.take_listed.new.self) condition.lists c.in_ok-listed.ensures.is in
     c.in_err-quant.ensures q condition.behind_quant (rw u.1 at condition.quantifies))
 
 pub take_proposition-requires-clause-once : goal.take_proposition-requires-clause-once
 take_proposition-requires-clause-once g c =
-    subst EachOnce (sym c.in_ok-listed.ensures.names_are)
-    (once-along _ (site_names (map (named c.take_listed.new.locs) c.in_ok-listed.listed)) c.requires.once)
+    subst IsDuplicateFree (sym c.in_ok-listed.ensures.names_are)
+    (once-along _ (site_names (map (site_by_name c.take_listed.new.locs) c.in_ok-listed.listed)) c.requires.once)
 
 pub returns-in-Err : goal.returns-in-Err
 returns-in-Err g c = λ ne. no_terminals c.in_ok-listed.ensures _ _ c.in_ok-quant.ensures (c.in-Err.ensures ne)

@@ -1,7 +1,8 @@
-use Rattle.lw_text.proofs.Common.{◌≡◌, ◌∷◌, ◌∙◌, inl, inr, refl, ap, sym, codes, All-nil, IsIn, left}
+use Rattle.lw_text.proofs.Common.{◌≡◌, ◌∷◌, ◌∙◌, inl, inr, refl, ap, sym, codes, All-nil, IsIn}
+use Rattle.lw_text.proofs.Common.{remaining_texts}
 use Rattle.lw_text.proofs.Lists.{same_behind, shorter_behind}
 use Rattle.lw_text.proofs.Atoms.{IsSite-shorter, bracket}
-use Rattle.lw_text.proofs.Faults.{refused, ran_out}
+use Rattle.lw_text.proofs.Faults.{Err-clause_known, ran_out}
 use Rattle.lw_text.proofs.SiteLists.{sites, list_behind, syntax_same}
 use Rattle.lw_text.proofs.Readings.{read_none, read_end, read_more, read_last, read_none_here, read_no_mark}
 use Rattle.lw_text.proofs.Readings.{More}
@@ -12,22 +13,26 @@ use Rattle.lw_text.proofs.cursor.Cursor.take_listed.Goals as goal
 
 pub returns-then-not-take_if : goal.returns-then-not-take_if
 returns-then-not-take_if g c = rw c.new.ensures (record {
-  is = inr (c.take_if.ensures.other c.if-not-take_if.true, refl, sym (ap left (c.take_if.ensures.kept c.if-not-take_if.true)));
+  is = inr (
+    c.take_if.ensures.other c.if-not-take_if.true,
+    refl,
+    sym (ap remaining_texts (c.take_if.ensures.kept c.if-not-take_if.true)),
+  );
   there = tt;
   names_are = refl;
   within = All-nil (IsIn c.args.locs.now);
 })
 
 pub returns-in_err-expect : goal.returns-in_err-expect
-returns-in_err-expect g c = refused _ _ _ c.from_residual.ensures.1 (λ _ ss rest listed there few.
+returns-in_err-expect g c = Err-clause_known _ _ _ c.from_residual.ensures.1 (λ _ ss rest listed there few.
     let word = c.take_if.ensures.taken c.if-not-take_if.false in
-    let whole = list_behind c.args.arch c.args.threads (left c.args.self.now) _ word ss rest listed in
+    let whole = list_behind c.args.arch c.args.threads (remaining_texts c.args.self.now) _ word ss rest listed in
     c.in_err-expect.ensures.err whole.0 (same_behind _ word whole.1))
 
 pub sites-init : goal.sites-init
 sites-init g c = rw c.new-sites.ensures (record {
   read =
-      read_none _ c.args.locs.now (left c.args.self.now) (left c.expect.new.self)
+      read_none _ c.args.locs.now (remaining_texts c.args.self.now) (remaining_texts c.expect.new.self)
       (c.take_if.ensures.taken c.if-not-take_if.false ∙ ap (λ l. codes "locations" ∷ l) c.in_ok-expect.ensures.ok);
 })
 
@@ -37,42 +42,44 @@ returns-then-take_if g c =
     record { is = inl whole.whole; there = whole.there; names_are = whole.names_are; within = whole.within }
 
 -- Where no `]` stands, a site is read where the cursor was.
-kept : (g : Over) (c : After-take_site g) → left c.take_if-in-sites.new.self ≡ left c.sites.self
-kept g c = ap left (c.take_if-in-sites.ensures.kept c.if-take_if.false)
+kept : (g : Over) (c : After-take_site g) → remaining_texts c.take_if-in-sites.new.self ≡ remaining_texts c.sites.self
+kept g c = ap remaining_texts (c.take_if-in-sites.ensures.kept c.if-take_if.false)
 
 -- A site was read.
 site_read : (g : Over) (c : In_ok-take_site g)
-    → More (sites c.args.arch c.args.threads) c.sites.locs c.take_site.new.locs (left c.sites.self) (left c.take_site.new.self)
-    c.in_ok-take_site.field-0
+    → More (sites c.args.arch c.args.threads) c.sites.locs c.take_site.new.locs (remaining_texts c.sites.self)
+    (remaining_texts c.take_site.new.self) c.in_ok-take_site.field-0
 site_read g c = record {
   grows = c.in_ok-take_site.ensures.names_are;
   is_in = c.in_ok-take_site.ensures.within;
   fits = c.in_ok-take_site.ensures.there;
-  stands = (let same = ap left (c.take_if-in-sites.ensures.kept c.if-take_if.false) in rw same at c.in_ok-take_site.ensures.is);
+  stands =
+      (let same = ap remaining_texts (c.take_if-in-sites.ensures.kept c.if-take_if.false) in
+      rw same at c.in_ok-take_site.ensures.is);
 }
 
 pub returns-in_err-take_site : goal.returns-in_err-take_site
 returns-in_err-take_site g c =
     let same = kept g (goal.at.returns-in_err-take_site g c).After-take_site in
-    refused _ _ _ c.from_residual-in_err-take_site.ensures.1 (λ ne all rest listed there few.
+    Err-clause_known _ _ _ c.from_residual-in_err-take_site.ensures.1 (λ ne all rest listed there few.
     read_none_here c.sites.invariant.read
-    (λ l. token_not_next bracket (left c.sites.self) l (c.take_if-in-sites.ensures.other c.if-take_if.false))
+    (λ l. token_not_next bracket (remaining_texts c.sites.self) l (c.take_if-in-sites.ensures.other c.if-take_if.false))
     (rw same at (c.in_err-take_site.ensures ne)) all rest
-    (list_behind _ c.args.threads (left c.args.self.now) (codes "[" ∷ c.sites.invariant.read.start) c.sites.invariant.read.begun
-    all rest listed) there (syntax_same c.args.locs.now all few))
+    (list_behind _ c.args.threads (remaining_texts c.args.self.now) (codes "[" ∷ c.sites.invariant.read.start)
+    c.sites.invariant.read.begun all rest listed) there (syntax_same c.args.locs.now all few))
 
 pub returns-in_err-take_either : goal.returns-in_err-take_either
 returns-in_err-take_either g c =
     let site = site_read g (goal.at.returns-in_err-take_either g c).In_ok-take_site in
-    refused _ _ _ c.from_residual-in_err-take_either.ensures.1 (λ ne all rest listed there few.
+    Err-clause_known _ _ _ c.from_residual-in_err-take_either.ensures.1 (λ ne all rest listed there few.
     read_no_mark c.sites.invariant.read _ _ site.stands c.in_err-take_either.ensures.1 c.in_err-take_either.ensures.0 all rest
-    (list_behind c.args.arch c.args.threads (left c.args.self.now) _ c.sites.invariant.read.begun all rest listed))
+    (list_behind c.args.arch c.args.threads (remaining_texts c.args.self.now) _ c.sites.invariant.read.begun all rest listed))
 
 pub returns-then-branch : goal.returns-then-branch
 returns-then-branch g c =
     let site = site_read g (goal.at.returns-then-branch g c).In_ok-take_site in
     let mark = rw c.if-branch.true at c.in_ok-take_either.ensures.0 in
-    let whole = read_last c.sites.invariant.read site (left c.take_either.new.self) mark in
+    let whole = read_last c.sites.invariant.read site (remaining_texts c.take_either.new.self) mark in
     rw c.in_ok-push.ensures.ok
     (record { is = inl whole.whole; there = whole.there; names_are = whole.names_are; within = whole.within })
 
@@ -86,7 +93,8 @@ pub sites-preserved : goal.sites-preserved
 sites-preserved g c =
     let site = site_read g (goal.at.sites-preserved g c).In_ok-take_site in
     let mark = rw c.if-branch.false at c.in_ok-take_either.ensures.0 in
-    rw c.in_ok-push.ensures.ok (record { read = read_more c.sites.invariant.read site (left c.take_either.new.self) mark })
+    rw c.in_ok-push.ensures.ok
+    (record { read = read_more c.sites.invariant.read site (remaining_texts c.take_either.new.self) mark })
 
 pub returns-in_err-push : goal.returns-in_err-push
 returns-in_err-push g c = ran_out _ _ _ c.from_residual-in_err-push.ensures.1

@@ -1,6 +1,6 @@
 use Rattle.lw_text.proofs.Common.{◌∙◌, sym}
 use Rattle.lw_text.proofs.PropositionCases.{terminal_refused, no_room, begins_right}
-use Rattle.lw_text.proofs.Faults.{ran_out, refused}
+use Rattle.lw_text.proofs.Faults.{ran_out, Err-clause_known}
 use Rattle.lw_text.proofs.cursor.Cursor.take_next_terminal.Goals as goal
 
 pub returns-then-not-branch : goal.returns-then-not-branch
@@ -14,7 +14,7 @@ returns-then-not-has_room g c = λ ne s rest is left few fits.
     no_room c.args.arch c.args.threads c.args.nodes _ rest s (sym c.has_room.ensures ∙ c.if-not-has_room.true) is fits
 
 pub returns-in_err-terminal : goal.returns-in_err-terminal
-returns-in_err-terminal g c = refused _ _ _ c.from_residual.ensures.1 (λ ne s rest is left few fits.
+returns-in_err-terminal g c = Err-clause_known _ _ _ c.from_residual.ensures.1 (λ ne s rest is left few fits.
     c.in_err-terminal.ensures ne s rest is (begins_right c.args.reader.now _ c.wants_part.ensures _ s left) few)
 
 pub returns-in_err-take : goal.returns-in_err-take

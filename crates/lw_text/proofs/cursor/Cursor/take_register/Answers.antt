@@ -1,5 +1,5 @@
 use Rattle.lw_text.proofs.Common.{codes, ◌∷◌, [], ◌∙◌, refl, ap}
-use Rattle.lw_text.proofs.Lists.{Leaves-join}
+use Rattle.lw_text.proofs.Lists.{IsSuffix-join}
 use Rattle.lw_text.proofs.cursor.Cursor.take_register.Goals as goal
 
 pub returns-in-Some : goal.returns-in-Some
@@ -9,5 +9,5 @@ returns-in-Some c = (
   c.in_ok-expect.ensures.ok ∙ ap (λ l. codes ":" ∷ l) c.in_ok-name.ensures.ok,
   c.in-Some.ensures,
   refl,
-  Leaves-join c.in_ok-expect.ensures.leaves (c.in_ok-name.name ∷ [], c.in_ok-name.ensures.token),
+  IsSuffix-join c.in_ok-expect.ensures.leaves (c.in_ok-name.name ∷ [], c.in_ok-name.ensures.token),
 )

@@ -1,13 +1,13 @@
 use Rattle.lw_text.proofs.Common.{◌∷◌, [], ◌∙◌, ap, sym, length, arith, length-append, map_push, length-map}
-use Rattle.lw_text.proofs.Common.{cells_texts, left}
-use Rattle.lw_text.proofs.Faults.{refused, ran_out}
+use Rattle.lw_text.proofs.Common.{cells_texts, remaining_texts}
+use Rattle.lw_text.proofs.Faults.{Err-clause_known, ran_out}
 use Rattle.lw_text.proofs.Cells.{Row-shorter, Rows-found, Rows-more, Rows-fault, Rows-many}
 use Rattle.lw_text.proofs.CellPlaces.{rows_more}
 use Rattle.lw_text.proofs.cursor.Cursor.take_rows.Goals as goal
 
 pub returns-then-at_stop : goal.returns-then-at_stop
 returns-then-at_stop g c = (
-  Rows-found c.args.threads _ (left c.rows.self) _ c.rows.invariant.passed (sym c.at_stop.ensures ∙ c.if-at_stop.true)
+  Rows-found c.args.threads _ (remaining_texts c.rows.self) _ c.rows.invariant.passed (sym c.at_stop.ensures ∙ c.if-at_stop.true)
       (omega (arith, c.rows.invariant.few, length-map c.rows.rows cells_texts)),
   c.rows.invariant.cut,
 )
@@ -19,7 +19,7 @@ returns-then-len-eq-MAX_ROWS g c =
     (omega (arith, c.if-len-eq-MAX_ROWS.true, c.len.ensures, length-map c.rows.rows cells_texts))
 
 pub returns-in_err-take_row : goal.returns-in_err-take_row
-returns-in_err-take_row g c = refused _ _ _ c.from_residual.ensures.1 (λ ne.
+returns-in_err-take_row g c = Err-clause_known _ _ _ c.from_residual.ensures.1 (λ ne.
     Rows-fault c.args.threads _ _ _ c.rows.invariant.passed (sym c.at_stop.ensures ∙ c.if-at_stop.false)
     (c.in_err-take_row.ensures ne))
 

@@ -1,8 +1,8 @@
-use Rattle.lw_text.proofs.Common.{◌≤◌, ◌∙◌, ap, length, arith, map_push, All-from_recursion, Token, placed}
-use Rattle.lw_text.proofs.Common.{placed_tokens}
-use Rattle.lw_text.proofs.Lists.{Chain-push}
+use Rattle.lw_text.proofs.Common.{◌≤◌, ◌∙◌, ap, length, arith, map_push, All-from_recursion, Token, with_span}
+use Rattle.lw_text.proofs.Common.{with_spans}
+use Rattle.lw_text.proofs.Lists.{ParsesMany-push}
 use Rattle.lw_text.proofs.Readings.{all_push}
-use Rattle.lw_text.proofs.TokenRows.{Placed, Read-done, Read-fault, Tokens-none, First-shorter}
+use Rattle.lw_text.proofs.TokenRows.{Placed, Read-done, Read-fault, Tokens-none, IsFirstToken-shorter}
 use Rattle.lw_text.proofs.token_stream.TokenStream.read.Goals as goal
 
 pub tokens-preserved : goal.tokens-preserved
@@ -16,8 +16,9 @@ tokens-preserved g c =
     record {
       same = c.in-Ok-Some.ensures.same ∙ same;
       row =
-          rw (c.in_ok-push-in-Ok-Some.ensures.ok, map_push placed before t)
-          (Chain-push (Placed len) _ _ _ next (placed t) c.tokens.invariant.row (f.0, omega (arith, f.1, ap length same)));
+          rw (c.in_ok-push-in-Ok-Some.ensures.ok, map_push with_span before t)
+          (ParsesMany-push (Placed len) _ _ _ next (with_span t) c.tokens.invariant.row
+          (f.0, omega (arith, f.1, ap length same)));
       within =
           rw c.in_ok-push-in-Ok-Some.ensures.ok
           (all_push (λ (t : Token). t.at ≤ len) before t c.tokens.invariant.within (omega (arith, f.1, ap length same)));
@@ -35,7 +36,7 @@ pub returns-in-Err : goal.returns-in-Err
 returns-in-Err g c =
     let len = length c.args.lexer.text.now in (
       (
-        Read-fault len (placed_tokens c.tokens.tokens) c.args.lexer.rest.now c.tokens.lexer.rest.now c.tokens.invariant.row
+        Read-fault len (with_spans c.tokens.tokens) c.args.lexer.rest.now c.tokens.lexer.rest.now c.tokens.invariant.row
             (Tokens-none _ c.in-Err.ensures.reads.0 c.in-Err.ensures.reads.1),
         omega (arith, c.in-Err.ensures.reads.2, ap length c.tokens.invariant.same),
       ),
@@ -43,4 +44,4 @@ returns-in-Err g c =
     )
 
 pub tokens-smaller : goal.tokens-smaller
-tokens-smaller g c = let f = rw c.in-Ok-Some.field-0-is at c.in-Ok-Some.ensures.reads in First-shorter _ _ _ f.0
+tokens-smaller g c = let f = rw c.in-Ok-Some.field-0-is at c.in-Ok-Some.ensures.reads in IsFirstToken-shorter _ _ _ f.0

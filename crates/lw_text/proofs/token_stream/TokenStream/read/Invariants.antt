@@ -1,11 +1,11 @@
-use Rattle.lw_text.proofs.Common.{◌≡◌, ◌≤◌, length, AllByRecursion, placed_tokens}
+use Rattle.lw_text.proofs.Common.{◌≡◌, ◌≤◌, length, AllByRecursion, with_spans}
 use Rattle.lw_text.proofs.TokenRows.{Read}
 use Rattle.lw_text.proofs.token_stream.TokenStream.read.Given as goal
 
 abbrev pub invariant-tokens : goal.invariant-tokens
 invariant-tokens g l = record {
   same : l.lexer.text.now ≡ l.fn.lexer.text.now;
-  row : Read (length l.fn.lexer.text.now) l.fn.lexer.rest.now (placed_tokens l.tokens) l.lexer.rest.now;
+  row : Read (length l.fn.lexer.text.now) l.fn.lexer.rest.now (with_spans l.tokens) l.lexer.rest.now;
   within : AllByRecursion (λ t. t.at ≤ length l.fn.lexer.text.now) l.tokens;
 }
 

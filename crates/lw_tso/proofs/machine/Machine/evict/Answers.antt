@@ -1,5 +1,5 @@
-use Rattle.lw_tso.proofs.Common.{◌<◌, ◌≤◌, ap, arith, Err, sym, subst, length, memory_of, Memory, Running}
-use Rattle.lw_tso.proofs.Common.{Answer, EventDone, NoLocation}
+use Rattle.lw_tso.proofs.Common.{◌<◌, ◌≤◌, ap, arith, Err, sym, subst, length, memory_of, Memory, MachineRun}
+use Rattle.lw_tso.proofs.Common.{EventResult, MachineTransition, NoLocation}
 use Rattle.lw_tso.proofs.Events.{Evicts, no_cpu, no_location, evicted, not_held, machine_evicts, state_of}
 use Rattle.lw_tso.proofs.machine.Machine.evict.Given.{Over}
 use Rattle.lw_tso.proofs.machine.Machine.evict.Goals.{After-location_count}
@@ -11,9 +11,9 @@ abbrev memory : (g : Over) → Memory g.row.M.Denot
 memory g = memory_of g.M.MemorySystem.content g.M.MemorySystem.state g.M.MemorySystem.serves
 
 -- The processor is there, so the machine evicts as its memory does.
-evicts : (g : Over) (c : After-location_count g) (n : g.row.M.Denot) (answer : Answer)
+evicts : (g : Over) (c : After-location_count g) (n : g.row.M.Denot) (answer : EventResult)
     → Evicts (memory g) c.self.inside.program.now.threads c.args.cpu c.args.loc c.self.inside.memory answer n
-    → EventDone (memory g) c.args.self.now.program (of.Evict c.args.cpu c.args.loc) c.args.self.now.state answer
+    → MachineTransition (memory g) c.args.self.now.program (of.Evict c.args.cpu c.args.loc) c.args.self.now.state answer
     (state_of c.self.inside.processors.items n)
 evicts g c n answer =
     let within : c.args.cpu < length c.self.inside.processors.items = omega (arith, c.len.ensures, c.index.ensures.value) in
@@ -29,8 +29,9 @@ pub returns-then-location_count-index-clause-done : goal.returns-then-location_c
 returns-then-location_count-index-clause-done g c =
     let past : length (g.M.MemorySystem.content c.self.inside.memory) ≤ c.args.loc =
     omega (arith, c.location_count.ensures.count, c.index-2.ensures.value) in
-    subst (EventDone (memory g) c.args.self.now.program (of.Evict c.args.cpu c.args.loc) c.args.self.now.state (Err NoLocation))
-    (ap (λ (r : Running g.row.M.Denot). r.state) c.self.view_is)
+    subst
+    (MachineTransition (memory g) c.args.self.now.program (of.Evict c.args.cpu c.args.loc) c.args.self.now.state (Err NoLocation))
+    (ap (λ (r : MachineRun g.row.M.Denot). r.state) c.self.view_is)
     (evicts g (goal.at.returns-then-location_count-index-clause-done g c).After-location_count c.self.inside.memory _
     (no_location (memory g) c.self.inside.program.now.threads c.args.cpu c.args.loc c.self.inside.memory past))
 

@@ -1,6 +1,6 @@
 use Rattle.lw_tso.proofs.Common.{◌≡◌, ◌≤◌, ◌++◌, ℕ, List, ap, ap₂, arith, drop, length, map, subst, sym, take}
 use Rattle.lw_tso.proofs.Common.{◌∙◌, append-nil, take_all, drop_all, invariant_of, memory_of, Processor}
-use Rattle.lw_tso.proofs.Common.{starting, MachineState, IsMachine}
+use Rattle.lw_tso.proofs.Common.{initial_processor, MachineState, IsReachableMachine}
 use Rattle.lw_tso.proofs.Starts.{machine_made, still_roomy}
 use Rattle.lw_tso.proofs.machine.Machine.restart.Goals as goal
 
@@ -34,9 +34,9 @@ invariant_of-self g c =
     let roomy = still_roomy program regs c.self.inside.processors.items now rooms c.self.invariant.whole in
     let made =
     machine_made _ regs mem inv locs m now c.restart.ensures.sound locations cpus (known.head.regs ∙ sym known.as_many)
-    (c.restart_all.ensures.start ∙ ap (map starting) c.as_slice.ensures) roomy in
+    (c.restart_all.ensures.start ∙ ap (map initial_processor) c.as_slice.ensures) roomy in
     let many = c.restart_all.auto.processors ∙ ap length c.deref_mut.ensures.value in
-    subst (IsMachine mem inv program locs m) (sym (all_written now _ many c.self.inside.processors.ok.0)) made
+    subst (IsReachableMachine mem inv program locs m) (sym (all_written now _ many c.self.inside.processors.ok.0)) made
 
 pub restart_all-requires : goal.restart_all-requires
 restart_all-requires g c =
@@ -60,7 +60,7 @@ returns-clause-state g c =
     let now = c.restart_all.new.processors in
     let many = c.restart_all.auto.processors ∙ ap length c.deref_mut.ensures.value in
     rw (all_written now before many c.self.inside.processors.ok.0, ← c.self.view_is)
-    (ap₂ state_of (c.restart_all.ensures.start ∙ ap (map starting) c.as_slice.ensures)
+    (ap₂ state_of (c.restart_all.ensures.start ∙ ap (map initial_processor) c.as_slice.ensures)
     (c.restart.ensures.start ∙ ap (g.M.MemorySystem.start (g.M.MemorySystem.cpus c.self.inside.memory)) c.as_slice-2.ensures))
 
 pub returns-clause-words : goal.returns-clause-words

@@ -1,4 +1,4 @@
-use Rattle.lw_tso.proofs.Common.{◌≡◌, length, take, memory_of, MachineRan}
+use Rattle.lw_tso.proofs.Common.{◌≡◌, length, take, memory_of, MachineRunsTo}
 use Rattle.lw_tso.proofs.machine.Machine.run.Given as goal
 
 abbrev pub invariant-loop-done : goal.invariant-loop-done
@@ -6,7 +6,7 @@ invariant-loop-done g l = record {
   program : l.self.program ≡ l.fn.self.program;
   initial : l.self.initial ≡ l.fn.self.initial;
   ran :
-      MachineRan (memory_of g.M.MemorySystem.content g.M.MemorySystem.state g.M.MemorySystem.serves) l.fn.self.program
+      MachineRunsTo (memory_of g.M.MemorySystem.content g.M.MemorySystem.state g.M.MemorySystem.serves) l.fn.self.program
       (take l.done l.events) l.fn.self.state l.self.state;
   processors : length l.self.state.processors ≡ length l.fn.self.state.processors;
   words : length (g.M.MemorySystem.content l.self.state.memory) ≡ length (g.M.MemorySystem.content l.fn.self.state.memory);

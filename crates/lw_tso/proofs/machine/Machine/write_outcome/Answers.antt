@@ -1,5 +1,5 @@
-use Rattle.lw_tso.proofs.Common.{ap, arith, length, map, sym, ◌∙◌, length-map, Final, memory_of, Running}
-use Rattle.lw_tso.proofs.Common.{processor_of}
+use Rattle.lw_tso.proofs.Common.{ap, arith, length, map, sym, ◌∙◌, length-map, FinalState, memory_of}
+use Rattle.lw_tso.proofs.Common.{MachineRun, processor_of}
 use Rattle.lw_tso.proofs.Events.{outcome_is}
 use Rattle.lw_tso.proofs.machine.Machine.write_outcome.Goals as goal
 
@@ -7,15 +7,15 @@ pub copy_registers-requires : goal.copy_registers-requires
 copy_registers-requires g c = omega (
   arith,
   c.requires.threads,
-  ap (λ (o : Final). length o.regs) c.outcome.view_is,
-  ap (λ (r : Running g.row.M.Denot). length r.state.processors) c.self.view_is,
+  ap (λ (o : FinalState). length o.regs) c.outcome.view_is,
+  ap (λ (r : MachineRun g.row.M.Denot). length r.state.processors) c.self.view_is,
   length-map c.self.inside.processors.items processor_of,
   ap length c.as_slice.ensures.value,
 )
 
 pub copy_content-requires : goal.copy_content-requires
 copy_content-requires g c =
-    ap (λ (o : Final). length o.words) c.outcome.view_is
+    ap (λ (o : FinalState). length o.words) c.outcome.view_is
     ∙ (c.requires.words ∙ sym (ap (λ r. length (g.M.MemorySystem.content r.state.memory)) c.self.view_is))
 
 pub returns : goal.returns

@@ -1,0 +1,5 @@
+use Rattle.lw_base.proofs.Common.{rules}
+use Rattle.lw_base.proofs.indices.Loc.index.Goals as goal
+
+pub returns-clause-value : goal.returns-clause-value
+returns-clause-value c = search rules

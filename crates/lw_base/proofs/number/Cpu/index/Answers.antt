@@ -1,5 +1,0 @@
-use Rattle.lw_base.proofs.Common.{rules}
-use Rattle.lw_base.proofs.number.Cpu.index.Goals as goal
-
-pub returns-clause-value : goal.returns-clause-value
-returns-clause-value c = search rules

@@ -1,8 +1,0 @@
-use Rattle.lw_base.proofs.Common.{sym, take-append-drop, common_steps, arith}
-use Rattle.lw_base.proofs.scan.front.Goals as goal
-
-pub returns-clause-parts : goal.returns-clause-parts
-returns-clause-parts c = rw (c.split_at.ensures.front, c.split_at.ensures.back) (sym (take-append-drop c.count-count.result _))
-
-pub returns-clause-longest : goal.returns-clause-longest
-returns-clause-longest c = grind (arith, common_steps)

@@ -1,0 +1,10 @@
+use Rattle.lw_bench.proofs.render.answer.Goals as goal
+
+pub returns-clause-made : goal.returns-clause-made
+returns-clause-made g c = c.render_text.ensures.found
+
+pub returns-clause-machine : goal.returns-clause-machine
+returns-clause-machine g c = c.every_test_has_its_program.ensures.there _
+
+pub returns-clause-caches : goal.returns-clause-caches
+returns-clause-caches g c = c.every_test_has_its_program.ensures.caches _

@@ -1,0 +1,21 @@
+use Rattle.lw_bench.proofs.Common.{inl, IfOk-weaker, IfErr-weaker, Err-clause_propagated, litmus_test_of}
+use Rattle.lw_bench.proofs.FaultTruths.{told_of_test}
+use Rattle.lw_bench.proofs.render.render_text.Goals as goal
+
+pub returns-in_err-test-clause-told : goal.returns-in_err-test-clause-told
+returns-in_err-test-clause-told g c = Err-clause_propagated _ _ c.from_residual.ensures.1 (inl c.in_err-test.ensures.told)
+
+pub returns-in_err-test-clause-device : goal.returns-in_err-test-clause-device
+returns-in_err-test-clause-device g c = Err-clause_propagated _ _ c.from_residual.ensures.1 c.in_err-test.ensures.device
+
+pub returns-clause-found : goal.returns-clause-found
+returns-clause-found g c =
+    IfOk-weaker c.render-made.result _ _
+    (λ x made. record { test = litmus_test_of c.in_ok-test.test; has_test = c.in_ok-test.ensures.found; is = made })
+    c.render-made.ensures.found
+
+pub returns-clause-told : goal.returns-clause-told
+returns-clause-told g c =
+    IfErr-weaker c.render-made.result _ _
+    (λ f told. told_of_test (g.O.Renderer.tells c.args.output.now) c.args.text.now _ f c.in_ok-test.ensures.found told)
+    c.render-made.ensures.told

@@ -1,5 +1,0 @@
-use Rattle.lw_cells.proofs.Common.{refl}
-use Rattle.lw_cells.proofs.column.DraftColumn.new.Goals as goal
-
-pub returns : goal.returns
-returns g c = record { cells = c.new.ensures; labels = λ n. rw c.new-2.ensures.empty refl; count = refl }

@@ -1,9 +1,0 @@
-use Rattle.lw_cells.proofs.Common.{take, NameTable, ColumnDrafted, grammar_of, draft_of}
-use Rattle.lw_cells.proofs.Resolved.{Resolved}
-use Rattle.lw_cells.proofs.column.resolve.Given as goal
-
-abbrev pub invariant-loop-row : goal.invariant-loop-row
-invariant-loop-row g l =
-    (before after : NameTable) (drafted : ColumnDrafted (grammar_of g.L.StatementReader.spelling)
-    (draft_of g.L.StatementReader.spelling) l.cells before l.column after)
-    → Resolved g.L.StatementReader.spelling after drafted.read.syntax (take l.row l.cells) l.code

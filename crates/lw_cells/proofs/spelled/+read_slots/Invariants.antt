@@ -1,6 +1,0 @@
-use Rattle.lw_cells.proofs.Common.{length}
-use Rattle.lw_cells.proofs.spelled.+read_slots.Given as goal
-
--- the slots that are left
-abbrev pub decreases-read_slots : goal.decreases-read_slots
-decreases-read_slots g l = length l.slots.now

@@ -1,7 +1,0 @@
-use Rattle.lw_cells.proofs.Common.{All, take}
-use Rattle.lw_cells.proofs.SlotTokens.{BeginsOtherwise}
-use Rattle.lw_cells.proofs.spelled.can_begin.Given as goal
-
-abbrev pub invariant-loop-form : goal.invariant-loop-form
-invariant-loop-form g l =
-    All (BeginsOtherwise g.L.StatementReader.spelling l.token.text.now) (take l.form-index g.L.StatementReader.spelling.forms)

@@ -1,7 +1,0 @@
-use Rattle.lw_cells.proofs.SlotTokens.{can_stand_alone}
-use Rattle.lw_cells.proofs.spelled.can_stand.Goals as goal
-
-pub returns : goal.returns
-returns g c =
-    rw c.is_some.ensures
-    (can_stand_alone g.L.StatementReader.spelling _ c.args.slot 0 c.nothing.result c.with_token.result c.with_token.ensures)

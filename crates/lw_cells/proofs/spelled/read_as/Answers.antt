@@ -1,5 +1,0 @@
-use Rattle.lw_cells.proofs.SlotTokens.{not_filled}
-use Rattle.lw_cells.proofs.spelled.read_as.Goals as goal
-
-pub returns-then-slots-tokens : goal.returns-then-slots-tokens
-returns-then-slots-tokens g c = not_filled g.L.StatementReader.spelling _ _ c.if-slots-tokens.true

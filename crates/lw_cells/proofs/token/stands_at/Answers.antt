@@ -1,8 +1,0 @@
-use Rattle.lw_cells.proofs.Common.{texts, at_index}
-use Rattle.lw_cells.proofs.FrontLabels.{sign_or_not, get_text}
-use Rattle.lw_cells.proofs.token.stands_at.Goals as goal
-
-pub returns : goal.returns
-returns c =
-    sign_or_not (texts c.args.tokens.now) c.args.index _ _ _
-    (get_text c.args.tokens.now c.args.index _ (at_index c.args.tokens.now c.args.index _ c.if-tokens-index.false)) c.eq.ensures

@@ -1,7 +1,0 @@
-use Rattle.lw_choices.proofs.Common.{◌≡◌, ◌++◌, drop, conflicts_with}
-use Rattle.lw_choices.proofs.conflicts.push_conflicts.Given as goal
-
-abbrev pub invariant-loop-second : goal.invariant-loop-second
-invariant-loop-second g l =
-    l.pairs.items ++ conflicts_with l.first (drop l.second-index l.later)
-    ≡ l.initial.pairs.items ++ conflicts_with l.first l.later

@@ -1,5 +1,0 @@
-use Rattle.lw_choices.proofs.Common.{◌≡◌, ◌+◌, take, sum_by, most_open, branches}
-use Rattle.lw_choices.proofs.few.has_few_branches.Given as goal
-
-abbrev pub invariant-loop-code : goal.invariant-loop-code
-invariant-loop-code g l = l.room + sum_by (branches g.S.Statement.language) (take l.code-index l.program) ≡ most_open

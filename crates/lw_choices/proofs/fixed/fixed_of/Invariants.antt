@@ -1,7 +1,0 @@
-use Rattle.lw_choices.proofs.Common.{◌≡◌, ◌++◌, drop, none_before, fixed_from}
-use Rattle.lw_choices.proofs.fixed.fixed_of.Given as goal
-
-abbrev pub invariant-loop-index : goal.invariant-loop-index
-invariant-loop-index g l =
-    l.pairs.items ++ fixed_from g.S.Statement.language l.program l.index l.before l.last (drop l.index l.items)
-    ≡ fixed_from g.S.Statement.language l.program 0 0 none_before l.items

@@ -1,7 +1,0 @@
-use Rattle.lw_choices.proofs.Common.{◌≡◌, ◌++◌, drop, path_items}
-use Rattle.lw_choices.proofs.items.push_path.Given as goal
-
-abbrev pub invariant-loop-position : goal.invariant-loop-position
-invariant-loop-position g l =
-    l.items.items ++ path_items g.S.Statement.language l.thread l.code (drop l.position-index l.path)
-    ≡ l.initial.items.items ++ path_items g.S.Statement.language l.thread l.code l.path

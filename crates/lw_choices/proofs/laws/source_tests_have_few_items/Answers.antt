@@ -1,5 +1,0 @@
-use Rattle.lw_choices.proofs.FewItems.{few_items}
-use Rattle.lw_choices.proofs.laws.source_tests_have_few_items.Goals as goal
-
-pub returns : goal.returns
-returns c = few_items

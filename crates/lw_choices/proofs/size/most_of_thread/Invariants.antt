@@ -1,6 +1,0 @@
-use Rattle.lw_choices.proofs.Common.{◌-◌, length}
-use Rattle.lw_choices.proofs.Sizes.{AreKnownFrom}
-use Rattle.lw_choices.proofs.size.most_of_thread.Given as goal
-
-abbrev pub invariant-loop-done : goal.invariant-loop-done
-invariant-loop-done g l = AreKnownFrom g.S.Statement.language l.stmts (length l.stmts - l.done) l.most

@@ -1,6 +1,0 @@
-use Rattle.lw_choices.proofs.Common.{suc, ◌+◌, ◌-◌, ◌*◌, length, most_threads, most_instructions, choice_of}
-use Rattle.lw_choices.proofs.visit.+visit_from.Given as goal
-
--- the threads whose paths are still to come, then the statements
-abbrev pub decreases-visit_from : goal.decreases-visit_from
-decreases-visit_from g l = suc most_instructions * (most_threads - length (choice_of l.choice)) + (most_instructions - l.at)

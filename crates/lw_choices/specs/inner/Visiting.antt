@@ -1,9 +1,0 @@
--- For readers of this crate, no public call cites it: what a visit of some choices comes to.
-use Rattle.std.specs.Prelude.{List, ℕ, Result, Ok, Err}
-use Rattle.lw_choices.specs.Visits.{Visited, Refused}
-
--- what a run of visits of some choices, from v to w, comes to: each of them is visited once, or one is refused with a cause
-abbrev pub Done : {V E : Type 0} → (V → List (List ℕ) → V → Type 0) → (V → List (List ℕ) → E → Type 0)
-    → List (List (List ℕ)) → V → Result (Unit {0}) E → V → Type 0
-Done visits refuses choices v (Ok u) w = Visited visits choices v w
-Done visits refuses choices v (Err e) w = Refused visits refuses choices v e

@@ -1,0 +1,56 @@
+use Rattle.lw_finals.proofs.Common.{◌≡◌, List, refl, arith, All-permutation, err_from_is_err_and}
+use Rattle.lw_finals.proofs.Common.{CollectsOutcomes, OutcomesOfChoice, OutcomesOfProgram, Gatherer}
+use Rattle.lw_finals.proofs.Common.{visit_refused, limit_told, VisitorView, GivesReasons, LimitFaultOfChoice}
+use Rattle.lw_finals.proofs.Gathering.{visits_gather, gathered_sorted}
+use Rattle.lw_finals.proofs.collect.list_program.Given.{Over}
+use Rattle.lw_finals.proofs.collect.list_program.Goals as goal
+
+-- the view of a gatherer, which counts nothing
+abbrev gathering : (g : Over)
+    → VisitorView g.row.S.Denot (Gatherer g.row.S.Denot g.row.A.Denot g.row.B.Denot g.row.R.Denot g.S.Statement)
+gathering g = record {
+  program = λ v. v.program.now;
+  count = λ v. 0;
+  visits = λ v paths w.
+      (w.program.now ≡ v.program.now)
+      × (g.R.OrderRunner.test w.runner.now ≡ g.R.OrderRunner.test v.runner.now)
+      × CollectsOutcomes
+      (OutcomesOfChoice g.S.Statement.language (g.R.OrderRunner.ends (g.R.OrderRunner.test v.runner.now)) v.program.now paths)
+      (g.R.OrderRunner.leads (g.R.OrderRunner.test v.runner.now)) v.found w.found;
+  refuses = λ v paths e. LimitFaultOfChoice g.S.Statement.language v.program.now 0 paths e;
+}
+
+gathers : (g : Over) → GivesReasons g.S.Statement.language (gathering g)
+gathers g = record { keeps = λ v paths w h. h.0; at_most = λ v paths w h. omega arith; why = λ v paths e h. h }
+
+pub returns-in_err-visit_choices-clause-err : goal.returns-in_err-visit_choices-clause-err
+returns-in_err-visit_choices-clause-err g c =
+    let p = err_from_is_err_and c.from_residual-in_err-visit_choices.result c.from_residual-in_err-visit_choices.ensures.1 in
+    let told =
+    visit_refused g.S.Statement.language (gathering g) c.args.program.now c.requires.forward (gathers g) _
+    c.in_err-visit_choices.field-0.0 refl refl c.in_err-visit_choices.ensures.err in
+    rw (p.1, p.2)
+    (limit_told g.S.Statement.language c.args.program.now c.requires.forward c.in_ok-check_limits.ensures.within.0 _ told)
+
+pub returns-clause-gathered : goal.returns-clause-gathered
+returns-clause-gathered g c =
+    let leads = g.R.OrderRunner.leads (g.R.OrderRunner.test c.args.runner.now) in
+    let gathered : CollectsOutcomes
+    (OutcomesOfProgram g.S.Statement.language (g.R.OrderRunner.ends (g.R.OrderRunner.test c.args.runner.now)) c.args.program.now)
+    leads c.new-2.result c.visit_choices.new.visitor.found =
+    visits_gather (List (List g.row.S.Denot) × g.R.OrderRunner.Test) (λ v. (v.program.now, g.R.OrderRunner.test v.runner.now))
+    (λ v. v.found) _ (λ t. OutcomesOfChoice g.S.Statement.language (g.R.OrderRunner.ends t.1) t.0)
+    (λ t. g.R.OrderRunner.leads t.1) (λ v paths w h. ((λ i. (h.0 i, h.1 i)), h.2))
+    (c.args.program.now, g.R.OrderRunner.test c.args.runner.now) _ _ _ refl c.in_ok-visit_choices.ensures.ok in
+    let from_none = rw c.new-2.ensures at gathered in
+    gathered_sorted leads _ _ _ _ c.in_ok-into_listing.ensures.same from_none
+    (All-permutation (λ e. leads e.1 e.0) _ _ c.in_ok-into_listing.ensures.same)
+
+pub returns-clause-within : goal.returns-clause-within
+returns-clause-within g c = c.in_ok-check_limits.ensures.within
+
+pub check_limits-requires : goal.check_limits-requires
+check_limits-requires g c = c.requires
+
+pub visit_choices-requires : goal.visit_choices-requires
+visit_choices-requires g c = c.requires

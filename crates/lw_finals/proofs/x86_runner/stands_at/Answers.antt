@@ -1,5 +1,0 @@
-use Rattle.lw_finals.proofs.X86Runners.{item_stands}
-use Rattle.lw_finals.proofs.x86_runner.stands_at.Goals as goal
-
-pub returns : goal.returns
-returns g c = search item_stands

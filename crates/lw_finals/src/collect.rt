@@ -1,0 +1,211 @@
+//! The outcomes of a program are gathered, choice by choice and order by order.
+ghost use Rattle.std.specs.Prelude.{◌≡◌, ◌<◌, ◌≤◌, true, List, [], length, All, Contains, IfOk, IfErr, OnOk};
+ghost use Rattle.lw_orders.specs.Limits.{most_items};
+ghost use Rattle.lw_paths.specs.Items.{constraints_of};
+ghost use Rattle.lw_paths.specs.declared.item.Item.{Item};
+ghost use Rattle.lw_paths.specs.Counts.{LimitFaultIsTrue, IsWithinLimits};
+ghost use Rattle.lw_paths.specs.Totals.{LimitFaultOfChoice, TellsOfGiven};
+ghost use Rattle.lw_finals.specs.inner.Collected.{RunResult, CollectsOutcomes, OutcomesOfOne, OutcomesOfItems, OutcomesOfChoice, OutcomesOfProgram};
+ghost use Rattle.lw_outcome_map.specs.Listings.{IsStrictlySorted, outcomes_of};
+ghost use Rattle.lw_paths.specs.Visits.{IsVisitable};
+
+use crate::runner::OrderRunner;
+use lw_base::Sequence;
+use lw_litmus::Statement;
+use lw_orders::{Order, Orders, one_order_goes_up};
+use lw_outcome_map::{Listing, OutcomeMap};
+use lw_paths::{
+    Item, ListFault, PathAssignment, Visitor, check_limits, conflicts_of, fill_few_items,
+    has_no_conflicts, reduced_constraints, visit_choices,
+};
+use std::alloc::{AllocError, Allocator};
+
+/// Runs an order of items, and adds its outcome with a schedule where it is new. An outcome that was found before costs a
+/// look-up.
+fn collect_order<A: Allocator, R: OrderRunner<A>>(
+    runner: &mut R,
+    items: &[Item],
+    order: &[u8],
+    found: &mut OutcomeMap<A>,
+) -> Result<(), AllocError>
+    requires { All (λ i. i < length items.now) order.now }
+    ensures same { R.test runner.new ≡ R.test runner.old }
+    ensures gathered { OnOk result
+        (CollectsOutcomes (R.ends (R.test runner.old) items.now order.now) (R.leads (R.test runner.old)) found.old found.new) }
+{
+    if !runner.run(items, order) || found.contains(runner.last_outcome()) {
+        return Ok(());
+    }
+    add_last_outcome(runner, items, order, found)
+}
+
+/// Adds the outcome of the order that was run last, which was not found before, with a schedule that leads to it.
+fn add_last_outcome<A: Allocator, R: OrderRunner<A>>(
+    runner: &R,
+    items: &[Item],
+    order: &[u8],
+    found: &mut OutcomeMap<A>,
+) -> Result<(), AllocError>
+    requires within { All (λ i. i < length items.now) order.now }
+    requires ran { RunResult (R.ends (R.test runner.now) items.now order.now) true (R.end runner.now) }
+    requires new { ¬ Contains (outcomes_of found.old) (R.end runner.now) }
+    ensures { OnOk result (CollectsOutcomes (R.ends (R.test runner.now) items.now order.now) (R.leads (R.test runner.now)) found.old found.new) }
+{
+    let (outcome, schedule) = runner.entry(items, order)?;
+    found.insert_new(outcome, schedule)
+}
+
+/// Runs each of these orders of items, and gathers what each ends with.
+fn collect_orders<A: Allocator, R: OrderRunner<A>>(
+    runner: &mut R,
+    items: &[Item],
+    orders: Orders<A>,
+    found: &mut OutcomeMap<A>,
+) -> Result<(), AllocError>
+    requires { All (λ o. All (λ i. i < length items.now) o) orders.to_come }
+    ensures same { R.test runner.new ≡ R.test runner.old }
+    ensures gathered { OnOk result (CollectsOutcomes
+        (OutcomesOfOne (R.ends (R.test runner.old) items.now) orders.to_come)
+        (R.leads (R.test runner.old)) found.old found.new) }
+{
+    for order in orders {
+        collect_order(runner, items, order.as_slice(), found)?;
+    }
+    Ok(())
+}
+
+/// Runs each order that is given for items. Where nothing conflicts, as may be known beforehand, there is one, and no pairs are
+/// made.
+fn collect_items<S: Statement, A: Allocator + Copy, B: Allocator, R: OrderRunner<A>>(
+    alloc: A,
+    program: &[Sequence<S, B>],
+    is_apart: bool,
+    runner: &mut R,
+    items: &[Item],
+    found: &mut OutcomeMap<A>,
+) -> Result<(), ListFault>
+    requires few { length items.now ≤ most_items }
+    requires apart { is_apart ≡ true → (constraints_of S.language program.now items.now).conflicts ≡ [] }
+    ensures same { R.test runner.new ≡ R.test runner.old }
+    ensures gathered { OnOk result (CollectsOutcomes
+        (OutcomesOfItems S.language (R.ends (R.test runner.old)) program.now items.now)
+        (R.leads (R.test runner.old)) found.old found.new) }
+    ensures err { IfErr result (TellsOfGiven S.language program.now items.now) }
+{
+    if is_apart {
+        return collect_single_order(program, runner, items, found);
+    }
+    let conflicts = conflicts_of(alloc, program, items)?;
+    if conflicts.is_empty() {
+        return collect_single_order(program, runner, items, found);
+    }
+    collect_conflicting(alloc, program, runner, items, conflicts, found)
+}
+
+/// Runs each order that is given for items with these conflicts, and gathers what each ends with.
+fn collect_conflicting<S: Statement, A: Allocator + Copy, B: Allocator, R: OrderRunner<A>>(
+    alloc: A,
+    program: &[Sequence<S, B>],
+    runner: &mut R,
+    items: &[Item],
+    conflicts: Vec<(u8, u8), A>,
+    found: &mut OutcomeMap<A>,
+) -> Result<(), ListFault>
+    requires few { length items.now ≤ most_items }
+    requires conflicts { conflicts.items ≡ (constraints_of S.language program.now items.now).conflicts }
+    ensures same { R.test runner.new ≡ R.test runner.old }
+    ensures gathered { OnOk result (CollectsOutcomes
+        (OutcomesOfItems S.language (R.ends (R.test runner.old)) program.now items.now)
+        (R.leads (R.test runner.old)) found.old found.new) }
+    ensures err { IfErr result (TellsOfGiven S.language program.now items.now) }
+{
+    let constraints = reduced_constraints(alloc, program, items, conflicts)?;
+    let Some(orders) = Orders::new(alloc, &constraints)? else {
+        return Err(ListFault::TooManyOrders);
+    };
+    collect_orders(runner, items, orders, found)?;
+    Ok(())
+}
+
+/// Runs the one order that is given for items of which none conflict.
+fn collect_single_order<S: Statement, A: Allocator, B: Allocator, R: OrderRunner<A>>(
+    program: &[Sequence<S, B>],
+    runner: &mut R,
+    items: &[Item],
+    found: &mut OutcomeMap<A>,
+) -> Result<(), ListFault>
+    requires few { length items.now ≤ most_items }
+    requires none { (constraints_of S.language program.now items.now).conflicts ≡ [] }
+    ensures same { R.test runner.new ≡ R.test runner.old }
+    ensures gathered { OnOk result (CollectsOutcomes
+        (OutcomesOfItems S.language (R.ends (R.test runner.old)) program.now items.now)
+        (R.leads (R.test runner.old)) found.old found.new) }
+    ensures err { IfErr result (TellsOfGiven S.language program.now items.now) }
+{
+    one_order_goes_up();
+    let order = Order::ascending(items.len());
+    collect_order(runner, items, order.as_slice(), found)?;
+    Ok(())
+}
+
+/// The outcomes of the choices visited so far.
+#[derive(Drop)]
+struct Gatherer<'a, 'r, S: Statement, A: Allocator, B: Allocator, R> {
+    alloc: A,
+    program: &'a [Sequence<S, B>],
+    // Whether it is known beforehand that nothing conflicts.
+    is_apart: bool,
+    items: Vec<Item, A>,
+    runner: &'r mut R,
+    found: OutcomeMap<A>,
+    ghost apart: { is_apart ≡ true → (items : List Item) → (constraints_of S.language program.now items).conflicts ≡ [] },
+}
+
+impl<'a, 'r, S: Statement, A: Allocator + Copy, B: Allocator, R: OrderRunner<A>> Visitor
+    for Gatherer<'a, 'r, S, A, B, R> {
+    type Fault = ListFault;
+
+    ghost visits = { λ v paths w. (w.program.now ≡ v.program.now) × (R.test w.runner.now ≡ R.test v.runner.now)
+        × CollectsOutcomes (OutcomesOfChoice S.language (R.ends (R.test v.runner.now)) v.program.now paths) (R.leads (R.test v.runner.now)) v.found w.found };
+
+    ghost refuses = { λ v paths e. LimitFaultOfChoice S.language v.program.now 0 paths e };
+
+    /// Makes the items of one choice, and gathers what its orders end with.
+    fn visit(&mut self, choice: &PathAssignment) -> Result<(), ListFault> {
+        fill_few_items(self.program, choice, &mut self.items)?;
+        collect_items(
+            self.alloc,
+            self.program,
+            self.is_apart,
+            self.runner,
+            self.items.as_slice(),
+            &mut self.found,
+        )
+    }
+}
+
+/// The list of the outcomes of a program: what the orders end with that are given for its choices.
+pub(crate) fn list_program<S: Statement, A: Allocator + Copy, B: Allocator, R: OrderRunner<A>>(
+    alloc: A,
+    program: &[Sequence<S, B>],
+    runner: &mut R,
+) -> Result<Listing<A>, ListFault>
+    requires { IsVisitable S.language program.now }
+    ensures within { OnOk result (IsWithinLimits S.language program.now) }
+    ensures err { IfErr result (LimitFaultIsTrue S.language program.now) }
+    ensures sorted { IfOk result (λ l. IsStrictlySorted l) }
+    ensures gathered { IfOk result (λ l. CollectsOutcomes
+        (OutcomesOfProgram S.language (R.ends (R.test runner.old)) program.now) (R.leads (R.test runner.old)) [] l) }
+{
+    check_limits(alloc, program)?;
+    let mut gatherer = Gatherer {
+        alloc,
+        program,
+        is_apart: has_no_conflicts(program),
+        items: Vec::new(alloc),
+        runner,
+        found: OutcomeMap::new(alloc),
+    };
+    visit_choices(program, &mut gatherer)?;
+    Ok(gatherer.found.into_listing()?)
+}

@@ -1,5 +1,0 @@
-use Rattle.lw_listing.proofs.api.Listings.{found}
-use Rattle.lw_listing.proofs.listing.Findings.contains.Goals as goal
-
-pub returns : goal.returns
-returns g c = rw (← c.self.view_is) (found c.self.inside.found.entries _ _ c.contains_key.ensures)

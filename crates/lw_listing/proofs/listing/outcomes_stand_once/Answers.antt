@@ -1,5 +1,0 @@
-use Rattle.lw_listing.proofs.api.Listings.{stands_once}
-use Rattle.lw_listing.proofs.listing.outcomes_stand_once.Goals as goal
-
-pub returns : goal.returns
-returns c entries i j outcome sorted at to = stands_once entries i j outcome sorted at to

@@ -1,0 +1,126 @@
+-- Caches go on keeping their protocol, cache line by cache line.
+use Rattle.lw_mesi.proofs.Common.{Vec, vec_len, map, Option, get_or-map, HasProtocolStates, cache_line_at}
+use Rattle.lw_mesi.proofs.Common.{ProtocolTable, ProtocolTransition, answer_to, cache_line_after_access}
+use Rattle.lw_mesi.proofs.Common.{Access, Ask, ◌≡◌, ℕ, suc, zero, ◌<◌, ◌≤◌, List, [], ◌∷◌, length, set}
+use Rattle.lw_mesi.proofs.Common.{get_or, Result, Ok, Err, is_ok, OnOk, OnErr, refl, sym, ap, ◌∙◌, subst}
+use Rattle.lw_mesi.proofs.Common.{arith, length-set, length-map, most_threads, most_locations, is_held}
+use Rattle.lw_mesi.proofs.Common.{Protocol, CacheLine, Caches, unheld_cache_line, copy_of, copy_state}
+use Rattle.lw_mesi.proofs.Common.{coherent_word, coherent_words, cache_line_evicted, LineSatisfiesProtocol}
+use Rattle.lw_mesi.proofs.Common.{SatisfiesProtocol, set_kept, kept_cache_line, evict_kept}
+
+-- Within a list it makes no difference what is said to stand past its end.
+any_default : {A : Type 0} (xs : List A) (i : ℕ) (c d : A) → i < length xs → get_or xs i c ≡ get_or xs i d
+any_default [] i c d lt = absurd (omega arith)
+any_default (x ∷ xs) zero c d lt = refl
+any_default (x ∷ xs) (suc i) c d lt = any_default xs i c d (omega arith)
+
+-- A location of the caches, and its index among the cache lines in memory.
+module _ {Z : Type 0} (now : Caches) (cpus : ℕ) (lines : Vec CacheLine Z) (x i : ℕ)
+    (same : (let m : Caches = record { cpus = cpus; cache_lines = lines.items } in m) ≡ now) (index : i ≡ x)
+    (loc : x < length (coherent_words now)) where
+  -- A cache line stands at the index.
+  pub line_there : i < vec_len lines
+  line_there =
+      omega (
+        arith,
+        loc,
+        index,
+        lines.ok.0,
+        ap (λ (k : Caches). length (coherent_words k)) same,
+        length-map lines.items coherent_word,
+      )
+
+  -- What is read of the cache line at the index is what the caches have at the location.
+  pub line_is : {Y : Type 0} (f : CacheLine → Y) (line : CacheLine)
+      → line ≡ get_or lines.items i line
+      → f line ≡ f (cache_line_at now.cache_lines x)
+  line_is f line found =
+      let there : i < length lines.items = omega (arith, line_there, lines.ok.0) in
+      let whole = ap (λ (m : Caches). cache_line_at m.cache_lines x) same in
+      ap f (found ∙ any_default lines.items i line (unheld_cache_line 0) there ∙ rw index whole)
+
+  -- The word that is read of the cache line at the index is the location's among all words of its kind.
+  pub word_is : (word : CacheLine → ℕ) (line : CacheLine)
+      → line ≡ get_or lines.items i line
+      → word line ≡ get_or (map word now.cache_lines) x 0
+  word_is word line found =
+      line_is word line found
+      ∙ sym (get_or-map word now.cache_lines x (unheld_cache_line 0) 0
+      (omega (arith, loc, length-map now.cache_lines coherent_word)))
+
+-- Caches m, which are those of now, keep a protocol; and a processor t that is there borrows the cache line of location x, at the index
+-- i: it is `before`.
+pub record Borrowed (p : Protocol) (m now : Caches) (t x i : ℕ) (before : CacheLine) : Type 0 where
+  pub same : m ≡ now
+  pub kept : SatisfiesProtocol p m
+  pub few : length m.cache_lines ≤ most_locations
+  pub cpu : t < now.cpus
+  pub loc : x < length (coherent_words now)
+  pub index : i ≡ x
+  pub found : before ≡ get_or m.cache_lines i before
+
+module _ (p : Protocol) (m now : Caches) (t x i : ℕ) (before : CacheLine) (borrowed : Borrowed p m now t x i before) where
+  index_there : i < length m.cache_lines
+  index_there = omega (
+    arith,
+    borrowed.loc,
+    borrowed.index,
+    ap (λ (k : Caches). length (coherent_words k)) borrowed.same,
+    length-map m.cache_lines coherent_word,
+  )
+
+  cpu_there : t < most_threads
+  cpu_there = omega (arith, borrowed.cpu, borrowed.kept.coherent.few, ap (λ (k : Caches). k.cpus) borrowed.same)
+
+  -- It is a kept cache line.
+  before_kept : LineSatisfiesProtocol p before
+  before_kept =
+      subst (LineSatisfiesProtocol p) (any_default m.cache_lines i (unheld_cache_line 0) before index_there ∙ sym borrowed.found)
+      (kept_cache_line p m i borrowed.kept index_there)
+
+  -- The borrowed cache line is in states of the protocol.
+  pub before_states : HasProtocolStates p before
+  before_states = before_kept.states
+
+  -- An access of the location that is served in the borrowed cache line is served by the caches.
+  pub served : (table : ProtocolTable) (access : Access) (a : Option ℕ) (after : CacheLine)
+      → a ≡ answer_to table t access before
+      → after ≡ cache_line_after_access table t access before
+      → ProtocolTransition table now (Ask t x access) a (record { cpus = m.cpus; cache_lines = set m.cache_lines i after })
+  served table access a after answers is =
+      let was : before ≡ cache_line_at now.cache_lines x =
+      borrowed.found
+      ∙ any_default m.cache_lines i before (unheld_cache_line 0) index_there
+      ∙ rw (borrowed.index, borrowed.same) refl in
+      record {
+        there = (borrowed.cpu, omega (arith, borrowed.loc, length-map now.cache_lines coherent_word));
+        possible = tt;
+        answer = answers ∙ ap (answer_to table t access) was;
+        cache_lines = rw (is, was, borrowed.index, borrowed.same) refl;
+      }
+
+  -- Where `after`, which the borrowed cache line becomes, keeps the protocol, so do the caches with that in its place.
+  pub still_kept : (after : CacheLine)
+      → (t < most_threads → LineSatisfiesProtocol p before → LineSatisfiesProtocol p after)
+      → (length (set m.cache_lines i after) ≤ most_locations)
+      × SatisfiesProtocol p (record { cpus = m.cpus; cache_lines = set m.cache_lines i after })
+  still_kept after keeps = (
+    omega (arith, length-set m.cache_lines i after, borrowed.few),
+    set_kept p m i after borrowed.kept index_there (keeps cpu_there before_kept),
+  )
+
+-- What an eviction that is answered so makes of a cache line: processor t's copy is given up if it is held, and else all stays.
+pub record EvictedIfHeld {E : Type 0} (r : Result (Unit {0}) E) (t : ℕ) (before after : CacheLine) : Type 0 where
+  pub held : is_ok r ≡ is_held (copy_state (copy_of before t))
+  pub ok : OnOk r (after ≡ cache_line_evicted t before)
+  pub err : OnErr r (after ≡ before)
+
+-- A cache line that keeps a protocol keeps it after an eviction, whether that succeeds or is refused.
+pub still_evicted : {E : Type 0} (p : Protocol) (r : Result (Unit {0}) E) (t : ℕ) (before after : CacheLine)
+    → t < most_threads
+    → LineSatisfiesProtocol p before
+    → EvictedIfHeld r t before after
+    → LineSatisfiesProtocol p after
+still_evicted p (Ok a) t before after lt s evicted =
+    subst (LineSatisfiesProtocol p) (sym evicted.ok) (evict_kept p t before lt s (sym evicted.held))
+still_evicted p (Err e) t before after lt s evicted = subst (LineSatisfiesProtocol p) (sym evicted.err) s

@@ -1,0 +1,368 @@
+-- Where the search stands: where it begins, one step of it, and how many directions one call tries.
+use Rattle.lw_orders.proofs.Common.{most_items, ℕ, zero, suc, ◌≡◌, ◌+◌, ◌-◌, ◌*◌, ◌<◌, ◌≤◌, List, [], ◌∷◌}
+use Rattle.lw_orders.proofs.Common.{◌++◌, length, get_or, take, replicate, ap, sym, ◌∙◌, refl, subst, inl}
+use Rattle.lw_orders.proofs.Common.{inr, arith, ◌⊎◌, All, Bool, true, false, cond, Option, Some, None}
+use Rattle.lw_orders.proofs.Common.{unwrap_or, append_assoc, append-nil, length-set, take_all, take-take}
+use Rattle.lw_orders.proofs.Common.{length-take-le, get_or-set_same, get_or-set_other, get_or-take, cases_eq}
+use Rattle.lw_orders.proofs.Common.{cases_lt, take-set, take_more, take_more_set, take-set-le, get_or_past}
+use Rattle.lw_orders.proofs.Common.{get_or-replicate, length-replicate, All-append, All-cons, All-nil}
+use Rattle.lw_orders.proofs.Common.{All-drop, All-head, All-tail, Respects, All-push, lowest_order}
+use Rattle.lw_orders.proofs.Common.{AreInRange, has, reaches_in, ArePredecessors, EdgesAreIn, AreNeighbours}
+use Rattle.lw_orders.proofs.Common.{Reaches, IsAcyclicClosure, SearchState, reverse_if, TurnedLast, oriented}
+use Rattle.lw_orders.proofs.Common.{search_from, after_ways, from_ways, IsTaken, pair_at, reach}
+use Rattle.lw_orders.proofs.Common.{CanBeSearched, IsSearchState, HasSearchTables, remaining_orders}
+use Rattle.lw_orders.proofs.SearchTree.{oriented-push, from-down, after-on, after-true, from-all, from-none}
+use Rattle.lw_orders.proofs.Walks.{closes_anti}
+use Rattle.lw_orders.proofs.GrowingClosure.{closes_start, IsAcyclicClosure-more, cycle_none, closed_has_order}
+use Rattle.lw_orders.proofs.api.Complete.{All-parts, IsWithin, IsUp, keeps_parts}
+
+-- How many directions one call has tried, with k open pairs: never more than 3 * k. At first it may go up, from one turned
+-- pair that closes a cycle to another before it, so that one direction was tried for each pair that it left. From the
+-- first direction taken it goes down, and tries at most two for each pair: where the first closes a cycle, the other
+-- doesn't.
+abbrev pub Phase : List (ℕ × ℕ) → SearchState → Option ℕ → ℕ → Type 0
+Phase undecided s None tried = tried ≤ 3 * length undecided
+Phase undecided s (Some level) tried =
+    ((get_or s.ways level false ≡ true) × (tried + level + 1 ≤ length undecided))
+    ⊎ ((tried ≤ length undecided + 2 * level + cond (get_or s.ways level false) 1 0)
+    × (get_or s.ways level false ≡ true
+    → reach s.saved level (get_or undecided level (0, 0)).1 (get_or undecided level (0, 0)).0 ≡ true))
+
+-- ---- behind some ways
+module _ (ways : List Bool) (ps : List (ℕ × ℕ)) (long : length ways ≡ length ps) where
+  way_more : (k : ℕ) (w : Bool) → k < length ps → get_or ways k false ≡ w → take (k + 1) ways ≡ take k ways ++ w ∷ []
+  way_more k w l e = take_more ways k false (omega (arith, long)) ∙ ap (λ v. take k ways ++ v ∷ []) e
+
+  long_upto : (k : ℕ) → k ≤ length ps → length (take k ways) ≡ k
+  long_upto k l = length-take-le k ways (omega (arith, long))
+
+module _ (n : ℕ) (g ps : List (ℕ × ℕ)) (ways : List Bool) (long : length ways ≡ length ps) where
+  -- the orders that come behind those that begin with the first k ways
+  abbrev behind : ℕ → List (List ℕ)
+  behind k = after_ways n g ps (take k ways)
+
+  -- behind a pair that is turned comes what comes behind the pairs before it
+  behind_turned : (k : ℕ) → k < length ps → get_or ways k false ≡ true → behind (k + 1) ≡ behind k
+  behind_turned k l on =
+      ap (after_ways n g ps) (way_more ways ps long k true l on)
+      ∙ after-true n g ps (take k ways) (omega (arith, long_upto ways ps long k (omega arith)))
+
+  -- and so with d pairs that are turned
+  after_turned : (d from upto : ℕ)
+      → from + d ≡ upto
+      → upto ≤ length ps
+      → ((k : ℕ) → from ≤ k → k < upto → get_or ways k false ≡ true)
+      → behind upto ≡ behind from
+  after_turned zero from upto e l all = let same : upto ≡ from = omega arith in ap behind same
+  after_turned (suc d) from upto e l all =
+      after_turned d (from + 1) upto (omega arith) l (λ k a b. all k (omega arith) b)
+      ∙ behind_turned from (omega arith) (all from (omega arith) (omega arith))
+
+  -- When of the first `upto` ways the last that is not turned is turned, the orders still to come are those that came behind all
+  -- that begin with these ways: the ways behind it were turned.
+  pub left_on : (next : List Bool) (upto : ℕ) (found : Option ℕ)
+      → upto ≤ length ps
+      → TurnedLast ways next upto found
+      → remaining_orders found n g ps next ≡ behind upto
+  left_on next upto None l (same, all) = sym (after_turned upto 0 upto (omega arith) l (λ k a b. all k b))
+  left_on next upto (Some i) l (li, off, is, on) =
+      let now : take (i + 1) next ≡ take i ways ++ true ∷ [] =
+      ap (take (i + 1)) is ∙ take_more_set ways i true (omega (arith, li, l, long)) in
+      let was : take (i + 1) ways ≡ take i ways ++ false ∷ [] = way_more ways ps long i false (omega (arith, li, l)) off in
+      let other_way : after_ways n g ps (take i ways ++ false ∷ []) ≡ from_ways n g ps (take i ways ++ true ∷ []) =
+      after-on n g ps (take i ways) (omega (arith, li, l, long_upto ways ps long i (omega (arith, li, l)))) in
+      let rest_turned : behind upto ≡ behind (i + 1) =
+      after_turned (upto - (i + 1)) (i + 1) upto (omega (arith, li)) l (λ k a b. on k (omega arith) b) in
+      ap (from_ways n g ps) now ∙ (sym other_way ∙ (sym (ap (after_ways n g ps) was) ∙ sym rest_turned))
+
+-- ---- the search stands
+
+-- the first directed pairs are those of the first ways
+take-oriented : (i : ℕ) (ps : List (ℕ × ℕ)) (ws : List Bool) → oriented ps (take i ws) ≡ take i (oriented ps ws)
+take-oriented zero [] ws = refl
+take-oriented zero (p ∷ ps) ws = refl
+take-oriented (suc i) [] ws = refl
+take-oriented (suc i) (p ∷ ps) [] = refl
+take-oriented (suc i) (p ∷ ps) (w ∷ ws) = ap (λ xs. reverse_if w p ∷ xs) (take-oriented i ps ws)
+
+-- what holds of each pair both ways round holds of the pairs as they are directed
+All-oriented : (P : ℕ × ℕ → Type 0) (ps : List (ℕ × ℕ)) (ws : List Bool)
+    → All (λ p. P p × P (p.1, p.0)) ps
+    → All P (oriented ps ws)
+All-oriented P [] ws all = All-nil P
+All-oriented P (p ∷ ps) [] all = All-nil P
+All-oriented P (p ∷ ps) (w ∷ ws) all =
+    All-cons P (reverse_if w p) _ (one w (All-head (λ p. P p × P (p.1, p.0)) p ps all))
+    (All-oriented P ps ws (All-tail (λ p. P p × P (p.1, p.0)) p ps all))
+  where
+    one : (w : Bool) → P p × P (p.1, p.0) → P (reverse_if w p)
+    one false h = h.0
+    one true h = h.1
+
+-- when the last way that is not turned is turned, the ways before it stay as they were, and all are as many
+turned_upto : (ways next : List Bool) (upto : ℕ) (found : Option ℕ)
+    → TurnedLast ways next upto found
+    → (length next ≡ length ways)
+    × (take (unwrap_or found 0) next ≡ take (unwrap_or found 0) ways)
+    × (unwrap_or found 0 ≤ upto - 1)
+turned_upto ways next upto None (same, all) = (ap length same, ap (take 0) same, omega arith)
+turned_upto ways next upto (Some i) (li, off, is, on) =
+    (ap length is ∙ length-set ways i true, ap (take i) is ∙ take-set ways i true, omega arith)
+
+module _ {len : ℕ} {fixed undecided : List (ℕ × ℕ)} {s : SearchState} {level : ℕ}
+    (st : IsSearchState len fixed undecided s level) where
+  -- when the last way that is not turned is turned, the search stands at that pair
+  pub IsSearchState-on : (next : List Bool) (upto : ℕ) (found : Option ℕ)
+      → upto ≤ level + 1
+      → TurnedLast s.ways next upto found
+      → IsSearchState len fixed undecided (record { ways = next; chosen = s.chosen; saved = s.saved }) (unwrap_or found 0)
+  IsSearchState-on next upto found l turn =
+      let (long, same, low) = turned_upto s.ways next upto found turn in
+      let i : ℕ = unwrap_or found 0 in
+      record {
+        can = st.can;
+        ways_long = long ∙ st.ways_long;
+        chosen_long = st.chosen_long;
+        saved_long = st.saved_long;
+        level_in = omega (arith, low, st.level_in);
+        ways_chosen =
+            sym (take-take i level s.chosen (omega (arith, low)))
+            ∙ (ap (take i) st.ways_chosen
+            ∙ (sym (take-oriented i undecided (take level s.ways))
+            ∙ ap (oriented undecided) (take-take i level s.ways (omega (arith, low)) ∙ sym same)));
+        closed = λ k lk. st.closed k (omega (arith, lk, low));
+      }
+
+  -- at a leaf all directions are chosen: there is the one order, and then what comes behind it
+  module _ (leaf : level ≡ length undecided) where
+    all_chosen : take level s.chosen ≡ s.chosen
+    all_chosen = take_all level s.chosen (omega (arith, st.chosen_long, leaf))
+
+    all_ways : (k : ℕ) → level ≤ k → take k s.ways ≡ s.ways
+    all_ways k l = take_all k s.ways (omega (arith, st.ways_long, leaf))
+
+    chosen_directed : s.chosen ≡ oriented undecided s.ways
+    chosen_directed = sym all_chosen ∙ (st.ways_chosen ∙ ap (oriented undecided) (all_ways _ (omega arith)))
+
+    pub leaf_closes : IsAcyclicClosure len (fixed ++ s.chosen) (reaches_in (get_or s.saved level []))
+    leaf_closes = rw all_chosen at (st.closed level (omega arith))
+
+    pub chosen_within : AreInRange len s.chosen
+    chosen_within = (All-parts (IsWithin len) fixed s.chosen leaf_closes.within).1
+
+    pub leaf_neighbours : (neighbours : List ℕ)
+        → EdgesAreIn fixed neighbours
+        → AreNeighbours undecided neighbours
+        → EdgesAreIn (fixed ++ s.chosen) neighbours
+    leaf_neighbours neighbours into both =
+        All-append (λ p. reaches_in neighbours p.0 p.1 ≡ true) fixed s.chosen into
+        (rw chosen_directed (All-oriented (λ p. reaches_in neighbours p.0 p.1 ≡ true) undecided s.ways both))
+
+    pub at_leaf : (o : List ℕ)
+        × (lowest_order len (fixed ++ s.chosen) ≡ Some o)
+        × (from_ways len fixed undecided (take (level + 1) s.ways) ≡ o ∷ after_ways len fixed undecided (take level s.ways))
+    at_leaf =
+        let (o, h) = closed_has_order leaf_closes in (
+          o,
+          h,
+          rw (all_ways level (omega arith), all_ways (level + 1) (omega arith))
+              (from-all len fixed undecided s.ways o st.ways_long
+              (ap (λ cs. lowest_order len (fixed ++ cs)) (sym chosen_directed) ∙ h)),
+        )
+
+  -- at a pair
+  module _ (below : level < length undecided) where
+    abbrev p : ℕ × ℕ
+    p = pair_at undecided s.ways level
+
+    p_within : (p.0 < len) × (p.1 < len)
+    p_within = let (a, b) = st.can.undecided_up level (0, 0) below in grind arith
+
+    long_here : length (take level s.ways) ≡ level
+    long_here = long_upto s.ways undecided st.ways_long level st.level_in
+
+    way_chosen : oriented undecided (take (level + 1) s.ways) ≡ take level s.chosen ++ p ∷ []
+    way_chosen =
+        ap (oriented undecided) (way_more s.ways _ st.ways_long level (get_or s.ways level false) below refl)
+        ∙ (oriented-push _ _ _ (0, 0) (omega (arith, long_here)) ∙ rw (long_here, st.ways_chosen) refl)
+
+    graph_is : fixed ++ oriented undecided (take (level + 1) s.ways) ≡ (fixed ++ take level s.chosen) ++ p ∷ []
+    graph_is = ap (λ ds. fixed ++ ds) way_chosen ∙ sym (append_assoc fixed (take level s.chosen) (p ∷ []))
+
+    -- a direction that closes a cycle: no order has both, and nothing is under it
+    pub given_up : reach s.saved level p.1 p.0 ≡ true
+        → from_ways len fixed undecided (take (level + 1) s.ways) ≡ after_ways len fixed undecided (take (level + 1) s.ways)
+    given_up back =
+        from-none len fixed undecided (take (level + 1) s.ways)
+        (omega (arith, long_upto s.ways undecided st.ways_long (level + 1) (omega (arith, below))))
+        (rw graph_is (All-push (IsWithin len) (fixed ++ take level s.chosen) p here.within p_within))
+        (All-drop (IsUp len) (length (take (level + 1) s.ways)) undecided st.can.undecided_up)
+        (λ o keeps. no_order o (rw graph_is at keeps))
+      where
+        here : IsAcyclicClosure len (fixed ++ take level s.chosen) (reach s.saved level)
+        here = st.closed level (omega arith)
+
+        no_order : (o : List ℕ) → Respects ((fixed ++ take level s.chosen) ++ p ∷ []) o → ⊥
+        no_order o keeps =
+            let (graph, pair) = keeps_parts (fixed ++ take level s.chosen) p o keeps in
+            cycle_none p.0 p.1 p_within.0 p_within.1 here back o graph pair
+
+    module _ {next : SearchState} (taken : IsTaken len p level s next) where
+      -- a direction that closes none: the search stands at the next pair
+      pub IsSearchState-down : reach s.saved level p.1 p.0 ≡ false → IsSearchState len fixed undecided next (level + 1)
+      IsSearchState-down free = record {
+        can = st.can;
+        ways_long = taken.long ∙ st.ways_long;
+        chosen_long = ap length taken.chosen ∙ (length-set s.chosen level p ∙ st.chosen_long);
+        saved_long = ap length taken.saved ∙ (length-set s.saved (level + 1) (get_or next.saved (level + 1) []) ∙ st.saved_long);
+        level_in = omega (arith, below);
+        ways_chosen = chosen_now ∙ (sym way_chosen ∙ ap (oriented undecided) (sym taken.before));
+        closed = λ i li. elim (cases_eq i (level + 1)) [
+          | inl q ↦
+              rw (q, chosen_now, ← append_assoc fixed (take level s.chosen) (p ∷ []))
+              (IsAcyclicClosure-more p.0 p.1 p_within.0 p_within.1 (st.closed level (omega arith)) free taken.reached)
+          | inr n ↦
+              (let was = ap (take i) taken.chosen ∙ take-set-le i s.chosen level p (omega arith) in
+              let set_of =
+              ap (λ xs. get_or xs i []) taken.saved
+              ∙ get_or-set_other s.saved (level + 1) i (get_or next.saved (level + 1) []) [] n in
+              subst (λ xs. IsAcyclicClosure len (fixed ++ take i next.chosen) (reaches_in xs)) (sym set_of)
+              (rw was (st.closed i (omega arith))))
+        ];
+      }
+        where
+          chosen_now : take (level + 1) next.chosen ≡ take level s.chosen ++ p ∷ []
+          chosen_now = ap (take (level + 1)) taken.chosen ∙ take_more_set s.chosen level p (omega (arith, st.chosen_long, below))
+
+      pub left_down : from_ways len fixed undecided (take (level + 1) s.ways)
+          ≡ from_ways len fixed undecided (take (level + 1 + 1) next.ways)
+      left_down = elim (cases_lt (level + 1) (length undecided)) [
+        | inl l ↦
+            from-down len fixed undecided (take (level + 1) s.ways)
+            (omega (arith, long_upto s.ways undecided st.ways_long (level + 1) (omega arith)))
+            ∙ ap (from_ways len fixed undecided)
+            (ap (λ ws. ws ++ false ∷ []) (sym taken.before)
+            ∙ sym (way_more next.ways undecided (taken.long ∙ st.ways_long) (level + 1) false l taken.behind))
+        | inr g ↦
+            ap (from_ways len fixed undecided)
+            (sym (take_all (level + 1 + 1) next.ways (omega (arith, st.ways_long, taken.long))
+            ∙ (sym (take_all (level + 1) next.ways (omega (arith, st.ways_long, taken.long))) ∙ taken.before)))
+      ]
+
+    -- ---- the count of what was tried: not both ways round close a cycle
+    both_closed : reach s.saved level (get_or undecided level (0, 0)).1 (get_or undecided level (0, 0)).0 ≡ true
+        → reach s.saved level (get_or undecided level (0, 0)).0 (get_or undecided level (0, 0)).1 ≡ true
+        → ⊥
+    both_closed x y =
+        let (a, b) = st.can.undecided_up level (0, 0) below in
+        omega (arith, closes_anti (st.closed level (omega arith)) _ _ (omega arith) b y x)
+
+    module _ (tried : ℕ) (ph : Phase undecided s (Some level) tried) where
+      pub phase_on : (way : Bool) (next : List Bool) (found : Option ℕ)
+          → get_or s.ways level false ≡ way
+          → reach s.saved level (reverse_if way (get_or undecided level (0, 0))).1
+          (reverse_if way (get_or undecided level (0, 0))).0
+          ≡ true
+          → TurnedLast s.ways next (level + 1) found
+          → Phase undecided (record { ways = next; chosen = s.chosen; saved = s.saved }) found (tried + 1)
+      phase_on false next None e back (same, all) = cc (all level (omega arith))
+      phase_on true next None e back (same, all) =
+          elim ph [ inl a ↦ omega (arith, a.1) | inr b ↦ absurd (both_closed (b.1 e) back) ]
+      phase_on true next (Some i) e back (li, off, is, on) =
+          let ne : i ≡ level → ⊥ = λ q. cc (e, off, q) in
+          inl (
+            ap (λ ws. get_or ws i false) is ∙ get_or-set_same s.ways i true false (omega (arith, li, below, st.ways_long)),
+            elim ph [ inl a ↦ omega (arith, a.1, li, ne) | inr b ↦ absurd (both_closed (b.1 e) back) ],
+          )
+      phase_on false next (Some i) e back (li, off, is, on) = elim (cases_eq i level) [
+        | inl q ↦ inr (
+          rw (is, get_or-set_same s.ways i true false (omega (arith, li, below, st.ways_long)), q)
+              (elim ph [ inl a ↦ cc (a.0, e) | inr b ↦ omega (arith, rw e at b.0) ]),
+          λ _. rw q back,
+        )
+        | inr n ↦ cc (on level (omega arith) (omega arith))
+      ]
+
+      pub phase_down : (next : SearchState)
+          → get_or next.ways (level + 1) false ≡ false
+          → Phase undecided next (Some (level + 1)) (tried + 1)
+      phase_down next off = inr (rw off (elim ph [ inl a ↦ omega (arith, a.1) | inr b ↦ grind (arith, b.0) ]), λ t. cc (off, t))
+
+  -- a call has tried at most three directions for each open pair
+  pub tried_le : (tried : ℕ) → Phase undecided s (Some level) tried → tried ≤ 3 * length undecided
+  tried_le tried (inl a) = omega (arith, a.1)
+  tried_le tried (inr b) = elim (cases_lt level (length undecided)) [
+    | inl lt ↦ grind (arith, b.0)
+    | inr ge ↦ omega (arith, rw (get_or_past s.ways level false (omega (arith, st.ways_long))) at b.0, st.level_in)
+  ]
+
+-- ---- where it begins
+
+-- before the first step all orders of the search are to come
+pub start_left : (n : ℕ) (fixed undecided : List (ℕ × ℕ)) (ways : List Bool)
+    → length ways ≡ length undecided
+    → get_or ways 0 false ≡ false
+    → from_ways n fixed undecided (take (0 + 1) ways) ≡ search_from n fixed undecided
+start_left n fixed [] [] long off = refl
+start_left n fixed (p ∷ ps) [] long off = refl
+start_left n fixed [] (w ∷ ways) long off = refl
+start_left n fixed (p ∷ ps) (w ∷ ways) long off =
+    ap (λ v. from_ways n fixed (p ∷ ps) (v ∷ [])) off ∙ sym (from-down n fixed (p ∷ ps) [] (omega arith))
+
+-- of ways that are all not turned the first is not
+pub none_turned : (n : ℕ) → get_or (replicate n false) 0 false ≡ false
+none_turned zero = refl
+none_turned (suc n) = refl
+
+-- at its beginning the search stands at the first pair, none of them turned
+pub IsSearchState-start : {len : ℕ} {fixed undecided : List (ℕ × ℕ)} {s : SearchState} (sets : List ℕ) (k : ℕ)
+    → CanBeSearched len fixed undecided
+    → k ≡ length undecided
+    → s.ways ≡ replicate k false
+    → s.chosen ≡ undecided
+    → s.saved ≡ replicate (k + 1) sets
+    → Reaches len fixed (reaches_in sets)
+    → IsSearchState len fixed undecided s 0
+IsSearchState-start {len = len} {fixed = fixed} {undecided = undecided} {s = s} sets k can kl w c sv reaches = record {
+  can = can;
+  ways_long = ap length w ∙ (length-replicate k false ∙ kl);
+  chosen_long = ap length c;
+  saved_long = ap length sv ∙ (length-replicate (k + 1) sets ∙ ap (λ n. n + 1) kl);
+  level_in = omega arith;
+  ways_chosen = sym (take-oriented 0 undecided s.ways);
+  closed =
+      λ i li. (let e : i ≡ 0 = omega arith in rw (e, append-nil fixed) (rw (← first) at (closes_start can.fixed_up reaches)));
+}
+  where
+    first : get_or s.saved 0 [] ≡ sets
+    first = ap (λ xs. get_or xs 0 []) sv ∙ get_or-replicate (k + 1) 0 sets [] (omega arith)
+
+-- How the code makes the tables of a search: two copies of `sets`, the predecessors by the fixed pairs; and of `all`, the
+-- neighbours by the fixed and the open pairs, those of the first `len` items.
+pub record TablesAreMade (len : ℕ) (fixed undecided : List (ℕ × ℕ)) (tables : List (List ℕ))
+    (neighbours sets all : List ℕ) : Type 0 where
+  pub copies : tables ≡ replicate 2 sets
+  pub predecessors : ArePredecessors most_items fixed sets
+  pub first : neighbours ≡ take len all
+  pub long : length neighbours ≡ len
+  pub into : EdgesAreIn fixed all
+  pub both : AreNeighbours undecided all
+
+-- tables that are made so are those with which a search can begin
+pub Tabled-start : {len : ℕ} {fixed undecided : List (ℕ × ℕ)} {tables : List (List ℕ)} {neighbours : List ℕ} (sets all : List ℕ)
+    → CanBeSearched len fixed undecided
+    → TablesAreMade len fixed undecided tables neighbours sets all
+    → HasSearchTables len fixed undecided tables neighbours
+Tabled-start {len = len} {neighbours = neighbours} sets all can made = record {
+  two = ap length made.copies;
+  sets = rw made.copies made.predecessors;
+  neighbours_long = omega (arith, made.long);
+  neighbours_fixed = λ k d l. (let (a, b) = can.fixed_up k d l in same _ _ (omega (arith, a, b)) ∙ made.into k d l);
+  neighbours_open = λ k d l.
+      (let (a, b) = can.undecided_up k d l in
+      let (there, back) = made.both k d l in
+      (same _ _ (omega (arith, a, b)) ∙ there, same _ _ b ∙ back));
+}
+  where
+    same : (i j : ℕ) → i < len → reaches_in neighbours i j ≡ reaches_in all i j
+    same i j l = ap (λ set. has set j) (ap (λ rs. get_or rs i 0) made.first ∙ get_or-take len all i 0 l)

@@ -1,0 +1,9 @@
+use Rattle.lw_orders.proofs.Common.{most_items, ℕ, ◌≡◌, ◌<◌, ◌||◌, slice_index, take, has, has_edge}
+use Rattle.lw_orders.proofs.adjacency.add_reversed.Given as goal
+
+abbrev pub invariant-loop-pair : goal.invariant-loop-pair
+invariant-loop-pair l =
+    (i j : ℕ)
+    → i < most_items
+    → j < most_items
+    → has (slice_index l.sets i) j ≡ (has (slice_index l.initial.sets i) j || has_edge (take l.pair-index l.pairs) i j)

@@ -1,0 +1,5 @@
+use Rattle.lw_orders.proofs.Common.{◌≡◌, not, take, filter, reaches_in}
+use Rattle.lw_orders.proofs.items.unordered_conflicts_of.Given as goal
+
+abbrev pub invariant-loop-pair : goal.invariant-loop-pair
+invariant-loop-pair g l = l.undecided.items ≡ filter (λ p. not (reaches_in l.reach p.0 p.1)) (take l.pair-index l.pair-items)

@@ -1,6 +1,0 @@
-use Rattle.lw_orders.proofs.Common.{w64}
-use Rattle.lw_orders.proofs.Bits.{has-without}
-use Rattle.lw_orders.proofs.low_items.LowItemsItemBits.without.Goals as goal
-
-pub returns-clause-items : goal.returns-clause-items
-returns-clause-items c k l = rw (← c.self.view_is) (has-without w64 _ _ k c.self.invariant c.requires)

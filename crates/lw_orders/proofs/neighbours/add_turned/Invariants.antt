@@ -1,9 +1,0 @@
-use Rattle.lw_orders.proofs.Common.{most_items, ℕ, ◌≡◌, ◌<◌, ◌||◌, slice_index, take, has, joins}
-use Rattle.lw_orders.proofs.neighbours.add_turned.Given as goal
-
-abbrev pub invariant-loop-pair : goal.invariant-loop-pair
-invariant-loop-pair l =
-    (i j : ℕ)
-    → i < most_items
-    → j < most_items
-    → has (slice_index l.sets i) j ≡ (has (slice_index l.initial.sets i) j || joins (take l.pair-index l.pairs) i j)

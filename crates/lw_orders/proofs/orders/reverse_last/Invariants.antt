@@ -1,0 +1,12 @@
+use Rattle.lw_orders.proofs.Common.{ℕ, ◌≡◌, ◌<◌, ◌≤◌, true, false, slice_index_or}
+use Rattle.lw_orders.proofs.orders.reverse_last.Given as goal
+
+abbrev pub invariant-loop-at : goal.invariant-loop-at
+invariant-loop-at l = record {
+  within : l.at ≤ l.level;
+  same : l.ways ≡ l.initial.ways;
+  turned : (k : ℕ) → l.at ≤ k → k < l.level → slice_index_or l.ways k false ≡ true;
+}
+
+abbrev pub decreases-loop-at : goal.decreases-loop-at
+decreases-loop-at l = l.at

@@ -1,0 +1,157 @@
+-- Outcomes as keys of a map: `==` is an equivalence and `cmp` a total order of them, so a sorted list of them goes up strictly.
+use Rattle.std.proofs.Common.{◌≡◌, ◌≢◌, ◌↔◌, refl, sym, ap, ◌∙◌, ℕ, Bool, true, false, true≢false, ◌&&◌, ◌<◌}
+use Rattle.std.proofs.Common.{⊎_elim, List, [], ◌∷◌, ◌++◌, nat_eq, get_or, slice_get, position, is_some}
+use Rattle.std.proofs.Common.{Contains, MatchOption, IsTrue, arith, Option, None, Some, IsPermutation}
+use Rattle.std.proofs.Common.{IsSorted, Decides, is_eq, is_lt, nat_cmp, Ordering, Less, Equal, Greater}
+use Rattle.std.specs.List.{IsDistinct}
+use Rattle.std.specs.Cmp.{IsEquivalence, IsTotalOrder, first_so, second_so, both_tied, unsigned_ties}
+use Rattle.std.specs.Cmp.{unsigned_Decides}
+use Rattle.std.specs.Cmp.Lexicographic.{pointwise, pointwise_decides, lists_ties, slice_cmp}
+use Rattle.std.specs.Map.{lookup}
+use Rattle.std.specs.Ordering.{ordering_reverse}
+use Rattle.std.proofs.lemmas.Bool.{cases_lt}
+use Rattle.std.proofs.lemmas.Cmp.{tied_itself, and_equiv, on_equiv, lists_equiv, nat_list_eq_equiv}
+use Rattle.std.proofs.lemmas.Cmp.{then_total, on_total, lists_total, nat_list_cmp_total}
+use Rattle.std.proofs.lemmas.List.Quantifiers.{position-Some}
+use Rattle.std.proofs.lemmas.List.Sorted.{sorted_far, ranks_by, Contains-permutation, IsPermutation-sym}
+use Rattle.std.proofs.lemmas.List.Sorted.{IsPermutation-map}
+use Rattle.std.proofs.lemmas.Map.Made.{AllPairs-from_IsDistinct}
+use Rattle.std.proofs.lemmas.Map.Views.{Contains-keys_from_lookup, IsSome-lookup_from_Contains}
+use Rattle.std.proofs.lemmas.Option.{slice_get-get_or, slice_get_within, get_or_from_slice_get}
+use Rattle.indexmap.specs.IndexMap.{insert_entry}
+use Rattle.indexmap.specs.Layout.{hash_map}
+use Rattle.indexmap.proofs.CallerLemmas.{insert_entry-new}
+use Rattle.lw_base.specs.Outcomes.{FinalState, final_state_cmp}
+use Rattle.lw_base.specs.declared.event.Event.{Event}
+use Rattle.lw_outcome_map.specs.Listings.{OutcomeEntries, outcomes_of, IsStrictlySorted}
+
+-- the test that `==` of outcomes is
+abbrev pub final_eq : FinalState → FinalState → Bool
+final_eq o p = pointwise (pointwise nat_eq) o.regs p.regs && pointwise nat_eq o.words p.words
+
+-- outcomes with the same registers and the same words are one
+joined : (o p : FinalState) → o.regs ≡ p.regs → o.words ≡ p.words → o ≡ p
+joined o p e f = λ i. record { regs = e i; words = f i }
+
+-- `==` of outcomes answers whether they are one outcome
+pub final_eq_decides : (o p : FinalState) → Decides (final_eq o p) (o ≡ p)
+final_eq_decides o p =
+    let row : (xs ys : List ℕ) → Decides (pointwise nat_eq xs ys) (xs ≡ ys) = pointwise_decides unsigned_Decides in
+    let rows : (xs ys : List (List ℕ)) → Decides (pointwise (pointwise nat_eq) xs ys) (xs ≡ ys) = pointwise_decides row in
+    let same_regs : Bool = pointwise (pointwise nat_eq) o.regs p.regs in
+    let same_words : Bool = pointwise nat_eq o.words p.words in (
+      λ e.
+          joined o p ((rows o.regs p.regs).0 (first_so same_regs same_words e))
+          ((row o.words p.words).0 (second_so same_regs same_words e)),
+      λ e. λ i.
+          (rows o.regs p.regs).1 (ap (λ (f : FinalState). f.regs) e) i
+          && (row o.words p.words).1 (ap (λ (f : FinalState). f.words) e) i,
+    )
+
+-- `==` of outcomes is an equivalence, as a map's keys need
+pub final_equiv : IsEquivalence final_eq
+final_equiv =
+    and_equiv (on_equiv (λ (f : FinalState). f.regs) (lists_equiv nat_list_eq_equiv))
+    (on_equiv (λ (f : FinalState). f.words) nat_list_eq_equiv)
+
+-- `cmp` of outcomes is a total order
+pub final_total : IsTotalOrder final_state_cmp
+final_total =
+    then_total (on_total (λ (f : FinalState). f.regs) (lists_total nat_list_cmp_total))
+    (on_total (λ (f : FinalState). f.words) nat_list_cmp_total)
+
+-- `==` holds of the outcomes that `cmp` does not tell apart
+pub final_ties : (o p : FinalState) → final_eq o p ≡ is_eq (final_state_cmp o p)
+final_ties o p =
+    let row : (xs ys : List ℕ) → pointwise nat_eq xs ys ≡ is_eq (slice_cmp nat_cmp xs ys) = lists_ties nat_cmp unsigned_ties in
+    both_tied _ _ _ _ (lists_ties (slice_cmp nat_cmp) row o.regs p.regs) (row o.words p.words)
+
+-- where a look-up by `==` finds an outcome among the keys, it is listed
+known : (es : OutcomeEntries) (o : FinalState) → is_some (lookup (final_eq o) es) ≡ true → Contains (outcomes_of es) o
+known es o h = Contains-keys_from_lookup (λ x y. (final_eq_decides x y).0) o es h
+
+-- where a look-up by `==` finds no such key, the outcome isn't listed
+unknown : (es : OutcomeEntries) (o : FinalState) → is_some (lookup (final_eq o) es) ≡ false → Contains (outcomes_of es) o → ⊥
+unknown es o h i = true≢false (sym (IsSome-lookup_from_Contains final_equiv o es i) ∙ h)
+
+-- the answer b, whether a look-up finds the outcome, says whether it is listed
+pub found : (es : OutcomeEntries) (o : FinalState) (b : Bool)
+    → b ≡ is_some (lookup (final_eq o) es)
+    → IsTrue b ↔ Contains (outcomes_of es) o
+found es o b e = ((λ t. known es o (sym e ∙ t)), (λ i. e ∙ IsSome-lookup_from_Contains final_equiv o es i))
+
+-- the answer r of a search is the index at which the outcome stands, or `None` where it isn't listed
+pub placed : (es : OutcomeEntries) (o : FinalState) (r : Option ℕ)
+    → r ≡ position (final_eq o) (outcomes_of es)
+    → is_some r ≡ is_some (lookup (final_eq o) es)
+    → MatchOption r (Contains (outcomes_of es) o → ⊥) (λ i. slice_get (outcomes_of es) i ≡ Some o)
+placed es o None h s = unknown es o (sym s)
+placed es o (Some i) h s =
+    let p = position-Some (final_eq o) (outcomes_of es) i o (sym h) in
+    slice_get-get_or (outcomes_of es) i o p.0 ∙ ap Some (sym ((final_eq_decides o (get_or (outcomes_of es) i o)).0 p.1))
+
+-- an option that holds nothing is `None`
+absent : {X : Type 0} (o : Option X) → (is_some o ≡ true → ⊥) → o ≡ None
+absent None h = refl
+absent (Some x) h = absurd (h refl)
+
+-- where an outcome wasn't listed, to insert it with its schedule puts it at the end of the list
+pub added : (es fs : OutcomeEntries) (o : FinalState) (s : List Event)
+    → (Contains (outcomes_of es) o → ⊥)
+    → fs ≡ insert_entry final_eq es o s
+    → fs ≡ es ++ (o, s) ∷ []
+added es fs o s new e =
+    e ∙ insert_entry-new final_eq (hash_map es (tt {0}) 0) o s (absent (lookup (final_eq o) es) (λ h. new (known es o h)))
+
+-- an outcome that is neither above another nor the same is below it
+below : (o p : FinalState) (c : Ordering) → c ≡ final_state_cmp o p → is_lt (ordering_reverse c) ≡ false → o ≢ p → c ≡ Less
+below o p Less e up other = refl
+below o p Equal e up other = absurd (other ((final_eq_decides o p).0 (final_ties o p ∙ sym (ap is_eq e))))
+below o p Greater e up other = absurd (true≢false up)
+
+-- where no outcome stands twice, a list sorted by `cmp` goes up strictly
+pub goes_up : (es : OutcomeEntries)
+    → IsSorted final_state_cmp (outcomes_of es)
+    → IsDistinct final_eq (outcomes_of es)
+    → IsStrictlySorted es
+goes_up es sorted once i j d lt within =
+    let first : FinalState = get_or (outcomes_of es) i d in
+    let later : FinalState = get_or (outcomes_of es) j d in
+    let up : is_lt (final_state_cmp later first) ≡ false =
+    sorted_far _ (ranks_by final_total (λ o. o)) (outcomes_of es) sorted i j d (omega (arith, lt)) within in
+    let turned : is_lt (ordering_reverse (final_state_cmp first later)) ≡ false =
+    sym (ap is_lt (final_total.antisymm later first)) ∙ up in
+    below first later (final_state_cmp first later) refl turned
+    (AllPairs-from_IsDistinct final_eq_decides (outcomes_of es) once i j d lt within)
+
+-- A list and the same list in another order have the same outcomes: sorting loses none and makes none.
+pub stays_listed : (es fs : OutcomeEntries) (o : FinalState)
+    → IsPermutation es fs
+    → Contains (outcomes_of es) o ↔ Contains (outcomes_of fs) o
+stays_listed es fs o same =
+    let keys : IsPermutation (outcomes_of es) (outcomes_of fs) = IsPermutation-map (λ e. e.0) es fs same in
+    (Contains-permutation _ _ o keys, Contains-permutation _ _ o (IsPermutation-sym _ _ keys))
+
+-- in a list that goes up strictly, what stands at an index doesn't stand at a later one
+not_later : (es : OutcomeEntries) (i j : ℕ) (o : FinalState)
+    → IsStrictlySorted es
+    → slice_get (outcomes_of es) i ≡ Some o
+    → slice_get (outcomes_of es) j ≡ Some o
+    → i < j
+    → ⊥
+not_later es i j o sorted at to lt =
+    let first = get_or_from_slice_get (outcomes_of es) i o o at in
+    let later = get_or_from_slice_get (outcomes_of es) j o o to in
+    let less : final_state_cmp o o ≡ Less =
+    sym (λ k. final_state_cmp (first k) (later k)) ∙ sorted i j o lt (slice_get_within (outcomes_of es) j o to) in
+    true≢false (ap is_lt (sym less ∙ tied_itself final_total o))
+
+-- in a list that goes up strictly an outcome stands at one index
+pub stands_once : (es : OutcomeEntries) (i j : ℕ) (o : FinalState)
+    → IsStrictlySorted es
+    → slice_get (outcomes_of es) i ≡ Some o
+    → slice_get (outcomes_of es) j ≡ Some o
+    → i ≡ j
+stands_once es i j o sorted at to =
+    ⊎_elim (λ lt. absurd (not_later es i j o sorted at to lt))
+    (λ le. ⊎_elim (λ lt. absurd (not_later es j i o sorted to at lt)) (λ ge. omega arith) (cases_lt j i)) (cases_lt i j)

@@ -1,0 +1,132 @@
+-- The conflicts of items are those of the items that access a location; and one turn of each loop that lists these.
+use Rattle.lw_paths.proofs.Common.{◌≡◌, ℕ, zero, suc, ◌+◌, ◌<◌, drop, drop-cons, get_or, Bool, false}
+use Rattle.lw_paths.proofs.Common.{if◌then◌else◌, List, [], ◌∷◌, ◌++◌, length, map, Option, Some, None, refl}
+use Rattle.lw_paths.proofs.Common.{sym, ap, ap₂, ◌∙◌, inl, inr, arith, filter, option_to_list, flat_map}
+use Rattle.lw_paths.proofs.Common.{append_assoc, append-nil, cases_Bool, drop_all, drop_more, filter-append}
+use Rattle.lw_paths.proofs.Common.{filter_agree, indices, Access, Item, is_conflict, conflicts_with}
+use Rattle.lw_paths.proofs.Common.{conflicts_among, access_by, accesses_from, Language, item_at, pairs_from}
+use Rattle.lw_paths.proofs.Common.{statement_of, conflict_by, constraints_of}
+
+-- whether two items that may have accesses conflict
+abbrev both : Option Access → Option Access → Bool
+both (Some a) (Some b) = is_conflict a b
+both (Some a) None = false
+both None b = false
+
+-- ---- pair by pair of items that may have accesses, each with its number
+module _ (acc : ℕ → Option Access) (numbered : (i : ℕ) (a : Access) → acc i ≡ Some a → a.index ≡ i) where
+  abbrev conflict : ℕ × ℕ → Bool
+  conflict p = both (acc p.0) (acc p.1)
+
+  abbrev pair : ℕ → ℕ → ℕ × ℕ
+  pair k j = (k, j)
+
+  -- the accesses of d items from number m on
+  abbrev from : ℕ → ℕ → List Access
+  from m d = flat_map (λ i. option_to_list (acc i)) (indices m d)
+
+  none_row : (k : ℕ) → acc k ≡ None → (js : List ℕ) → filter conflict (map (pair k) js) ≡ []
+  none_row k e [] = refl
+  none_row k e (j ∷ js) = rw e (none_row k e js)
+
+  module _ (k : ℕ) (x : Access) (ex : acc k ≡ Some x) where
+    one : (m d : ℕ) (y : Option Access)
+        → acc m ≡ y
+        → filter conflict (map (pair k) (indices (suc m) d)) ≡ conflicts_with x (from (suc m) d)
+        → filter conflict (map (pair k) (m ∷ indices (suc m) d)) ≡ conflicts_with x (option_to_list y ++ from (suc m) d)
+    one m d None ey rest = rw (ex, ey) rest
+    one m d (Some y) ey rest = elim (cases_Bool (is_conflict x y)) [
+      | inl t ↦
+          rw (ex, ey, t)
+          (ap₂ (λ (p : ℕ × ℕ) ps. p ∷ ps) (ap₂ (λ (i j : ℕ). (i, j)) (sym (numbered k x ex)) (sym (numbered m y ey))) rest)
+      | inr f ↦ rw (ex, ey, f) rest
+    ]
+
+    row : (d m : ℕ) → filter conflict (map (pair k) (indices m d)) ≡ conflicts_with x (from m d)
+    row zero m = refl
+    row (suc d) m = one m d (acc m) refl (row d (suc m))
+
+  rows_by : (m d : ℕ) (x : Option Access)
+      → acc m ≡ x
+      → filter conflict (pairs_from (suc m) d) ≡ conflicts_among (from (suc m) d)
+      → filter conflict (pairs_from m (suc d)) ≡ conflicts_among (option_to_list x ++ from (suc m) d)
+  rows_by m d None e rest =
+      filter-append conflict (map (pair m) (indices (suc m) d)) (pairs_from (suc m) d)
+      ∙ ap₂ (λ ps qs. ps ++ qs) (none_row m e (indices (suc m) d)) rest
+  rows_by m d (Some x) e rest =
+      filter-append conflict (map (pair m) (indices (suc m) d)) (pairs_from (suc m) d)
+      ∙ ap₂ (λ ps qs. ps ++ qs) (row m x e d (suc m)) rest
+
+  rows : (d m : ℕ) → filter conflict (pairs_from m d) ≡ conflicts_among (from m d)
+  rows zero m = refl
+  rows (suc d) m = rows_by m d (acc m) refl (rows d (suc m))
+
+module _ {S : Type 0} (language : Language S) (program : List (List S)) where
+  conflict_says : (n m : ℕ) (d e : Bool) (s t : Option S)
+      → conflict_by language d e s t ≡ both (access_by language n d s) (access_by language m e t)
+  conflict_says n m d e s t = grind arith
+
+  access_numbered : (n : ℕ) (d : Bool) (s : Option S) (a : Access) → access_by language n d s ≡ Some a → a.index ≡ n
+  access_numbered n d s a e = grind arith
+
+  -- pair by pair of the accesses
+  module _ (items : List Item) where
+    abbrev access_at : ℕ → Option Access
+    access_at i = access_by language i (item_at items i).is_drain (statement_of language program (item_at items i))
+
+    accesses_are : (d m : ℕ)
+        → m + d ≡ length items
+        → accesses_from language program m (drop m items) ≡ flat_map (λ i. option_to_list (access_at i)) (indices m d)
+    accesses_are zero m e = ap (accesses_from language program m) (drop_all m items (omega arith))
+    accesses_are (suc d) m e =
+        ap (accesses_from language program m) (drop-cons items m _ (omega arith))
+        ∙ ap (λ xs. option_to_list (access_at m) ++ xs) (accesses_are d (suc m) (omega arith))
+
+    pub conflicts_are : conflicts_among (accesses_from language program 0 items)
+        ≡ (constraints_of language program items).conflicts
+    conflicts_are =
+        ap conflicts_among (accesses_are (length items) 0 (omega arith))
+        ∙ (sym (rows access_at
+        (λ i a e. access_numbered i (item_at items i).is_drain (statement_of language program (item_at items i)) a e)
+        (length items) 0)
+        ∙ filter_agree _ _ (λ (p : ℕ × ℕ).
+        sym (conflict_says p.0 p.1 (item_at items p.0).is_drain (item_at items p.1).is_drain
+        (statement_of language program (item_at items p.0)) (statement_of language program (item_at items p.1))))
+        (pairs_from 0 (length items)))
+
+-- Of a list of items `item` is the one with the number n, and `o` is its access, if it has one.
+pub record Accesses {S : Type 0} (language : Language S) (program : List (List S)) (items : List Item) (n : ℕ) (item : Item)
+    (o : Option Access) : Type 0 where
+  pub within : n < length items
+  pub item_is : item ≡ get_or items n item
+  pub access_is : o ≡ access_by language n item.is_drain (statement_of language program item)
+
+-- when the access of item n, if it has one, is pushed, `whole` is still what is found and the accesses from the next on
+pub access_pushed : {S : Type 0} {item : Item} {o : Option Access} {new whole : List Access} (language : Language S)
+    (program : List (List S)) (items : List Item) (n : ℕ) (found : List Access)
+    → Accesses language program items n item o
+    → found ++ accesses_from language program n (drop n items) ≡ whole
+    → new ≡ found ++ option_to_list o
+    → new ++ accesses_from language program (n + 1) (drop (n + 1) items) ≡ whole
+access_pushed {item = item} {o = o} {whole = whole} language program items n found x so_far pushed =
+    let split : drop n items ≡ item ∷ drop (n + 1) items =
+    drop_more items n item x.within ∙ ap (λ a. a ∷ drop (n + 1) items) (sym x.item_is) in
+    let plus : suc n ≡ n + 1 = omega arith in
+    let whole_is : found ++ (option_to_list o ++ accesses_from language program (n + 1) (drop (n + 1) items)) ≡ whole =
+    rw (x.access_is, ← so_far, split, ← plus) refl in
+    rw (pushed, append_assoc) whole_is
+
+-- when the conflict of access a with the later one at n, if they conflict, is pushed, `whole` is still those found and a's others
+pub conflict_pushed : {b : Access} {new whole : List (ℕ × ℕ)} (a : Access) (later : List Access) (n : ℕ) (found : List (ℕ × ℕ))
+    → n < length later
+    → b ≡ get_or later n b
+    → found ++ conflicts_with a (drop n later) ≡ whole
+    → new ≡ found ++ (if is_conflict a b then (a.index, b.index) ∷ [] else [])
+    → new ++ conflicts_with a (drop (n + 1) later) ≡ whole
+conflict_pushed {b = b} a later n found within is so_far pushed =
+    let split : drop n later ≡ b ∷ drop (n + 1) later = drop_more later n b within ∙ ap (λ c. c ∷ drop (n + 1) later) (sym is) in
+    elim (cases_Bool (is_conflict a b)) [
+      | inl t ↦
+          rw (pushed, ← so_far, split, t) (append_assoc found ((a.index, b.index) ∷ []) (conflicts_with a (drop (n + 1) later)))
+      | inr f ↦ rw (pushed, ← so_far, split, f, append-nil) refl
+    ]

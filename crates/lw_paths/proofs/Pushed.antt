@@ -1,0 +1,104 @@
+-- One turn of each loop that lists the items or their reduced pairs: with what is then still to come, the list is the same
+-- `whole` as before.
+use Rattle.lw_paths.proofs.Common.{take-append_seam, take, ap, Result, Ok, Err, OnErr, ◌≡◌, ℕ, suc, ◌+◌, ◌<◌}
+use Rattle.lw_paths.proofs.Common.{Bool, false, ◌||◌, List, [], ◌∷◌, ◌++◌, length, map, drop, get_or}
+use Rattle.lw_paths.proofs.Common.{slice_get, Option, Some, None, SomeIff, refl, sym, ◌∙◌, ◌^◌, arith, IsSome}
+use Rattle.lw_paths.proofs.Common.{if◌then◌else◌, filter, not, append_assoc, append-nil, Constraints}
+use Rattle.lw_paths.proofs.Common.{orientation_count, is_ordered, drop_more, Item, LastItems, Language}
+use Rattle.lw_paths.proofs.Common.{edge_from, fixed_at, record_last, last_of_thread, items_at, path_items}
+use Rattle.lw_paths.proofs.Common.{items_from, needs_earlier_drains, fixed_from}
+
+-- the pairs that are pushed for an item are its reduced ones
+fixed_is : (d w : Bool) (last : LastItems) (n : ℕ)
+    → edge_from last.statement n ++ (if d || w then edge_from last.drain n else []) ≡ fixed_at d w last n
+fixed_is false false last n = append-nil (edge_from last.statement n)
+fixed_is _ _ last n = refl
+
+-- what holds in any case holds behind a refusal
+pub of_refusal : {T E P : Type 0} (r : Result T E) → P → OnErr r P
+of_refusal (Ok x) p = tt
+of_refusal (Err e) p = p
+
+-- `new`, and behind it `rest` and `more`, are all items, however these are grouped
+pub is_front : (new rest more : List Item) {all : List Item} → new ++ rest ++ more ≡ all → new ++ (rest ++ more) ≡ all
+is_front new rest more e = sym (append_assoc new rest more) ∙ e
+
+-- what stands in front of all items is as many of the first of them
+pub first_of : (new rest : List Item) {all : List Item} → new ++ rest ≡ all → (filled : ℕ) × (new ≡ take filled all)
+first_of new rest e = (length new, sym (take-append_seam new rest) ∙ ap (take (length new)) e)
+
+-- where an answer can be n alone, and it is m, m is n
+pub some_is : (P : Type 0) (o : Option ℕ) (n m : ℕ) → SomeIff o P n → o ≡ Some m → m ≡ n
+some_is P None n m s e = absurd (let bad : None ≡ Some m = e in cc)
+some_is P (Some x) n m s e =
+    (let given : Some x ≡ Some m = e in
+    let same : x ≡ m = cc in
+    sym same ∙ s.1)
+
+-- where an answer is there exactly if n is below the most, and n is, it is there
+pub some_there : (o : Option ℕ) (n most : ℕ) → SomeIff o (n < most) n → n < most → IsSome o
+some_there None n most s lt = absurd (s lt)
+some_there (Some x) n most s lt = refl
+
+module _ {S : Type 0} (language : Language S) where
+  -- when the items of the statement at index i of a path are pushed, the list and the items of the rest of the path are `whole`
+  pub path_pushed : {s : Option S} {new whole : List Item} (t : ℕ) (code : List S) (path : List ℕ) (i d : ℕ) (old : List Item)
+      → i < length path
+      → s ≡ slice_get code (get_or path i d)
+      → new ≡ old ++ items_at language t (get_or path i d) s
+      → old ++ path_items language t code (drop i path) ≡ whole
+      → new ++ path_items language t code (drop (i + 1) path) ≡ whole
+  path_pushed t code path i d old l e n h = rw (n, e, append_assoc) (rw (drop_more path i d l) at h)
+
+  -- where no path is left, no items are
+  pub no_paths : (t : ℕ) (codes : List (List S)) → items_from language t codes [] ≡ []
+  no_paths t [] = refl
+  no_paths t (c ∷ codes) = refl
+
+  module _ {P : Type 0} (view : P → List ℕ) (program : List (List S)) (paths : List P) where
+    -- when the items of thread t are pushed, the list and the items of the threads behind it are `whole`
+    pub thread_pushed : {code : List S} {path : P} {new whole : List Item} (t : ℕ) (old : List Item)
+        → t < length program
+        → t < length paths
+        → code ≡ get_or program t code
+        → path ≡ get_or paths t path
+        → new ≡ old ++ path_items language t code (view path)
+        → old ++ items_from language t (drop t program) (map view (drop t paths)) ≡ whole
+        → new ++ items_from language (t + 1) (drop (t + 1) program) (map view (drop (t + 1) paths)) ≡ whole
+    thread_pushed {code = code} {path = path} t old lp lq ec ep n h =
+        let plus : t + 1 ≡ suc t = omega arith in
+        rw (n, append_assoc, plus) (rw (drop_more program t code lp, drop_more paths t path lq, ← ec, ← ep, plus) at h)
+
+  -- when the reduced pairs of item n are pushed, the list and the reduced pairs of the items behind it are `whole`
+  pub fixed_pushed : {last next : LastItems} {a : Item} {waits : Bool} {new whole : List (ℕ × ℕ)} (program : List (List S))
+      (items : List Item) (n t : ℕ) (before : LastItems) (old : List (ℕ × ℕ))
+      → n < length items
+      → a ≡ get_or items n a
+      → waits ≡ (a.is_drain || needs_earlier_drains language program a)
+      → last ≡ last_of_thread t a.thread before
+      → next ≡ record_last a.is_drain last n
+      → new ≡ old ++ edge_from last.statement n ++ (if waits then edge_from last.drain n else [])
+      → old ++ fixed_from language program n t before (drop n items) ≡ whole
+      → new ++ fixed_from language program (n + 1) a.thread next (drop (n + 1) items) ≡ whole
+  fixed_pushed {last = last} {a = a} {waits = waits} program items n t before old l ea ew el en is h =
+      let plus : n + 1 ≡ suc n = omega arith in
+      let here : edge_from last.statement n ++ (if waits then edge_from last.drain n else [])
+      ≡ fixed_at a.is_drain (needs_earlier_drains language program a) (last_of_thread t a.thread before) n =
+      rw (← el, ew) (fixed_is _ _ last n) in
+      rw (
+        is,
+        append_assoc old (edge_from last.statement n) (if waits then edge_from last.drain n else []),
+        here,
+        append_assoc,
+        en,
+        el,
+        plus,
+      ) (rw (drop_more items n a l, ← ea, plus) at h)
+
+-- where nothing conflicts, there is one order
+pub one_order : (t : Constraints) → length t.conflicts ≡ 0 → 1 ≡ orientation_count t
+one_order t none = go t.conflicts none
+  where
+    go : (pairs : List (ℕ × ℕ)) → length pairs ≡ 0 → 1 ≡ 2 ^ length (filter (λ p. not (is_ordered t.fixed p)) pairs)
+    go [] e = refl
+    go (p ∷ pairs) e = absurd (omega (arith, e))

@@ -1,0 +1,114 @@
+-- What the fixed pairs of a choice's items order: of two items of a thread the first stands before the second where it is a
+-- statement, or where the second is a drain or waits for drains. And an order in which all these stand so keeps the fixed pairs.
+-- Both hold of any relation that goes on from item to item.
+use Rattle.lw_paths.proofs.Common.{◌≡◌, ℕ, ◌<◌, ◌==◌, ◌⊎◌, inl, inr, List, length, Bool, true, false}
+use Rattle.lw_paths.proofs.Common.{true≢false, refl, sym, ◌∙◌, arith, All, cases_eq, cases_Bool, and_parts}
+use Rattle.lw_paths.proofs.Common.{eqb-true, eq-eqb, All-contains, Before, Respects, Item, Language, item_at}
+use Rattle.lw_paths.proofs.Common.{items_of, needs_earlier_drains, is_preserved, pairs_from, constraints_of}
+use Rattle.lw_paths.proofs.Drains.{IsStoreOf, behind_store}
+use Rattle.lw_paths.proofs.api.FixedPairs.{fixed_there}
+use Rattle.lw_paths.proofs.api.PairRanges.{In, All-passing, pairs_up}
+
+module _ {S : Type 0} (language : Language S) (program : List (List S)) where
+  -- Of two items of a thread the first is put before the second: it is a statement, or the second is a drain or waits for drains.
+  abbrev pub AreOrdered : Item → Item → Type 0
+  AreOrdered a b = a.is_drain ≡ true → (b.is_drain ≡ true) ⊎ (needs_earlier_drains language program b ≡ true)
+
+  -- R relates the numbers of any two items of a list, of one thread, that are `AreOrdered`
+  abbrev pub HasOrdered : (ℕ → ℕ → Type 0) → List Item → Type 0
+  HasOrdered R items =
+      (i j : ℕ)
+      → i < j
+      → j < length items
+      → (item_at items i).thread ≡ (item_at items j).thread
+      → AreOrdered (item_at items i) (item_at items j)
+      → R i j
+
+  -- ---- two items that are fixed
+  module _ (a b : Item) where
+    fixed_ordered : is_preserved language program a b ≡ true → (a.thread ≡ b.thread) × AreOrdered a b
+    fixed_ordered e =
+        (let (same, kinds) = and_parts (a.thread == b.thread) _ e in (
+          eqb-true a.thread b.thread same,
+          λ d. elim (cases_Bool b.is_drain) [ inl drain ↦ inl drain | inr statement ↦ inr (rw (d, statement) at kinds) ],
+        ))
+
+    statements_fixed : a.thread ≡ b.thread → a.is_drain ≡ false → b.is_drain ≡ false → is_preserved language program a b ≡ true
+    statements_fixed same d e = rw (eq-eqb a.thread b.thread same, d, e) refl
+
+    store_fixed : IsStoreOf a b → b.is_drain ≡ true → is_preserved language program a b ≡ true
+    store_fixed store e =
+        rw (eq-eqb a.thread b.thread store.thread, store.statement, e, eq-eqb a.position b.position store.position) refl
+
+    drains_fixed : a.thread ≡ b.thread → a.is_drain ≡ true → b.is_drain ≡ true → is_preserved language program a b ≡ true
+    drains_fixed same d e = rw (eq-eqb a.thread b.thread same, d, e) refl
+
+    waiting_fixed : a.thread ≡ b.thread
+        → a.is_drain ≡ true
+        → b.is_drain ≡ false
+        → needs_earlier_drains language program b ≡ true
+        → is_preserved language program a b ≡ true
+    waiting_fixed same d e waits = rw (eq-eqb a.thread b.thread same, d, e, waits) refl
+
+  -- ---- the items of a choice
+  module _ (paths : List (List ℕ)) where
+    abbrev items : List Item
+    items = items_of language program paths
+
+    abbrev at : ℕ → Item
+    at i = item_at items i
+
+    -- a relation R that goes on from item to item, and has the fixed pairs of a choice's items
+    module _ (R : ℕ → ℕ → Type 0) (go_on : (i j k : ℕ) → R i j → R j k → R i k)
+        (has : All (λ p. R p.0 p.1) (constraints_of language program items).fixed) where
+      related : (i j : ℕ) → i < j → j < length items → is_preserved language program (at i) (at j) ≡ true → R i j
+      related i j less l fixed = All-contains (λ p. R p.0 p.1) _ (i, j) has (fixed_there language program items i j less l fixed)
+
+      by_kinds : (d e : Bool) (i j : ℕ)
+          → (at i).is_drain ≡ d
+          → (at j).is_drain ≡ e
+          → i < j
+          → j < length items
+          → (at i).thread ≡ (at j).thread
+          → AreOrdered (at i) (at j)
+          → R i j
+      by_kinds false false i j d e less l same ordered = related i j less l (statements_fixed (at i) (at j) same d e)
+      by_kinds true true i j d e less l same ordered = related i j less l (drains_fixed (at i) (at j) same d e)
+      by_kinds true false i j d e less l same ordered = elim (ordered d) [
+        | inl drain ↦ absurd (true≢false (sym drain ∙ e))
+        | inr waits ↦ related i j less l (waiting_fixed (at i) (at j) same d e waits)
+      ]
+      by_kinds false true i j d e less l same ordered =
+          let (m, next, store) = behind_store language program paths j l e in
+          let own = related m j (omega arith) l (store_fixed (at m) (at j) store e) in
+          elim (cases_eq i m) [
+            | inl is ↦ rw is own
+            | inr ne ↦
+                go_on i m j
+                (related i m (omega arith) (omega arith)
+                (statements_fixed (at i) (at m) (same ∙ sym store.thread) d store.statement)) own
+          ]
+
+      -- such a relation has all the items so ordered
+      pub has_ordered : HasOrdered R items
+      has_ordered i j = by_kinds (at i).is_drain (at j).is_drain i j refl refl
+
+    -- what the fixed pairs order
+    pub kept : (order : List ℕ) → Respects (constraints_of language program items).fixed order → HasOrdered (Before order) items
+    kept order keeps = has_ordered (Before order) (λ i j k a b. omega (arith, a, b)) keeps
+
+  -- a relation of numbers that has all ordered items of a list (`HasOrdered`) has the fixed pairs
+  pub has_fixed : (R : ℕ → ℕ → Type 0) (items : List Item)
+      → HasOrdered R items
+      → All (λ p. R p.0 p.1) (constraints_of language program items).fixed
+  has_fixed R items has =
+      All-passing (λ p. is_preserved language program (item_at items p.0) (item_at items p.1)) (In 0 (length items))
+      (λ p. R p.0 p.1) (pairs_from 0 (length items)) (pairs_up 0 (length items)) (λ p within fixed.
+      (let (same, ordered) = fixed_ordered (item_at items p.0) (item_at items p.1) fixed in
+      has p.0 p.1 within.1 (omega (arith, within.2)) same ordered))
+
+  -- an order in which all ordered items of a list stand so keeps the fixed pairs
+  pub keeps_all : (items : List Item) (order : List ℕ)
+      → HasOrdered (Before order) items
+      → Respects (constraints_of language program items).fixed order
+  keeps_all items order = has_fixed (Before order) items

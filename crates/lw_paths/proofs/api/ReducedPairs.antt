@@ -1,0 +1,162 @@
+-- The reduced ones of the fixed pairs of items, in either language, item by item: each goes up along a thread. And the items with
+-- them and their conflicts are well-formed.
+use Rattle.lw_paths.proofs.Common.{◌≡◌, Bool, true, false, ℕ, zero, suc, ◌+◌, ◌<◌, ◌≤◌, ◌==◌, ◌⊎◌, List, []}
+use Rattle.lw_paths.proofs.Common.{◌++◌, length, drop, drop-cons, flat_map, Option, Some, None, refl, ap, ◌∙◌}
+use Rattle.lw_paths.proofs.Common.{subst, inl, inr, arith, All, eq-eqb, ne_eqb, cases_eq, cond-true}
+use Rattle.lw_paths.proofs.Common.{cond-false, drop_all, All-nil, All-cons, All-append, AreAscending}
+use Rattle.lw_paths.proofs.Common.{most_items, indices, All-parts, Item, LastItems, Language, item_at}
+use Rattle.lw_paths.proofs.Common.{none_before, edge_from, fixed_at, record_last, last_of_thread}
+use Rattle.lw_paths.proofs.Common.{needs_earlier_drains, fixed_from, constraints_of, transitive_reduction}
+use Rattle.lw_paths.proofs.Common.{IsWellFormed}
+use Rattle.lw_paths.proofs.api.FixedPairs.{constraints_well_formed}
+
+-- where the item before is of the same thread t, the last items up to it are the thread's
+pub last_same : (t u : ℕ) (last : LastItems) → t ≡ u → last_of_thread t u last ≡ last
+last_same t u last e = cond-true (t == u) last none_before (eq-eqb t u e)
+
+-- where the item before is of another thread, this thread has no last items yet
+pub last_other : (t u : ℕ) (last : LastItems) → (t ≡ u → ⊥) → last_of_thread t u last ≡ none_before
+last_other t u last ne = cond-false (t == u) last none_before (ne_eqb t u ne)
+
+-- of a thread's last items the statement (false) or the drain (true)
+abbrev pub last_by : Bool → LastItems → Option ℕ
+last_by true last = last.drain
+last_by false last = last.statement
+
+module _ (Q : ℕ × ℕ → Type 0) (n : ℕ) where
+  All-edge_from : (o : Option ℕ) → ((m : ℕ) → o ≡ Some m → Q (m, n)) → All Q (edge_from o n)
+  All-edge_from None each = All-nil Q
+  All-edge_from (Some m) each = All-cons Q (m, n) [] (each m refl) (All-nil Q)
+
+  -- what holds of the pair of item n with the last statement, and with the last drain where n stands behind drains, holds of all
+  -- its reduced pairs
+  pub All-fixed_at : (d w : Bool) (last : LastItems)
+      → ((m : ℕ) → last.statement ≡ Some m → Q (m, n))
+      → ((d ≡ true) ⊎ (w ≡ true) → (m : ℕ) → last.drain ≡ Some m → Q (m, n))
+      → All Q (fixed_at d w last n)
+  All-fixed_at true w last s d = All-append Q _ _ (All-edge_from _ s) (All-edge_from last.drain (d (inl refl)))
+  All-fixed_at false true last s d = All-append Q _ _ (All-edge_from _ s) (All-edge_from last.drain (d (inr refl)))
+  All-fixed_at false false last s d = All-edge_from last.statement s
+
+module _ (Q : ℕ × ℕ → Type 0) (f : ℕ → List (ℕ × ℕ)) where
+  All-numbered : (k n : ℕ) → ((i : ℕ) → k ≤ i → i < k + n → All Q (f i)) → All Q (flat_map f (indices k n))
+  All-numbered k zero each = All-nil Q
+  All-numbered k (suc n) each =
+      All-append Q (f k) (flat_map f (indices (suc k) n)) (each k (omega arith) (omega arith))
+      (All-numbered (suc k) n (λ i a b. each i (omega arith) (omega arith)))
+
+  All-index : (k n : ℕ) → All Q (flat_map f (indices k n)) → (i : ℕ) → k ≤ i → i < k + n → All Q (f i)
+  All-index k zero all i a b = absurd (omega arith)
+  All-index k (suc n) all i a b =
+      (let (here, rest) = All-parts Q (f k) _ all in
+      elim (cases_eq k i) [
+        | inl e ↦ subst (λ j. All Q (f j)) e here
+        | inr ne ↦ All-index (suc k) n rest i (omega arith) (omega arith)
+      ])
+
+module _ (all : List Item) where
+  abbrev it : ℕ → Item
+  it i = item_at all i
+
+  -- the thread of the item before number n
+  abbrev pub thread_upto : ℕ → ℕ
+  thread_upto zero = 0
+  thread_upto (suc n) = (it n).thread
+
+  -- The last statement and the last drain before number n, of the thread that the item before it is of.
+  abbrev pub last_upto : ℕ → LastItems
+  last_upto zero = none_before
+  last_upto (suc n) = record_last (it n).is_drain (last_of_thread (thread_upto n) (it n).thread (last_upto n)) n
+
+  -- the last items of the thread of number n
+  abbrev pub last_at : ℕ → LastItems
+  last_at n = last_of_thread (thread_upto n) (it n).thread (last_upto n)
+
+  -- a last item stands before, on the thread, and is a statement or a drain as it is named
+  abbrev AreLast : ℕ → ℕ → LastItems → Type 0
+  AreLast n t last = (b : Bool) (m : ℕ) → last_by b last ≡ Some m → (m < n) × ((it m).thread ≡ t) × ((it m).is_drain ≡ b)
+
+  none_last : (n t : ℕ) → AreLast n t none_before
+  none_last n t true m e = cc
+  none_last n t false m e = cc
+
+  last_there : (n t u : ℕ) (last : LastItems) → AreLast n t last → AreLast n u (last_of_thread t u last)
+  last_there n t u last h =
+      elim (cases_eq t u) [ inl e ↦ rw (last_same t u last e, ← e) h | inr ne ↦ rw (last_other t u last ne) (none_last n u) ]
+
+  last_on : (d : Bool) (n t : ℕ) (last : LastItems)
+      → (it n).is_drain ≡ d
+      → (it n).thread ≡ t
+      → AreLast n t last
+      → AreLast (suc n) t (record_last d last n)
+  last_on true n t last is on h true m e = (let same : n ≡ m = cc in rw (← same) (omega arith, on, is))
+  last_on true n t last is on h false m e = (let (less, there, kind) = h false m e in (omega (arith, less), there, kind))
+  last_on false n t last is on h true m e = (let (less, there, kind) = h true m e in (omega (arith, less), there, kind))
+  last_on false n t last is on h false m e = (let same : n ≡ m = cc in rw (← same) (omega arith, on, is))
+
+  are_last : (n : ℕ) → AreLast n (thread_upto n) (last_upto n)
+  are_last zero = none_last 0 0
+  are_last (suc n) =
+      last_on (it n).is_drain n (it n).thread (last_at n) refl refl
+      (last_there n (thread_upto n) (it n).thread (last_upto n) (are_last n))
+
+  module _ {S : Type 0} (language : Language S) (program : List (List S)) where
+    abbrev fixed_of : ℕ → List (ℕ × ℕ)
+    fixed_of n = fixed_at (it n).is_drain (needs_earlier_drains language program (it n)) (last_at n) n
+
+    fixed_is : (d n : ℕ)
+        → n + d ≡ length all
+        → fixed_from language program n (thread_upto n) (last_upto n) (drop n all) ≡ flat_map fixed_of (indices n d)
+    fixed_is zero n e = ap (fixed_from language program n (thread_upto n) (last_upto n)) (drop_all n all (omega arith))
+    fixed_is (suc d) n e =
+        ap (fixed_from language program n (thread_upto n) (last_upto n)) (drop-cons all n _ (omega arith))
+        ∙ ap (λ ps. fixed_of n ++ ps) (fixed_is d (suc n) (omega arith))
+
+    whole : (transitive_reduction language program all).fixed ≡ flat_map fixed_of (indices 0 (length all))
+    whole = fixed_is (length all) 0 (omega arith)
+
+    -- what holds of all reduced pairs holds of those of item n
+    pub reduced-at : (Q : ℕ × ℕ → Type 0)
+        → All Q (transitive_reduction language program all).fixed
+        → (n : ℕ)
+        → n < length all
+        → All Q (fixed_of n)
+    reduced-at Q each n l = All-index Q fixed_of 0 _ (rw whole at each) n (omega arith) (omega arith)
+
+    -- what holds of each last item of a thread with an item behind it holds of all reduced pairs
+    pub each_reduced : (Q : ℕ × ℕ → Type 0)
+        → ((b : Bool) (m n : ℕ)
+        → m < n
+        → n < length all
+        → (it m).thread ≡ (it n).thread
+        → (it m).is_drain ≡ b
+        → (b ≡ true → ((it n).is_drain ≡ true) ⊎ (needs_earlier_drains language program (it n) ≡ true))
+        → Q (m, n))
+        → All Q (transitive_reduction language program all).fixed
+    each_reduced Q each = rw whole (All-numbered Q fixed_of 0 (length all) (λ n a l.
+        (let last = last_there n (thread_upto n) (it n).thread (last_upto n) (are_last n) in
+        All-fixed_at Q n (it n).is_drain (needs_earlier_drains language program (it n)) (last_at n)
+        (λ m e. (let (less, same, is) = last false m e in each false m n less (omega (arith, l)) same is (λ bad. cc (bad))))
+        (λ ordered m e. (let (less, same, is) = last true m e in each true m n less (omega (arith, l)) same is (λ _. ordered))))))
+
+module _ {S : Type 0} (language : Language S) (program : List (List S)) where
+  -- each reduced pair goes up
+  pub reduced_up : (items : List Item) → AreAscending (length items) (transitive_reduction language program items).fixed
+  reduced_up items =
+      each_reduced items language program (λ p. (p.0 < p.1) × (p.1 < length items)) (λ b m n less l same is ordered. (less, l))
+
+  -- items that aren't too many are well-formed with their reduced pairs
+  pub reduced_well_formed : (items : List Item)
+      → length items ≤ most_items
+      → IsWellFormed (transitive_reduction language program items)
+  reduced_well_formed items few =
+      let is : IsWellFormed (constraints_of language program items) = constraints_well_formed language program items few in
+      record { few = few; fixed_up = reduced_up items; conflicts_up = is.conflicts_up; sorted = is.sorted }
+
+  -- items that aren't too many are well-formed with their reduced pairs and their conflicts
+  pub well_formed_with : (items : List Item) (fixed conflicts : List (ℕ × ℕ))
+      → length items ≤ most_items
+      → fixed ≡ fixed_from language program 0 0 none_before items
+      → conflicts ≡ (constraints_of language program items).conflicts
+      → IsWellFormed (record { len = length items; fixed = fixed; conflicts = conflicts })
+  well_formed_with items fixed conflicts few f c = rw (f, c) (reduced_well_formed items few)

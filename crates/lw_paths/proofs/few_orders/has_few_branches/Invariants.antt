@@ -1,0 +1,5 @@
+use Rattle.lw_paths.proofs.Common.{◌≡◌, ◌+◌, take, sum_by, most_open, branches}
+use Rattle.lw_paths.proofs.few_orders.has_few_branches.Given as goal
+
+abbrev pub invariant-loop-code : goal.invariant-loop-code
+invariant-loop-code g l = l.room + sum_by (branches g.S.Statement.language) (take l.code-index l.program) ≡ most_open

@@ -1,0 +1,20 @@
+use Rattle.lw_paths.proofs.Common.{◌+◌, ◌++◌, ◌∙◌, ap, drop, slice_get, path_items}
+use Rattle.lw_paths.proofs.Pushed.{of_refusal, is_front, path_pushed}
+use Rattle.lw_paths.proofs.items.push_path.Goals as goal
+
+pub loop-position-preserved : goal.loop-position-preserved
+loop-position-preserved g c =
+    path_pushed g.S.Statement.language c.args.thread c.args.code.now c.args.path.now c.loop-position.position-index 0
+    c.loop-position.items.items c.loop-position-test.true (c.get.ensures ∙ ap (slice_get c.args.code.now) c.from.ensures)
+    c.in_ok-push_statement.ensures.ok c.loop-position.invariant
+
+pub returns-in_err-push_statement-clause-err : goal.returns-in_err-push_statement-clause-err
+returns-in_err-push_statement-clause-err g c =
+    let left = c.in_err-push_statement.ensures.err in
+    let more =
+    path_items g.S.Statement.language c.args.thread c.args.code.now (drop (c.loop-position.position-index + 1) c.args.path.now) in
+    let whole =
+    path_pushed g.S.Statement.language c.args.thread c.args.code.now c.args.path.now c.loop-position.position-index 0
+    c.loop-position.items.items c.loop-position-test.true (c.get.ensures ∙ ap (slice_get c.args.code.now) c.from.ensures) left.1
+    c.loop-position.invariant in
+    of_refusal c.from_residual.result (left.0 ++ more, is_front _ left.0 more whole)

@@ -1,0 +1,53 @@
+-- How many orders a test may have, and the limits of lists.
+use Rattle.std.specs.Prelude.{◌≡◌, ◌<◌, ◌≤◌, ◌+◌, ◌↔◌, ℕ, List, [], ◌∷◌, length, Contains}
+use Rattle.lw_base.specs.Lists.{IsDuplicateFree}
+use Rattle.lw_litmus.specs.Languages.{Language}
+use Rattle.lw_orders.specs.Order.{HasOrientationCount}
+use Rattle.lw_orders.specs.Limits.{most_items, most_orders}
+use Rattle.lw_paths.specs.Choices.{IsPathAssignment}
+use Rattle.lw_paths.specs.Items.{items_of, constraints_of}
+use Rattle.lw_paths.specs.declared.fault.ListFault.{ListFault}
+use Rattle.lw_paths.specs.declared.fault.ListFault.TheVariants.{TooManyItems, TooManyOrders, Memory}
+
+module _ {S : Type 0} (language : Language S) (program : List (List S)) where
+  -- the number of items of a choice
+  abbrev pub items_at_choice : List (List ℕ) → ℕ
+  items_at_choice paths = length (items_of language program paths)
+
+  -- a choice has so many orders: the ways in which the open conflicts of its items can each be taken one way round or the other
+  abbrev pub HasOrderCount : List (List ℕ) → ℕ → Type 0
+  HasOrderCount paths n = HasOrientationCount (constraints_of language program (items_of language program paths)) n
+
+  -- some choices have so many orders together
+  abbrev pub HaveOrderCounts : List (List (List ℕ)) → ℕ → Type 0
+  HaveOrderCounts [] n = n ≡ 0
+  HaveOrderCounts (paths ∷ choices) n = (m : ℕ) × (k : ℕ) × HasOrderCount paths m × HaveOrderCounts choices k × (n ≡ m + k)
+
+  -- n is a total: all choices, each of them once, have so many orders together
+  pub record IsTotalOrderCount (n : ℕ) : Type 0 where
+    pub choices : List (List (List ℕ))
+    pub all : (paths : List (List ℕ)) → Contains choices paths ↔ IsPathAssignment language program paths
+    pub once : IsDuplicateFree choices
+    pub orders : HaveOrderCounts choices n
+
+  -- some choice has more items than a list takes
+  abbrev pub HasTooManyItems : Type 0
+  HasTooManyItems = (paths : List (List ℕ)) × IsPathAssignment language program paths × (most_items < items_at_choice paths)
+
+  -- all choices together have more orders than a list takes
+  abbrev pub HasTooManyOrders : Type 0
+  HasTooManyOrders = (n : ℕ) × IsTotalOrderCount n × (most_orders < n)
+
+  -- all choices together have no more orders than a list takes
+  abbrev pub IsWithinOrderLimit : Type 0
+  IsWithinOrderLimit = (n : ℕ) × IsTotalOrderCount n × (n ≤ most_orders)
+
+  -- Why a list is refused: too many items, which is looked for first, or too many orders.
+  abbrev pub LimitFaultIsTrue : ListFault → Type 0
+  LimitFaultIsTrue TooManyItems = HasTooManyItems
+  LimitFaultIsTrue TooManyOrders = (HasTooManyItems → ⊥) × HasTooManyOrders
+  LimitFaultIsTrue Memory = Unit {0}
+
+  -- no choice has too many items, and all choices together have no more orders than a list takes
+  abbrev pub IsWithinLimits : Type 0
+  IsWithinLimits = (HasTooManyItems → ⊥) × IsWithinOrderLimit

@@ -1,0 +1,10 @@
+pub mod Choices
+pub mod ChoiceLists
+pub mod Items
+pub mod TransitiveReduction
+pub mod Faults
+pub mod Views
+pub mod Visits
+pub mod Counts
+pub mod Totals
+pub mod inner

@@ -1,0 +1,110 @@
+//! How many orders there may be.
+ghost use Rattle.std.specs.Prelude.{◌≡◌, ◌+◌, ◌<◌, ◌≤◌, ℕ, List, length, take, IfOk, IfErr, OnOk, OnErr, MatchOption};
+ghost use Rattle.lw_orders.specs.Orientations.{orientation_count};
+ghost use Rattle.lw_orders.specs.Limits.{most_items, most_orders};
+ghost use Rattle.lw_paths.specs.Counts.{items_at_choice};
+ghost use Rattle.lw_paths.specs.Totals.{orders_at_choice, LimitFaultOfItems, LimitFaultOfChoice};
+ghost use Rattle.lw_paths.specs.Items.{constraints_of, items_of};
+ghost use Rattle.lw_paths.specs.TransitiveReduction.{transitive_reduction};
+ghost use Rattle.lw_paths.specs.Views.{choice_of};
+
+use crate::conflicts::conflicts_of;
+use crate::fault::ListFault;
+use crate::item::Item;
+use crate::items::fill_items;
+use crate::path::PathAssignment;
+use crate::preserved_order::preserved_pairs;
+use crate::visit::Visitor;
+use lw_base::Sequence;
+use lw_litmus::Statement;
+use lw_orders::{Items, MAX_ITEMS, MAX_ORDERS, count};
+use std::alloc::{AllocError, Allocator};
+
+/// Makes a list the items of a choice, where they aren't too many. Otherwise, and where there is no memory for all of them, it is
+/// left with the first of them.
+pub fn fill_few_items<S: Statement, A: Allocator, B: Allocator>(
+    program: &[Sequence<S, B>],
+    choice: &PathAssignment,
+    items: &mut Vec<Item, A>,
+) -> Result<(), ListFault>
+    ensures ok { OnOk result (items.new.items ≡ items_of S.language program.now (choice_of choice.now)) }
+    ensures few { OnOk result (length items.new.items ≤ most_items) }
+    ensures err { IfErr result (LimitFaultOfItems S.language program.now (choice_of choice.now)) }
+    ensures left { OnErr result ((filled : ℕ) × (items.new.items ≡ take filled (items_of S.language program.now (choice_of choice.now)))) }
+{
+    fill_items(program, choice, items)?;
+    if items.len() > MAX_ITEMS {
+        return Err(ListFault::TooManyItems);
+    }
+    Ok(())
+}
+
+/// The items with the reduced ones of their fixed pairs, which come to the same as all, and with their conflicts, which are
+/// given.
+pub fn reduced_constraints<S: Statement, A: Allocator, B: Allocator>(
+    alloc: A,
+    program: &[Sequence<S, B>],
+    items: &[Item],
+    conflicts: Vec<(u8, u8), A>,
+) -> Result<Items<A>, AllocError>
+    requires few { length items.now ≤ most_items }
+    requires conflicts { conflicts.items ≡ (constraints_of S.language program.now items.now).conflicts }
+    ensures { IfOk result (λ t. t ≡ transitive_reduction S.language program.now items.now) }
+{
+    let fixed = preserved_pairs(alloc, program, items)?;
+    Ok(Items::new(items.len(), fixed, conflicts))
+}
+
+/// In how many ways the open conflicts of a choice's items can each be taken one way round or the other; None above the most
+/// orders. Where nothing conflicts, there is one, and no pairs are made.
+fn count_orders<S: Statement, A: Allocator + Copy, B: Allocator>(
+    alloc: A,
+    program: &[Sequence<S, B>],
+    items: &[Item],
+) -> Result<Option<u64>, AllocError>
+    requires few { length items.now ≤ most_items }
+    requires of_choice { (paths : List (List ℕ)) × (items.now ≡ items_of S.language program.now paths) }
+    ensures { IfOk result (λ c. MatchOption c
+        (most_orders < orientation_count (constraints_of S.language program.now items.now))
+        (λ n. (n ≡ orientation_count (constraints_of S.language program.now items.now)) × (n ≤ most_orders))) }
+{
+    let conflicts = conflicts_of(alloc, program, items)?;
+    if conflicts.is_empty() {
+        return Ok(Some(1));
+    }
+    let constraints = reduced_constraints(alloc, program, items, conflicts)?;
+    count(alloc, &constraints)
+}
+
+/// The orders of the choices visited so far, together.
+#[derive(Drop)]
+pub(crate) struct Counter<'a, S: Statement, A: Allocator, B: Allocator> {
+    pub(crate) alloc: A,
+    pub(crate) program: &'a [Sequence<S, B>],
+    pub(crate) items: Vec<Item, A>,
+    pub(crate) total: u64,
+}
+
+impl<'a, S: Statement, A: Allocator + Copy, B: Allocator> Visitor for Counter<'a, S, A, B> {
+    type Fault = ListFault;
+
+    ghost visits = { λ v paths w. (w.program.now ≡ v.program.now)
+        × (items_at_choice S.language v.program.now paths ≤ most_items)
+        × (w.total ≡ v.total + orders_at_choice S.language v.program.now paths) × (w.total ≤ most_orders) };
+
+    ghost refuses = { λ v paths e. LimitFaultOfChoice S.language v.program.now v.total paths e };
+
+    /// Adds the number of one choice's orders to the total, and refuses too many items or orders.
+    fn visit(&mut self, choice: &PathAssignment) -> Result<(), ListFault> {
+        fill_few_items(self.program, choice, &mut self.items)?;
+        let Some(orders) = count_orders(self.alloc, self.program, self.items.as_slice())? else {
+            return Err(ListFault::TooManyOrders);
+        };
+        let total = self.total.saturating_add(orders);
+        if total > MAX_ORDERS {
+            return Err(ListFault::TooManyOrders);
+        }
+        self.total = total;
+        Ok(())
+    }
+}

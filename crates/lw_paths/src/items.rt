@@ -1,0 +1,78 @@
+//! The items of a choice.
+ghost use Rattle.std.specs.Prelude.{◌≡◌, ◌++◌, ℕ, List, take, OnOk, OnErr, option_copied};
+ghost use Rattle.lw_paths.specs.Items as choice_items;
+ghost use Rattle.lw_paths.specs.Items.{items_at, path_items};
+ghost use Rattle.lw_paths.specs.Views.{choice_of};
+ghost use Rattle.lw_paths.specs.declared.item.Item.{Item};
+
+use crate::item::Item;
+use crate::path::PathAssignment;
+use crate::statement::drains;
+use lw_base::{Cpu, Sequence};
+use lw_litmus::Statement;
+use std::alloc::{AllocError, Allocator};
+
+/// Makes a list the items of a choice, thread by thread, each along its path. Where there is no memory for all of them, it is left
+/// with the first of them.
+pub(crate) fn fill_items<S: Statement, A: Allocator, B: Allocator>(
+    program: &[Sequence<S, B>],
+    choice: &PathAssignment,
+    items: &mut Vec<Item, A>,
+) -> Result<(), AllocError>
+    ensures ok { OnOk result (items.new.items ≡ choice_items.items_of S.language program.now (choice_of choice.now)) }
+    ensures err { OnErr result ((filled : ℕ) × (items.new.items ≡ take filled (choice_items.items_of S.language program.now (choice_of choice.now)))) }
+{
+    items.clear();
+    for (thread, path) in choice.as_slice().iter().enumerate() {
+        let Some(code) = program.get(thread) else {
+            return Ok(());
+        };
+        let cpu = Cpu::new(thread as u8).unwrap();
+        push_path(items, cpu, code, path.as_slice())?;
+    }
+    Ok(())
+}
+
+/// Pushes the items of a thread, along its path. Where there is no memory for all of them, the rest is missing.
+fn push_path<S: Statement, A: Allocator, B: Allocator>(
+    items: &mut Vec<Item, A>,
+    thread: Cpu,
+    code: &Sequence<S, B>,
+    path: &[u8],
+) -> Result<(), AllocError>
+    ensures ok { OnOk result (items.new.items ≡ items.old.items ++ path_items S.language thread code.now path.now) }
+    ensures err { OnErr result ((rest : List Item) × (items.new.items ++ rest ≡ items.old.items ++ path_items S.language thread code.now path.now)) }
+{
+    for position in path {
+        push_statement(items, thread, *position, code.get(usize::from(*position)))?;
+    }
+    Ok(())
+}
+
+/// Pushes a statement, and its drain if it has one. Where there is no memory for both, the rest is missing.
+fn push_statement<S: Statement, A: Allocator>(
+    items: &mut Vec<Item, A>,
+    thread: Cpu,
+    position: u8,
+    stmt: Option<&S>,
+) -> Result<(), AllocError>
+    ensures ok { OnOk result (items.new.items ≡ items.old.items ++ items_at S.language thread position (option_copied stmt.entry)) }
+    ensures err { OnErr result ((rest : List Item) × (items.new.items ++ rest ≡ items.old.items ++ items_at S.language thread position (option_copied stmt.entry))) }
+{
+    let Some(stmt) = stmt else {
+        return Ok(());
+    };
+    items.push(Item {
+        thread,
+        position,
+        is_drain: false,
+    })?;
+    if drains(stmt).is_some() {
+        items.push(Item {
+            thread,
+            position,
+            is_drain: true,
+        })?;
+    }
+    Ok(())
+}

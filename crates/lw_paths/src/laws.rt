@@ -1,0 +1,57 @@
+//! Laws of choices of flow paths.
+//! A law is a function without a result, whose contract is the law; who needs it calls the function.
+ghost use Rattle.std.specs.Prelude.{◌≡◌, ◌≢◌, ◌↔◌, ℕ, List, All, Contains};
+ghost use Rattle.lw_litmus.specs.Tests.{SourceTest};
+ghost use Rattle.lw_litmus.specs.Sources.{source_language};
+ghost use Rattle.lw_litmus.specs.WellFormedTests.{IsWellFormedSource};
+ghost use Rattle.lw_base.specs.Lists.{IsDuplicateFree};
+ghost use Rattle.lw_paths.specs.Choices.{JumpsForward, IsPathAssignment};
+ghost use Rattle.lw_paths.specs.ChoiceLists.{path_assignments};
+ghost use Rattle.lw_paths.specs.Counts.{HasTooManyItems, IsTotalOrderCount, LimitFaultIsTrue, IsWithinLimits};
+ghost use Rattle.lw_paths.specs.declared.fault.ListFault.{ListFault};
+ghost use Rattle.lw_paths.specs.declared.fault.ListFault.TheVariants.{Memory};
+ghost use Rattle.lw_paths.specs.Totals.{total_of};
+ghost use Rattle.lw_paths.specs.Items.{items_of, constraints_of};
+ghost use Rattle.lw_paths.specs.TransitiveReduction.{transitive_reduction};
+ghost use Rattle.lw_orders.specs.Order.{IsLinearExtension, IsOrderedByPath};
+ghost use Rattle.lw_orders.specs.Orientations.{orientation_count};
+
+use lw_litmus::Statement;
+
+/// The list of the choices of a program has each of them once, and nothing else: where jumps lead forward,
+/// at most to the end.
+pub fn choices_are_complete<S: Statement>()
+    ensures all { (program : List (List S)) (paths : List (List ℕ)) → All (JumpsForward S.language) program
+        → Contains (path_assignments S.language program) paths ↔ IsPathAssignment S.language program paths }
+    ensures once { (program : List (List S)) → All (JumpsForward S.language) program → IsDuplicateFree (path_assignments S.language program) }
+{}
+
+/// The orders of the items of a choice are made with a part of the fixed pairs, which comes to the same as all: the same orders keep
+/// it, it decides the same pairs, and it leaves as many ways to take the conflicts.
+pub fn reduced_pairs_fix_the_same<S: Statement>()
+    ensures orders { (program : List (List S)) (paths : List (List ℕ)) (order : List ℕ)
+        → IsLinearExtension (transitive_reduction S.language program (items_of S.language program paths)) order
+        ↔ IsLinearExtension (constraints_of S.language program (items_of S.language program paths)) order }
+    ensures decided { (program : List (List S)) (paths : List (List ℕ)) (p : ℕ × ℕ)
+        → IsOrderedByPath (transitive_reduction S.language program (items_of S.language program paths)).fixed p
+        ↔ IsOrderedByPath (constraints_of S.language program (items_of S.language program paths)).fixed p }
+    ensures ways { (program : List (List S)) (paths : List (List ℕ))
+        → orientation_count (transitive_reduction S.language program (items_of S.language program paths))
+        ≡ orientation_count (constraints_of S.language program (items_of S.language program paths)) }
+{}
+
+/// The orders of all choices of a program have one total, which the code counts, where jumps lead forward, at most to the end. So a
+/// program that is past a limit is not within the limits.
+pub fn totals_are_counted<S: Statement>()
+    ensures counted { (program : List (List S)) → All (JumpsForward S.language) program
+        → IsTotalOrderCount S.language program (total_of S.language program) }
+    ensures one { (program : List (List S)) (n m : ℕ)
+        → IsTotalOrderCount S.language program n → IsTotalOrderCount S.language program m → n ≡ m }
+    ensures apart { (program : List (List S)) (f : ListFault) → f ≢ Memory
+        → LimitFaultIsTrue S.language program f → IsWithinLimits S.language program → ⊥ }
+{}
+
+/// A source test never has too many items for a list.
+pub fn source_tests_have_few_items()
+    ensures { (s : SourceTest) → IsWellFormedSource s → HasTooManyItems source_language s.threads → ⊥ }
+{}

@@ -1,0 +1,51 @@
+//! Whether a program is within the limits of a list.
+ghost use Rattle.std.specs.Prelude.{◌≤◌, OnOk, IfErr};
+ghost use Rattle.lw_orders.specs.Limits.{most_orders};
+ghost use Rattle.lw_paths.specs.Counts.{HasTooManyItems, LimitFaultIsTrue, IsWithinLimits};
+ghost use Rattle.lw_paths.specs.Totals.{total_of, LimitFaultOfChoices};
+ghost use Rattle.lw_paths.specs.Visits.{IsVisitable};
+
+use crate::count::Counter;
+use crate::fault::ListFault;
+use crate::few_orders::has_few_orders;
+use crate::size::check_items;
+use crate::visit::visit_choices;
+use lw_base::Sequence;
+use lw_litmus::Statement;
+use std::alloc::Allocator;
+
+/// Whether the orders of a program are not too many.
+fn check_orders<S: Statement, A: Allocator + Copy, B: Allocator>(
+    alloc: A,
+    program: &[Sequence<S, B>],
+) -> Result<(), ListFault>
+    requires { IsVisitable S.language program.now }
+    ensures items { OnOk result (HasTooManyItems S.language program.now → ⊥) }
+    ensures orders { OnOk result (total_of S.language program.now ≤ most_orders) }
+    ensures err { IfErr result (LimitFaultOfChoices S.language program.now) }
+{
+    let mut counter = Counter {
+        alloc,
+        program,
+        items: Vec::new(alloc),
+        total: 0,
+    };
+    visit_choices(program, &mut counter)
+}
+
+/// Whether a program is within the limits of a list: its items are looked at first. Where it is seen without a walk over all choices
+/// that their orders are few, they are not counted.
+pub fn check_limits<S: Statement, A: Allocator + Copy, B: Allocator>(
+    alloc: A,
+    program: &[Sequence<S, B>],
+) -> Result<(), ListFault>
+    requires { IsVisitable S.language program.now }
+    ensures within { OnOk result (IsWithinLimits S.language program.now) }
+    ensures err { IfErr result (LimitFaultIsTrue S.language program.now) }
+{
+    check_items(program)?;
+    if has_few_orders(program) {
+        return Ok(());
+    }
+    check_orders(alloc, program)
+}

@@ -1,0 +1,130 @@
+//! The reduced pairs of the items of a choice: the fixed pairs but those that others decide; these are few, and come to the same.
+ghost use Rattle.std.specs.Prelude.{◌≡◌, ◌≤◌, ◌++◌, ◌||◌, [], if◌then◌else◌, length, IfOk, OnOk, option_copied};
+ghost use Rattle.lw_orders.specs.Limits.{most_items};
+ghost use Rattle.lw_paths.specs.Items as choice_items;
+ghost use Rattle.lw_paths.specs.Items.{needs_earlier_drains};
+ghost use Rattle.lw_paths.specs.TransitiveReduction.{none_before, edge_from, record_last, last_of_thread, fixed_from};
+
+use crate::item::{Item, LastItems};
+use crate::statement::waits;
+use lw_base::{Cpu, Sequence};
+use lw_litmus::Statement;
+use std::alloc::{AllocError, Allocator};
+
+impl LastItems {
+    /// The last items at a thread's first one: none.
+    fn none() -> Self
+        ensures { result ≡ none_before }
+    {
+        LastItems {
+            statement: None,
+            drain: None,
+        }
+    }
+
+    /// The last items for an item's thread: these if the item before is of it, else none.
+    fn of(self, thread: Cpu, before: Cpu) -> Self
+        ensures { result ≡ last_of_thread before thread self }
+    {
+        if thread == before {
+            self
+        } else {
+            LastItems::none()
+        }
+    }
+
+    /// The last items after an item: it is the last statement, or the last drain.
+    fn with(self, is_drain: bool, index: u8) -> Self
+        ensures { result ≡ record_last is_drain self index }
+    {
+        if is_drain {
+            LastItems {
+                drain: Some(index),
+                ..self
+            }
+        } else {
+            LastItems {
+                statement: Some(index),
+                ..self
+            }
+        }
+    }
+}
+
+/// The statement that an item is, or whose drain it is.
+pub(crate) fn statement_of<S: Statement, B: Allocator>(
+    program: &[Sequence<S, B>],
+    item: Item,
+) -> Option<&S>
+    ensures { option_copied result ≡ choice_items.statement_of S.language program.now item }
+{
+    program
+        .get(item.thread.index())?
+        .get(usize::from(item.position))
+}
+
+/// Whether an item must stand behind the last drain of its thread: a drain, and what waits for drains.
+fn needs_earlier_drains<S: Statement, B: Allocator>(program: &[Sequence<S, B>], item: Item) -> bool
+    ensures { result ≡ (item.is_drain || needs_earlier_drains S.language program.now item) }
+{
+    if item.is_drain {
+        return true;
+    }
+    match statement_of(program, item) {
+        Some(stmt) => waits(stmt),
+        None => false,
+    }
+}
+
+/// Pushes the pair of an item with one before it, if there is one.
+fn push_edge<A: Allocator>(
+    pairs: &mut Vec<(u8, u8), A>,
+    before: Option<u8>,
+    index: u8,
+) -> Result<(), AllocError>
+    ensures { OnOk result (pairs.new.items ≡ pairs.old.items ++ edge_from before index) }
+{
+    if let Some(before) = before {
+        pairs.push((before, index))?;
+    }
+    Ok(())
+}
+
+/// Pushes the pairs of an item with the last statement before it and, where it is a drain or waits for drains, with the last drain.
+fn push_preserved<A: Allocator>(
+    pairs: &mut Vec<(u8, u8), A>,
+    last: LastItems,
+    is_behind_drains: bool,
+    index: u8,
+) -> Result<(), AllocError>
+    ensures { OnOk result (pairs.new.items ≡ pairs.old.items ++ edge_from last.statement index
+        ++ (if is_behind_drains then edge_from last.drain index else [])) }
+{
+    push_edge(pairs, last.statement, index)?;
+    if is_behind_drains {
+        push_edge(pairs, last.drain, index)?;
+    }
+    Ok(())
+}
+
+/// The reduced pairs of items: the fixed pairs but those that others decide.
+pub(crate) fn preserved_pairs<S: Statement, A: Allocator, B: Allocator>(
+    alloc: A,
+    program: &[Sequence<S, B>],
+    items: &[Item],
+) -> Result<Vec<(u8, u8), A>, AllocError>
+    requires { length items.now ≤ most_items }
+    ensures { IfOk result (λ v. v.items ≡ fixed_from S.language program.now 0 0 none_before items.now) }
+{
+    let mut pairs = Vec::with_capacity(alloc, 2 * items.len())?;
+    let mut last = LastItems::none();
+    let mut before = Cpu::all()[0];
+    for (index, item) in items.iter().enumerate() {
+        last = last.of(item.thread, before);
+        before = item.thread;
+        let is_behind_drains = needs_earlier_drains(program, *item);
+        push_preserved(&mut pairs, last, is_behind_drains, index as u8)?;
+        last = last.with(item.is_drain, index as u8);
+    }
+    Ok(pairs)
+}

@@ -1,0 +1,92 @@
+//! Visits of all choices of flow paths, one after another, with no list of them.
+ghost use Rattle.std.specs.Prelude.{◌≡◌, ℕ, ◌<◌, ◌≤◌, List, [], ◌∷◌, length, All, OnOk, IfErr};
+ghost use Rattle.std.specs.Option.{option_to_list};
+ghost use Rattle.lw_base.specs.Threads.{thread_code};
+ghost use Rattle.lw_litmus.specs.Limits.{most_instructions};
+ghost use Rattle.lw_paths.specs.ChoiceLists.{successors, path_assignments};
+ghost use Rattle.lw_paths.specs.Views.{path_of, choice_of};
+ghost use Rattle.lw_paths.specs.Visits.{VisitsAll, VisitFails, IsVisitable, CanExtendPath, choices_along};
+ghost use Rattle.lw_paths.specs.inner.Visiting.{VisitResult};
+
+use crate::path::{Path, PathAssignment};
+use lw_base::Sequence;
+use lw_litmus::Statement;
+use std::alloc::Allocator;
+
+/// What is done for each choice.
+pub trait Visitor {
+    /// Why there is no further visit.
+    type Fault;
+
+    /// What a visit of a choice makes of the visitor.
+    ghost visits: { Self → List (List ℕ) → Self → Type 0 };
+
+    /// What a refusal of a choice tells.
+    ghost refuses: { Self → List (List ℕ) → Self.Fault → Type 0 };
+
+    /// Visits a choice.
+    fn visit(&mut self, choice: &PathAssignment) -> Result<(), Self::Fault>
+        ensures ok { OnOk result (visits self.old (choice_of choice.now) self.new) }
+        ensures err { IfErr result (λ e. refuses self.old (choice_of choice.now) e) };
+}
+
+/// The positions that may follow a statement's: the first, and the second where there are two.
+pub(crate) fn successors<S: Statement>(stmt: &S, at: usize) -> (usize, Option<usize>)
+    requires { at < most_instructions }
+    ensures { (result.0 ∷ option_to_list result.1) ≡ successors S.language stmt.now at }
+{
+    let next = at + 1;
+    let Some(to) = stmt.operation().target() else {
+        return (next, None);
+    };
+    if !stmt.operation().falls_through() {
+        return (to, None);
+    }
+    if next == to {
+        return (next, None);
+    }
+    (next, Some(to))
+}
+
+/// Visits each choice that begins with these paths, whose next path has begun and goes on at a position.
+fn visit_from<S: Statement, A: Allocator, V: Visitor>(
+    program: &[Sequence<S, A>],
+    choice: PathAssignment,
+    path: Path,
+    at: usize,
+    visitor: &mut V,
+) -> Result<(), V::Fault>
+    requires { CanExtendPath S.language program.now (choice_of choice) (path_of path) at }
+    ensures { VisitResult V.visits V.refuses (choices_along S.language program.now (choice_of choice) (path_of path) at) visitor.old result visitor.new }
+{
+    let code = &program[choice.len()];
+    let Some(stmt) = code.get(at) else {
+        let choice = choice.with(path);
+        if choice.len() == program.len() {
+            return visitor.visit(&choice);
+        }
+        return visit_from(program, choice, Path::new(), 0, visitor);
+    };
+    let path = path.with(at as u8);
+    let (first, second) = successors(stmt, at);
+    visit_from(program, choice, path, first, visitor)?;
+    match second {
+        Some(to) => visit_from(program, choice, path, to, visitor),
+        None => Ok(()),
+    }
+}
+
+/// Visits each choice of a program, the first thread's path changing slowest, until one is refused.
+pub fn visit_choices<S: Statement, A: Allocator, V: Visitor>(
+    program: &[Sequence<S, A>],
+    visitor: &mut V,
+) -> Result<(), V::Fault>
+    requires { IsVisitable S.language program.now }
+    ensures ok { OnOk result (VisitsAll V.visits (path_assignments S.language program.now) visitor.old visitor.new) }
+    ensures err { IfErr result (λ e. VisitFails V.visits V.refuses (path_assignments S.language program.now) visitor.old e) }
+{
+    if program.is_empty() {
+        return visitor.visit(&PathAssignment::new());
+    }
+    visit_from(program, PathAssignment::new(), Path::new(), 0, visitor)
+}

@@ -1,5 +1,0 @@
-use Rattle.lw_report.proofs.Common.{head_of, outcomes_of, AreStatesOfFirst}
-use Rattle.lw_report.proofs.states.shown_by.Given as goal
-
-abbrev pub invariant-loop-entry : goal.invariant-loop-entry
-invariant-loop-entry g l = AreStatesOfFirst (head_of l.head) (outcomes_of l.listing) l.entry l.states.items

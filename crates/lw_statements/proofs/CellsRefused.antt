@@ -1,0 +1,122 @@
+-- Where a cell of a thread is refused, so is the thread.
+use Rattle.lw_statements.proofs.Common.{◌≡◌, ℕ, ◌≤◌, ◌+◌, List, [], ◌∷◌, ◌++◌, drop, length, sym, ap, ◌∙◌}
+use Rattle.lw_statements.proofs.Common.{append_assoc, subst, arith, map-append, Contains-append_left}
+use Rattle.lw_statements.proofs.Common.{most_locations, IsDuplicateFree, insert_names, NameTable, Memory}
+use Rattle.lw_statements.proofs.Common.{CellFault, Cell, EndsBefore, cell_texts, cells_texts, token_texts}
+use Rattle.lw_statements.proofs.Common.{DraftColumn, Phrase, Grammar, IsGrammar, CellSyntax, MaybeStatement}
+use Rattle.lw_statements.proofs.Common.{ParsesCell, statements, labels_of, names_in, AllEndBefore, LabelMap}
+use Rattle.lw_statements.proofs.Common.{draft_cell, ColumnDrafted, LabelsTaken, LabelsRefused, MaybeRefused}
+use Rattle.lw_statements.proofs.Common.{ColumnFits, ColumnRefused, bare}
+use Rattle.lw_statements.proofs.Causes.{refused_memory}
+use Rattle.lw_statements.proofs.Drafts.{draft_stays, drafted_knows}
+use Rattle.lw_statements.proofs.Elements.{all_amid}
+use Rattle.lw_statements.proofs.FaultPlaces.{labels_told, statement_told}
+use Rattle.lw_statements.proofs.FrontLabels.{Labels-whole, Labels-unique}
+use Rattle.lw_statements.proofs.Leads.{labels_of-append, count-append}
+use Rattle.lw_statements.proofs.OneReading.{cell_unique, no_label}
+use Rattle.lw_statements.proofs.ResolvedNames.{names_in-append}
+use Rattle.lw_statements.proofs.TablesRead.{read_same, read_room}
+use Rattle.lw_statements.proofs.api.Zips.{Cut, zip_cut}
+
+-- names that stand once each do so in the front of their list
+once_front : (xs ys : List (List ℕ)) → IsDuplicateFree (xs ++ ys) → IsDuplicateFree xs
+once_front [] ys h = tt
+once_front (x ∷ xs) ys h = ((λ there. h.0 (Contains-append_left xs ys x there)), once_front xs ys h.1)
+
+module _ {Syntax Stmt : Type 0} (grammar : Grammar Syntax Stmt) where
+  -- a fault because memory ran out refuses the cells of a thread
+  pub column_out_of_memory : {A : Type 0} (names : NameTable) (cells : List (Cell A)) (f : CellFault)
+      → f.cause ≡ Memory
+      → f.at ≡ 0
+      → ColumnRefused grammar names cells f
+  column_out_of_memory names cells f = refused_memory f (λ at table front rest threads says grown. tt)
+
+  module _ (lawful : IsGrammar grammar) {D : Type 0} (draft_of : ℕ → Syntax → D) where
+    -- A cell behind those that were read, and before any others.
+    module _ {A : Type 0} (front : List (Cell A)) (before mid : NameTable) (column : DraftColumn D A)
+        (drafted : ColumnDrafted grammar draft_of front before column mid) (cell : Cell A) (rest : List (Cell A)) where
+      -- what all of them say, and fits, begins with what was read
+      module _ (t : List (CellSyntax Syntax)) (fits : ColumnFits grammar before (cells_texts (front ++ cell ∷ rest)) t) where
+        cut : Cut (ParsesCell grammar) (cells_texts front) (cell_texts cell) (cells_texts rest) t
+        cut = zip_cut _ _ _ _ t (rw (map-append cell_texts front (cell ∷ rest)) at fits.0.says)
+
+        same : cut.above ≡ drafted.read.syntax
+        same =
+            read_same (names_in grammar) (draft_cell grammar draft_of) (names_in-append grammar) (draft_stays grammar draft_of)
+            (ParsesCell grammar) (cells_texts front) before mid column.cells drafted.read (cell_texts cell)
+            (cell_unique grammar lawful) (cells_texts rest) t cut
+
+        names_fit : length (insert_names mid (names_in grammar (cut.here ∷ []))) ≤ most_locations
+        names_fit =
+            let room =
+            read_room _ _ (names_in-append grammar) (draft_stays grammar draft_of) _ _ before mid column.cells drafted.read
+            (cell_texts cell) (cell_unique grammar lawful) _ t cut in
+            omega (arith, room, fits.1)
+
+        count_fits : column.count + length (statements (bare cut.here.stmt ∷ [])) ≤ grammar.language.most
+        count_fits = omega (
+          arith,
+          fits.0.few,
+          ap (λ (ss : List (CellSyntax Syntax)). length (statements ss)) cut.whole,
+          count-append cut.above (cut.here ∷ cut.below),
+          count-append (cut.here ∷ []) cut.below,
+          ap (λ (ss : List (CellSyntax Syntax)). length (statements ss)) same,
+          drafted.counted,
+        )
+
+        once_fits : IsDuplicateFree (labels_of drafted.read.syntax ++ cut.here.labels)
+        once_fits =
+            let whole : labels_of t ≡ (labels_of drafted.read.syntax ++ cut.here.labels) ++ labels_of cut.below =
+            ap labels_of cut.whole
+            ∙ labels_of-append cut.above (cut.here ∷ cut.below)
+            ∙ ap (λ ss. labels_of ss ++ (cut.here.labels ++ labels_of cut.below)) same
+            ∙ sym (append_assoc (labels_of drafted.read.syntax) cut.here.labels (labels_of cut.below)) in
+            once_front _ (labels_of cut.below) (subst IsDuplicateFree whole fits.0.once)
+
+      -- where the labels of this cell are refused, so are the thread's cells
+      pub labels_refused : (f : CellFault)
+          → LabelsRefused cell.tokens column.labels f
+          → ColumnRefused grammar before (front ++ cell ∷ rest) f
+      labels_refused f r = record {
+        none = λ known t fits.
+            let y = cut t fits in
+            r.none known y.here.labels (record {
+              known = labels_of drafted.read.syntax;
+              knows = drafted_knows grammar draft_of front before mid column drafted;
+              rest = y.says.0;
+              says = y.says.1;
+              stops = no_label grammar lawful y.says.0 y.here.stmt y.says.2;
+              once = once_fits t fits;
+            });
+        cause =
+            labels_told grammar front rest cell drafted.read.syntax drafted.read.says f.at f.cause before column.labels
+            (drafted_knows grammar draft_of front before mid column drafted) r.cause;
+        place = λ len within. r.place len (all_amid (EndsBefore len) front rest cell within).0;
+      }
+
+      -- where what stands behind the labels of this cell is refused, so are the thread's cells
+      pub statement_refused : (f : CellFault) (next : ℕ) (after : LabelMap)
+          → LabelsTaken cell.tokens column.count column.labels next after
+          → (phrase : Phrase)
+          → phrase.tokens.now ≡ drop next cell.tokens
+          → ((len : ℕ) → EndsBefore len cell → AllEndBefore len phrase)
+          → MaybeRefused grammar column.count mid phrase f
+          → ColumnRefused grammar before (front ++ cell ∷ rest) f
+      statement_refused f next after taken phrase behind lies r = record {
+        none = λ known t fits.
+            let y = cut t fits in
+            let stops = no_label grammar lawful y.says.0 y.here.stmt y.says.2 in
+            let one =
+            Labels-unique (cell_texts cell) y.says.0 _ y.here.labels taken.read.names y.says.1
+            (Labels-whole cell.tokens next taken.read.names taken.read.says) stops taken.stops in
+            let rest_is : y.says.0 ≡ token_texts phrase.tokens.now = one.1 ∙ ap token_texts (sym behind) in
+            r.none known y.here.stmt (record {
+              says = subst (λ u. MaybeStatement grammar u y.here.stmt) rest_is y.says.2;
+              few = count_fits t fits;
+              room = names_fit t fits;
+            });
+        cause =
+            statement_told _ front rest cell _ drafted.read.says f.at _ before mid drafted.read.names column.labels after next
+            (rw drafted.counted at taken) (rw (drafted.counted, behind) at r.cause);
+        place = λ len within. r.place len (lies len (all_amid (EndsBefore len) front rest cell within));
+      }

@@ -1,0 +1,100 @@
+-- What proofs cite of std, of lower crates and of this crate's definitions, passed on from one place. Declares nothing.
+pub use Rattle.std.proofs.Common.{All, Bool, Contains, Err, IfOk, IfSome, IsErrAnd, IsTrue, List, MatchBool}
+pub use Rattle.std.proofs.Common.{MatchOption, MatchResult, None, Ok, Option, Result, Some, [], ap}
+pub use Rattle.std.proofs.Common.{append-nil, append_assoc, arith, bytes_eq, codes, decimal, drop, eqb}
+pub use Rattle.std.proofs.Common.{eqb-true, false, filter_map, get_or, if◌then◌else◌, inl, inr, is_some}
+pub use Rattle.std.proofs.Common.{length, length-append, length-take, ltb, ltb-false, ltb-true, map, max}
+pub use Rattle.std.proofs.Common.{nat_cmp, not, option_map, refl, replicate, rules, slice_get, slice_index_or}
+pub use Rattle.std.proofs.Common.{subst, suc, sym, take, take-append-drop, take_all, true, true≢false, zero}
+pub use Rattle.std.proofs.Common.{ℕ, ◌*◌, ◌++◌, ◌+◌, ◌-◌, ◌<◌, ◌||◌, ◌↔◌, ◌∙◌, ◌∷◌, ◌≡◌, ◌≤◌, ◌⊎◌}
+pub use Rattle.std.proofs.lemmas.Bool.{agree_below_at, and_parts, cases_Bool, false_from_ne_true, or_right}
+pub use Rattle.std.proofs.lemmas.Grind.{flat_map-append}
+pub use Rattle.std.proofs.lemmas.List.{drop-map, length-map, map-append, take-map}
+pub use Rattle.std.proofs.lemmas.List.Elements.{All-contains, All-from_recursion, All-more, All-weaker}
+pub use Rattle.std.proofs.lemmas.List.Elements.{Contains-append_left, Contains-append_right}
+pub use Rattle.std.proofs.lemmas.List.Elements.{filter_map-append}
+pub use Rattle.std.proofs.lemmas.List.Folds.{list_any-append, list_any_at}
+pub use Rattle.std.proofs.lemmas.Map.Text.{btree_map_updates_str}
+pub use Rattle.std.proofs.lemmas.Option.{get_or_from_slice_get, none-some, same_Some, slice_get-map}
+pub use Rattle.std.proofs.lemmas.Option.{slice_get_read, slice_get_within}
+pub use Rattle.std.proofs.lemmas.Result.{MatchResult-at_err, MatchResult-at_ok, MatchResult-weaker}
+pub use Rattle.std.proofs.lemmas.Slice.Eq.{bytes_eq-Decides}
+pub use Rattle.std.specs.Char.{is_ascii_digit, to_ascii_lowercase}
+pub use Rattle.std.specs.Cmp.{unsigned_Decides}
+pub use Rattle.std.specs.Cmp.Lexicographic.{pointwise_decides}
+pub use Rattle.std.specs.List.{AllByRecursion, AllZip, cons_option, list_all, list_any}
+pub use Rattle.std.specs.Map.{update}
+pub use Rattle.std.specs.Option.{ForSome, option_len, option_or}
+pub use Rattle.std.specs.Ordering.{ord_max}
+pub use Rattle.lw_base.proofs.Common.{Bytes, CellGrid, Cells, IsDuplicateFree, IsLocationName, IsNameTable}
+pub use Rattle.lw_base.proofs.Common.{IsRegisterIndex, IsRegisterName, IsWellFormedHead, IsWordNumber}
+pub use Rattle.lw_base.proofs.Common.{NameTable, TestHead, TokenList, contains_name, first_byte_is, head_of}
+pub use Rattle.lw_base.proofs.Common.{insert_name, insert_names, is_numbered_register, is_reserved, keywords}
+pub use Rattle.lw_base.proofs.Common.{lowercase_if_x86, most_locations, position_of_name, register_name}
+pub use Rattle.lw_base.proofs.Common.{set_location_names, x86_registers}
+pub use Rattle.lw_base.proofs.api.Elements.{All-append_inv, all_append}
+pub use Rattle.lw_base.proofs.api.GrowingTables.{contains_name-insert_name, contains_name-insert_names}
+pub use Rattle.lw_base.proofs.api.GrowingTables.{insert_names-append, insert_names-longer, once-along}
+pub use Rattle.lw_base.proofs.api.GrowingTables.{position_of_name-insert_names, position_of_name-within}
+pub use Rattle.lw_base.proofs.api.Lists.{at_index, cons_head, cut_at, drop_all, drop_at, get-append_middle}
+pub use Rattle.lw_base.proofs.api.Lists.{get_append, take_one}
+pub use Rattle.lw_base.proofs.api.Registers.{register_unique}
+pub use Rattle.lw_base.proofs.api.Returns.{Err-clause_known}
+pub use Rattle.lw_base.proofs.api.Tables.{contains_name-Contains, insert_name-new, insert_name-there}
+pub use Rattle.lw_base.proofs.api.Tables.{once_more}
+pub use Rattle.lw_base.proofs.api.WellFormedHeads.{set_location_names-well_formed}
+pub use Rattle.lw_base.specs.declared.fault.CellCause.{CellCause}
+pub use Rattle.lw_base.specs.declared.fault.CellCause.TheVariants.{Backward, Form, LabelMissing, LabelTwice}
+pub use Rattle.lw_base.specs.declared.fault.CellCause.TheVariants.{Memory, TooMany}
+pub use Rattle.lw_base.specs.declared.fault.CellFault.{CellFault}
+pub use Rattle.lw_base.specs.declared.head.Arch.{Arch}
+pub use Rattle.lw_base.specs.declared.head.Arch.TheVariants.{Source, X86}
+pub use Rattle.lw_base.specs.declared.operand.Operand.{Operand}
+pub use Rattle.lw_litmus.proofs.Common.{IsWellFormed, IsWellFormedStatement, IsWellFormedThread, Test}
+pub use Rattle.lw_litmus.proofs.Common.{branch_target, numbers_of, registers_of, test_of}
+pub use Rattle.lw_litmus.specs.declared.operation.Operation.{Operation}
+pub use Rattle.lw_text.proofs.Common.{EndsBefore, IsNumber, PlacedCell, TestFrame, all_texts, cell_texts}
+pub use Rattle.lw_text.proofs.Common.{cells_texts, frame_of, placed_cell, placed_cells, placed_row}
+pub use Rattle.lw_text.proofs.Common.{texts_of_tokens, token_texts, with_span, with_spans}
+pub use Rattle.lw_text.proofs.api.Numbers.{number-unique, number_first}
+pub use Rattle.lw_text.proofs.api.Places.{cells_placed, grid_placed, texts_placed}
+pub use Rattle.lw_text.proofs.api.Spelling.{decimal_is_number, name_by_test}
+pub use Rattle.lw_text.specs.declared.cell.Cell.{Cell}
+pub use Rattle.lw_text.specs.declared.token.Token.{Token}
+pub use Rattle.lw_statements.specs.Bindings.{BeginsWith, CanStand, IsDrafted, IsMade, IsNameAmong}
+pub use Rattle.lw_statements.specs.Bindings.{IsNotDrafted, IsOverflowSlot, IsReach, IsSpelling, all_apart}
+pub use Rattle.lw_statements.specs.Bindings.{are_disjoint_forms, bind_slot, bindings_of, draft_of, draft_on}
+pub use Rattle.lw_statements.specs.Bindings.{is_label_last, is_no_colon, is_statement, names_none, names_one}
+pub use Rattle.lw_statements.specs.Bindings.{names_register, no_bindings, numbers_in, registers_in}
+pub use Rattle.lw_statements.specs.Bindings.{tokens_differ, with_target}
+pub use Rattle.lw_statements.specs.Cells.{CellSyntax, Column, FrameHasTest, Labels, LabelsLeadForward}
+pub use Rattle.lw_statements.specs.Cells.{MaybeStatement, ParsesCell, code_in, labels_of, location_index}
+pub use Rattle.lw_statements.specs.Cells.{names_in, names_of, resolve_test, resolved_statement}
+pub use Rattle.lw_statements.specs.Cells.{resolved_target, statements, target_in}
+pub use Rattle.lw_statements.specs.Faults.{BeginsWithColon, CellCauseIsTrue, IsBackward, IsJumpLabel}
+pub use Rattle.lw_statements.specs.Faults.{IsMissing, IsNinth, IsSecondLabel, IsSurplus, TokenPosition}
+pub use Rattle.lw_statements.specs.Grammars.{BeforeLocation, CanBegin, Grammar, IsGrammar}
+pub use Rattle.lw_statements.specs.Operands.{IsOperand}
+pub use Rattle.lw_statements.specs.Spellings.{Filling, Fills, Gives, ParsesStatement, SlotValue, Spelling}
+pub use Rattle.lw_statements.specs.Spellings.{grammar_of, label_in, name_in}
+pub use Rattle.lw_statements.specs.declared.column.DraftColumn.{DraftColumn}
+pub use Rattle.lw_statements.specs.declared.draft.Draft.{Draft}
+pub use Rattle.lw_statements.specs.declared.draft.DraftCell.{DraftCell}
+pub use Rattle.lw_statements.specs.declared.draft.Operands.{Operands}
+pub use Rattle.lw_statements.specs.declared.phrase.Phrase.{Phrase}
+pub use Rattle.lw_statements.specs.declared.slot.Slot.{Slot}
+pub use Rattle.lw_statements.specs.declared.slot.Slot.TheVariants.{Keyword, Label, Location, Number, Register}
+pub use Rattle.lw_statements.specs.declared.slot.Slot.TheVariants.{Value}
+pub use Rattle.lw_statements.specs.declared.statement_parser.SlotBindings.{SlotBindings}
+pub use Rattle.lw_statements.specs.inner.Drafts.{ColumnDrafted, IsFresh, LabelMap, MapsLabelsAs, ReadOn}
+pub use Rattle.lw_statements.specs.inner.Drafts.{draft_cell, draft_in, label_target, target_by}
+pub use Rattle.lw_statements.specs.inner.Reading.{AllForward, AtLabel, BeginsAt, ColumnFaultIsTrue}
+pub use Rattle.lw_statements.specs.inner.Reading.{ColumnFits, ColumnRead, ColumnRefused, ColumnsRead}
+pub use Rattle.lw_statements.specs.inner.Reading.{ColumnsRefused, Fits, FitsBelow, HasDuplicateLabelAt}
+pub use Rattle.lw_statements.specs.inner.Reading.{HasExactlyLabels, HasOverflowIn, IsCellResolved}
+pub use Rattle.lw_statements.specs.inner.Reading.{IsResolvable, IsResolved, IsUnresolved, JumpCause}
+pub use Rattle.lw_statements.specs.inner.Reading.{LabelsFit, LabelsRead, LabelsRefused, LabelsTaken}
+pub use Rattle.lw_statements.specs.inner.Reading.{LedForward, MaybeRead, MaybeRefused}
+pub use Rattle.lw_statements.specs.inner.Reading.{OptionalStatementFaultIsTrue, StatementRead}
+pub use Rattle.lw_statements.specs.inner.Reading.{StatementRefused, bare, named_by}
+pub use Rattle.lw_statements.specs.inner.Tokens.{AllEndBefore, FaultClaim, IsMisfit, NameRead, Refused}

@@ -1,0 +1,178 @@
+-- Reading the cells of a thread, from top to bottom: what holds when one more is read.
+use Rattle.lw_statements.proofs.Common.{◌≡◌, ℕ, ◌≤◌, ◌+◌, ◌*◌, Option, Some, None, ◌⊎◌, inl, inr, List, []}
+use Rattle.lw_statements.proofs.Common.{◌∷◌, ◌++◌, length, drop, sym, ap, ◌∙◌, arith, refl, is_some}
+use Rattle.lw_statements.proofs.Common.{slice_get, option_map, append-nil, option_len, ForSome, map-append}
+use Rattle.lw_statements.proofs.Common.{CellCause, TooMany, CellFault, insert_names, NameTable, TokenList}
+use Rattle.lw_statements.proofs.Common.{Cell, Token, token_texts, cell_texts, cells_texts, DraftColumn}
+use Rattle.lw_statements.proofs.Common.{DraftCell, Phrase, Grammar, CanBegin, CellSyntax, ParsesCell}
+use Rattle.lw_statements.proofs.Common.{statements, labels_of, names_in, draft_in, draft_cell, IsFresh}
+use Rattle.lw_statements.proofs.Common.{ColumnDrafted, Fits, FitsBelow, OptionalStatementFaultIsTrue}
+use Rattle.lw_statements.proofs.Common.{HasExactlyLabels, LabelsTaken, StatementRead, MaybeRead, bare}
+use Rattle.lw_statements.proofs.Common.{StatementRefused, MaybeRefused, IsMisfit}
+use Rattle.lw_statements.proofs.Causes.{misfit_tells, many_tells, many_further}
+use Rattle.lw_statements.proofs.Elements.{all_at}
+use Rattle.lw_statements.proofs.FrontLabels.{get_text, Labels-whole}
+use Rattle.lw_statements.proofs.Leads.{count-append, labels_of-append, leads_known, leads_more}
+use Rattle.lw_statements.proofs.ResolvedNames.{number_stays, names_in-append}
+use Rattle.lw_statements.proofs.TablesRead.{AreIn, read_more}
+
+-- what is at most so many is so with one more, if one comes only where it is not as many yet
+pub at_most_room : {X : Type 0} (count most : ℕ) (o : Option X)
+    → count ≤ most
+    → ForSome o (λ x. count ≡ most → ⊥)
+    → count + option_len o ≤ most
+at_most_room count most None few room = omega (arith, few)
+at_most_room count most (Some x) few room = let free : count ≡ most → ⊥ = room x refl in omega (arith, few, free)
+
+module _ {Syntax Stmt D : Type 0} (grammar : Grammar Syntax Stmt) (draft_of : ℕ → Syntax → D) where
+  -- ---- what stands behind the labels of a cell, by its first token
+
+  -- where the tokens behind the labels were read as a statement, and the thread has room for it, that is what stands there
+  pub maybe_some : (above : ℕ) (ts : TokenList) (before : NameTable) (stmt : D) (after : NameTable)
+      → (above ≡ grammar.language.most → ⊥)
+      → StatementRead grammar draft_of ts before stmt after
+      → MaybeRead grammar draft_of above ts before (Some stmt) after
+  maybe_some above ts before stmt after free r = record {
+    room = λ d is. free;
+    read = record { syntax = Some r.syntax; says = r.says; names = r.names; made = ap Some r.made };
+  }
+
+  -- where there are no tokens behind the labels, they say no statement
+  pub maybe_none : (above : ℕ) (tokens : List Token) (names : NameTable)
+      → None ≡ slice_get tokens 0
+      → MaybeRead grammar draft_of above (token_texts tokens) names None names
+  maybe_none above [] names e =
+      record { room = λ d is. absurd cc; read = record { syntax = None; says = refl; names = refl; made = refl } }
+  maybe_none above (t ∷ tokens) names e = absurd cc
+
+  module _ (phrase : Phrase) (t : Token) (first : Some t ≡ slice_get phrase.tokens.now 0) (names : NameTable) (above : ℕ)
+      (f : CellFault) where
+    abbrev tokens : List Token
+    tokens = phrase.tokens.now
+
+    not_empty : token_texts tokens ≡ [] → ⊥
+    not_empty e =
+        let none : slice_get (token_texts tokens) 0 ≡ None = ap (λ (ts : TokenList). slice_get ts 0) e in
+        let some = get_text tokens 0 t (sym first) in
+        absurd cc
+
+    no_room : above ≡ grammar.language.most → (s : Option Syntax) → FitsBelow grammar above names (token_texts tokens) s → ⊥
+    no_room full None h = not_empty h.says
+    no_room full (Some s) h = omega (arith, full, h.few)
+
+    only_some : ((s : Syntax) → Fits grammar names (token_texts tokens) s → ⊥)
+        → (s : Option Syntax)
+        → FitsBelow grammar above names (token_texts tokens) s
+        → ⊥
+    only_some none None h = not_empty h.says
+    only_some none (Some s) h = none s (h.says, h.room)
+
+    surplus_told : (at : ℕ) (cause : CellCause)
+        → above ≡ grammar.language.most
+        → at ≡ t.at
+        → (IsMisfit cause × (CanBegin grammar t.text.now → ⊥)) ⊎ ((cause ≡ TooMany) × CanBegin grammar t.text.now)
+        → OptionalStatementFaultIsTrue grammar above tokens names at cause
+    surplus_told at cause full place (inl m) = misfit_tells cause m.0
+    surplus_told at cause full place (inr (e, begins)) = rw e (many_tells (inl (full, (t, sym first, sym place, begins))))
+
+    -- where the thread has as many statements as it may have, and there are tokens behind the labels, the first is refused
+    pub surplus_refused : above ≡ grammar.language.most
+        → f.at ≡ t.at
+        → (IsMisfit f.cause × (CanBegin grammar t.text.now → ⊥)) ⊎ ((f.cause ≡ TooMany) × CanBegin grammar t.text.now)
+        → MaybeRefused grammar above names phrase f
+    surplus_refused full place told = record {
+      none = λ known. no_room full;
+      cause = surplus_told f.at f.cause full place told;
+      place = λ len lies. omega (arith, place, all_at (λ (u : Token). u.at ≤ len) tokens 0 t (sym first) lies.0);
+    }
+
+    -- where the tokens behind the labels are refused as a statement, so is what stands behind the labels
+    pub maybe_refused : StatementRefused grammar names phrase f → MaybeRefused grammar above names phrase f
+    maybe_refused r = record { none = λ known. only_some (r.none known); cause = many_further inr r.cause; place = r.place }
+
+  -- ---- cells
+
+  -- the draft of what stands behind the labels counts as many statements as that says: one, or none
+  pub held_by : (o : Option Syntax) (stmt : Option D) (f : Syntax → D)
+      → stmt ≡ option_map f o
+      → option_len stmt ≡ length (statements (bare o ∷ []))
+  held_by None stmt f e = ap option_len e
+  held_by (Some s) stmt f e = ap option_len e
+
+  -- the draft of a cell stays the same as the table grows, if its names are in the table
+  pub draft_stays : (names ns : NameTable) (syntax : CellSyntax Syntax)
+      → AreIn names (names_in grammar (syntax ∷ []))
+      → draft_cell grammar draft_of (insert_names names ns) syntax ≡ draft_cell grammar draft_of names syntax
+  draft_stays names ns syntax all =
+      ap (λ (o : Option D). (let c : DraftCell D = record { start = 2 * length syntax.labels; stmt = o } in c))
+      (go syntax.stmt all)
+    where
+      go : (o : Option Syntax)
+          → AreIn names (names_in grammar (bare o ∷ []))
+          → option_map (draft_in grammar draft_of (insert_names names ns)) o ≡ option_map (draft_in grammar draft_of names) o
+      go None all = refl
+      go (Some s) all = ap (λ (x : ℕ). Some (draft_of x s)) (number_stays names ns (grammar.name_of s) all)
+
+  -- a fresh column is what is read of no cells
+  pub draft_none : {A : Type 0} (names : NameTable) (column : DraftColumn D A)
+      → IsFresh column
+      → ColumnDrafted grammar draft_of [] names column names
+  draft_none names column fresh = record {
+    read = record { syntax = []; says = tt; names = refl; made = fresh.cells };
+    few = omega arith;
+    once = tt;
+    leads = fresh.labels;
+    counted = fresh.count;
+  }
+
+  module _ {A : Type 0} (front : List (Cell A)) (before mid : NameTable) (column : DraftColumn D A)
+      (drafted : ColumnDrafted grammar draft_of front before column mid) where
+    -- the column has no more statements than the language allows
+    pub few_drafted : column.count ≤ grammar.language.most
+    few_drafted = omega (arith, drafted.counted, drafted.few)
+
+    -- the column's map has the labels of these cells, and no others
+    pub drafted_knows : HasExactlyLabels column.labels (labels_of drafted.read.syntax)
+    drafted_knows n = ap is_some (drafted.leads n) ∙ leads_known drafted.read.syntax 0 n
+
+    -- if the labels of the next cell were read, and what stands behind them, then the column with its draft is what is read of
+    -- all these
+    pub cell_read : (now : DraftColumn D A) (cell : Cell A) (next : ℕ) (after : NameTable) (stmt : Option D)
+        → LabelsTaken cell.tokens column.count column.labels next now.labels
+        → MaybeRead grammar draft_of column.count (token_texts (drop next cell.tokens)) mid stmt after
+        → now.cells ≡ column.cells ++ record { start = next; stmt = stmt } ∷ []
+        → now.count ≡ column.count + option_len stmt
+        → ColumnDrafted grammar draft_of (front ++ cell ∷ []) before now after
+    cell_read now cell next after stmt taken maybe pushed counted =
+        let ls = taken.read in
+        let old = drafted.read.syntax in
+        let syntax : CellSyntax Syntax = record { labels = ls.names; stmt = maybe.read.syntax } in
+        let draft : DraftCell D = record { start = next; stmt = stmt } in
+        let same : draft ≡ draft_cell grammar draft_of after syntax = rw (ls.two_each, maybe.read.made) refl in
+        let more =
+        read_more (names_in grammar) (draft_cell grammar draft_of) (names_in-append grammar) draft_stays (ParsesCell grammar)
+        (cells_texts front) before mid column.cells drafted.read (cell_texts cell) syntax draft after
+        (token_texts (drop next cell.tokens), Labels-whole cell.tokens next ls.names ls.says, maybe.read.says) maybe.read.names
+        same in
+        let each = ls.once (labels_of old) drafted_knows drafted.once in
+        let count = count-append old (syntax ∷ []) in
+        let held = held_by maybe.read.syntax stmt (draft_in grammar draft_of after) maybe.read.made in
+        record {
+          read = record {
+            syntax = old ++ syntax ∷ [];
+            says = rw (map-append cell_texts front (cell ∷ [])) more.0;
+            names = more.1;
+            made = pushed ∙ more.2;
+          };
+          few =
+              omega (
+                arith,
+                count,
+                held,
+                drafted.counted,
+                at_most_room column.count grammar.language.most stmt few_drafted maybe.room,
+              );
+          once = rw (labels_of-append old (syntax ∷ []), append-nil ls.names) each;
+          leads = λ n. rw (ls.made n, leads_more syntax n old each, drafted.counted, drafted.leads n) refl;
+          counted = omega (arith, counted, count, held, drafted.counted);
+        }

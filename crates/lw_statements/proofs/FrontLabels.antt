@@ -1,0 +1,266 @@
+-- The labels at the front of a cell, as they are read: what holds when one more is.
+use Rattle.lw_statements.proofs.Common.{◌≡◌, ℕ, zero, suc, ◌<◌, ◌≤◌, ◌+◌, ◌*◌, Bool, true, false, true≢false}
+use Rattle.lw_statements.proofs.Common.{◌||◌, Option, Some, None, List, [], ◌∷◌, ◌++◌, length, length-append}
+use Rattle.lw_statements.proofs.Common.{take, drop, refl, sym, ap, ◌∙◌, subst, arith, ◌↔◌, IsTrue, slice_get}
+use Rattle.lw_statements.proofs.Common.{slice_index_or, codes, Contains, if◌then◌else◌, option_map, is_some}
+use Rattle.lw_statements.proofs.Common.{append-nil, append_assoc, take-append-drop, bytes_eq, slice_get-map}
+use Rattle.lw_statements.proofs.Common.{slice_get_within, take-map, drop-map, length-map, map-append}
+use Rattle.lw_statements.proofs.Common.{list_any-append, Contains-append_right, unsigned_Decides}
+use Rattle.lw_statements.proofs.Common.{pointwise_decides, update, IsDuplicateFree, IsLocationName}
+use Rattle.lw_statements.proofs.Common.{contains_name, Bytes, TokenList, take_one, contains_name-Contains}
+use Rattle.lw_statements.proofs.Common.{once_more, Token, token_texts, Labels, LabelMap, target_by, AtLabel}
+use Rattle.lw_statements.proofs.Common.{HasExactlyLabels, LabelsRead, LabelsFit, HasDuplicateLabelAt}
+
+-- ---- tokens and their texts
+
+-- a token's text stands at its index among the texts
+pub get_text : (tokens : List Token) (k : ℕ) (t : Token)
+    → slice_get tokens k ≡ Some t
+    → slice_get (token_texts tokens) k ≡ Some t.text.now
+get_text tokens k t is = slice_get-map (λ u. u.text.now) tokens k ∙ ap (option_map (λ u. u.text.now)) is
+
+-- what stands at index j of all texts but the first k stands at index k + j of all
+get_drop : (ts : TokenList) (k j : ℕ) → slice_get (drop k ts) j ≡ slice_get ts (k + j)
+get_drop [] zero j = refl
+get_drop [] (suc k) j = refl
+get_drop (x ∷ ts) zero j = let e : j ≡ zero + j = omega arith in ap (slice_get (x ∷ ts)) e
+get_drop (x ∷ ts) (suc k) j = let e : suc (k + j) ≡ suc k + j = omega arith in get_drop ts k j ∙ ap (slice_get (x ∷ ts)) e
+
+-- the text at index j of all tokens but the first k is the text at index k + j of all
+pub get_behind : (tokens : List Token) (k j : ℕ)
+    → slice_get (token_texts (drop k tokens)) j ≡ slice_get (token_texts tokens) (k + j)
+get_behind tokens k j =
+    ap (λ (ts : TokenList). slice_get ts j) (sym (drop-map (λ t. t.text.now) k tokens)) ∙ get_drop (token_texts tokens) k j
+
+-- where a token stands at the index next + 1, there are next + 2 tokens at least
+pub next_within : (tokens : List Token) (next : ℕ) (w : Bytes)
+    → slice_get (token_texts tokens) (next + 1) ≡ Some w
+    → next + 2 ≤ length tokens
+next_within tokens next w colon =
+    omega (arith, slice_get_within (token_texts tokens) (next + 1) w colon, length-map tokens (λ t. t.text.now))
+
+-- a comparison of the token at an index with a sign tells whether the sign stands there
+pub sign_or_not : (ts : TokenList) (k : ℕ) (w sign : Bytes) (b : Bool)
+    → slice_get ts k ≡ Some w
+    → b ≡ bytes_eq w sign
+    → IsTrue b ↔ (slice_get ts k ≡ Some sign)
+sign_or_not ts k w sign b at is = (
+  λ yes. at ∙ ap Some ((pointwise_decides unsigned_Decides w sign).0 (sym is ∙ yes)),
+  λ e. is ∙ (pointwise_decides unsigned_Decides w sign).1 (let f : Some w ≡ Some sign = sym at ∙ e in cc),
+)
+
+-- ---- names
+
+-- a name that is found in a list is in it
+pub name_contained : (ns : List Bytes) (n : Bytes) → contains_name ns n ≡ true → Contains ns n
+name_contained [] n e = absurd cc
+name_contained (m ∷ ns) n e = go (bytes_eq m n) refl (name_contained ns n)
+  where
+    go : (b : Bool) → bytes_eq m n ≡ b → (contains_name ns n ≡ true → Contains ns n) → Contains (m ∷ ns) n
+    go true f further = (0, omega arith, (pointwise_decides unsigned_Decides m n).0 f)
+    go false f further = Contains-append_right (m ∷ []) ns n (further (rw f at e))
+
+-- of names that stand once each none is in both parts of the list
+pub once_apart : (ns ms : List Bytes) (n : Bytes) → IsDuplicateFree (ns ++ ms) → Contains ns n → Contains ms n → ⊥
+once_apart [] ms n once h there = let k : h.0 < 0 = h.1 in omega arith
+once_apart (m ∷ ns) ms n once h there = at h.0 h.1 h.2 (once_apart ns ms n once.1)
+  where
+    at : (k : ℕ) → k < length (m ∷ ns) → slice_index_or (m ∷ ns) k n ≡ n → (Contains ns n → Contains ms n → ⊥) → ⊥
+    at zero lt e further = once.0 (subst (λ (x : Bytes). Contains (ns ++ ms) x) (sym e) (Contains-append_right ns ms n there))
+    at (suc k) lt e further = further (k, omega (arith, lt), e) there
+
+-- ---- labels and what stands behind them
+
+-- tokens that are labels alone are so with one more label, and its `:`, behind them
+Labels-more : (front : TokenList) (ls : List Bytes) (l : Bytes)
+    → Labels front ls []
+    → IsLocationName l
+    → Labels (front ++ l ∷ codes ":" ∷ []) (ls ++ l ∷ []) []
+Labels-more front [] l h loc = rw h ([], refl, loc, refl)
+Labels-more front (k ∷ ls) l h loc =
+    (h.0 ++ l ∷ codes ":" ∷ [], ap (λ (t : TokenList). t ++ l ∷ codes ":" ∷ []) h.1, h.2, Labels-more h.0 ls l h.3 loc)
+
+-- tokens that are labels alone, with others behind them, are these labels and then the others
+pub Labels-rest : (front rest : TokenList) (ls : List Bytes) → Labels front ls [] → Labels (front ++ rest) ls rest
+Labels-rest front rest [] h = rw h refl
+Labels-rest front rest (k ∷ ls) h = (h.0 ++ rest, ap (λ (t : TokenList). t ++ rest) h.1, h.2, Labels-rest h.0 rest ls h.3)
+
+-- if the first so many tokens are labels alone, all tokens are these labels and then the others
+pub Labels-whole : (tokens : List Token) (next : ℕ) (ls : List Bytes)
+    → Labels (token_texts (take next tokens)) ls []
+    → Labels (token_texts tokens) ls (token_texts (drop next tokens))
+Labels-whole tokens next ls says =
+    subst (λ (t : TokenList). Labels t ls (token_texts (drop next tokens)))
+    (sym (map-append (λ t. t.text.now) (take next tokens) (drop next tokens)) ∙ ap token_texts (take-append-drop next tokens))
+    (Labels-rest (token_texts (take next tokens)) (token_texts (drop next tokens)) ls says)
+
+-- if tokens are labels and then rest, all labels at their front are these and those at the front of rest
+Labels-cut : (ts rest mid : TokenList) (ls ks : List Bytes)
+    → Labels ts ls rest
+    → Labels ts ks mid
+    → (AtLabel mid → ⊥)
+    → (more : List Bytes) × (ks ≡ ls ++ more) × Labels rest more mid
+Labels-cut ts rest mid [] ks h k none = (ks, refl, subst (λ (t : TokenList). Labels t ks mid) h k)
+Labels-cut ts rest mid (l ∷ ls) [] h k none = absurd (none (ap (λ (t : TokenList). slice_get t 1) (sym k ∙ h.1)))
+Labels-cut ts rest mid (l ∷ ls) (m ∷ ks) h k none =
+    let e : l ∷ codes ":" ∷ h.0 ≡ m ∷ codes ":" ∷ k.0 = sym h.1 ∙ k.1 in
+    let same : h.0 ≡ k.0 = cc in
+    let first : l ≡ m = cc in
+    let go = Labels-cut h.0 rest mid ls ks h.3 (subst (λ (t : TokenList). Labels t ks mid) (sym same) k.3) none in
+    (go.0, (let tail : ks ≡ ls ++ go.0 = go.1 in cc), go.2)
+
+-- where a `:` stands behind the next token, that token is the next label
+Labels-next : (rest mid : TokenList) (more : List Bytes) (a : Bytes)
+    → slice_get rest 0 ≡ Some a
+    → slice_get rest 1 ≡ Some (codes ":")
+    → Labels rest more mid
+    → (AtLabel mid → ⊥)
+    → (ks : List Bytes) × (more ≡ a ∷ ks) × IsLocationName a
+Labels-next rest mid [] a first colon h none = absurd (none (subst AtLabel h colon))
+Labels-next rest mid (m ∷ ks) a first colon h none =
+    let e : slice_get rest 0 ≡ Some m = ap (λ t. slice_get t 0) h.1 in
+    let same : m ≡ a = cc in
+    (ks, ap (λ x. x ∷ ks) same, subst IsLocationName same h.2)
+
+-- labels at the front of tokens, up to where no other stands, are read in one way; so is what stands behind them
+pub Labels-unique : (ts m n : TokenList) (ls ks : List Bytes)
+    → Labels ts ls m
+    → Labels ts ks n
+    → (AtLabel m → ⊥)
+    → (AtLabel n → ⊥)
+    → (ls ≡ ks) × (m ≡ n)
+Labels-unique ts m n ls ks h k p q = let cut = Labels-cut ts m n ls ks h k q in go cut.0 cut.1 cut.2
+  where
+    go : (more : List Bytes) → ks ≡ ls ++ more → Labels m more n → (ls ≡ ks) × (m ≡ n)
+    go [] same here = (sym (same ∙ append-nil ls), here)
+    go (l ∷ more) same here = absurd (p (ap (λ (t : TokenList). slice_get t 1) here.1))
+
+-- behind labels, which are two tokens each, stands the rest of the tokens
+pub labels_rest : (ts : TokenList) (ls rest : TokenList)
+    → Labels ts ls rest
+    → (2 * length ls ≤ length ts) × (drop (2 * length ls) ts ≡ rest)
+labels_rest ts [] rest h = (omega arith, h)
+labels_rest ts (l ∷ ls) rest h =
+    let go = labels_rest h.0 ls rest h.3 in
+    let two : 2 * length (l ∷ ls) ≡ suc (suc (2 * length ls)) = omega arith in
+    (omega (arith, go.0, ap length h.1, two), rw (two, h.1) go.1)
+
+-- ---- reading them
+
+-- before anything of a cell is read, none of its tokens is read as a label
+pub labels_start : (tokens : List Token) (to : ℕ) (labels : LabelMap) → LabelsRead tokens to labels 0 labels
+labels_start tokens to labels = record {
+  names = [];
+  within = omega arith;
+  two_each = refl;
+  says = refl;
+  made = λ n. refl;
+  once = λ known knows each. subst IsDuplicateFree (sym (append-nil known)) each;
+}
+
+-- What was read of a cell's labels, at another that follows.
+module _ (tokens : List Token) (to : ℕ) (labels : LabelMap) (next : ℕ) (now : LabelMap)
+    (read : LabelsRead tokens to labels next now) where
+  -- the map then has the labels that the thread had before, and those that were read of the cell
+  knows_more : (known : List Bytes) → HasExactlyLabels labels known → HasExactlyLabels now (known ++ read.names)
+  knows_more known knows n =
+      rw (read.made n, list_any-append (λ m. bytes_eq m n) known read.names, ← knows n)
+      (go (contains_name read.names n) (target_by labels n))
+    where
+      go : (b : Bool) (o : Option ℕ) → is_some (if b then Some to else o) ≡ (is_some o || b)
+      go true None = refl
+      go true (Some k) = refl
+      go false None = refl
+      go false (Some k) = refl
+
+  module _ (token : Token) (is : slice_get tokens next ≡ Some token)
+      (colon : slice_get (token_texts tokens) (next + 1) ≡ Some (codes ":")) where
+    -- if that token is a location's name which the map lacks, it is one label more
+    pub labels_more : (after : LabelMap)
+        → IsLocationName token.text.now
+        → is_some (target_by now token.text.now) ≡ false
+        → ((m : Bytes) → target_by after m ≡ update bytes_eq (target_by now) token.text.now (Some to) m)
+        → LabelsRead tokens to labels (next + 2) after
+    labels_more after loc fresh updated =
+        let n : List ℕ = token.text.now in
+        let within = next_within tokens next (codes ":") colon in
+        record {
+          names = read.names ++ n ∷ [];
+          within = within;
+          two_each = omega (arith, read.two_each, length-append read.names (n ∷ []));
+          says =
+              subst (λ (t : TokenList). Labels t (read.names ++ n ∷ []) []) (sym front)
+              (Labels-more (token_texts (take next tokens)) read.names n read.says loc);
+          made = λ m.
+              rw (updated m, read.made m, list_any-append (λ l. bytes_eq l m) read.names (n ∷ []))
+              (either (bytes_eq n m) (contains_name read.names m) (target_by labels m));
+          once =
+              λ known knows each.
+              subst IsDuplicateFree (append_assoc known read.names (n ∷ []))
+              (once_more (known ++ read.names) n (read.once known knows each) (λ there.
+              true≢false (sym (contains_name-Contains (known ++ read.names) n there) ∙ sym (knows_more known knows n) ∙ fresh)));
+        }
+      where
+        front : token_texts (take (next + 2) tokens) ≡ token_texts (take next tokens) ++ token.text.now ∷ codes ":" ∷ []
+        front =
+            let ts = token_texts tokens in
+            let one : next + 1 ≡ suc next = omega arith in
+            let two : next + 2 ≡ suc (suc next) = omega arith in
+            rw (
+              two,
+              ← take-map (λ t. t.text.now) (suc (suc next)) tokens,
+              take_one ts (suc next) (codes ":") (ap (slice_get ts) (sym one) ∙ colon),
+              take_one ts next token.text.now (get_text tokens next token is),
+              append_assoc (take next ts) (token.text.now ∷ []) (codes ":" ∷ []),
+              take-map (λ t. t.text.now) next tokens,
+            ) refl
+
+        either : (a b : Bool) (o : Option ℕ)
+            → (if a then Some to else (if b then Some to else o)) ≡ (if b || (a || false) then Some to else o)
+        either true true o = refl
+        either true false o = refl
+        either false true o = refl
+        either false false o = refl
+
+    -- all labels of the cell go on with this one
+    pub labels_on : (ks : List Bytes) (mid : TokenList)
+        → Labels (token_texts tokens) ks mid
+        → (AtLabel mid → ⊥)
+        → (more : List Bytes) × (ks ≡ read.names ++ token.text.now ∷ more) × IsLocationName token.text.now
+    labels_on ks mid h none =
+        let rest = token_texts (drop next tokens) in
+        let cut = Labels-cut (token_texts tokens) rest mid read.names ks (Labels-whole tokens next read.names read.says) h none in
+        let here : next ≡ next + 0 = omega arith in
+        let go =
+        Labels-next rest mid cut.0 token.text.now
+        (get_behind tokens next 0 ∙ ap (slice_get (token_texts tokens)) (sym here) ∙ get_text tokens next token is)
+        (get_behind tokens next 1 ∙ colon) cut.2 none in
+        (go.0, cut.1 ∙ ap (λ (ns : List Bytes). read.names ++ ns) go.1, go.2)
+
+    -- a label that the thread has already
+    module _ (led : is_some (target_by now token.text.now) ≡ true) where
+      label_known : (known : List Bytes) → HasExactlyLabels labels known → Contains (known ++ read.names) token.text.now
+      label_known known knows =
+          name_contained (known ++ read.names) token.text.now (sym (knows_more known knows token.text.now) ∙ led)
+
+      -- then no labels of the cell fit
+      pub labels_twice : (ks : List Bytes) → LabelsFit labels (token_texts tokens) ks → ⊥
+      labels_twice ks fit =
+          let on = labels_on ks fit.rest fit.says fit.stops in
+          let row : fit.known ++ ks ≡ (fit.known ++ read.names) ++ token.text.now ∷ on.0 =
+          ap (λ (ns : List Bytes). fit.known ++ ns) on.1 ∙ sym (append_assoc fit.known read.names (token.text.now ∷ on.0)) in
+          once_apart (fit.known ++ read.names) (token.text.now ∷ on.0) token.text.now (subst IsDuplicateFree row fit.once)
+          (label_known fit.known fit.knows) (0, omega arith, refl)
+
+      -- then a label that the thread has already stands there
+      pub twice_in : HasDuplicateLabelAt tokens labels token.at
+      twice_in = record {
+        names = read.names;
+        place = next;
+        token = token;
+        is = is;
+        begins = refl;
+        says = read.says;
+        colon = colon;
+        there = label_known;
+      }

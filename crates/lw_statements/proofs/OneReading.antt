@@ -1,0 +1,35 @@
+-- A cell says one thing at most, and so do the cells of a thread.
+use Rattle.lw_statements.proofs.Common.{◌≡◌, Option, Some, None, List, refl, sym, ap, subst, slice_get}
+use Rattle.lw_statements.proofs.Common.{TokenList, Cells, Grammar, IsGrammar, CellSyntax, MaybeStatement}
+use Rattle.lw_statements.proofs.Common.{ParsesCell, Column, AtLabel}
+use Rattle.lw_statements.proofs.FrontLabels.{Labels-unique}
+use Rattle.lw_statements.proofs.api.Zips.{zip_unique}
+
+module _ {Syntax Stmt : Type 0} (grammar : Grammar Syntax Stmt) (lawful : IsGrammar grammar) where
+  -- what stands behind a cell's labels, a statement or nothing, has no `:` behind its first token
+  pub no_label : (ts : TokenList) (o : Option Syntax) → MaybeStatement grammar ts o → AtLabel ts → ⊥
+  no_label ts None h at = let e : slice_get ts 1 ≡ None = ap (λ (t : TokenList). slice_get t 1) h in absurd cc
+  no_label ts (Some s) h at = lawful.no_label ts s h at
+
+  maybe_unique : (ts : TokenList) (o p : Option Syntax) → MaybeStatement grammar ts o → MaybeStatement grammar ts p → o ≡ p
+  maybe_unique ts None None h k = refl
+  maybe_unique ts None (Some s) h k = absurd (lawful.some ts s k h)
+  maybe_unique ts (Some s) None h k = absurd (lawful.some ts s h k)
+  maybe_unique ts (Some s) (Some t) h k = ap Some (lawful.one ts s t h k)
+
+  -- a cell says one thing at most
+  pub cell_unique : (cell : TokenList) (x y : CellSyntax Syntax) → ParsesCell grammar cell x → ParsesCell grammar cell y → x ≡ y
+  cell_unique cell x y h k =
+      let ls = Labels-unique cell h.0 k.0 x.labels y.labels h.1 k.1 (no_label h.0 x.stmt h.2) (no_label k.0 y.stmt k.2) in
+      let s = maybe_unique h.0 x.stmt y.stmt h.2 (subst (λ (t : TokenList). MaybeStatement grammar t y.stmt) (sym ls.1) k.2) in
+      same x.labels y.labels x.stmt y.stmt ls.0 s
+    where
+      same : (a b : TokenList) (o p : Option Syntax)
+          → a ≡ b
+          → o ≡ p
+          → (let l : CellSyntax Syntax = record { labels = a; stmt = o } in l) ≡ record { labels = b; stmt = p }
+      same a b o p e f = rw (e, f) refl
+
+  -- the cells of a thread say one thing at most
+  pub column_unique : (cells : Cells) (s t : List (CellSyntax Syntax)) → Column grammar cells s → Column grammar cells t → s ≡ t
+  column_unique cells s t h k = zip_unique (ParsesCell grammar) cell_unique cells s t h.says k.says

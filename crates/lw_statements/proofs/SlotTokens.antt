@@ -1,0 +1,221 @@
+-- What tokens at slots give, as the reader finds it.
+use Rattle.lw_statements.proofs.Common.{◌≡◌, ℕ, zero, suc, ◌+◌, ◌<◌, ◌≤◌, Bool, true, false, true≢false, eqb}
+use Rattle.lw_statements.proofs.Common.{Option, Some, None, List, [], ◌∷◌, ◌++◌, length, take, get_or, refl}
+use Rattle.lw_statements.proofs.Common.{sym, ap, ◌∙◌, subst, arith, slice_get, MatchBool, MatchOption, IsTrue}
+use Rattle.lw_statements.proofs.Common.{◌↔◌, Contains, is_some, bytes_eq, eqb-true, All, take_all}
+use Rattle.lw_statements.proofs.Common.{bytes_eq-Decides, All-contains, All-more, Bytes, TokenList, Arch}
+use Rattle.lw_statements.proofs.Common.{Operand, IsLocationName, IsRegisterName, lowercase_if_x86, IsNumber}
+use Rattle.lw_statements.proofs.Common.{Token, token_texts, Slot, Keyword, Location, SlotBindings, IsOperand}
+use Rattle.lw_statements.proofs.Common.{Spelling, SlotValue, Filling, Gives, Fills, BeginsWith, CanStand}
+use Rattle.lw_statements.proofs.Common.{no_bindings, bind_slot, bindings_of, IsReach}
+use Rattle.lw_base.specs.declared.operand.Operand.TheVariants as operand
+
+-- a token that is neither a register nor a number is no operand
+pub no_operand : (arch : Arch) (w : Bytes)
+    → ((r : ℕ) → IsRegisterName arch w r → ⊥)
+    → ((n : ℕ) → IsNumber w n → ⊥)
+    → (v : Operand)
+    → IsOperand arch w v
+    → ⊥
+no_operand arch w reg num (operand.Register r) h = reg r h
+no_operand arch w reg num (operand.Number n) h = num n h
+
+-- what was found of a token that is an allowed name, or that it is none, is what it gives at the slot of a location or a label
+pub taken_name : (t : Bytes) (made : SlotBindings) (result : Option SlotBindings)
+    → MatchOption result (IsLocationName t → ⊥) (λ all. IsLocationName t × (all ≡ made))
+    → MatchOption result ((x : Bytes) → (t ≡ x) × IsLocationName x → ⊥)
+    (λ all. (x : Bytes) × ((t ≡ x) × IsLocationName x) × (all ≡ made))
+taken_name t made None h = λ x is. h (subst IsLocationName (sym is.0) is.1)
+taken_name t made (Some all) h = (t, (refl, h.0), h.1)
+
+module _ {W Form Stmt : Type 0} (spelling : Spelling W Form Stmt) where
+  -- The result is what was found behind the token of this index, with what it gives at the slot; or `None`, and it cannot stand
+  -- there.
+  abbrev pub IsTaken : (slot : Slot W) → Bytes → ℕ → SlotBindings → Option SlotBindings → Type 0
+  IsTaken slot t k found result =
+      MatchOption result ((g : SlotValue slot) → Gives spelling t slot g → ⊥)
+      (λ all. (g : SlotValue slot) × Gives spelling t slot g × (all ≡ bind_slot k slot g found))
+
+  -- The answer is true, and all is what was found behind the token with what the token gives at the slot; or false, and it cannot
+  -- stand there.
+  abbrev pub IsAdded : (slot : Slot W) → Bytes → ℕ → SlotBindings → Bool → SlotBindings → Type 0
+  IsAdded slot t k found b all =
+      MatchBool b ((g : SlotValue slot) × Gives spelling t slot g × (all ≡ bind_slot k slot g found))
+      ((g : SlotValue slot) → Gives spelling t slot g → ⊥)
+
+  -- The answer is true, and all is what the tokens give at the slots, the first token having this index; or false, and they do
+  -- not fill the slots.
+  abbrev pub AreTaken : TokenList → ℕ → (slots : List (Slot W)) → Bool → SlotBindings → Type 0
+  AreTaken ts k slots b all =
+      MatchBool b ((f : Filling slots) × Fills spelling ts slots f × (all ≡ bindings_of k slots f))
+      ((f : Filling slots) → Fills spelling ts slots f → ⊥)
+
+  -- if what stands behind a token was found at the other slots, and the token is added to it, then they are taken together
+  pub taken_more : (rest : List (Slot W)) (slot : Slot W) (ts : TokenList) (t : Bytes) (k : ℕ) (found all : SlotBindings)
+      (b : Bool)
+      → (f : Filling rest) × Fills spelling ts rest f × (found ≡ bindings_of (k + 1) rest f)
+      → IsAdded slot t k found b all
+      → AreTaken (t ∷ ts) k (slot ∷ rest) b all
+  taken_more rest slot ts t k found all false behind h = λ g s. h g.0 s.0
+  taken_more rest slot ts t k found all true (f, fills, is) (g, gives, made) =
+      ((g, f), (gives, fills), made ∙ ap (bind_slot k slot g) is)
+
+  -- a comparison of a token with a keyword tells whether it stands at the keyword's slot
+  pub keyword_or_not : (w : W) (t : Bytes) (b : Bool)
+      → b ≡ bytes_eq (lowercase_if_x86 spelling.language.arch (spelling.text_of w)) (lowercase_if_x86 spelling.language.arch t)
+      → IsTrue b ↔ Gives spelling t (Keyword w) tt
+  keyword_or_not w t b is =
+      let d = bytes_eq-Decides _ (lowercase_if_x86 spelling.language.arch t) in (λ yes. d.0 (sym is ∙ yes), λ same. is ∙ d.1 same)
+
+  -- with a token in front that is a keyword, at that keyword's slot, the same is found, since a keyword gives nothing
+  pub taken_behind : (rest : List (Slot W)) (w : W) (ts : TokenList) (t : Bytes) (k : ℕ) (b : Bool) (all : SlotBindings)
+      → Gives spelling t (Keyword w) tt
+      → AreTaken ts (k + 1) rest b all
+      → AreTaken (t ∷ ts) k (Keyword w ∷ rest) b all
+  taken_behind rest w ts t k false all here h = λ f s. h f.1 s.1
+  taken_behind rest w ts t k true all here (f, fills, is) = ((tt, f), (here, fills), is)
+
+  -- where there are no tokens, they do not fill slots, if there is one
+  pub none_filled : (rest : List (Slot W)) (slot : Slot W) (tokens : List Token)
+      → length tokens ≡ 0
+      → (f : Filling (slot ∷ rest))
+      → Fills spelling (token_texts tokens) (slot ∷ rest) f
+      → ⊥
+  none_filled rest slot [] b = λ f h. h
+  none_filled rest slot (t ∷ tokens) b = absurd (omega (arith, b))
+
+  -- where there are no slots, nothing is found, and the answer is whether there are no tokens either
+  pub taken_none : (slots : List (Slot W)) (tokens : List Token) (k : ℕ) (b : Bool) (all : SlotBindings)
+      → length slots ≡ 0
+      → b ≡ eqb (length tokens) 0
+      → all ≡ no_bindings
+      → AreTaken (token_texts tokens) k slots b all
+  taken_none [] [] k true all a e is = (tt, tt, is)
+  taken_none [] (t ∷ tokens) k false all a e is = λ f s. s
+  taken_none [] [] k false all a e is = absurd (true≢false (sym e))
+  taken_none [] (t ∷ tokens) k true all a e is = absurd (omega (arith, eqb-true (length (t ∷ tokens)) 0 (sym e)))
+  taken_none (slot ∷ slots) tokens k b all a e is = absurd (omega (arith, a))
+
+  -- where there are more tokens than slots, or fewer, they do not fill them
+  pub not_filled : (slots : List (Slot W)) (tokens : List Token)
+      → (length slots ≡ length tokens → ⊥)
+      → (f : Filling slots)
+      → Fills spelling (token_texts tokens) slots f
+      → ⊥
+  not_filled [] [] differ f h = differ refl
+  not_filled [] (t ∷ tokens) differ f h = h
+  not_filled (slot ∷ slots) [] differ f h = h
+  not_filled (slot ∷ slots) (t ∷ tokens) differ f h = not_filled slots tokens (λ e. differ (ap suc e)) f.1 h.1
+
+  -- a token can stand at a slot just where something is found of it there
+  pub can_stand_alone : (t : Bytes) (slot : Slot W) (k : ℕ) (found : SlotBindings) (result : Option SlotBindings)
+      → IsTaken slot t k found result
+      → IsTrue (is_some result) ↔ CanStand spelling (t ∷ []) (slot ∷ [])
+  can_stand_alone t slot k found None h = (λ e. absurd cc, λ s. absurd (h s.0.0 s.1.0))
+  can_stand_alone t slot k found (Some all) h = (λ e. ((h.0, tt), (h.1, tt)), λ s. refl)
+
+  -- ---- how far statements go on
+
+  -- where there are no slots, no token stands at one
+  pub reach_none : (slots : List (Slot W)) (ts : TokenList) → length slots ≡ 0 → IsReach spelling ts slots 0
+  reach_none [] ts a = refl
+  reach_none (slot ∷ slots) ts a = absurd (omega (arith, a))
+
+  -- where there are no tokens, none stands at a slot
+  pub reach_end : (slots : List (Slot W)) (tokens : List Token)
+      → length tokens ≡ 0
+      → IsReach spelling (token_texts tokens) slots 0
+  reach_end [] tokens b = refl
+  reach_end (slot ∷ slots) [] b = refl
+  reach_end (slot ∷ slots) (t ∷ tokens) b = absurd (omega (arith, b))
+
+  -- with a token in front that can stand at the first slot, tokens reach one slot further than those behind it reach at the
+  -- others
+  pub reach_more : (rest : List (Slot W)) (slot : Slot W) (ts : TokenList) (t : Bytes) (k : ℕ)
+      → CanStand spelling (t ∷ []) (slot ∷ [])
+      → IsReach spelling ts rest k
+      → IsReach spelling (t ∷ ts) (slot ∷ rest) (1 + k)
+  reach_more rest slot ts t k stands h = let e : 1 + k ≡ suc k = omega arith in rw e (stands, h)
+
+  -- tokens reach no further than there are slots and tokens
+  pub reach_within : (slots : List (Slot W)) (ts : TokenList) (n : ℕ)
+      → IsReach spelling ts slots n
+      → (n ≤ length slots) × (n ≤ length ts)
+  reach_within [] ts n h = (omega (arith, h), omega (arith, h))
+  reach_within (slot ∷ slots) [] n h = (omega (arith, h), omega (arith, h))
+  reach_within (slot ∷ slots) (t ∷ ts) zero h = (omega arith, omega arith)
+  reach_within (slot ∷ slots) (t ∷ ts) (suc n) h = let r = reach_within slots ts n h.1 in (omega (arith, r.0), omega (arith, r.1))
+
+  -- The slot at this index is a location's, the tokens before it can stand at the slots before it, and the token there is a
+  -- location's name.
+  abbrev pub IsReached : (slots : List (Slot W)) → TokenList → ℕ → Type 0
+  IsReached slots ts k =
+      (front back : List (Slot W))
+      × (slots ≡ front ++ Location ∷ back)
+      × CanStand spelling (take k ts) front
+      × ((t : Bytes) → slice_get ts k ≡ Some t → IsLocationName t)
+
+  -- if tokens reach n slots, each location's slot among these is reached (IsReached)
+  pub reached : (slots : List (Slot W)) (ts : TokenList) (n k : ℕ)
+      → IsReach spelling ts slots n
+      → k < n
+      → slice_get slots k ≡ Some Location
+      → IsReached slots ts k
+  reached [] ts n k h less e = absurd cc
+  reached (slot ∷ slots) [] n k h less e = absurd (omega (arith, h, less))
+  reached (slot ∷ slots) (t ∷ ts) zero k h less e = absurd (omega (arith, less))
+  reached (slot ∷ slots) (t ∷ ts) (suc n) zero h less e =
+      let same : slot ≡ Location = cc in
+      let here = subst (λ (s : Slot W). CanStand spelling (t ∷ []) (s ∷ [])) same h.0 in (
+        [],
+        slots,
+        ap (λ (s : Slot W). s ∷ slots) same,
+        (tt, tt),
+        λ u is. (let one : t ≡ u = cc in subst IsLocationName (sym here.1.0.0 ∙ one) here.1.0.1),
+      )
+  reached (slot ∷ slots) (t ∷ ts) (suc n) (suc k) h less e =
+      let r = reached slots ts n k h.1 (omega (arith, less)) e in
+      (slot ∷ r.0, r.1, ap (λ (s : List (Slot W)). slot ∷ s) r.2, ((h.0.0.0, r.3.0), (h.0.1.0, r.3.1)), r.4)
+
+  -- tokens reach one number of slots only: of two such numbers neither is greater
+  pub at_most : (ts : TokenList) (slots : List (Slot W)) (m n : ℕ)
+      → IsReach spelling ts slots m
+      → IsReach spelling ts slots n
+      → m ≤ n
+  at_most ts [] m n h k = omega (arith, h)
+  at_most [] (slot ∷ slots) m n h k = omega (arith, h)
+  at_most (t ∷ ts) (slot ∷ slots) zero n h k = omega arith
+  at_most (t ∷ ts) (slot ∷ slots) (suc m) zero h k = absurd (k h.0)
+  at_most (t ∷ ts) (slot ∷ slots) (suc m) (suc n) h k = let less = at_most ts slots m n h.1 k.1 in omega (arith, less)
+
+  -- ---- what a loop over the forms has found of each: it is another, begins otherwise, or does not reach further
+
+  -- the tokens do not fill the form's slots
+  abbrev pub IsOther : TokenList → Form → Type 0
+  IsOther ts form = (f : Filling (spelling.slots_of form)) → Fills spelling ts (spelling.slots_of form) f → ⊥
+
+  -- the token cannot stand at the form's first slot
+  abbrev pub BeginsOtherwise : Bytes → Form → Type 0
+  BeginsOtherwise t form = BeginsWith spelling (spelling.slots_of form) t → ⊥
+
+  -- no more of the tokens than so many can stand at the form's slots
+  abbrev pub ReachesTo : TokenList → ℕ → Form → Type 0
+  ReachesTo ts k form = (n : ℕ) → IsReach spelling ts (spelling.slots_of form) n → n ≤ k
+
+-- what holds of the first i forms, and of the next one, holds of the first i + 1
+pub form_more : {X : Type 0} (P : X → Type 0) (forms : List X) (i : ℕ) (form : X)
+    → i < length forms
+    → form ≡ get_or forms i form
+    → All P (take i forms)
+    → P form
+    → All P (take (i + 1) forms)
+form_more P forms i form within is before here = All-more P forms i form within before (subst P is here)
+
+-- what holds of the first i forms holds of each form, if there are no more than i
+pub forms_all : {X : Type 0} (P : X → Type 0) (forms : List X) (i : ℕ)
+    → length forms ≤ i
+    → All P (take i forms)
+    → (form : X)
+    → Contains forms form
+    → P form
+forms_all P forms i end all form there = All-contains P _ _ (subst (All P) (take_all i forms end) all) there

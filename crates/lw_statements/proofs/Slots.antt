@@ -1,0 +1,189 @@
+-- Tokens at slots: what they give is theirs alone, and forms whose slots differ exclude each other.
+use Rattle.lw_statements.proofs.Common.{◌≡◌, ℕ, ◌<◌, Bool, true, false, true≢false, List, [], ◌∷◌, map}
+use Rattle.lw_statements.proofs.Common.{get_or, refl, sym, ap, ◌∙◌, subst, arith, inl, inr, not, ◌||◌, codes}
+use Rattle.lw_statements.proofs.Common.{bytes_eq, eqb, eqb-true, list_any, agree_below_at, cases_Bool}
+use Rattle.lw_statements.proofs.Common.{or_right, list_any_at, bytes_eq-Decides, Bytes, TokenList}
+use Rattle.lw_statements.proofs.Common.{first_byte_is, is_ascii_digit, to_ascii_lowercase, Arch, Source, X86}
+use Rattle.lw_statements.proofs.Common.{Operand, IsLocationName, is_reserved, is_numbered_register, keywords}
+use Rattle.lw_statements.proofs.Common.{x86_registers, IsRegisterName, register_name, lowercase_if_x86}
+use Rattle.lw_statements.proofs.Common.{register_unique, IsNumber, number-unique, number_first, Slot, Keyword}
+use Rattle.lw_statements.proofs.Common.{Register, Location, Value, Number, Label, IsOperand, Spelling}
+use Rattle.lw_statements.proofs.Common.{SlotValue, Filling, Gives, Fills, names_register, tokens_differ}
+use Rattle.lw_statements.proofs.Common.{are_disjoint_forms, is_no_colon}
+use Rattle.lw_base.specs.declared.operand.Operand.TheVariants as operand
+
+-- ---- registers, numbers and names of locations
+
+-- the name of a register of the source language, `r` and a digit, is reserved
+numbered : (r : ℕ) → r < 6 → is_reserved (register_name Source r) ≡ true
+numbered r h = agree_below_at (λ q. is_reserved (register_name Source q)) (λ q. true) 6 r refl h
+
+-- the name of a register of x86, in small letters, is on the list of them
+x86_register_listed : (r : ℕ)
+    → r < 6
+    → list_any (λ k. bytes_eq (lowercase_if_x86 X86 (register_name X86 r)) k) x86_registers ≡ true
+x86_register_listed r h =
+    agree_below_at (λ q. list_any (λ k. bytes_eq (lowercase_if_x86 X86 (register_name X86 q)) k) x86_registers) (λ q. true) 6 r
+    refl h
+
+-- a token that names a register, of either language and in any case that it allows, is reserved
+register_reserved : (arch : Arch) (w : Bytes) (r : ℕ) → IsRegisterName arch w r → is_reserved w ≡ true
+register_reserved Source w r h = ap is_reserved (sym h.1) ∙ numbered r h.0
+register_reserved X86 w r h =
+    or_right (is_numbered_register w || list_any (λ k. bytes_eq w k) keywords)
+    (list_any (λ k. bytes_eq (map to_ascii_lowercase w) k) x86_registers)
+    (ap (λ v. list_any (λ k. bytes_eq v k) x86_registers) (sym h.1) ∙ x86_register_listed r h.0)
+
+-- a register names no location
+register_apart : (arch : Arch) (w : Bytes) (r : ℕ) → IsRegisterName arch w r → IsLocationName w → ⊥
+register_apart arch w r reg loc = true≢false (sym (register_reserved arch w r reg) ∙ loc.1)
+
+-- a number names no location
+number_apart : (w : Bytes) (n : ℕ) → IsNumber w n → IsLocationName w → ⊥
+number_apart w n num loc = true≢false (sym (number_first w n num) ∙ loc.0.0.front)
+
+-- the name of a register begins with no digit
+letter_first : (arch : Arch) (r : ℕ) → r < 6 → first_byte_is is_ascii_digit (lowercase_if_x86 arch (register_name arch r)) ≡ false
+letter_first Source r h = refl
+letter_first X86 r h =
+    agree_below_at (λ q. first_byte_is is_ascii_digit (lowercase_if_x86 X86 (register_name X86 q))) (λ q. false) 6 r refl h
+
+-- a digit in small letters is a digit
+digit_lower : (c : ℕ) → is_ascii_digit c ≡ true → is_ascii_digit (to_ascii_lowercase c) ≡ true
+digit_lower c d = grind arith
+
+-- what begins with a digit does so in small letters
+digit_first : (arch : Arch) (w : Bytes)
+    → first_byte_is is_ascii_digit w ≡ true
+    → first_byte_is is_ascii_digit (lowercase_if_x86 arch w) ≡ true
+digit_first Source w d = d
+digit_first X86 [] d = absurd cc
+digit_first X86 (c ∷ w) d = digit_lower c d
+
+-- no token is a register's name and a number
+register_no_number : (arch : Arch) (w : Bytes) (r n : ℕ) → IsRegisterName arch w r → IsNumber w n → ⊥
+register_no_number arch w r n reg num =
+    true≢false (sym (digit_first arch w (number_first w n num))
+    ∙ ap (first_byte_is is_ascii_digit) (sym reg.1)
+    ∙ letter_first arch r reg.0)
+
+-- a token is one operand at most
+operand_unique : (arch : Arch) (w : Bytes) (u v : Operand) → IsOperand arch w u → IsOperand arch w v → u ≡ v
+operand_unique arch w (operand.Register r) (operand.Register q) h k = ap operand.Register (register_unique arch w r q h k)
+operand_unique arch w (operand.Register r) (operand.Number n) h k = absurd (register_no_number arch w r n h k)
+operand_unique arch w (operand.Number n) (operand.Register r) h k = absurd (register_no_number arch w r n k h)
+operand_unique arch w (operand.Number n) (operand.Number m) h k = ap operand.Number (number-unique w n m h k)
+
+-- no token is an operand and a location's name
+operand_apart : (arch : Arch) (w : Bytes) (v : Operand) → IsOperand arch w v → IsLocationName w → ⊥
+operand_apart arch w (operand.Register r) h = register_apart arch w r h
+operand_apart arch w (operand.Number n) h = number_apart w n h
+
+-- texts that a comparison says to be unequal are so
+unequal : (u v : Bytes) → not (bytes_eq u v) ≡ true → u ≡ v → ⊥
+unequal u v e same = true≢false (sym e ∙ ap not ((bytes_eq-Decides u v).1 same))
+
+-- a `:` in small letters is a `:`
+colon_case : (arch : Arch) → lowercase_if_x86 arch (codes ":") ≡ codes ":"
+colon_case Source = refl
+colon_case X86 = refl
+
+-- a `:` is no location's name
+colon_location : IsLocationName (codes ":") → ⊥
+colon_location loc = true≢false (sym loc.0.0.all.0)
+
+module _ {W Form Stmt : Type 0} (spelling : Spelling W Form Stmt) where
+  -- ---- one token
+
+  -- a token gives one thing at most at a slot
+  pub given_unique : (t : Bytes) (slot : Slot W) (g h : SlotValue slot)
+      → Gives spelling t slot g
+      → Gives spelling t slot h
+      → g ≡ h
+  given_unique t (Keyword w) g h a b = refl
+  given_unique t Register g h a b = register_unique spelling.language.arch t g h a b
+  given_unique t Location g h a b = sym a.0 ∙ b.0
+  given_unique t Value g h a b = operand_unique spelling.language.arch t g h a b
+  given_unique t Number g h a b = number-unique t g h a b
+  given_unique t Label g h a b = sym a.0 ∙ b.0
+
+  named : (w : Bytes) (r : ℕ)
+      → r < 6
+      → lowercase_if_x86 spelling.language.arch (register_name spelling.language.arch r)
+      ≡ lowercase_if_x86 spelling.language.arch w
+      → names_register spelling w ≡ true
+  named w r h e =
+      let all = 0 ∷ 1 ∷ 2 ∷ 3 ∷ 4 ∷ 5 ∷ [] in
+      let there = eqb-true _ r (agree_below_at (λ q. eqb (get_or all q q) q) (λ q. true) 6 r refl h) in
+      list_any_at (λ q.
+      bytes_eq (lowercase_if_x86 spelling.language.arch (register_name spelling.language.arch q))
+      (lowercase_if_x86 spelling.language.arch w)) all r r h (rw there ((bytes_eq-Decides _ _).1 e))
+
+  no_register : (t : Bytes) (w : W) (r : ℕ)
+      → not (names_register spelling (spelling.text_of w)) ≡ true
+      → lowercase_if_x86 spelling.language.arch (spelling.text_of w) ≡ lowercase_if_x86 spelling.language.arch t
+      → IsRegisterName spelling.language.arch t r
+      → ⊥
+  no_register t w r none word reg = true≢false (sym none ∙ ap not (named (spelling.text_of w) r reg.0 (reg.1 ∙ sym word)))
+
+  -- no token stands at two slots that differ
+  differ_apart : (t : Bytes) (a b : Slot W) (g : SlotValue a) (h : SlotValue b)
+      → tokens_differ spelling a b ≡ true
+      → Gives spelling t a g
+      → Gives spelling t b h
+      → ⊥
+  differ_apart t (Keyword v) (Keyword w) g h d x y = unequal _ _ d (x ∙ sym y)
+  differ_apart t (Keyword w) Register g r d x y = no_register t w r d x y
+  differ_apart t Register (Keyword w) r h d x y = no_register t w r d y x
+  differ_apart t Register Location r n d x y = register_apart _ t r x (subst IsLocationName (sym y.0) y.1)
+  differ_apart t Location Register n r d x y = register_apart _ t r y (subst IsLocationName (sym x.0) x.1)
+  differ_apart t Location Value n v d x y = operand_apart _ t v y (subst IsLocationName (sym x.0) x.1)
+  differ_apart t Value Location v n d x y = operand_apart _ t v x (subst IsLocationName (sym y.0) y.1)
+  differ_apart t a b g h d x y = absurd cc
+
+  -- a `:` stands at no slot that is not its own
+  pub colon_gives : (slot : Slot W) (slots : List (Slot W)) (g : SlotValue slot)
+      → is_no_colon spelling (slot ∷ slots) ≡ true
+      → Gives spelling (codes ":") slot g
+      → ⊥
+  colon_gives (Keyword w) slots g apart h = unequal _ _ apart (h ∙ colon_case spelling.language.arch)
+  colon_gives Register slots r apart h = true≢false (sym (register_reserved _ (codes ":") r h))
+  colon_gives Location slots x apart h = colon_location (subst IsLocationName (sym h.0) h.1)
+  colon_gives Value slots (operand.Register r) apart h = true≢false (sym (register_reserved _ _ r h))
+  colon_gives Value slots (operand.Number n) apart h = true≢false (sym (number_first (codes ":") n h))
+  colon_gives Number slots n apart h = true≢false (sym (number_first (codes ":") n h))
+  colon_gives Label slots l apart h = colon_location (subst IsLocationName (sym h.0) h.1)
+
+  -- ---- some tokens
+
+  -- tokens give one thing at most at slots
+  pub filling_unique : (ts : TokenList) (slots : List (Slot W)) (f g : Filling slots)
+      → Fills spelling ts slots f
+      → Fills spelling ts slots g
+      → f ≡ g
+  filling_unique [] [] f g a b = refl
+  filling_unique [] (slot ∷ slots) f g a b = absurd a
+  filling_unique (t ∷ ts) [] f g a b = absurd a
+  filling_unique (t ∷ ts) (slot ∷ slots) (x, f) (y, g) a b =
+      let h = filling_unique ts slots f g a.1 b.1 in
+      ap (λ (z : SlotValue slot). (z, f)) (given_unique t slot x y a.0 b.0) ∙ ap (λ (z : Filling slots). (y, z)) h
+
+  -- no tokens fill two lists of slots that are apart
+  pub slots_apart : (ts : TokenList) (first second : List (Slot W)) (f : Filling first) (g : Filling second)
+      → are_disjoint_forms spelling first second ≡ true
+      → Fills spelling ts first f
+      → Fills spelling ts second g
+      → ⊥
+  slots_apart [] [] [] f g d x y = absurd cc
+  slots_apart (t ∷ ts) [] second f g d x y = x
+  slots_apart [] (a ∷ first) second f g d x y = x
+  slots_apart [] [] (b ∷ second) f g d x y = y
+  slots_apart (t ∷ ts) (a ∷ first) [] f g d x y = y
+  slots_apart (t ∷ ts) (a ∷ first) (b ∷ second) (p, f) (q, g) d x y = elim (cases_Bool (tokens_differ spelling a b)) [
+    | inl e ↦ differ_apart t a b p q e x.0 y.0
+    | inr e ↦
+        slots_apart ts first second f g
+        (let h : (false || are_disjoint_forms spelling first second) ≡ true =
+        subst (λ (z : Bool). (z || are_disjoint_forms spelling first second) ≡ true) e d in
+        h) x.1 y.1
+  ]

@@ -1,0 +1,193 @@
+-- A statement is read, or is refused, as its language's grammar says.
+use Rattle.lw_statements.proofs.Common.{◌≡◌, ℕ, suc, ◌<◌, ◌≤◌, ◌+◌, Option, Some, None, List, [], ◌∷◌, ◌++◌}
+use Rattle.lw_statements.proofs.Common.{length, take, get_or, refl, sym, ap, ◌∙◌, subst, arith, slice_get}
+use Rattle.lw_statements.proofs.Common.{Contains, IfSome, MatchOption, slice_get_within}
+use Rattle.lw_statements.proofs.Common.{get_or_from_slice_get, same_Some, length-map, take-map}
+use Rattle.lw_statements.proofs.Common.{IsLocationName, Bytes, NameTable, TokenList, CellFault, Token}
+use Rattle.lw_statements.proofs.Common.{token_texts, Draft, Operands, Slot, Location, SlotBindings, NameRead}
+use Rattle.lw_statements.proofs.Common.{Spelling, Filling, Fills, ParsesStatement, grammar_of, name_in}
+use Rattle.lw_statements.proofs.Common.{CanStand, bindings_of, draft_on, draft_of, IsNameAmong, IsDrafted}
+use Rattle.lw_statements.proofs.Common.{IsNotDrafted, IsOverflowSlot, IsReach, IsSpelling, Phrase, Fits}
+use Rattle.lw_statements.proofs.Common.{StatementRead, StatementRefused, HasOverflowIn}
+use Rattle.lw_statements.proofs.Elements.{all_at}
+use Rattle.lw_statements.proofs.FrontLabels.{get_text}
+use Rattle.lw_statements.proofs.SlotTokens.{reached}
+use Rattle.lw_statements.proofs.Causes.{many_further}
+use Rattle.lw_statements.proofs.Beginnings.{before as before_location}
+use Rattle.lw_statements.proofs.api.Forms.{is_grammar}
+
+module _ {W Form Stmt : Type 0} (spelling : Spelling W Form Stmt) where
+  -- ---- where the name of a location stands
+
+  -- the token of index k, where the first has index i, is the name that the tokens give at a location's slot
+  abbrev IsNamed : ℕ → ℕ → TokenList → (slots : List (Slot W)) → Filling slots → Type 0
+  IsNamed i k ts slots f =
+      (x : Bytes)
+      × (j : ℕ)
+      × (front back : List (Slot W))
+      × (name_in slots f ≡ Some x)
+      × (k ≡ i + j)
+      × (slice_get ts j ≡ Some x)
+      × (slots ≡ front ++ Location ∷ back)
+      × CanStand spelling (take j ts) front
+      × IsLocationName x
+
+  named_further : (i k : ℕ) (t : Bytes) (ts : TokenList) (slot : Slot W) (slots : List (Slot W)) (f : Filling (slot ∷ slots))
+      → name_in (slot ∷ slots) f ≡ name_in slots f.1
+      → CanStand spelling (t ∷ []) (slot ∷ [])
+      → IsNamed (i + 1) k ts slots f.1
+      → IsNamed i k (t ∷ ts) (slot ∷ slots) f
+  named_further i k t ts slot slots f same stands (x, j, front, back, is, at, there, cut, before, loc) = (
+    x,
+    suc j,
+    slot ∷ front,
+    back,
+    same ∙ is,
+    omega (arith, at),
+    there,
+    ap (λ (s : List (Slot W)). slot ∷ s) cut,
+    ((stands.0.0, before.0), (stands.1.0, before.1)),
+    loc,
+  )
+
+  name_index : (i k : ℕ) (ts : TokenList) (slots : List (Slot W)) (f : Filling slots)
+      → Fills spelling ts slots f
+      → (bindings_of i slots f).name ≡ Some k
+      → IsNamed i k ts slots f
+  name_index i k ts [] f h e = absurd cc
+  name_index i k [] (slot ∷ slots) f h e = absurd h
+  name_index i k (t ∷ ts) (Location ∷ slots) f h e =
+      let g : Some i ≡ Some k = e in
+      let d : i ≡ k = cc in
+      (f.0, 0, [], slots, refl, omega (arith, d), ap Some h.0.0, refl, (tt, tt), h.0.1)
+  name_index i k (t ∷ ts) (slot ∷ slots) f h e =
+      named_further i k t ts slot _ f refl ((f.0, tt), (h.0, tt)) (name_index (i + 1) k ts slots f.1 h.1 e)
+
+  no_name : (i : ℕ) (slots : List (Slot W)) (f : Filling slots) → (bindings_of i slots f).name ≡ None → name_in slots f ≡ None
+  no_name i [] f e = refl
+  no_name i (Location ∷ slots) f e = absurd cc
+  no_name i (slot ∷ slots) f e = no_name (i + 1) slots f.1 e
+
+  -- ---- a form whose slots the tokens fill
+
+  module _ (phrase : Phrase) (form : Form) (f : Filling (spelling.slots_of form)) (there : Contains spelling.forms form)
+      (fills : Fills spelling (token_texts phrase.tokens.now) (spelling.slots_of form) f) where
+    abbrev tokens : List Token
+    tokens = phrase.tokens.now
+
+    abbrev said : ParsesStatement spelling
+    said = record { form = form; filling = f }
+
+    abbrev found : SlotBindings
+    found = bindings_of 0 (spelling.slots_of form) f
+
+    -- what is found has a name: that of the token of this index
+    named : (k : ℕ) → found.name ≡ Some k → IsNamed 0 k (token_texts tokens) (spelling.slots_of form) f
+    named k is = name_index 0 k (token_texts tokens) (spelling.slots_of form) f fills is
+
+    name_is : (k : ℕ) (t : Token)
+        → found.name ≡ Some k
+        → slice_get tokens k ≡ Some t
+        → (name_in (spelling.slots_of form) f ≡ Some t.text.now) × IsLocationName t.text.now
+    name_is k t is at =
+        let n = named k is in
+        let j : n.1 ≡ k = omega (arith, n.5) in
+        let one = same_Some _ _ (sym n.6 ∙ ap (slice_get (token_texts tokens)) j ∙ get_text tokens k t at) in
+        (n.4 ∙ ap Some one, subst IsLocationName one n.9)
+
+    pub name_among : IsNameAmong found tokens
+    name_among = go found.name refl
+      where
+        go : (m : Option ℕ)
+            → found.name ≡ m
+            → IfSome m (λ k. (k < length tokens) × ((t : Token) → slice_get tokens k ≡ Some t → IsLocationName t.text.now))
+        go None is = tt
+        go (Some k) is =
+            let n = named k is in
+            let within : n.1 < length (token_texts tokens) = slice_get_within (token_texts tokens) n.1 n.0 n.6 in
+            (omega (arith, n.5, within, length-map tokens (λ t. t.text.now)), λ t at. (name_is k t is at).1)
+
+    pub statement_read : (before : NameTable) (draft : Draft Form) (after : NameTable)
+        → IsDrafted form found tokens before draft after
+        → StatementRead (grammar_of spelling) (draft_of spelling) (token_texts tokens) before draft after
+    statement_read before draft after h = go found.name refl h
+      where
+        go : (m : Option ℕ)
+            → found.name ≡ m
+            → MatchOption m ((after ≡ before) × (draft ≡ draft_on form None found)) (λ k.
+            (t : Token)
+            × (loc : ℕ)
+            × (slice_get tokens k ≡ Some t)
+            × NameRead before t loc after
+            × (draft ≡ draft_on form (Some loc) found))
+            → StatementRead (grammar_of spelling) (draft_of spelling) (token_texts tokens) before draft after
+        go None is (names, made) = record {
+          syntax = said;
+          says = (there, fills);
+          names = rw (no_name 0 (spelling.slots_of form) f is) names;
+          made = rw is made;
+        }
+        go (Some k) is (t, loc, at, read, made) =
+            let n = (name_is k t is at).0 in
+            record { syntax = said; says = (there, fills); names = rw n read.names; made = rw (is, n, ← read.number) made }
+
+    -- the statement is refused, if the table has no room for the location that was found in it
+    pub refused_by_form : (made : Form → Operands → Option Stmt)
+        → IsSpelling spelling made
+        → (before : NameTable) (fault : CellFault)
+        → IsNotDrafted found tokens before fault
+        → StatementRefused (grammar_of spelling) before phrase fault
+    refused_by_form made lawful before fault h =
+        let n = named h.index h.name in
+        let is = name_is h.index h.token h.name h.is in
+        let front : CanStand spelling (token_texts (take h.index tokens)) n.2 =
+        subst (λ (ts : TokenList). CanStand spelling ts n.2)
+        (ap (λ (m : ℕ). take m (token_texts tokens)) (omega (arith, n.5)) ∙ take-map (λ (t : Token). t.text.now) h.index tokens)
+        n.8 in
+        record {
+          none = λ known s fits.
+              let same : s ≡ said = (is_grammar _ _ lawful).one (token_texts tokens) s said fits.0 (there, fills) in
+              h.refused.none known (is.1, rw (same, is.0) at fits.1);
+          cause =
+              many_further (λ ninth. record {
+                place = h.index;
+                token = h.token;
+                is = h.is;
+                before = before_location _ made lawful form n.2 n.3 (token_texts (take h.index tokens)) there n.7 front;
+                ninth = ninth;
+              }) h.refused.cause;
+          place = λ len lies. h.refused.place len (all_at (λ t. t.at ≤ len) tokens _ h.token h.is lies.0);
+        }
+
+  -- a ninth location that stands at a location's slot, of a form whose slots the tokens reach so far, stands where a statement
+  -- may have a location
+  pub ninth_in : (made : Form → Operands → Option Stmt)
+      → IsSpelling spelling made
+      → (form : Form)
+      → Contains spelling.forms form
+      → (tokens : List Token) (names : NameTable) (front index : ℕ) (default : Token)
+      → IsReach spelling (token_texts tokens) (spelling.slots_of form) front
+      → IsOverflowSlot (spelling.slots_of form) tokens front names index
+      → HasOverflowIn (grammar_of spelling) tokens names (get_or tokens index default).at
+  ninth_in made lawful form there tokens names front index default reach n =
+      let r = reached spelling (spelling.slots_of form) (token_texts tokens) front index reach n.before n.slot in
+      let before = subst (λ ts. CanStand spelling ts r.0) (take-map (λ t. t.text.now) index tokens) r.3 in
+      subst (λ (t : Token). HasOverflowIn (grammar_of spelling) tokens names t.at)
+      (sym (get_or_from_slice_get tokens index n.token default n.is)) (record {
+        place = index;
+        token = n.token;
+        is = n.is;
+        before = before_location spelling made lawful form r.0 r.1 _ there r.2 before;
+        ninth = (refl, r.4 n.token.text.now (get_text tokens index n.token n.is), n.full, n.new);
+      })
+
+  -- where the tokens fill no form, they say no statement that fits
+  pub none_said : (ts : TokenList) (before : NameTable)
+      → ((form : Form) (f : Filling (spelling.slots_of form))
+      → Contains spelling.forms form
+      → Fills spelling ts (spelling.slots_of form) f
+      → ⊥)
+      → (s : ParsesStatement spelling)
+      → Fits (grammar_of spelling) before ts s
+      → ⊥
+  none_said ts before none s fits = none s.form s.filling fits.0.0 fits.0.1

@@ -1,0 +1,69 @@
+-- Things that are read one after another on a table that grows by their names: one further, and other readings of the same.
+use Rattle.lw_statements.proofs.Common.{◌≡◌, ◌≤◌, true, List, [], ◌∷◌, ◌++◌, length, map, refl, sym, ap, ◌∙◌}
+use Rattle.lw_statements.proofs.Common.{subst, arith, AllZip, AllByRecursion, map-append, contains_name}
+use Rattle.lw_statements.proofs.Common.{insert_name, insert_names, Bytes, NameTable, All-append_inv}
+use Rattle.lw_statements.proofs.Common.{contains_name-insert_name, contains_name-insert_names}
+use Rattle.lw_statements.proofs.Common.{insert_names-append, insert_names-longer, ReadOn}
+use Rattle.lw_statements.proofs.api.Zips.{Cut, zip_unique, zip_more}
+
+-- All names are in the table.
+abbrev pub AreIn : NameTable → List Bytes → Type 0
+AreIn names ns = AllByRecursion (λ n. contains_name names n ≡ true) ns
+
+-- names that were entered are in the table
+pub are_in : (names ns : NameTable) → AreIn (insert_names names ns) ns
+are_in names [] = tt
+are_in names (n ∷ ns) =
+    (contains_name-insert_names (insert_name names n) ns n (contains_name-insert_name names n), are_in (insert_name names n) ns)
+
+-- Things whose names are those of each, and of which something is made that stays as the table grows.
+module _ {X D : Type 0} (names_by : List X → List Bytes) (make : NameTable → X → D)
+    (split : (xs ys : List X) → names_by (xs ++ ys) ≡ names_by xs ++ names_by ys)
+    (stays : (names ns : NameTable) (x : X)
+    → AreIn names (names_by (x ∷ []))
+    → make (insert_names names ns) x ≡ make names x) where
+  -- what is made of things whose names are in the table stays the same when it grows
+  pub all_stay : (names ns : NameTable) (xs : List X)
+      → AreIn names (names_by xs)
+      → map (make (insert_names names ns)) xs ≡ map (make names) xs
+  all_stay names ns [] all = refl
+  all_stay names ns (x ∷ xs) all =
+      let parts = All-append_inv _ _ (names_by xs) (subst (AreIn names) (split (x ∷ []) xs) all) in
+      rw (stays names ns x parts.0, all_stay names ns xs parts.1) refl
+
+  -- What was read, and what comes next.
+  module _ {C : Type 0} (Says : C → X → Type 0) (front : List C) (before mid : NameTable) (ds : List D)
+      (read : ReadOn (AllZip Says front) names_by (λ names. map (make names)) before ds mid) (c : C) where
+    -- with the next thing, of which d is made, what was read says one thing more, and the table grew by its names
+    pub read_more : (x : X) (d : D) (after : NameTable)
+        → Says c x
+        → after ≡ insert_names mid (names_by (x ∷ []))
+        → d ≡ make after x
+        → AllZip Says (front ++ c ∷ []) (read.syntax ++ x ∷ [])
+        × (after ≡ insert_names before (names_by (read.syntax ++ x ∷ [])))
+        × (ds ++ d ∷ [] ≡ map (make after) (read.syntax ++ x ∷ []))
+    read_more x d after says grown is =
+        let old : map (make after) read.syntax ≡ ds =
+        ap (λ ns. map (make ns) read.syntax) grown
+        ∙ all_stay mid (names_by (x ∷ [])) read.syntax (rw (← read.names) at (are_in before (names_by read.syntax)))
+        ∙ sym read.made in
+        let both = map-append (make after) read.syntax (x ∷ []) in
+        let names = split read.syntax (x ∷ []) in
+        let table = insert_names-append before (names_by read.syntax) (names_by (x ∷ [])) in
+        (zip_more Says front read.syntax c x read.says says, cc, cc)
+
+    -- what the whole says begins with what was read, and grows the table further
+    module _ (one : (w : C) (x y : X) → Says w x → Says w y → x ≡ y) (rest : List C) (t : List X)
+        (cut : Cut Says front c rest t) where
+      pub read_same : cut.above ≡ read.syntax
+      read_same = zip_unique Says one front cut.above read.syntax cut.above_says read.says
+
+      pub read_room : length (insert_names mid (names_by (cut.here ∷ []))) ≤ length (insert_names before (names_by t))
+      read_room =
+          let names = split cut.above (cut.here ∷ cut.below) in
+          let more = split (cut.here ∷ []) cut.below in
+          let table = insert_names-append before (names_by read.syntax) (names_by (cut.here ∷ cut.below)) in
+          let next = insert_names-append mid (names_by (cut.here ∷ [])) (names_by cut.below) in
+          let whole : insert_names before (names_by t)
+          ≡ insert_names (insert_names mid (names_by (cut.here ∷ []))) (names_by cut.below) = let same = read_same in cc in
+          omega (arith, ap length whole, insert_names-longer (insert_names mid (names_by (cut.here ∷ []))) (names_by cut.below))

@@ -1,0 +1,111 @@
+-- Reading the threads of a test, one after another: what holds when one more is read.
+use Rattle.lw_statements.proofs.Common.{◌≡◌, ℕ, ◌<◌, ◌≤◌, ◌+◌, ◌-◌, List, [], ◌∷◌, ◌++◌, length, suc, take}
+use Rattle.lw_statements.proofs.Common.{drop, get_or, refl, sym, ap, ◌∙◌, subst, arith, All, replicate}
+use Rattle.lw_statements.proofs.Common.{append-nil, AllZip, map-append, flat_map-append, TestHead}
+use Rattle.lw_statements.proofs.Common.{set_location_names, most_locations, insert_names, CellGrid, NameTable}
+use Rattle.lw_statements.proofs.Common.{Memory, CellFault, Cell, cells_texts, all_texts, placed_row}
+use Rattle.lw_statements.proofs.Common.{placed_cells, EndsBefore, grid_placed, Grammar, IsGrammar, CellSyntax}
+use Rattle.lw_statements.proofs.Common.{Column, names_in, names_of, code_in, FrameHasTest, ColumnRead}
+use Rattle.lw_statements.proofs.Common.{ColumnsRead, ColumnRefused, ColumnsRefused}
+use Rattle.lw_statements.proofs.Causes.{refused_memory}
+use Rattle.lw_statements.proofs.Elements.{all_amid, cut_there, take_further}
+use Rattle.lw_statements.proofs.OneReading.{column_unique}
+use Rattle.lw_statements.proofs.ResolvedNames.{code_stays}
+use Rattle.lw_statements.proofs.TablesRead.{AreIn, read_more, read_room}
+use Rattle.lw_statements.proofs.api.Zips.{zip_cut}
+
+module _ {Syntax Stmt : Type 0} (grammar : Grammar Syntax Stmt) where
+  names_of-append : (xs ys : List (List (CellSyntax Syntax)))
+      → names_of grammar (xs ++ ys) ≡ names_of grammar xs ++ names_of grammar ys
+  names_of-append xs ys = flat_map-append (names_in grammar) xs ys
+
+  stays : (names ns : NameTable) (t : List (CellSyntax Syntax))
+      → AreIn names (names_of grammar (t ∷ []))
+      → code_in grammar (insert_names names ns) t ≡ code_in grammar names t
+  stays names ns t all = code_stays grammar _ ns t (subst (AreIn names) (append-nil (names_in grammar t)) all)
+
+  -- a fault because memory ran out refuses the cells of the threads
+  pub columns_out_of_memory : {A : Type 0} (names : NameTable) (columns : List (List (Cell A))) (f : CellFault)
+      → f.cause ≡ Memory
+      → f.at ≡ 0
+      → ColumnsRefused grammar names columns f
+  columns_out_of_memory names columns f = refused_memory f (λ at. tt)
+
+  -- A column behind those that were read.
+  module _ {A : Type 0} (columns : List (List (Cell A))) (i : ℕ) (column : List (Cell A)) (within : i < length columns)
+      (is : column ≡ get_or columns i column) (before mid : NameTable) (threads : List (List Stmt))
+      (read : ColumnsRead grammar (all_texts (take i columns)) before threads mid) where
+    -- if that column is read as well, the columns up to it are
+    pub threads_more : (stmts : List Stmt) (after : NameTable)
+        → ColumnRead grammar (cells_texts column) mid stmts after
+        → ColumnsRead grammar (all_texts (take (i + 1) columns)) before (threads ++ stmts ∷ []) after
+    threads_more stmts after one =
+        let grown : after ≡ insert_names mid (names_of grammar (one.syntax ∷ [])) =
+        one.names ∙ ap (insert_names mid) (sym (append-nil (names_in grammar one.syntax))) in
+        let more =
+        read_more (names_of grammar) (code_in grammar) names_of-append stays (Column grammar) (all_texts (take i columns)) before
+        mid threads read (cells_texts column) one.syntax stmts after one.says grown one.made in
+        record {
+          syntax = read.syntax ++ one.syntax ∷ [];
+          says = rw (take_further columns i column within is, map-append cells_texts (take i columns) (column ∷ [])) more.0;
+          names = more.1;
+          made = more.2;
+        }
+
+    -- where that column is refused, so are all columns
+    pub threads_refused : IsGrammar grammar
+        → (f : CellFault)
+        → ColumnRefused grammar mid column f
+        → ColumnsRefused grammar before columns f
+    threads_refused lawful f r =
+        let front = take i columns in
+        let rest = drop (suc i) columns in
+        let whole = cut_there columns i column within is in
+        record {
+          none = λ known ts (all, few).
+              let cut =
+              zip_cut (Column grammar) (all_texts front) (cells_texts column) (all_texts rest) ts
+              (subst (λ (cs : CellGrid). AllZip (Column grammar) cs ts)
+              (ap all_texts whole ∙ map-append cells_texts front (column ∷ rest)) all) in
+              let room =
+              read_room (names_of grammar) (code_in grammar) names_of-append stays (Column grammar) _ before mid threads read _
+              (column_unique grammar lawful) (all_texts rest) ts cut in
+              r.none known cut.here (
+                cut.says,
+                omega (
+                  arith,
+                  few,
+                  room,
+                  ap (λ (ns : NameTable). length (insert_names mid ns)) (append-nil (names_in grammar cut.here)),
+                ),
+              );
+          cause =
+              rw (← ap placed_cells whole ∙ map-append placed_row front (column ∷ rest)) at
+              (r.cause before (placed_cells front) (placed_cells rest) read.syntax (rw (grid_placed front) read.says) read.names);
+          place = λ len all.
+              r.place len (all_amid (All (EndsBefore len)) front rest column (subst (All (All (EndsBefore len))) whole all));
+        }
+
+  -- If the threads of a frame's cells are read, the frame has a test of them: its head is the frame's, with the table as it is
+  -- then, and a 0 for each new location.
+  pub test_found : (frame_head head : TestHead)
+      → head ≡ frame_head
+      → (cells : CellGrid) (threads : List (List Stmt)) (names : NameTable) (words : List ℕ)
+      → frame_head.arch ≡ grammar.language.arch
+      → length frame_head.init_words ≡ length frame_head.locs
+      → ColumnsRead grammar cells head.locs threads names
+      → length names ≤ most_locations
+      → words ≡ head.init_words ++ replicate (length names - length head.init_words) 0
+      → FrameHasTest grammar (record { head = frame_head; cells = cells })
+      (record { head = record (set_location_names head names) { init_words = words }; threads = threads })
+  test_found frame_head head same cells threads names words arch long read few filled =
+      let zeros : words ≡ frame_head.init_words ++ replicate (length names - length frame_head.locs) 0 =
+      rw (← long, ← same) filled in
+      let grown : names ≡ insert_names frame_head.locs (names_of grammar read.syntax) = rw (← same) read.names in
+      record {
+        arch = arch;
+        threads = read.syntax;
+        says = read.says;
+        few = rw grown at few;
+        made = rw (zeros, read.made, same, ← grown) refl;
+      }

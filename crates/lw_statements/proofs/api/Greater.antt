@@ -1,0 +1,12 @@
+-- The greater of two numbers, as the code takes it.
+use Rattle.lw_statements.proofs.Common.{◌≡◌, ℕ, ◌<◌, ◌≤◌, max, Bool, true, false, refl, arith, eqb, ltb}
+use Rattle.lw_statements.proofs.Common.{ltb-true, ltb-false, nat_cmp, ord_max}
+
+-- `max` of two numbers is the greater
+pub greater_is : (a b : ℕ) → ord_max nat_cmp a b ≡ max a b
+greater_is a b = go (ltb b a) (eqb b a) refl refl
+  where
+    go : (t u : Bool) → ltb b a ≡ t → eqb b a ≡ u → ord_max nat_cmp a b ≡ max a b
+    go true u e f = rw e (let lt : b < a = ltb-true b a e in omega arith)
+    go false true e f = rw (e, f) (let le : a ≤ b = ltb-false b a e in omega arith)
+    go false false e f = rw (e, f) (let le : a ≤ b = ltb-false b a e in omega arith)

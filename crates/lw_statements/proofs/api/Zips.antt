@@ -1,0 +1,57 @@
+-- Two lists of which each item of one stands to its fellow in a relation. The printer of canonical texts uses this.
+use Rattle.lw_statements.proofs.Common.{◌≡◌, suc, List, [], ◌∷◌, ◌++◌, length, refl, ap, AllZip}
+
+-- The second list, cut at the fellow of the item x of the first: each part stands in the relation to its part of the first.
+pub record Cut {X Y : Type 0} (R : X → Y → Type 0) (front : List X) (x : X) (rest : List X) (zs : List Y) : Type 0 where
+  pub above : List Y
+  pub here : Y
+  pub below : List Y
+  pub whole : zs ≡ above ++ here ∷ below
+  pub above_says : AllZip R front above
+  pub says : R x here
+  pub below_says : AllZip R rest below
+
+module _ {X Y : Type 0} (R : X → Y → Type 0) where
+  -- if each item stands in the relation to one thing at most, so does a list of items, item by item, to one list
+  pub zip_unique : ((x : X) (y z : Y) → R x y → R x z → y ≡ z)
+      → (xs : List X) (ys zs : List Y)
+      → AllZip R xs ys
+      → AllZip R xs zs
+      → ys ≡ zs
+  zip_unique one [] [] [] h k = refl
+  zip_unique one [] [] (z ∷ zs) h k = absurd k
+  zip_unique one (x ∷ xs) (y ∷ ys) [] h k = absurd k
+  zip_unique one (x ∷ xs) (y ∷ ys) (z ∷ zs) h k =
+      let e = one x y z h.0 k.0 in
+      let f = zip_unique one xs ys zs h.1 k.1 in
+      cc
+  zip_unique one xs ys zs h k = absurd h
+
+  -- two lists whose items stand in a relation do so with one item more each, if these do
+  pub zip_more : (xs : List X) (ys : List Y) (x : X) (y : Y) → AllZip R xs ys → R x y → AllZip R (xs ++ x ∷ []) (ys ++ y ∷ [])
+  zip_more [] [] x y h k = (k, tt)
+  zip_more (w ∷ xs) (z ∷ ys) x y h k = (h.0, zip_more xs ys x y h.1 k)
+  zip_more xs ys x y h k = absurd h
+
+  -- two lists whose items stand in a relation are of one length
+  pub zip_length : (xs : List X) (ys : List Y) → AllZip R xs ys → length xs ≡ length ys
+  zip_length [] [] h = refl
+  zip_length (x ∷ xs) (y ∷ ys) h = ap suc (zip_length xs ys h.1)
+  zip_length xs ys h = absurd h
+
+  -- where the first list is cut, so is the second, at their fellows
+  pub zip_cut : (front : List X) (x : X) (rest : List X) (zs : List Y) → AllZip R (front ++ x ∷ rest) zs → Cut R front x rest zs
+  zip_cut [] x rest (z ∷ zs) h =
+      record { above = []; here = z; below = zs; whole = refl; above_says = tt; says = h.0; below_says = h.1 }
+  zip_cut (w ∷ front) x rest (z ∷ zs) h =
+      let k = zip_cut front x rest zs h.1 in
+      record {
+        above = z ∷ k.above;
+        here = k.here;
+        below = k.below;
+        whole = ap (λ ts. z ∷ ts) k.whole;
+        above_says = (h.0, k.above_says);
+        says = k.says;
+        below_says = k.below_says;
+      }
+  zip_cut front x rest zs h = absurd h

@@ -1,0 +1,5 @@
+use Rattle.lw_statements.proofs.Common.{refl}
+use Rattle.lw_statements.proofs.column.DraftColumn.new.Goals as goal
+
+pub returns : goal.returns
+returns g c = record { cells = c.new.ensures; labels = λ n. rw c.new-2.ensures.empty refl; count = refl }

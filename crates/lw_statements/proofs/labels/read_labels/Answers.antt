@@ -1,0 +1,71 @@
+use Rattle.lw_statements.proofs.Common.{ℕ, ◌+◌, ◌-◌, ◌<◌, ◌≤◌, sym, ap, ◌∙◌, arith, true≢false, is_some}
+use Rattle.lw_statements.proofs.Common.{btree_map_updates_str, refl, slice_get_read, subst}
+use Rattle.lw_statements.proofs.Causes.{misfit_tells, memory_tells, twice_tells, refused_memory}
+use Rattle.lw_statements.proofs.Exits.{out_of_memory}
+use Rattle.lw_statements.proofs.FrontLabels.{get_behind, next_within, labels_start, labels_more, labels_on}
+use Rattle.lw_statements.proofs.FrontLabels.{labels_twice, twice_in}
+use Rattle.lw_statements.proofs.labels.read_labels.Goals as goal
+
+-- two tokens further on, fewer are left
+fewer_left : (next len : ℕ) → next + 2 ≤ len → len - (next + 2) < len - next
+fewer_left next len within = omega arith
+
+pub loop-token-smaller : goal.loop-token-smaller
+loop-token-smaller g c =
+    fewer_left _ _ (next_within c.args.tokens.now c.loop-token.next _ (c.stands_at.ensures.0 c.loop-token-test.true))
+
+pub loop-token-init : goal.loop-token-init
+loop-token-init g c = labels_start _ _ _
+
+pub bounds-tokens-next : goal.bounds-tokens-next
+bounds-tokens-next g c =
+    let within = next_within c.args.tokens.now c.loop-token.next _ (c.stands_at.ensures.0 c.loop-token-test.true) in omega arith
+
+pub loop-token-preserved : goal.loop-token-preserved
+loop-token-preserved g c =
+    let colon = c.stands_at.ensures.0 c.loop-token-test.true in
+    let within = next_within c.args.tokens.now c.loop-token.next _ colon in
+    labels_more _ _ _ _ _ c.loop-token.invariant _
+    (slice_get_read c.args.tokens.now _ c.loop-token.next _ refl (omega arith) c.index-tokens-next.is) colon _
+    (c.is_location.ensures.0 c.if-not-is_location.false)
+    (ap is_some (sym c.in_ok-insert.ensures.old) ∙ sym c.is_some.ensures ∙ c.if-is_some.false)
+    (btree_map_updates_str _ c.loop-token.labels c.insert.new.self _ c.in_ok-insert.ensures.updates)
+
+pub returns-then-not-is_location : goal.returns-then-not-is_location
+returns-then-not-is_location g c =
+    let colon = c.stands_at.ensures.0 c.loop-token-test.true in
+    let within = next_within c.args.tokens.now c.loop-token.next _ colon in
+    let token = slice_get_read c.args.tokens.now _ c.loop-token.next _ refl (omega arith) c.index-tokens-next.is in
+    record {
+      none = λ known ks fit.
+          true≢false (sym (c.is_location.ensures.1 (labels_on _ _ _ _ _ c.loop-token.invariant _ token colon ks _ fit.says
+          fit.stops).2)
+          ∙ c.if-not-is_location.true);
+      cause = misfit_tells _ c.misfit.ensures.cause;
+      place = λ len lies.
+          rw c.misfit.ensures.place
+          (subst (λ t. t.at ≤ len) (sym c.index-tokens-next.is) (lies c.loop-token.next _ (omega arith)));
+    }
+
+pub returns-then-is_some : goal.returns-then-is_some
+returns-then-is_some g c =
+    let colon = c.stands_at.ensures.0 c.loop-token-test.true in
+    let within = next_within c.args.tokens.now c.loop-token.next _ colon in
+    let token = slice_get_read c.args.tokens.now _ c.loop-token.next _ refl (omega arith) c.index-tokens-next.is in
+    let led = ap is_some (sym c.in_ok-insert.ensures.old) ∙ sym c.is_some.ensures ∙ c.if-is_some.true in
+    record {
+      none = λ known. labels_twice _ _ _ _ _ c.loop-token.invariant _ token colon led;
+      cause = twice_tells (twice_in _ _ _ _ _ c.loop-token.invariant _ token colon led);
+      place = λ len lies. subst (λ t. t.at ≤ len) (sym c.index-tokens-next.is) (lies c.loop-token.next _ (omega arith));
+    }
+
+pub returns-in_err-insert : goal.returns-in_err-insert
+returns-in_err-insert g c = out_of_memory _ _ _ c.from_residual.ensures.1 (λ f. refused_memory f (λ at. memory_tells))
+
+pub returns : goal.returns
+returns g c = record {
+  read = c.loop-token.invariant;
+  stops = λ at.
+      true≢false (sym (c.stands_at.ensures.1 (sym (get_behind c.args.tokens.now c.loop-token.next 1) ∙ at))
+      ∙ c.loop-token-test.false);
+}

@@ -1,0 +1,5 @@
+use Rattle.lw_statements.proofs.Common.{◌≡◌, ◌++◌, replicate}
+use Rattle.lw_statements.proofs.read.fill.Given as goal
+
+abbrev pub invariant-loop-word : goal.invariant-loop-word
+invariant-loop-word g l = l.words ≡ l.fn.words ++ replicate l._word 0

@@ -1,0 +1,16 @@
+use Rattle.lw_statements.proofs.Common.{inl, inr, ap, ◌∙◌, ◌++◌, ◌-◌, length, refl, replicate}
+use Rattle.lw_statements.proofs.Common.{Err-clause_known}
+use Rattle.lw_statements.proofs.Exits.{out_of_memory}
+use Rattle.lw_statements.proofs.read.with_zeros.Goals as goal
+
+pub returns-in_err-threads : goal.returns-in_err-threads
+returns-in_err-threads g c = Err-clause_known _ _ _ c.from_residual.ensures.1 (inl c.in_err-threads.was)
+
+pub returns-in_err-fill : goal.returns-in_err-fill
+returns-in_err-fill g c = out_of_memory _ _ _ c.from_residual-in_err-fill.ensures.1 (λ f memory first. inr (first, memory))
+
+pub returns : goal.returns
+returns g c =
+    let old = c.args.head.now.init_words in
+    let words = c.in_ok-fill.ensures ∙ ap (λ n. old ++ replicate (n - length old) 0) c.len-len.ensures.len in
+    ((rw words refl, c.len-len.ensures.table), c.in_ok-threads.was)

@@ -1,0 +1,26 @@
+use Rattle.lw_statements.proofs.Common.{MatchResult-weaker}
+use Rattle.lw_statements.proofs.StatementsRead.{name_among, statement_read, refused_by_form, none_said}
+use Rattle.lw_statements.proofs.statement_parser.read_statement.Goals as goal
+
+pub draft-requires : goal.draft-requires
+draft-requires g c =
+    let r = rw c.in-Some.is at c.read_form.ensures in
+    rw r.3 (name_among g.L.StatementReader.spelling c.args.phrase.now _ r.0 r.1 r.2)
+
+pub returns-in-Some : goal.returns-in-Some
+returns-in-Some g c =
+    let r = rw c.in-Some.is at c.read_form.ensures in
+    MatchResult-weaker c.draft.result c.draft.ensures
+    (λ draft made. statement_read g.L.StatementReader.spelling c.args.phrase.now _ r.0 r.1 r.2 _ draft _ (rw r.3 at made))
+    (λ f none.
+    refused_by_form g.L.StatementReader.spelling c.args.phrase.now _ r.0 r.1 r.2 g.L.StatementReader.made c.requires.lawful _ f
+    (rw r.3 at none))
+
+pub returns-in-None : goal.returns-in-None
+returns-in-None g c =
+    let none = rw c.in-None.is at c.read_form.ensures in
+    record {
+      none = λ known. none_said g.L.StatementReader.spelling _ _ none;
+      cause = c.refusal.ensures.0;
+      place = c.refusal.ensures.1;
+    }

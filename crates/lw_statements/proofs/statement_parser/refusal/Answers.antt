@@ -1,0 +1,38 @@
+use Rattle.lw_statements.proofs.Common.{◌≡◌, sym, arith, slice_get_within, length-map, Memory, Token, TooMany}
+use Rattle.lw_statements.proofs.Causes.{misfit_tells, many_tells}
+use Rattle.lw_statements.proofs.SlotTokens.{reach_within}
+use Rattle.lw_statements.proofs.StatementsRead.{ninth_in}
+use Rattle.lw_statements.proofs.statement_parser.refusal.Goals as goal
+
+pub overflow_token-requires : goal.overflow_token-requires
+overflow_token-requires g c =
+    let r = reach_within g.L.StatementReader.spelling _ _ _ c.accepted_prefix_len-front.ensures in
+    (r.0, omega (arith, r.1, length-map c.args.phrase.now.tokens.now (λ (t : Token). t.text.now)))
+
+pub returns-in-Some : goal.returns-in-Some
+returns-in-Some g c =
+    let within = rw c.forms-form-items.ensures at c.loop-form-test.true in
+    let n = rw (c.in-Some.is, c.slots-slots.ensures) at c.overflow_token.ensures in (
+      many_tells (ninth_in _ g.L.StatementReader.made c.requires c.form-item.result
+          (c.loop-form.form-index, within, sym (rw c.forms-form-items.ensures at c.form-item.is)) _ c.args.locs.now
+          c.accepted_prefix_len-front.result c.in-Some.index _ (rw c.slots-slots.ensures at c.accepted_prefix_len-front.ensures)
+          n),
+      λ len lies. lies.0 c.in-Some.index _ (slice_get_within _ c.in-Some.index n.token n.is),
+    )
+
+pub bounds-phrase-index : goal.bounds-phrase-index
+bounds-phrase-index g c = slice_get_within _ c.in-Some.index c.in-Some.ensures.token c.in-Some.ensures.is
+
+pub offset_bounds-phrase-index : goal.offset_bounds-phrase-index
+offset_bounds-phrase-index g c =
+    omega (arith, slice_get_within c.args.phrase.now.tokens.now c.in-Some.index c.in-Some.ensures.token c.in-Some.ensures.is)
+
+-- too many names are no lack of memory
+other : TooMany ≡ Memory → ⊥
+other e = cc
+
+pub invariant_of-result : goal.invariant_of-result
+invariant_of-result g c = record { memory = λ e. absurd (other e) }
+
+pub returns : goal.returns
+returns g c = (misfit_tells _ c.first_rejected.ensures.0, c.first_rejected.ensures.1)

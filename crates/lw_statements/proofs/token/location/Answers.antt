@@ -1,0 +1,37 @@
+use Rattle.lw_statements.proofs.Common.{◌≡◌, ◌<◌, ◌≤◌, [], ◌∷◌, length, length-append, refl, sym, ap, arith}
+use Rattle.lw_statements.proofs.Common.{Contains, slice_get_read, insert_name, Bytes, NameTable}
+use Rattle.lw_statements.proofs.Common.{insert_name-there, insert_name-new}
+use Rattle.lw_statements.proofs.Exits.{out_of_memory}
+use Rattle.lw_statements.proofs.Causes.{memory_tells, many_tells, refused_memory}
+use Rattle.lw_statements.proofs.token.location.Goals as goal
+
+-- the table is full, and lacks it
+is_ninth : (names : NameTable) (n : Bytes)
+    → length names ≤ 8
+    → 8 < length (insert_name names n)
+    → (length names ≡ 8) × (Contains names n → ⊥)
+is_ninth names n few many =
+    let fresh : Contains names n → ⊥ = λ h.
+    let at = slice_get_read names (length names) h.0 n refl h.1 (sym h.2) in
+    omega (arith, few, many, ap length (insert_name-there names n h.0 at)) in
+    (omega (arith, few, many, ap length (insert_name-new names n fresh), length-append names (n ∷ [])), fresh)
+
+pub returns-in-Some : goal.returns-in-Some
+returns-in-Some g c = record {
+  is_location = c.requires;
+  names = rw c.in-Some.is at c.in_ok-loc.ensures.names;
+  number = rw c.in-Some.is at c.in_ok-loc.ensures.index;
+}
+
+pub returns-in-None : goal.returns-in-None
+returns-in-None g c =
+    let full = rw c.in-None.is at c.in_ok-loc.ensures.index in
+    let n = is_ninth _ _ c.len-known.ensures.table.few full in
+    record {
+      none = λ known (loc, few). omega (arith, few, full);
+      cause = many_tells (refl, c.requires, n.0, n.1);
+      place = λ len within. within;
+    }
+
+pub returns-in_err-loc : goal.returns-in_err-loc
+returns-in_err-loc g c = out_of_memory _ _ _ c.from_residual.ensures.1 (λ f. refused_memory f (λ at. memory_tells))

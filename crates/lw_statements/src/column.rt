@@ -1,0 +1,260 @@
+//! Reads the cells of a thread, from top to bottom, and then resolves its jumps.
+ghost use Rattle.std.specs.Prelude.{◌≡◌, ◌⊎◌, ◌<◌, ◌≤◌, [], ◌∷◌, ◌++◌, Some, length, drop, MatchResult, IfSome, IfOk, IfErr};
+ghost use Rattle.std.specs.Option.{option_len};
+ghost use Rattle.lw_base.specs.Types.{NameTable};
+ghost use Rattle.lw_base.specs.declared.fault.CellCause.TheVariants.{TooMany, Memory};
+ghost use Rattle.lw_text.specs.Places.{cells_texts};
+ghost use Rattle.lw_text.specs.Spans.{token_texts};
+ghost use Rattle.lw_statements.specs.Grammars.{statement_limit, CanBegin};
+ghost use Rattle.lw_statements.specs.Spellings.{grammar_of};
+ghost use Rattle.lw_statements.specs.Bindings.{draft_of, IsSpelling};
+ghost use Rattle.lw_statements.specs.inner.Tokens.{IsMisfit};
+ghost use Rattle.lw_statements.specs.inner.Drafts.{IsFresh, ColumnDrafted, target_by};
+ghost use Rattle.lw_statements.specs.inner.Reading.{MaybeRead, MaybeRefused, LedForward, LabelLost, JumpCause, ColumnRead, ColumnRefused};
+ghost use Rattle.lw_statements.specs.inner.Reading.{CellRead, CellRefused, IsResolvable, IsResolved, IsCellResolved, IsUnresolved};
+
+use crate::draft::{Draft, DraftCell, Operands};
+use crate::labels::read_labels;
+use crate::phrase::Phrase;
+use crate::statement_parser::{can_begin, read_statement};
+use crate::statement_reader::StatementReader;
+use crate::token::misfit;
+use lw_base::{CellCause, CellFault, LocNames, Sequence};
+use lw_text::{Cell, Token};
+use std::alloc::{Allocator, Global};
+use std::collections::BTreeMap;
+
+/// What is read of a thread before its jumps are resolved: a draft of each cell, its labels, each
+/// with the index of the statement that it leads to, and how many statements there are.
+#[derive(Drop)]
+struct DraftColumn<'a, D, A: Allocator = Global> {
+    cells: Sequence<DraftCell<D>, A>,
+    labels: BTreeMap<&'a str, usize, A>,
+    count: usize,
+}
+
+impl<'a, D: Drop, A: Allocator + Copy> DraftColumn<'a, D, A> {
+    /// A column of which no cell has been read.
+    fn new(alloc: A) -> Self
+        ensures { IsFresh result }
+    {
+        DraftColumn {
+            cells: Sequence::new(alloc),
+            labels: BTreeMap::new(alloc),
+            count: 0,
+        }
+    }
+}
+
+/// Reads the statements of a thread. The names of their locations go into the table.
+pub(crate) fn read_column<L: StatementReader, A: Allocator + Copy>(
+    alloc: A,
+    cells: &[Cell<'_, A>],
+    locs: &mut LocNames<A>,
+) -> Result<Sequence<L::Stmt, A>, CellFault>
+    requires lawful { IsSpelling L.spelling L.made }
+    ensures { MatchResult result
+        (λ stmts. ColumnRead (grammar_of L.spelling) (cells_texts cells.now) locs.old stmts locs.new)
+        (ColumnRefused (grammar_of L.spelling) locs.old cells.now) }
+{
+    let mut column = DraftColumn::new(alloc);
+    read_cells::<L, A>(alloc, cells, &mut column, locs)
+}
+
+/// Reads the cells of a thread, each with its labels and its statement, and then resolves its jumps.
+fn read_cells<'a, L: StatementReader, A: Allocator + Copy>(
+    alloc: A,
+    cells: &[Cell<'a, A>],
+    column: &mut DraftColumn<'a, Draft<L::Form>, A>,
+    locs: &mut LocNames<A>,
+) -> Result<Sequence<L::Stmt, A>, CellFault>
+    requires lawful { IsSpelling L.spelling L.made }
+    requires fresh { IsFresh column.old }
+    ensures { MatchResult result
+        (λ stmts. ColumnRead (grammar_of L.spelling) (cells_texts cells.now) locs.old stmts locs.new)
+        (ColumnRefused (grammar_of L.spelling) locs.old cells.now) }
+{
+    for cell in cells {
+        read_cell::<L, A>(cell, column, locs)?;
+    }
+    resolve::<L, A>(alloc, cells, column)
+}
+
+/// Reads a cell of a thread: its labels and its statement.
+fn read_cell<'a, L: StatementReader, A: Allocator + Copy>(
+    cell: &Cell<'a, A>,
+    column: &mut DraftColumn<'a, Draft<L::Form>, A>,
+    locs: &mut LocNames<A>,
+) -> Result<(), CellFault>
+    requires lawful { IsSpelling L.spelling L.made }
+    requires few { column.old.count ≤ statement_limit (grammar_of L.spelling) }
+    ensures { MatchResult result
+        (λ _. CellRead (grammar_of L.spelling) (draft_of L.spelling) cell.now column.old locs.old column.new locs.new)
+        (CellRefused (grammar_of L.spelling) (draft_of L.spelling) cell.now column.old locs.old) }
+{
+    let start = read_labels(cell.tokens.as_slice(), column.count, &mut column.labels)?;
+    let phrase = Phrase::behind(cell, start);
+    let stmt = maybe_statement::<L, A>(&phrase, column.count, locs)?;
+    column.count += statement_count(&stmt);
+    push(&mut column.cells, DraftCell { start, stmt })
+}
+
+/// Puts an item at the end, where memory is ample.
+pub(crate) fn push<T: Drop, A: Allocator>(
+    items: &mut Sequence<T, A>,
+    item: T,
+) -> Result<(), CellFault>
+    ensures { MatchResult result (λ _. items.new ≡ items.old ++ item ∷ []) (λ f. (f.cause ≡ Memory) × (f.at ≡ 0)) }
+{
+    Ok(items.push(item)?)
+}
+
+/// How many statements a cell has, by its draft: one, or none.
+fn statement_count<F>(stmt: &Option<Draft<F>>) -> usize
+    ensures { result ≡ option_len stmt.now }
+{
+    match stmt {
+        Some(_) => 1,
+        None => 0,
+    }
+}
+
+/// The draft of the statement behind a cell's labels, where there is one. As many statements as `above` stand above it.
+fn maybe_statement<L: StatementReader, A: Allocator + Copy>(
+    phrase: &Phrase<'_, '_>,
+    above: usize,
+    locs: &mut LocNames<A>,
+) -> Result<Option<Draft<L::Form>>, CellFault>
+    requires lawful { IsSpelling L.spelling L.made }
+    ensures { MatchResult result
+        (λ stmt. MaybeRead (grammar_of L.spelling) (draft_of L.spelling) above (token_texts phrase.now.tokens.now) locs.old stmt locs.new)
+        (MaybeRefused (grammar_of L.spelling) above locs.old phrase.now) }
+{
+    let Some(first) = phrase.tokens.first() else {
+        return Ok(None);
+    };
+    if above == L::most() {
+        return Err(too_many_statements::<L>(first));
+    }
+    Ok(Some(read_statement::<L, A>(phrase, locs)?))
+}
+
+/// The fault of a statement that would be one too many: told at its first token, unless no statement
+/// begins with that one.
+fn too_many_statements<L: StatementReader>(first: &Token<'_>) -> CellFault
+    ensures place { result.at ≡ first.now.at }
+    ensures cause { (IsMisfit result.cause × (CanBegin (grammar_of L.spelling) first.now.text.now → ⊥))
+        ⊎ ((result.cause ≡ TooMany) × CanBegin (grammar_of L.spelling) first.now.text.now) }
+{
+    if can_begin::<L>(first) {
+        return CellFault {
+            at: first.at,
+            cause: CellCause::TooMany,
+        };
+    }
+    misfit(first)
+}
+
+/// The statements of a thread, resolved from its drafts by its labels.
+fn resolve<L: StatementReader, A: Allocator + Copy>(
+    alloc: A,
+    cells: &[Cell<'_, A>],
+    column: &DraftColumn<'_, Draft<L::Form>, A>,
+) -> Result<Sequence<L::Stmt, A>, CellFault>
+    requires lawful { IsSpelling L.spelling L.made }
+    requires read { (before after : NameTable) × ColumnDrafted (grammar_of L.spelling) (draft_of L.spelling) cells.now before column.now after }
+    ensures { MatchResult result
+        (λ code. (before after : NameTable) → ColumnDrafted (grammar_of L.spelling) (draft_of L.spelling) cells.now before column.now after
+        → ColumnRead (grammar_of L.spelling) (cells_texts cells.now) before code after)
+        (λ f. (before after : NameTable) → ColumnDrafted (grammar_of L.spelling) (draft_of L.spelling) cells.now before column.now after
+        → ColumnRefused (grammar_of L.spelling) before cells.now f) }
+{
+    let drafts = column.cells.as_slice();
+    let mut code = Sequence::new(alloc);
+    for (row, cell) in cells.iter().enumerate() {
+        let draft = drafts[row];
+        resolve_cell::<L, A>(cell, draft, &column.labels, &mut code)?;
+    }
+    Ok(code)
+}
+
+/// Puts a cell's statement, if it has one, behind those of the cells above, resolved by the labels of its thread.
+fn resolve_cell<L: StatementReader, A: Allocator + Copy>(
+    cell: &Cell<'_, A>,
+    draft: DraftCell<Draft<L::Form>>,
+    labels: &BTreeMap<&str, usize, A>,
+    code: &mut Sequence<L::Stmt, A>,
+) -> Result<(), CellFault>
+    requires start { draft.start ≤ length cell.now.tokens }
+    requires resolvable { IfSome draft.stmt (IsResolvable L.made (drop draft.start cell.now.tokens)) }
+    ensures { MatchResult result (λ _. IsCellResolved L.made labels.now cell.now draft code.old code.new)
+        (IsUnresolved labels.now (length code.old) cell.now draft) }
+{
+    let DraftCell { start, stmt } = draft;
+    let Some(stmt) = stmt else {
+        return Ok(());
+    };
+    let phrase = Phrase::behind(cell, start);
+    let stmt = resolve_draft::<L, A>(stmt, phrase.tokens, code.len(), labels)?;
+    push(code, stmt)
+}
+
+/// The statement of a draft, resolved by its thread's labels. `number` is its index there, and the tokens are its own.
+fn resolve_draft<L: StatementReader, A: Allocator>(
+    draft: Draft<L::Form>,
+    tokens: &[Token<'_>],
+    number: usize,
+    labels: &BTreeMap<&str, usize, A>,
+) -> Result<L::Stmt, CellFault>
+    requires resolvable { IsResolvable L.made tokens.now draft }
+    ensures { MatchResult result (IsResolved L.made labels.now number tokens.now draft) (LabelLost labels.now number tokens.now draft.label) }
+{
+    let to = jump_target(draft.label, tokens, number, labels)?;
+    let operands = Operands {
+        to,
+        ..draft.operands
+    };
+    Ok(L::statement(draft.form, &operands).unwrap())
+}
+
+/// The index of the statement that a statement's label leads to, if it has one. `label` is the label's index among the
+/// tokens of the statement, and `number` the statement's own in its thread.
+fn jump_target<A: Allocator>(
+    label: Option<usize>,
+    tokens: &[Token<'_>],
+    number: usize,
+    labels: &BTreeMap<&str, usize, A>,
+) -> Result<Option<usize>, CellFault>
+    requires { IfSome label (λ k. k < length tokens.now) }
+    ensures { MatchResult result (LedForward labels.now number tokens.now label) (LabelLost labels.now number tokens.now label) }
+{
+    match label {
+        Some(index) => Ok(Some(target(&tokens[index], number, labels)?)),
+        None => Ok(None),
+    }
+}
+
+/// The index of the statement that a jump's label leads to. The jump has the index `number`, which must be less.
+fn target<A: Allocator>(
+    label: &Token<'_>,
+    number: usize,
+    labels: &BTreeMap<&str, usize, A>,
+) -> Result<usize, CellFault>
+    ensures found { IfOk result (λ to. (target_by labels.now label.now.text.now ≡ Some to) × (number < to)) }
+    ensures place { IfErr result (λ f. f.at ≡ label.now.at) }
+    ensures cause { IfErr result (λ f. JumpCause labels.now number label.now.text.now f.cause) }
+{
+    let Some(to) = labels.get(label.text).copied() else {
+        return Err(CellFault {
+            at: label.at,
+            cause: CellCause::LabelMissing,
+        });
+    };
+    if to <= number {
+        return Err(CellFault {
+            at: label.at,
+            cause: CellCause::Backward,
+        });
+    }
+    Ok(to)
+}

@@ -1,0 +1,112 @@
+//! Reads a test of either language from its frame.
+ghost use Rattle.std.specs.Prelude.{◌≡◌, ◌⊎◌, ◌≤◌, ◌-◌, ◌++◌, length, replicate, Ok, Err, MatchResult, IfOk, IfErr};
+ghost use Rattle.lw_base.specs.NoParse.{HoldsOfNothingOrOutOfMemory};
+ghost use Rattle.lw_base.specs.declared.fault.CellCause.TheVariants.{Memory};
+ghost use Rattle.lw_base.specs.Names.{IsNameTable};
+ghost use Rattle.lw_text.specs.Places.{all_texts, placed_cells};
+ghost use Rattle.lw_text.specs.Views.{frame_of};
+ghost use Rattle.lw_statements.specs.Grammars.{arch_of};
+ghost use Rattle.lw_litmus.specs.Tests.{test_of};
+ghost use Rattle.lw_litmus.specs.WellFormed.{IsWellFormed};
+ghost use Rattle.lw_statements.specs.Cells.{FrameHasTest};
+ghost use Rattle.lw_statements.specs.Bindings.{IsSpelling};
+ghost use Rattle.lw_statements.specs.Spellings.{grammar_of};
+ghost use Rattle.lw_statements.specs.Faults.{CellFaultIsTrue};
+ghost use Rattle.lw_statements.specs.inner.Reading.{ColumnsRead, ColumnsRefused};
+
+use crate::column::{push, read_column};
+use crate::parts::TestParts;
+use crate::statement_reader::StatementReader;
+use lw_base::{CellFault, Head, LocNames, Sequence, Word};
+use lw_text::{Cell, Frame};
+use std::alloc::{AllocFailed, Allocator};
+
+/// Reads the test of a frame of the language. The test takes the frame's head over.
+///
+/// The threads are read one after another, each from top to bottom, and the first fault is told.
+pub fn read_test<L: StatementReader, A: Allocator + Copy>(
+    alloc: A,
+    frame: Frame<'_, A>,
+) -> Result<TestParts<L::Stmt, A>, CellFault>
+    requires arch { frame.head.arch ≡ arch_of (grammar_of L.spelling) }
+    requires lawful { IsSpelling L.spelling L.made }
+    // What is answered is the frame's test, and where it is refused it has none, unless memory ran out.
+    ensures found { IfOk result (λ parts. FrameHasTest (grammar_of L.spelling) (frame_of frame.entry) (test_of parts.head parts.threads)) }
+    ensures well_formed { IfOk result (λ parts. IsWellFormed (grammar_of L.spelling).language (test_of parts.head parts.threads)) }
+    ensures fault { IfErr result (λ f. HoldsOfNothingOrOutOfMemory Memory f.cause (FrameHasTest (grammar_of L.spelling) (frame_of frame.entry))) }
+    ensures place { IfErr result (λ f. f.at ≤ frame.entry.len) }
+    ensures memory { IfErr result (λ f. f.cause ≡ Memory → f.at ≡ 0) }
+    // What the cause says of the place is so.
+    ensures cause { IfErr result (CellFaultIsTrue (grammar_of L.spelling) frame.entry.head.locs (placed_cells frame.entry.cells)) }
+{
+    let Frame {
+        mut head,
+        cells,
+        ..
+    } = frame;
+    let threads = read_columns::<L, A>(alloc, cells.as_slice(), &mut head.locs);
+    drop(cells);
+    let threads = with_zeros(&mut head, threads);
+    parts_of(head, threads)
+}
+
+/// The parts of a test: its head, and its threads where these were read. Where they were refused, so is the test.
+fn parts_of<S: Drop, A: Allocator>(
+    head: Head<A>,
+    threads: Result<Sequence<Sequence<S, A>, A>, CellFault>,
+) -> Result<TestParts<S, A>, CellFault>
+    ensures { MatchResult result (λ parts. (parts.head ≡ head) × (threads ≡ Ok parts.threads)) (λ f. threads ≡ Err f) }
+{
+    match threads {
+        Ok(threads) => Ok(TestParts { head, threads }),
+        Err(fault) => {
+            drop(head);
+            Err(fault)
+        }
+    }
+}
+
+/// Puts a 0 behind the initial words for each location that has none, where the threads are read.
+fn with_zeros<T: Drop, A: Allocator>(
+    head: &mut Head<A>,
+    threads: Result<T, CellFault>,
+) -> Result<T, CellFault>
+    ensures { MatchResult result
+        (λ read. ((head.new ≡ record head.old { init_words = head.old.init_words ++ replicate (length head.old.locs - length head.old.init_words) 0 })
+        × IsNameTable head.old.locs) × (threads ≡ Ok read))
+        (λ f. (threads ≡ Err f) ⊎ ((f.at ≡ 0) × (f.cause ≡ Memory))) }
+{
+    let threads = threads?;
+    let len = head.locs.len();
+    fill(&mut head.init_words, len)?;
+    Ok(threads)
+}
+
+/// Reads the statements of each thread. The names of their locations go into the table.
+fn read_columns<L: StatementReader, A: Allocator + Copy>(
+    alloc: A,
+    columns: &[Sequence<Cell<'_, A>, A>],
+    locs: &mut LocNames<A>,
+) -> Result<Sequence<Sequence<L::Stmt, A>, A>, CellFault>
+    requires lawful { IsSpelling L.spelling L.made }
+    ensures { MatchResult result
+        (λ threads. ColumnsRead (grammar_of L.spelling) (all_texts columns.now) locs.old threads locs.new)
+        (ColumnsRefused (grammar_of L.spelling) locs.old columns.now) }
+{
+    let mut threads = Sequence::new(alloc);
+    for column in columns {
+        let stmts = read_column::<L, A>(alloc, column.as_slice(), locs)?;
+        push(&mut threads, stmts)?;
+    }
+    Ok(threads)
+}
+
+/// Puts zeros behind words, up to a length.
+fn fill<A: Allocator>(words: &mut Sequence<Word, A>, len: usize) -> Result<(), AllocFailed<Word>>
+    ensures { IfOk result (λ _. words.new ≡ words.old ++ replicate (len - length words.old) 0) }
+{
+    for _word in 0..len.saturating_sub(words.len()) {
+        words.push(0)?;
+    }
+    Ok(())
+}

@@ -1,0 +1,463 @@
+//! Reads a statement by the forms of its language.
+ghost use Rattle.std.specs.Prelude.{◌≡◌, ◌≢◌, ◌↔◌, ℕ, suc, ◌+◌, ◌<◌, ◌≤◌, ◌^◌, List, [], ◌∷◌, ◌++◌, length, take, true};
+ghost use Rattle.std.specs.Prelude.{MatchBool, MatchOption, MatchResult, IfSome, slice_get, IsTrue, Contains};
+ghost use Rattle.std.specs.Str.{bytes_eq};
+ghost use Rattle.lw_base.specs.Limits.{most_locations};
+ghost use Rattle.lw_base.specs.Names.{IsLocationName};
+ghost use Rattle.lw_base.specs.Registers.{IsRegisterName, lowercase_if_x86};
+ghost use Rattle.lw_base.specs.declared.operand.Operand.{Operand};
+ghost use Rattle.lw_text.specs.Spans.{token_texts};
+ghost use Rattle.lw_text.specs.Tokens.{IsNumber};
+ghost use Rattle.lw_statements.specs.declared.slot.Slot.{Slot};
+ghost use Rattle.lw_statements.specs.declared.slot.Slot.TheVariants.{Location};
+ghost use Rattle.lw_statements.specs.Operands.{IsOperand};
+ghost use Rattle.lw_statements.specs.inner.Tokens.{IsMisfit, IsOverflowName, AllEndBefore};
+ghost use Rattle.lw_statements.specs.Grammars.{CanBegin};
+ghost use Rattle.lw_statements.specs.Spellings.{grammar_of, SlotValue, Gives, Filling, Fills};
+ghost use Rattle.lw_statements.specs.Bindings.{CanStand, BeginsWith};
+ghost use Rattle.lw_statements.specs.Bindings as drafts;
+ghost use Rattle.lw_statements.specs.Bindings.{bind_slot, bindings_of, draft_of, IsNameAmong, IsDrafted, IsNotDrafted, IsOverflowSlot, IsReach, AreFront, IsSpelling};
+ghost use Rattle.lw_statements.specs.inner.Reading.{StatementRead, StatementFaultIsTrue, StatementRefused};
+
+use crate::draft::{Draft, Operands};
+use crate::phrase::Phrase;
+use crate::slot::Slot;
+use crate::statement_reader::StatementReader;
+use crate::token::{location, misfit, no_register};
+use lw_base::{
+    Arch, CellCause, CellFault, Loc, LocNames, MAX_LOCATIONS, Operand, Reg, Word,
+    eq_ignore_ascii_case, is_location, reg_from_name,
+};
+use lw_text::Token;
+use std::alloc::Allocator;
+
+/// What the tokens of a statement give, and the indices of its location and its label among them.
+#[derive(Clone, Copy)]
+pub(crate) struct SlotBindings {
+    pub(crate) operands: Operands,
+    pub(crate) name: Option<usize>,
+    pub(crate) label: Option<usize>,
+}
+
+/// What is found in no tokens: no operand, no name and no label.
+fn no_bindings() -> SlotBindings
+    ensures { result ≡ drafts.no_bindings }
+{
+    SlotBindings {
+        operands: Operands {
+            reg: None,
+            other: None,
+            val: None,
+            num: None,
+            loc: None,
+            to: None,
+        },
+        name: None,
+        label: None,
+    }
+}
+
+/// What was found behind a token, with the register that the token is in front; `None` where it is none.
+fn with_register(found: SlotBindings, arch: Arch, token: &Token<'_>) -> Option<SlotBindings>
+    ensures { MatchOption result ((r : ℕ) → IsRegisterName arch token.now.text.now r → ⊥)
+        (λ all. (r : ℕ) × IsRegisterName arch token.now.text.now r × (all ≡ drafts.with_register r found)) }
+{
+    let reg = reg_from_name(arch, token.text)?;
+    let operands = Operands {
+        reg: Some(reg),
+        other: found.operands.reg,
+        ..found.operands
+    };
+    Some(SlotBindings { operands, ..found })
+}
+
+/// What was found behind a token, with the register or number that the token is; `None` where it is neither.
+fn with_value(found: SlotBindings, arch: Arch, token: &Token<'_>) -> Option<SlotBindings>
+    ensures { MatchOption result ((v : Operand) → IsOperand arch token.now.text.now v → ⊥)
+        (λ all. (v : Operand) × IsOperand arch token.now.text.now v × (all ≡ drafts.with_value v found)) }
+{
+    let val = operand(arch, token)?;
+    let operands = Operands {
+        val: Some(val),
+        ..found.operands
+    };
+    Some(SlotBindings { operands, ..found })
+}
+
+/// What was found behind a token, with the number that the token is; `None` where it is none.
+fn with_number(found: SlotBindings, token: &Token<'_>) -> Option<SlotBindings>
+    ensures { MatchOption result ((n : ℕ) → IsNumber token.now.text.now n → ⊥)
+        (λ all. (n : ℕ) × IsNumber token.now.text.now n × (all ≡ drafts.with_number n found)) }
+{
+    let num = token.number()?;
+    let operands = Operands {
+        num: Some(num),
+        ..found.operands
+    };
+    Some(SlotBindings { operands, ..found })
+}
+
+/// What was found behind a token, with what the token gives, which has this index; `None` where it cannot stand at the slot.
+fn with_token<L: StatementReader>(
+    found: SlotBindings,
+    slot: Slot<L::Keyword>,
+    token: &Token<'_>,
+    index: usize,
+) -> Option<SlotBindings>
+    ensures { MatchOption result
+        ((g : SlotValue slot) → Gives L.spelling token.now.text.now slot g → ⊥)
+        (λ all. (g : SlotValue slot) × Gives L.spelling token.now.text.now slot g × (all ≡ bind_slot index slot g found)) }
+{
+    match slot {
+        Slot::Keyword(keyword) => is_keyword_of::<L>(keyword, token).then_some(found),
+        Slot::Register => with_register(found, L::arch(), token),
+        Slot::Location => with_name(found, token, index),
+        Slot::Value => with_value(found, L::arch(), token),
+        Slot::Number => with_number(found, token),
+        Slot::Label => with_label(found, token, index),
+    }
+}
+
+/// What was found behind a token, with this token's index as that of the location; `None` where it can name none.
+fn with_name(found: SlotBindings, token: &Token<'_>, index: usize) -> Option<SlotBindings>
+    ensures { MatchOption result (IsLocationName token.now.text.now → ⊥)
+        (λ all. IsLocationName token.now.text.now × (all ≡ drafts.with_name_at index found)) }
+{
+    if !is_location(token.text) {
+        return None;
+    }
+    Some(SlotBindings {
+        name: Some(index),
+        ..found
+    })
+}
+
+/// What was found behind a token, with this token's index as that of the label; `None` where it can be none.
+fn with_label(found: SlotBindings, token: &Token<'_>, index: usize) -> Option<SlotBindings>
+    ensures { MatchOption result (IsLocationName token.now.text.now → ⊥)
+        (λ all. IsLocationName token.now.text.now × (all ≡ drafts.with_label_at index found)) }
+{
+    if !is_location(token.text) {
+        return None;
+    }
+    Some(SlotBindings {
+        label: Some(index),
+        ..found
+    })
+}
+
+/// Whether the token is this keyword, which x86 takes in any case.
+fn is_keyword_of<L: StatementReader>(keyword: L::Keyword, token: &Token<'_>) -> bool
+    ensures { result ≡ bytes_eq
+        (lowercase_if_x86 L.spelling.language.arch (L.spelling.text_of keyword))
+        (lowercase_if_x86 L.spelling.language.arch token.now.text.now) }
+{
+    let text = L::text(keyword);
+    match L::arch() {
+        Arch::Source => text == token.text,
+        Arch::X86 => eq_ignore_ascii_case(text, token.text),
+    }
+}
+
+/// The register or the number that the token is.
+fn operand(arch: Arch, token: &Token<'_>) -> Option<Operand>
+    ensures { MatchOption result ((v : Operand) → IsOperand arch token.now.text.now v → ⊥) (IsOperand arch token.now.text.now) }
+{
+    if let Some(word) = token.number() {
+        return Some(Operand::Number(word));
+    }
+    match reg_from_name(arch, token.text) {
+        Some(reg) => Some(Operand::Register(reg)),
+        None => None,
+    }
+}
+
+/// Adds what a token gives, which has this index, to what was found behind it; false where it cannot stand at the slot.
+fn add_token<L: StatementReader>(
+    found: &mut SlotBindings,
+    slot: Slot<L::Keyword>,
+    token: &Token<'_>,
+    index: usize,
+) -> bool
+    ensures { MatchBool result
+        ((g : SlotValue slot) × Gives L.spelling token.now.text.now slot g × (found.new ≡ bind_slot index slot g found.old))
+        ((g : SlotValue slot) → Gives L.spelling token.now.text.now slot g → ⊥) }
+{
+    match with_token::<L>(*found, slot, token, index) {
+        Some(all) => {
+            *found = all;
+            true
+        }
+        None => false,
+    }
+}
+
+/// Finds what the tokens give at these slots, the first of which has this index; false where they do not stand one at each.
+///
+/// A keyword is compared before all that stands behind it is read, since most forms differ from the tokens in one.
+fn read_slots<L: StatementReader>(
+    slots: &[Slot<L::Keyword>],
+    tokens: &[Token<'_>],
+    index: usize,
+    found: &mut SlotBindings,
+) -> bool
+    requires few { index + length slots.now < 2 ^ 64 }
+    requires nothing { found.old ≡ drafts.no_bindings }
+    ensures { MatchBool result
+        ((f : Filling slots.now) × Fills L.spelling (token_texts tokens.now) slots.now f × (found.new ≡ bindings_of index slots.now f))
+        ((f : Filling slots.now) → Fills L.spelling (token_texts tokens.now) slots.now f → ⊥) }
+{
+    let Some((slot, slots)) = slots.split_first() else {
+        return tokens.is_empty();
+    };
+    let Some((token, tokens)) = tokens.split_first() else {
+        return false;
+    };
+    if let Slot::Keyword(keyword) = *slot {
+        if !is_keyword_of::<L>(keyword, token) {
+            return false;
+        }
+        return read_slots::<L>(slots, tokens, index + 1, found);
+    }
+    if !read_slots::<L>(slots, tokens, index + 1, found) {
+        return false;
+    }
+    add_token::<L>(found, *slot, token, index)
+}
+
+/// What the tokens give at all slots of a form; `None` where they do not stand one at each. Most forms have more slots
+/// or fewer.
+fn read_as<L: StatementReader>(
+    slots: &[Slot<L::Keyword>],
+    tokens: &[Token<'_>],
+) -> Option<SlotBindings>
+    ensures { MatchOption result
+        ((f : Filling slots.now) → Fills L.spelling (token_texts tokens.now) slots.now f → ⊥)
+        (λ found. (f : Filling slots.now) × Fills L.spelling (token_texts tokens.now) slots.now f
+        × (found ≡ bindings_of 0 slots.now f)) }
+{
+    if slots.len() != tokens.len() {
+        return None;
+    }
+    let mut found = no_bindings();
+    if !read_slots::<L>(slots, tokens, 0, &mut found) {
+        return None;
+    }
+    Some(found)
+}
+
+/// A form whose slots some tokens fill, and what they give.
+#[derive(Clone, Copy)]
+struct Filled<F> {
+    form: F,
+    found: SlotBindings,
+}
+
+/// The form whose slots are filled by the tokens, and what they give there; `None` where they fill those of no form.
+fn read_form<L: StatementReader>(tokens: &[Token<'_>]) -> Option<Filled<L::Form>>
+    ensures { MatchOption result
+        ((form : L.Form) (f : Filling (L.spelling.slots_of form)) → Contains L.spelling.forms form
+        → Fills L.spelling (token_texts tokens.now) (L.spelling.slots_of form) f → ⊥)
+        (λ filled. (f : Filling (L.spelling.slots_of filled.form)) × Contains L.spelling.forms filled.form
+        × Fills L.spelling (token_texts tokens.now) (L.spelling.slots_of filled.form) f
+        × (filled.found ≡ bindings_of 0 (L.spelling.slots_of filled.form) f)) }
+{
+    for form in L::forms() {
+        if let Some(found) = read_as::<L>(L::slots(*form), tokens) {
+            return Some(Filled { form: *form, found });
+        }
+    }
+    None
+}
+
+/// Reads a statement that is not empty. The name of its location goes into the table.
+pub(crate) fn read_statement<L: StatementReader, A: Allocator + Copy>(
+    phrase: &Phrase<'_, '_>,
+    locs: &mut LocNames<A>,
+) -> Result<Draft<L::Form>, CellFault>
+    requires lawful { IsSpelling L.spelling L.made }
+    ensures { MatchResult result
+        (λ draft. StatementRead (grammar_of L.spelling) (draft_of L.spelling) (token_texts phrase.now.tokens.now) locs.old draft locs.new)
+        (StatementRefused (grammar_of L.spelling) locs.old phrase.now) }
+{
+    match read_form::<L>(phrase.tokens) {
+        Some(filled) => draft(filled.form, filled.found, phrase.tokens, locs),
+        None => Err(refusal::<L, A>(phrase, locs)),
+    }
+}
+
+/// The draft of a statement of this form. The name of its location goes into the table.
+fn draft<F: Copy + Drop, A: Allocator + Copy>(
+    form: F,
+    found: SlotBindings,
+    tokens: &[Token<'_>],
+    locs: &mut LocNames<A>,
+) -> Result<Draft<F>, CellFault>
+    requires { IsNameAmong found tokens.now }
+    ensures { MatchResult result (λ draft. IsDrafted form found tokens.now locs.old draft locs.new) (IsNotDrafted found tokens.now locs.old) }
+{
+    let Some(index) = found.name else {
+        return Ok(draft_on(form, found, None));
+    };
+    let loc = location(&tokens[index], locs)?;
+    Ok(draft_on(form, found, Some(loc)))
+}
+
+/// The draft of a statement of this form, on this location, if it has one.
+fn draft_on<F>(form: F, found: SlotBindings, loc: Option<Loc>) -> Draft<F>
+    ensures { result ≡ drafts.draft_on form loc found }
+{
+    Draft {
+        form,
+        operands: Operands {
+            loc,
+            to: None,
+            ..found.operands
+        },
+        label: found.label,
+    }
+}
+
+/// Why tokens that are no statement are refused: the first ninth location where one may stand, or else the first token
+/// with which no statement goes on.
+fn refusal<L: StatementReader, A: Allocator>(
+    phrase: &Phrase<'_, '_>,
+    locs: &LocNames<A>,
+) -> CellFault
+    requires { IsSpelling L.spelling L.made }
+    ensures { StatementFaultIsTrue (grammar_of L.spelling) phrase.now.tokens.now locs.now result.at result.cause
+        × ((len : ℕ) → AllEndBefore len phrase.now → result.at ≤ len) }
+{
+    for form in L::forms() {
+        let slots = L::slots(*form);
+        let front = accepted_prefix_len::<L>(slots, phrase.tokens);
+        if let Some(index) = overflow_token(slots, phrase.tokens, front, locs) {
+            return CellFault {
+                at: phrase.tokens[index].at,
+                cause: CellCause::TooMany,
+            };
+        }
+    }
+    first_rejected::<L>(phrase)
+}
+
+/// The index of the first token that is a ninth location, of the first `prefix_of_kind` tokens, which can stand at these slots.
+fn overflow_token<W: Copy + Drop, A: Allocator>(
+    slots: &[Slot<W>],
+    tokens: &[Token<'_>],
+    front: usize,
+    locs: &LocNames<A>,
+) -> Option<usize>
+    requires { (front ≤ length slots.now) × (front ≤ length tokens.now) }
+    ensures { IfSome result (IsOverflowSlot slots.now tokens.now front locs.now) }
+{
+    for index in 0..front {
+        if let Slot::Location = slots[index] {
+            if is_ninth(&tokens[index], locs) {
+                return Some(index);
+            }
+        }
+    }
+    None
+}
+
+/// Whether the token names a location that the table lacks and has no room for.
+fn is_ninth<A: Allocator>(token: &Token<'_>, locs: &LocNames<A>) -> bool
+    ensures { result ≡ true → (length locs.now ≡ most_locations) × (Contains locs.now token.now.text.now → ⊥) }
+{
+    locs.len() == MAX_LOCATIONS && locs.find(token.text).is_none()
+}
+
+/// Whether the token can stand at the slot.
+fn can_stand<L: StatementReader>(slot: Slot<L::Keyword>, token: &Token<'_>) -> bool
+    ensures { IsTrue result ↔ CanStand L.spelling (token.now.text.now ∷ []) (slot ∷ []) }
+{
+    with_token::<L>(no_bindings(), slot, token, 0).is_some()
+}
+
+/// How many tokens in front can stand at these slots: those before the first that cannot.
+fn accepted_prefix_len<L: StatementReader>(
+    slots: &[Slot<L::Keyword>],
+    tokens: &[Token<'_>],
+) -> usize
+    ensures { IsReach L.spelling (token_texts tokens.now) slots.now result }
+{
+    let _len = tokens.len();
+    let Some((slot, slots)) = slots.split_first() else {
+        return 0;
+    };
+    let Some((token, tokens)) = tokens.split_first() else {
+        return 0;
+    };
+    if !can_stand::<L>(*slot, token) {
+        return 0;
+    }
+    1 + accepted_prefix_len::<L>(slots, tokens)
+}
+
+/// How many tokens in front can begin a statement, of whichever form.
+fn longest_accepted_prefix<L: StatementReader>(tokens: &[Token<'_>]) -> usize
+    ensures front { AreFront L.spelling (token_texts tokens.now) result }
+    ensures within { result ≤ length tokens.now }
+{
+    let mut longest = 0;
+    for form in L::forms() {
+        longest = longest.max(accepted_prefix_len::<L>(L::slots(*form), tokens));
+    }
+    longest
+}
+
+/// The fault of the first token with which no statement goes on, or of the end.
+fn first_rejected<L: StatementReader>(phrase: &Phrase<'_, '_>) -> CellFault
+    ensures { IsMisfit result.cause × ((len : ℕ) → AllEndBefore len phrase.now → result.at ≤ len) }
+{
+    let front = longest_accepted_prefix::<L>(phrase.tokens);
+    let Some(token) = phrase.tokens.get(front) else {
+        return CellFault {
+            at: phrase.end,
+            cause: CellCause::Form,
+        };
+    };
+    if wants_register::<L>(phrase.tokens, front) {
+        return no_register(token);
+    }
+    misfit(token)
+}
+
+/// Whether a register may stand behind so many tokens, and no location.
+fn wants_register<L: StatementReader>(tokens: &[Token<'_>], front: usize) -> bool {
+    let mut wants = false;
+    for form in L::forms() {
+        let slots = L::slots(*form);
+        if accepted_prefix_len::<L>(slots, tokens) == front {
+            match slots.get(front) {
+                Some(Slot::Location) => return false,
+                Some(Slot::Register | Slot::Value) => wants = true,
+                _ => (),
+            }
+        }
+    }
+    wants
+}
+
+/// Whether a statement can begin with the token.
+pub(crate) fn can_begin<L: StatementReader>(token: &Token<'_>) -> bool
+    ensures { IsTrue result ↔ CanBegin (grammar_of L.spelling) token.now.text.now }
+{
+    for form in L::forms() {
+        if begins_with::<L>(L::slots(*form), token) {
+            return true;
+        }
+    }
+    false
+}
+
+/// Whether the token can stand at the first of these slots.
+fn begins_with<L: StatementReader>(slots: &[Slot<L::Keyword>], token: &Token<'_>) -> bool
+    ensures { IsTrue result ↔ BeginsWith L.spelling slots.now token.now.text.now }
+{
+    match slots.split_first() {
+        Some((slot, _)) => can_stand::<L>(*slot, token),
+        None => false,
+    }
+}

@@ -1,0 +1,68 @@
+//! What one token of a cell is, a location or a label, and why it is refused.
+ghost use Rattle.std.specs.Prelude.{◌≡◌, ◌↔◌, Some, slice_get, IsTrue, MatchResult};
+ghost use Rattle.lw_base.specs.Names.{IsLocationName};
+ghost use Rattle.lw_text.specs.Spans.{token_texts};
+ghost use Rattle.lw_statements.specs.inner.Tokens.{IsMisfit, NameRead, NameRefused};
+
+use lw_base::{Arch, CellCause, CellFault, Loc, LocNames, is_numbered, reg_from_name};
+use lw_text::{Token, TokenKind};
+use std::alloc::Allocator;
+
+/// The location that the token names. A new name goes into the table.
+pub(crate) fn location<A: Allocator + Copy>(
+    token: &Token<'_>,
+    locs: &mut LocNames<A>,
+) -> Result<Loc, CellFault>
+    requires { IsLocationName token.now.text.now }
+    ensures { MatchResult result (λ loc. NameRead locs.old token.now loc locs.new) (NameRefused locs.old token.now) }
+{
+    let _known = locs.len();
+    match locs.find_or_add(token.text)? {
+        Some(loc) => Ok(loc),
+        None => Err(CellFault {
+            at: token.at,
+            cause: CellCause::TooMany,
+        }),
+    }
+}
+
+/// The fault of a token that fits no statement where it stands.
+pub(crate) fn misfit(token: &Token<'_>) -> CellFault
+    ensures place { result.at ≡ token.now.at }
+    ensures cause { IsMisfit result.cause }
+{
+    if is_numbered(token.text.as_bytes()) && reg_from_name(Arch::Source, token.text).is_none() {
+        return CellFault {
+            at: token.at,
+            cause: CellCause::Register,
+        };
+    }
+    CellFault {
+        at: token.at,
+        cause: CellCause::Form,
+    }
+}
+
+/// The fault of a token where a register may stand, and no location may.
+pub(crate) fn no_register(token: &Token<'_>) -> CellFault
+    ensures place { result.at ≡ token.now.at }
+    ensures cause { IsMisfit result.cause }
+{
+    if let TokenKind::Name = token.kind {
+        return CellFault {
+            at: token.at,
+            cause: CellCause::Register,
+        };
+    }
+    misfit(token)
+}
+
+/// Whether the token at an index is this symbol or keyword.
+pub(crate) fn stands_at(tokens: &[Token<'_>], index: usize, sign: &str) -> bool
+    ensures { IsTrue result ↔ slice_get (token_texts tokens.now) index ≡ Some sign.now }
+{
+    if tokens.len() <= index {
+        return false;
+    }
+    tokens[index].text == sign
+}

@@ -1,0 +1,22 @@
+use Rattle.lw_text.proofs.Common.{◌≡◌, ◌∙◌, sym, ap, subst, arith, IsWellFormedHead, EndsBefore}
+use Rattle.lw_text.proofs.WellFormedHeads.{resolved_well_formed}
+use Rattle.lw_text.proofs.RowColumns.{columns-length, columns-height, columns-even, columns-each}
+use Rattle.lw_text.proofs.parts.ParsedBody.finish.Goals as goal
+
+pub invariant_of-result : goal.invariant_of-result
+invariant_of-result g c =
+    let body = c.args.self in
+    let parts = body.parts in
+    let threads : c.in-Ok-head.head.threads ≡ parts.threads = ap (λ h. h.threads) c.in-Ok-head.ensures in
+    rw c.in-Ok.ensures (record {
+      well_formed =
+          subst IsWellFormedHead (sym c.in-Ok-head.ensures)
+          (resolved_well_formed c.args.preamble.arch _ c.args.preamble.name.now body c.requires.name c.requires.says.1);
+      columns = columns-length parts.threads body.rows body.even ∙ sym threads;
+      even = columns-even parts.threads body.rows body.even body.some;
+      low = (omega (arith, columns-height parts.threads body.rows body.even body.some, body.low));
+      places = columns-each (EndsBefore c.args.len) parts.threads body.rows c.requires.within;
+    })
+
+pub columns-requires : goal.columns-requires
+columns-requires g c = c.args.self.even

@@ -1,0 +1,5 @@
+use Rattle.lw_text.proofs.Common.{◌≡◌, filter, all_registers, is_listed}
+use Rattle.lw_text.proofs.seen.restrict_seen.Given as goal
+
+abbrev pub invariant-loop-cpu : goal.invariant-loop-cpu
+invariant-loop-cpu g l = l.seen ≡ filter (is_listed l.sites) (all_registers l.cpu-index)

@@ -1,5 +1,0 @@
-use Rattle.lw_text.proofs.Common.{◌≡◌, filter, all_registers, is_listed}
-use Rattle.lw_text.proofs.seen.seen_among.Given as goal
-
-abbrev pub invariant-loop-cpu : goal.invariant-loop-cpu
-invariant-loop-cpu g l = l.seen ≡ filter (is_listed l.sites) (all_registers l.cpu-index)

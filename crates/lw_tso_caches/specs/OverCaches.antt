@@ -1,0 +1,23 @@
+-- The runs and the outcomes of an x86 test on the whole machine: store buffers over caches on a bus.
+use Rattle.std.specs.Prelude.{List}
+use Rattle.lw_base.specs.Outcomes.{FinalState}
+use Rattle.lw_base.specs.declared.event.Event.{Event}
+use Rattle.lw_mesi.specs.CacheLines.{Caches, empty_caches}
+use Rattle.lw_mesi.specs.Protocols.{caches_by}
+use Rattle.lw_mesi.specs.declared.protocol.Protocol.{Protocol}
+use Rattle.lw_tso.specs.Machines.{MachineState}
+use Rattle.lw_tso.specs.Runs.{MachineRunsTo, ReplaysTo, IsMachineOutcome, initial_machine_state}
+use Rattle.lw_litmus.specs.Tests.{X86Test}
+
+abbrev pub initial_caches : X86Test → Caches  -- the caches of a test at its start, which hold nothing
+initial_caches test = empty_caches test.head.threads test.head.init_words
+
+-- These steps, drains and evictions, each possible in turn, lead from the start to this state.
+abbrev pub RunsToOverCaches : Protocol → X86Test → List Event → MachineState Caches → Type 0
+RunsToOverCaches protocol test events = MachineRunsTo (caches_by protocol) test.threads events (initial_machine_state test (initial_caches test))
+
+abbrev pub ReplaysToOverCaches : Protocol → X86Test → List Event → FinalState → Type 0  -- These steps, drains and evictions lead to the outcome.
+ReplaysToOverCaches protocol test = ReplaysTo (caches_by protocol) test (initial_caches test)
+
+abbrev pub OutcomeOverCaches : Protocol → X86Test → FinalState → Type 0  -- Some list of steps, drains and evictions leads to the outcome.
+OutcomeOverCaches protocol test = IsMachineOutcome (caches_by protocol) test (initial_caches test)

@@ -1,9 +1,0 @@
-use Rattle.lw_mesi.specs.laws.ProtocolLaws.{protocol_lawful}
-use Rattle.lw_tso.proofs.api.Lift.{outcomes_flat}
-use Rattle.lw_whole.proofs.api.Starts.{starts}
-use Rattle.lw_whole.proofs.laws.outcomes_over_caches_are_flat.Goals as goal
-
-pub returns : goal.returns
-returns c protocol test o ok =
-    outcomes_flat _ _ (protocol_lawful protocol) test ok _ o
-    (starts c.empty_caches_are_kept.ensures.kept c.empty_caches_are_kept.ensures.content protocol test ok)
