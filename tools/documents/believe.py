@@ -23,10 +23,10 @@ from documents import definitions
 from shared.home import HOME
 
 PAGE = f"{HOME}/docs/BELIEVE.md"
-MADE = ("lw_bench", "Outputs", "Makes"), ("lw_bench", "Lists", "IsStatesReport"), ("lw_bench", "Lists", "IsReachedOnMachine")
-AXIOMS = ("lw_axiomatic", "Axioms", "IsAllowed"), ("lw_axiomatic", "Sequential", "IsSequentialOutcome")
+MADE = ("lw_bench", "Outputs", "IsOutputOf"), ("lw_bench", "Lists", "IsStatesReport"), ("lw_bench", "Lists", "IsReachedOnMachine")
+AXIOMS = ("lw_axiomatic", "Axioms", "IsAllowed"), ("lw_axiomatic", "Sequential", "IsScOutcome")
 CACHES = (("lw_bench", "Lists", "IsReachedOverCaches"),)
-LAST = "HasTest", "HasList"
+LAST = "HasTest", "IsWithinListLimits"
 SEARCH = (
     ("lw_search", "Reachability", "Visits"),
     ("lw_search", "Reachability", "ExceedsBudget"),
@@ -41,7 +41,7 @@ COMMAND = (
     ("lw_bench", "Endings", "Reports"),
     ("lw_bench", "Endings", "EndsTask"),
 )
-FORMS = ("lw_tso", "LockPhases", "OutcomeInPhases"), ("lw_axiomatic", "Halves", "IsAllowedInHalves"), ("lw_axiomatic", "Cycles", "HasNoCycle")
+FORMS = ("lw_tso", "LockPhases", "OutcomeInPhases"), ("lw_axiomatic", "SplitEvents", "IsAllowedBySplitAxioms"), ("lw_axiomatic", "Cycles", "HasNoCycle")
 LATER_SITTINGS = tuple(f"## The {it} sitting" for it in ("second", "third", "fourth", "fifth", "sixth", "seventh"))
 # The public functions whose contracts a sitting is about, by the file that has them; all of a file if none is named.
 CONTRACTS = (

@@ -29,7 +29,7 @@ CLAIMS = {"≡", "≢", "<", "≤", "⊎", "×", "↔", "⊥", "→"}
 # What nothing names, or what stands twice, and why.
 ALLOWED = {
     "Rattle.lw_base.specs.Types.TokenList": "a row of tokens and a table of names are lists of texts, and are not meant for one another",
-    "Rattle.lw_tso.specs.Runs.Initial": "where a run begins is of the shape of an outcome, and is none",
+    "Rattle.lw_tso.specs.Runs.InitialWords": "where a run begins is of the shape of an outcome, and is none",
     "Rattle.lw_arena.specs.Ownership.node_val": "a node is a struct of one pointer, of each of which the walks say the same",
     "Rattle.lw_orders.proofs.api.OpenPairs.none_in": "lw_orders stands on std alone, which does not have it",
 }

@@ -13,9 +13,9 @@ use Rattle.lw_axiomatic.proofs.Common.{locked_no_store, needs_empty_buffer, writ
 use Rattle.lw_axiomatic.proofs.Common.{x86_operation, X86Test, IsWellFormedThread, IsWellFormedStatement}
 use Rattle.lw_axiomatic.proofs.Common.{flat_memory, index_in, Item, statement_of, item, IsItemOnPath}
 use Rattle.lw_axiomatic.proofs.Common.{IsItemOnPath-of_member, MachineState, Processor, step_effect}
-use Rattle.lw_axiomatic.proofs.Common.{drain_effect, EffectLeadsTo, X86ItemTransition, entry_location, own_waits}
-use Rattle.lw_axiomatic.proofs.Common.{waits_after, waits_same, waits_other, ItemStep, carried, all_hold}
-use Rattle.lw_axiomatic.proofs.Common.{AllHold, BufferHolds, Holds, Waiting, oldest, waiting_next}
+use Rattle.lw_axiomatic.proofs.Common.{drain_effect, EffectLeadsTo, X86ItemTransition, entry_location}
+use Rattle.lw_axiomatic.proofs.Common.{own_waits, waits_after, waits_same, waits_other, ItemStep, carried}
+use Rattle.lw_axiomatic.proofs.Common.{all_hold, AllHold, BufferHolds, Holds, Waiting, oldest, waiting_next}
 use Rattle.lw_axiomatic.proofs.Common.{word_written, MemoryEvent, Execution, operation_is, location, IsEvent}
 use Rattle.lw_axiomatic.proofs.Common.{Writes}
 use Rattle.lw_axiomatic.proofs.EventKinds.{locked_writes}

@@ -27,7 +27,7 @@ pub enum CellCause {
 
 impl CellCause {
     /// The number under which people are told why a cell is refused: 1 to 7.
-    pub fn number(self) -> u8
+    pub fn code(self) -> u8
         ensures { result ≡ cell_cause_code self }
     {
         match self {
@@ -105,7 +105,7 @@ pub enum ScheduleCause {
 
 impl ScheduleCause {
     /// The number under which people are told why a schedule is refused: 1 to 4.
-    pub fn number(self) -> u8
+    pub fn code(self) -> u8
         ensures { result ≡ schedule_cause_code self }
     {
         match self {

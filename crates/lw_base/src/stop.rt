@@ -25,7 +25,7 @@ pub enum Stop {
 
 impl Stop {
     /// The number under which people are told why an event is refused: 1 to 8.
-    pub fn number(self) -> u8
+    pub fn code(self) -> u8
         ensures { result ≡ stop_code self }
     {
         match self {

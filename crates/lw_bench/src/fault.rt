@@ -118,18 +118,18 @@ pub fn fault_line<A: Allocator + Copy>(
     match fault {
         BenchFault::Text(text) => {
             let cause = text.cause;
-            placed_line(alloc, "text", cause.number(), cause.name(), text.at)
+            placed_line(alloc, "text", cause.code(), cause.name(), text.at)
         }
         BenchFault::Cell(cell) => {
             let cause = cell.cause;
-            placed_line(alloc, "cell", cause.number(), cause.name(), cell.at)
+            placed_line(alloc, "cell", cause.code(), cause.name(), cell.at)
         }
         BenchFault::Schedule(schedule) => {
             let cause = schedule.cause;
-            placed_line(alloc, "schedule", cause.number(), cause.name(), schedule.at)
+            placed_line(alloc, "schedule", cause.code(), cause.name(), schedule.at)
         }
         BenchFault::Limit(limit) => {
-            format!(in alloc; "lw: limit {} {}", limit.number(), limit.name())
+            format!(in alloc; "lw: limit {} {}", limit.code(), limit.name())
         }
         BenchFault::Memory => String::from_str(alloc, memory_line()),
         BenchFault::Read => String::from_str(alloc, "lw: read failed"),

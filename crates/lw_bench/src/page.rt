@@ -133,8 +133,8 @@ fn write_end<A: Allocator>(out: &mut String<A>, replay: Replay) -> Result<(), Al
         End::Final => out.push_str("Final\n"),
         End::NotFinal => out.push_str("NotFinal\n"),
         End::Stopped(stop) => {
-            let (number, name) = (stop.number(), stop.name());
-            writeln!(out, "Stopped at {} by {} {}", replay.done, number, name)
+            let (code, name) = (stop.code(), stop.name());
+            writeln!(out, "Stopped at {} by {} {}", replay.done, code, name)
         }
     }
 }

@@ -3,8 +3,8 @@
 use Rattle.lw_fence.proofs.Common.{◌≡◌, ◌≢◌, ℕ, List, [], ◌∷◌, Some, sym, ◌∙◌, subst, subst₂, slice_get}
 use Rattle.lw_fence.proofs.Common.{slice_index, ◌↔◌, ◌+◌, length, Option, None, Bool, true, false, refl, ap}
 use Rattle.lw_fence.proofs.Common.{⊎_elim, arith, append-nil, thread_code, Stmt, Instr, Thread, Processor}
-use Rattle.lw_fence.proofs.Common.{drain_effect, EventEffect, step_effect, EffectLeadsTo, cases_lt, false≢true}
-use Rattle.lw_fence.proofs.Common.{none-some, slice_get_past, get_some, is_load, source_operation}
+use Rattle.lw_fence.proofs.Common.{drain_effect, EventEffect, step_effect, EffectLeadsTo, cases_lt}
+use Rattle.lw_fence.proofs.Common.{false≢true, none-some, slice_get_past, get_some, is_load, source_operation}
 use Rattle.lw_fence.proofs.Common.{thread_after, thread_alone, Lowered, One, Two, lowered, instrs_of, HasKind}
 use Rattle.lw_fence.proofs.Common.{NeedsFence}
 use Rattle.lw_fence.proofs.Carried.{Ends, Stored, apart, buffered, at_once, Carried, Led, Serves}

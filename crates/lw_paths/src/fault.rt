@@ -19,7 +19,7 @@ pub enum ListFault {
 
 impl ListFault {
     /// The number under which people are told of it: 1 to 3.
-    pub fn number(self) -> u8
+    pub fn code(self) -> u8
         ensures { result ≡ list_fault_code self }
     {
         match self {

@@ -27,7 +27,7 @@ impl<'t, 'a> Cursor<'t, 'a> {
 
     /// Takes the block. The names of its locations go into the table. The threads of its initializers are looked at
     /// behind the header, which says how many there are.
-    pub(crate) fn take_block<A: Allocator + Copy>(
+    pub(crate) fn parse_block<A: Allocator + Copy>(
         &mut self,
         alloc: A,
         arch: Arch,
@@ -39,14 +39,14 @@ impl<'t, 'a> Cursor<'t, 'a> {
         self.expect("{", TextCause::Unexpected)?;
         let mut initializers = Sequence::new(alloc);
         'initializers: loop {
-            if self.take_if("}") {
+            if self.accept("}") {
                 return Ok(initializers);
             }
             let token = self.next;
-            let site = self.take_site(arch, locs, None, TextCause::Unexpected)?;
-            let word = self.take_value(TextCause::Unexpected)?;
+            let site = self.parse_site(arch, locs, None, TextCause::Unexpected)?;
+            let word = self.parse_value(TextCause::Unexpected)?;
             initializers.push(Initializer { token, site, word })?;
-            if self.take_either("}", ";", TextCause::Unexpected)? {
+            if self.expect_either("}", ";", TextCause::Unexpected)? {
                 return Ok(initializers);
             }
         }

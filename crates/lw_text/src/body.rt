@@ -19,7 +19,7 @@ impl<'t, 'a> Cursor<'t, 'a> {
     ghost use Rattle.lw_text.specs.Views.{remaining, remaining_texts};
 
     /// Takes all tokens of a test of the language, behind its preamble.
-    pub(crate) fn take_body<A: Allocator + Copy>(
+    pub(crate) fn parse_body<A: Allocator + Copy>(
         &mut self,
         alloc: A,
         arch: Arch,
@@ -29,11 +29,11 @@ impl<'t, 'a> Cursor<'t, 'a> {
             (λ f. f.cause ≢ Memory → ParsesNoTest arch (remaining_texts self.old)) }
     {
         let mut locs = LocNames::new(alloc);
-        let initializers = self.take_block(alloc, arch, &mut locs)?;
-        let threads = self.take_header()?;
+        let initializers = self.parse_block(alloc, arch, &mut locs)?;
+        let threads = self.parse_header()?;
         check_threads(initializers.as_slice(), threads)?;
-        let rows = self.take_rows(alloc, threads)?;
-        match self.take_condition(alloc, arch, threads, &mut locs) {
+        let rows = self.parse_rows(alloc, threads)?;
+        match self.parse_condition(alloc, arch, threads, &mut locs) {
             Ok((listed, quant, prop)) => {
                 let _len = locs.len();
                 let parts = ParsedHead {
@@ -62,7 +62,7 @@ impl<'a, A: Allocator + Copy> TokenStream<'a, A> {
             (λ f. (f.cause ≢ Memory → IfNone self.now.fault (ParsesNoTest arch (token_texts self.now.tokens))) × (f.at ≤ len)) }
     {
         let mut cursor = Cursor::new(self.tokens.as_slice());
-        match cursor.take_body(alloc, arch) {
+        match cursor.parse_body(alloc, arch) {
             Ok(body) => match self.fault {
                 Some(fault) => {
                     drop(body);

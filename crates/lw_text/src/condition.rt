@@ -21,7 +21,7 @@ impl<'t, 'a> Cursor<'t, 'a> {
 
     /// Takes the list of names, the quantifier and the proposition, which ends the text. The names of
     /// their locations go into the table.
-    pub(crate) fn take_condition<A: Allocator + Copy>(
+    pub(crate) fn parse_condition<A: Allocator + Copy>(
         &mut self,
         alloc: A,
         arch: Arch,
@@ -34,24 +34,24 @@ impl<'t, 'a> Cursor<'t, 'a> {
             (λ x. ParsedCondition arch threads (remaining_texts self.old) locs.old locs.new x.0 x.1 x.2)
             (λ f. f.cause ≢ Memory → NoCondition arch threads (remaining_texts self.old) locs.old) }
     {
-        let listed = self.take_listed(alloc, arch, threads, locs)?;
-        let quant = self.take_quantifier()?;
-        match self.take_proposition(alloc, arch, threads, locs) {
+        let listed = self.parse_listed(alloc, arch, threads, locs)?;
+        let quant = self.parse_quantifier()?;
+        match self.parse_proposition(alloc, arch, threads, locs) {
             Ok(prop) => Ok((listed, quant, prop)),
             Err(refusal) => Err(refusal),
         }
     }
 
     /// Takes the quantifier.
-    fn take_quantifier(&mut self) -> Result<Quant, Refusal>
+    fn parse_quantifier(&mut self) -> Result<Quant, Refusal>
         ensures { MatchResult result (λ q. Quantified (remaining_texts self.old) q (remaining_texts self.new))
             (λ _. ParsesNothing (Quantified (remaining_texts self.old))) }
     {
-        if self.take_if("~") {
+        if self.accept("~") {
             self.expect("exists", TextCause::Condition)?;
             return Ok(Quant::NotExists);
         }
-        if self.take_either("exists", "forall", TextCause::Condition)? {
+        if self.expect_either("exists", "forall", TextCause::Condition)? {
             return Ok(Quant::Exists);
         }
         Ok(Quant::Forall)

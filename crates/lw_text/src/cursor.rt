@@ -70,7 +70,7 @@ impl<'t, 'a> Cursor<'t, 'a> {
         ensures err { OnErr result ((rest : TokenList) → remaining_texts self.old ≡ text.now ∷ rest → ⊥) }
         ensures leaves { OnOk result (AdvancesTo self.old self.new) }
     {
-        if self.take_if(text) {
+        if self.accept(text) {
             return Ok(());
         }
         Err(self.refusal(cause))
@@ -87,7 +87,7 @@ impl<'t, 'a> Cursor<'t, 'a> {
     }
 
     /// Takes this text, if it is next, and says whether it was.
-    pub(crate) fn take_if(&mut self, text: &str) -> bool
+    pub(crate) fn accept(&mut self, text: &str) -> bool
         ensures taken { result ≡ true → remaining_texts self.old ≡ text.now ∷ remaining_texts self.new }
         ensures other { result ≡ false → begins_token text.now (remaining_texts self.old) ≡ false }
         ensures kept { result ≡ false → self.new ≡ self.old }
@@ -102,7 +102,7 @@ impl<'t, 'a> Cursor<'t, 'a> {
 
     /// Takes the one text or the other, and says whether it is the first. Another token is refused with
     /// the cause.
-    pub(crate) fn take_either(
+    pub(crate) fn expect_either(
         &mut self,
         first: &str,
         second: &str,
@@ -114,10 +114,10 @@ impl<'t, 'a> Cursor<'t, 'a> {
             (λ _. ((rest : TokenList) → remaining_texts self.old ≡ first.now ∷ rest → ⊥)
             × ((rest : TokenList) → remaining_texts self.old ≡ second.now ∷ rest → ⊥)) }
     {
-        if self.take_if(first) {
+        if self.accept(first) {
             return Ok(true);
         }
-        if self.take_if(second) {
+        if self.accept(second) {
             return Ok(false);
         }
         Err(self.refusal(cause))

@@ -37,7 +37,7 @@ pub enum TextCause {
 
 impl TextCause {
     /// The number under which people are told of the cause: 1 to 12.
-    pub fn number(self) -> u8
+    pub fn code(self) -> u8
         ensures { result ≡ text_cause_code self }
     {
         match self {

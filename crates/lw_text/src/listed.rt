@@ -17,7 +17,7 @@ impl<'t, 'a> Cursor<'t, 'a> {
     ghost use Rattle.lw_text.specs.Views.{remaining_texts};
 
     /// Takes the list of names, where one stands. The names of its locations go into the table.
-    pub(crate) fn take_listed<A: Allocator + Copy>(
+    pub(crate) fn parse_listed<A: Allocator + Copy>(
         &mut self,
         alloc: A,
         arch: Arch,
@@ -28,17 +28,17 @@ impl<'t, 'a> Cursor<'t, 'a> {
             (λ f. f.cause ≢ Memory → (ss : List SiteSyntax) (rest : TokenList) → Listed arch (remaining_texts self.old) ss rest
             → AllByRecursion (ThreadExists threads) ss → HasRoomFor locs.old ss → ⊥) }
     {
-        if !self.take_if("locations") {
+        if !self.accept("locations") {
             return Ok(Sequence::new(alloc));
         }
         self.expect("[", TextCause::Condition)?;
         let mut sites = Sequence::new(alloc);
         'sites: loop {
-            if self.take_if("]") {
+            if self.accept("]") {
                 return Ok(sites);
             }
-            sites.push(self.take_site(arch, locs, Some(threads), TextCause::Condition)?)?;
-            if self.take_either("]", ";", TextCause::Condition)? {
+            sites.push(self.parse_site(arch, locs, Some(threads), TextCause::Condition)?)?;
+            if self.expect_either("]", ";", TextCause::Condition)? {
                 return Ok(sites);
             }
         }

@@ -65,7 +65,7 @@ fn after_notes(bytes: &[u8]) -> Result<&[u8], &[u8]>
 
 impl<'a> Lexer<'a> {
     /// Passes the notes, up to a `{`.
-    pub(crate) fn take_notes(&mut self) -> Result<(), Fault>
+    pub(crate) fn skip_notes(&mut self) -> Result<(), Fault>
         ensures reads { MatchResult result (λ _. Notes self.old.rest.now self.new.rest.now)
             (λ f. HoldsOfNothing (Notes self.old.rest.now) × (f.at ≤ length self.old.text.now)) }
         ensures same { self.new.text.now ≡ self.old.text.now }

@@ -19,7 +19,7 @@ pub(crate) struct Preamble<'a> {
 
 impl<'a> Lexer<'a> {
     /// Takes the keyword of a language, the blanks behind it, the test's name, and the notes up to a `{`.
-    pub(crate) fn take_preamble(&mut self) -> Result<Preamble<'a>, Fault>
+    pub(crate) fn parse_preamble(&mut self) -> Result<Preamble<'a>, Fault>
         ensures reads { MatchResult result (λ h. wanted.Preamble self.old.rest.now h.arch h.name.now self.new.rest.now)
             (λ f. ((arch : Arch) → ParsesNothing (wanted.Preamble self.old.rest.now arch)) × (f.at ≤ length self.old.text.now)) }
         ensures same { self.new.text.now ≡ self.old.text.now }
@@ -36,15 +36,15 @@ impl<'a> Lexer<'a> {
                 cause: TextCause::Unexpected,
             });
         };
-        let name = self.take_test_name()?;
-        match self.take_notes() {
+        let name = self.parse_test_name()?;
+        match self.skip_notes() {
             Ok(()) => Ok(Preamble { arch, name }),
             Err(fault) => Err(fault),
         }
     }
 
     /// Takes the blanks behind the keyword, and the test's name.
-    fn take_test_name(&mut self) -> Result<&'a str, Fault>
+    fn parse_test_name(&mut self) -> Result<&'a str, Fault>
         ensures reads { MatchResult result (λ name. ParsesTestName self.old.rest.now name.now self.new.rest.now)
             (λ f. ParsesNothing (ParsesTestName self.old.rest.now) × (f.at ≤ length self.old.text.now)) }
         ensures same { self.new.text.now ≡ self.old.text.now }

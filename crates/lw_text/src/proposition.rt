@@ -22,7 +22,7 @@ impl<'t, 'a> Cursor<'t, 'a> {
     ghost use Rattle.lw_text.specs.Views.{remaining_texts};
 
     /// Takes the proposition, which ends the text. The names of its locations go into the table.
-    pub(crate) fn take_proposition<A: Allocator + Copy>(
+    pub(crate) fn parse_proposition<A: Allocator + Copy>(
         &mut self,
         alloc: A,
         arch: Arch,
@@ -42,7 +42,7 @@ impl<'t, 'a> Cursor<'t, 'a> {
                 drop(reader);
                 return prop;
             }
-            match self.take_next_terminal(arch, &mut reader, nodes, threads, locs) {
+            match self.parse_next_terminal(arch, &mut reader, nodes, threads, locs) {
                 Ok(terminal) => nodes += terminal.nodes(),
                 Err(refusal) => {
                     drop(reader);
@@ -54,7 +54,7 @@ impl<'t, 'a> Cursor<'t, 'a> {
 
     /// Takes a terminal that may come next behind so many nodes, and gives it to the reader. The names
     /// of its locations go into the table.
-    fn take_next_terminal<A: Allocator + Copy>(
+    fn parse_next_terminal<A: Allocator + Copy>(
         &mut self,
         arch: Arch,
         reader: &mut PropositionReader<A>,
@@ -79,7 +79,7 @@ impl<'t, 'a> Cursor<'t, 'a> {
         if !self.has_room(nodes) {
             return Err(misfit);
         }
-        let terminal = self.take_terminal(arch, reader.wants_part(), threads, locs)?;
+        let terminal = self.parse_terminal(arch, reader.wants_part(), threads, locs)?;
         if !reader.take(terminal)? {
             return Err(misfit);
         }

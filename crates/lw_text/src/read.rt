@@ -96,7 +96,7 @@ fn read_text<'a, A: Allocator + Copy>(alloc: A, text: &'a [u8]) -> Result<Frame<
         (λ f. HoldsOfNothingOrOutOfMemory TextCause.Memory f.cause (HasFrame text.now) × (f.at ≤ length text.now)) }
 {
     let mut lexer = Lexer::new(text);
-    let preamble = lexer.take_preamble()?;
+    let preamble = lexer.parse_preamble()?;
     let stream = TokenStream::read(alloc, lexer)?;
     let read = stream.body(alloc, preamble.arch, text.len());
     drop(stream);

@@ -23,13 +23,13 @@ impl<'t, 'a> Cursor<'t, 'a> {
     ghost use Rattle.lw_text.specs.Views.{remaining, remaining_texts, AdvancesTo};
 
     /// Takes the header, and counts the threads.
-    pub(crate) fn take_header(&mut self) -> Result<usize, Refusal>
+    pub(crate) fn parse_header(&mut self) -> Result<usize, Refusal>
         ensures { MatchResult result (λ n. Header (remaining_texts self.old) n (remaining_texts self.new) × AdvancesTo self.old self.new)
             (λ _. ParsesNothing (Header (remaining_texts self.old))) }
     {
         for thread in 0..MAX_THREADS {
             self.expect(thread_name(thread), TextCause::Unexpected)?;
-            if self.take_either(";", "|", TextCause::Unexpected)? {
+            if self.expect_either(";", "|", TextCause::Unexpected)? {
                 return Ok(thread + 1);
             }
         }
@@ -40,7 +40,7 @@ impl<'t, 'a> Cursor<'t, 'a> {
     }
 
     /// Takes the rows up to a token that ends them, which stays.
-    pub(crate) fn take_rows<A: Allocator + Copy>(
+    pub(crate) fn parse_rows<A: Allocator + Copy>(
         &mut self,
         alloc: A,
         threads: usize,
@@ -57,7 +57,7 @@ impl<'t, 'a> Cursor<'t, 'a> {
             if rows.len() == MAX_ROWS {
                 return Err(self.refusal(TextCause::TooManyRows));
             }
-            rows.push(self.take_row(alloc, threads)?)?;
+            rows.push(self.parse_row(alloc, threads)?)?;
         }
     }
 
@@ -72,7 +72,7 @@ impl<'t, 'a> Cursor<'t, 'a> {
     }
 
     /// Takes a row of so many cells, and the `;` behind it.
-    fn take_row<A: Allocator + Copy>(
+    fn parse_row<A: Allocator + Copy>(
         &mut self,
         alloc: A,
         threads: usize,
@@ -84,7 +84,7 @@ impl<'t, 'a> Cursor<'t, 'a> {
         let mut cells = Sequence::new(alloc);
         'cells: loop {
             let mut tokens = Sequence::new(alloc);
-            let (mark, index) = self.take_cell(&mut tokens)?;
+            let (mark, index) = self.parse_cell(&mut tokens)?;
             cells.push(Cell {
                 tokens,
                 end: mark.at,
@@ -103,7 +103,7 @@ impl<'t, 'a> Cursor<'t, 'a> {
 
     /// Takes tokens into a cell that has none yet, up to a `|` or `;`, and answers that mark with its
     /// index among the tokens.
-    fn take_cell<A: Allocator>(
+    fn parse_cell<A: Allocator>(
         &mut self,
         cell: &mut Sequence<Token<'a>, A>,
     ) -> Result<(Token<'a>, usize), Refusal>

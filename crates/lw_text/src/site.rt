@@ -62,7 +62,7 @@ impl<'t, 'a> Cursor<'t, 'a> {
     /// Takes a site: a location, whose name goes into the table, or a register, by its name in the
     /// language, of one of so many threads, or of any where their number is not known yet. Tokens that
     /// don't fit are told with the cause.
-    pub(crate) fn take_site<A: Allocator + Copy>(
+    pub(crate) fn parse_site<A: Allocator + Copy>(
         &mut self,
         arch: Arch,
         locs: &mut LocNames<A>,
@@ -77,7 +77,7 @@ impl<'t, 'a> Cursor<'t, 'a> {
         let token = self.next;
         let first = self.take()?;
         if first.text == "[" {
-            let inside = self.take_bracketed(locs, cause)?;
+            let inside = self.parse_bracketed(locs, cause)?;
             return Ok(Site::Location(inside));
         }
         if let Some(thread) = first.number() {
@@ -87,7 +87,7 @@ impl<'t, 'a> Cursor<'t, 'a> {
                     cause: TextCause::Name,
                 });
             }
-            return self.take_register(arch, thread, cause);
+            return self.parse_register(arch, thread, cause);
         }
         match enter(first.text, locs, Refusal { token, cause }) {
             Ok(loc) => Ok(Site::Location(loc)),
@@ -96,7 +96,7 @@ impl<'t, 'a> Cursor<'t, 'a> {
     }
 
     /// Takes the name of a location, which goes into the table, and a `]`.
-    fn take_bracketed<A: Allocator + Copy>(
+    fn parse_bracketed<A: Allocator + Copy>(
         &mut self,
         locs: &mut LocNames<A>,
         cause: TextCause,
@@ -117,7 +117,12 @@ impl<'t, 'a> Cursor<'t, 'a> {
     }
 
     /// Takes a `:` and the name of a register of the thread, in the language.
-    fn take_register(&mut self, arch: Arch, thread: Word, cause: TextCause) -> Result<Site, Refusal>
+    fn parse_register(
+        &mut self,
+        arch: Arch,
+        thread: Word,
+        cause: TextCause,
+    ) -> Result<Site, Refusal>
         requires { IsOfReader cause }
         ensures { MatchResult result
             (λ s. (q : Bytes) × (r : ℕ) × (remaining_texts self.old ≡ codes ":" ∷ q ∷ remaining_texts self.new) × IsRegisterName arch q r
@@ -135,7 +140,7 @@ impl<'t, 'a> Cursor<'t, 'a> {
     }
 
     /// Takes a `=` and a number.
-    pub(crate) fn take_value(&mut self, cause: TextCause) -> Result<Word, Refusal>
+    pub(crate) fn parse_value(&mut self, cause: TextCause) -> Result<Word, Refusal>
         requires { IsOfReader cause }
         ensures { MatchResult result (λ v. Value (remaining_texts self.old) v (remaining_texts self.new) × AdvancesTo self.old self.new)
             (λ _. ParsesNothing (Value (remaining_texts self.old))) }

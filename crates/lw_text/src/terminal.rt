@@ -70,7 +70,7 @@ impl<'t, 'a> Cursor<'t, 'a> {
 
     /// Takes a terminal: where `part` is true one with which a part begins, else one of the others. The names
     /// of its locations go into the table.
-    pub(crate) fn take_terminal<A: Allocator + Copy>(
+    pub(crate) fn parse_terminal<A: Allocator + Copy>(
         &mut self,
         arch: Arch,
         part: bool,
@@ -85,14 +85,14 @@ impl<'t, 'a> Cursor<'t, 'a> {
             → HasRoomFor locs.old (sites_in (s ∷ [])) → ⊥) }
     {
         if part {
-            self.take_opening(arch, threads, locs)
+            self.parse_opening(arch, threads, locs)
         } else {
-            self.take_joint()
+            self.parse_joint()
         }
     }
 
     /// Takes a terminal with which a part begins.
-    fn take_opening<A: Allocator + Copy>(
+    fn parse_opening<A: Allocator + Copy>(
         &mut self,
         arch: Arch,
         threads: usize,
@@ -105,16 +105,16 @@ impl<'t, 'a> Cursor<'t, 'a> {
             → IsTerminal arch threads (remaining_texts self.old) s rest → begins_part s ≡ true
             → HasRoomFor locs.old (sites_in (s ∷ [])) → ⊥) }
     {
-        if let Some(terminal) = self.take_opening_keyword() {
+        if let Some(terminal) = self.parse_opening_keyword() {
             return Ok(terminal);
         }
-        let site = self.take_site(arch, locs, Some(threads), TextCause::Condition)?;
-        let word = self.take_value(TextCause::Condition)?;
+        let site = self.parse_site(arch, locs, Some(threads), TextCause::Condition)?;
+        let word = self.parse_value(TextCause::Condition)?;
         Ok(Terminal::Atom(atom_at(site, word)))
     }
 
     /// Takes a keyword or a sign with which a part begins, if one is next.
-    fn take_opening_keyword(&mut self) -> Option<Terminal>
+    fn parse_opening_keyword(&mut self) -> Option<Terminal>
         ensures found { IfSome result (λ s. (arch : Arch) (threads : ℕ) (names : NameTable)
             → ParsedTerminal arch threads self.old self.new names names s) }
         ensures none { IfNone result ((arch : Arch) (threads : ℕ) (s : TerminalSyntax AtomSyntax) (rest : TokenList)
@@ -122,38 +122,38 @@ impl<'t, 'a> Cursor<'t, 'a> {
             → (site : SiteSyntax) × (n : ℕ) × (s ≡ Claims (Holds site n))) }
         ensures kept { result ≡ None → self.new ≡ self.old }
     {
-        if self.take_if("(") {
+        if self.accept("(") {
             return Some(Terminal::Open);
         }
-        if self.take_if("~") {
+        if self.accept("~") {
             return Some(Terminal::Negation);
         }
-        if self.take_if("not") {
+        if self.accept("not") {
             return Some(Terminal::Negation);
         }
-        if self.take_if("true") {
+        if self.accept("true") {
             return Some(Terminal::Atom(Atom::Always));
         }
-        if self.take_if("false") {
+        if self.accept("false") {
             return Some(Terminal::Atom(Atom::Never));
         }
         None
     }
 
     /// Takes a `)`, a `/\` or a `\/`.
-    fn take_joint(&mut self) -> Result<Terminal, Refusal>
+    fn parse_joint(&mut self) -> Result<Terminal, Refusal>
         ensures { MatchResult result (λ s. (arch : Arch) (threads : ℕ) (names : NameTable)
             → ParsedTerminal arch threads self.old self.new names names s)
             (λ _. (arch : Arch) (threads : ℕ) (s : TerminalSyntax AtomSyntax) (rest : TokenList)
             → IsTerminal arch threads (remaining_texts self.old) s rest → begins_part s ≡ false → ⊥) }
     {
-        if self.take_if(")") {
+        if self.accept(")") {
             return Ok(Terminal::Close);
         }
-        if self.take_if("/\\") {
+        if self.accept("/\\") {
             return Ok(Terminal::Conjunction);
         }
-        if self.take_if("\\/") {
+        if self.accept("\\/") {
             return Ok(Terminal::Disjunction);
         }
         Err(self.refusal(TextCause::Condition))

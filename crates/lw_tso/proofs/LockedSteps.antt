@@ -6,9 +6,9 @@ use Rattle.lw_tso.proofs.Common.{slice_get, slice_set, slice_index, get_or-set_o
 use Rattle.lw_tso.proofs.Common.{same_Some, cases_eq, cases_lt, All, IsWellFormedThread, x86_language, Instr}
 use Rattle.lw_tso.proofs.Common.{Operation, is_locked, location_of, Bool, x86_operation, thread_code}
 use Rattle.lw_tso.proofs.Common.{Processor, newest_buffered, EventEffect, LocalStep, MemoryAccess}
-use Rattle.lw_tso.proofs.Common.{operation_effect, step_effect, drain_effect, eq-eqb, get_or-set_same, unwrap_or}
-use Rattle.lw_tso.proofs.Common.{Locked, locked_by, with_empty_buffer, read_value, locked_next, or_right}
-use Rattle.lw_tso.proofs.Common.{is_fence, locked_no_store}
+use Rattle.lw_tso.proofs.Common.{operation_effect, step_effect, drain_effect, eq-eqb, get_or-set_same}
+use Rattle.lw_tso.proofs.Common.{unwrap_or, Locked, locked_by, with_empty_buffer, read_value, locked_next}
+use Rattle.lw_tso.proofs.Common.{or_right, is_fence, locked_no_store}
 use Rattle.lw_tso.proofs.Rooms.{statement_at}
 use Rattle.lw_tso.proofs.Acts.{length-words_after}
 use Rattle.lw_tso.proofs.api.Effects.{EffectLeadsTo}

@@ -8,8 +8,8 @@ use Rattle.lw_tso.proofs.Common.{set-get_same, FinalState, Event, Step, Drain, E
 use Rattle.lw_tso.proofs.Common.{X86Test, x86_operation, guard_holds, Operation, Set, Sum, Compare, Store}
 use Rattle.lw_tso.proofs.Common.{Load, Fence, Branch, RunsTo-append, Processor, initial_processor}
 use Rattle.lw_tso.proofs.Common.{advance_processor, set_register, newest_buffered, EventEffect, LocalStep}
-use Rattle.lw_tso.proofs.Common.{cpu_of, event_effect, operation_effect, step_effect, drain_effect, load_effect}
-use Rattle.lw_tso.proofs.Common.{if_buffer_empty, MachineState, MachineTransition, MachineRunsTo}
+use Rattle.lw_tso.proofs.Common.{cpu_of, event_effect, operation_effect, step_effect, drain_effect}
+use Rattle.lw_tso.proofs.Common.{load_effect, if_buffer_empty, MachineState, MachineTransition, MachineRunsTo}
 use Rattle.lw_tso.proofs.Common.{IsMachineOutcome, initial_machine_state, has_terminated, is_final}
 use Rattle.lw_tso.proofs.Common.{set_zero_flag, enqueue_store, retarget_to_blocks, IsInserted, EndsBlock}
 use Rattle.lw_tso.proofs.Common.{IsFencedCode, IsFencedTest, get_some, fellows_after, get-map, same_maps}

@@ -15,5 +15,5 @@ returns-in-NotFinal g c =
 pub returns-in-Stopped : goal.returns-in-Stopped
 returns-in-Stopped g c =
     written_as c.writeln.result _ _ _ _
-    (stop_told _ c.number-number.result c.name-name.result.now _ c.args.replay.end c.in-Stopped.is c.number-number.ensures
+    (stop_told _ c.code-code.result c.name-name.result.now _ c.args.replay.end c.in-Stopped.is c.code-code.ensures
     c.name-name.ensures) c.writeln.ensures.bytes

@@ -42,12 +42,12 @@ pub returns-in_err-body : goal.returns-in_err-body
 returns-in_err-body g c = Err-clause_known _ _ _ c.from_residual-in_err-body.ensures.1 (
   (let stream = c.in_ok-stream.stream in
       let preamble =
-      subst (λ t. Preamble t c.in_ok-preamble.preamble.arch c.in_ok-preamble.preamble.name.now c.take_preamble.new.self.rest.now)
+      subst (λ t. Preamble t c.in_ok-preamble.preamble.arch c.in_ok-preamble.preamble.name.now c.parse_preamble.new.self.rest.now)
       c.new-lexer.ensures.rest c.in_ok-preamble.ensures.reads in
       λ ne.
-      no_frame c.args.text.now c.in_ok-preamble.preamble.arch c.in_ok-preamble.preamble.name.now c.take_preamble.new.self.rest.now
-      preamble
-      (no_test c.in_ok-preamble.preamble.arch stream.fault _ _ c.take_preamble.new.self.rest.now stream.tokens
+      no_frame c.args.text.now c.in_ok-preamble.preamble.arch c.in_ok-preamble.preamble.name.now
+      c.parse_preamble.new.self.rest.now preamble
+      (no_test c.in_ok-preamble.preamble.arch stream.fault _ _ c.parse_preamble.new.self.rest.now stream.tokens
       c.in_ok-stream.ensures.0 (c.in_err-body.ensures.0 ne))),
   c.in_err-body.ensures.1,
 )
@@ -67,7 +67,7 @@ pub returns : goal.returns
 returns g c =
     let arch = c.in_ok-preamble.preamble.arch in
     let name = c.in_ok-preamble.preamble.name.now in
-    let rest = c.take_preamble.new.self.rest.now in
+    let rest = c.parse_preamble.new.self.rest.now in
     let body = c.in_ok-body.body in
     let all = c.in_ok-stream.stream in
     let frame = c.in_ok-finish.field-0 in

@@ -1,5 +1,0 @@
-use Rattle.lw_base.proofs.Common.{refl}
-use Rattle.lw_base.proofs.fault.CellCause.number.Goals as goal
-
-pub returns-in-Backward : goal.returns-in-Backward
-returns-in-Backward c = rw c.in-Backward.is refl

@@ -1,0 +1,5 @@
+use Rattle.lw_base.proofs.Common.{refl}
+use Rattle.lw_base.proofs.fault.ScheduleCause.code.Goals as goal
+
+pub returns-in-Location : goal.returns-in-Location
+returns-in-Location c = rw c.in-Location.is refl

@@ -1,5 +1,0 @@
-use Rattle.lw_base.proofs.Common.{refl}
-use Rattle.lw_base.proofs.fault.ScheduleCause.number.Goals as goal
-
-pub returns-in-Location : goal.returns-in-Location
-returns-in-Location c = rw c.in-Location.is refl

@@ -1,0 +1,5 @@
+use Rattle.lw_base.proofs.Common.{refl}
+use Rattle.lw_base.proofs.stop.Stop.code.Goals as goal
+
+pub returns-in-FenceWaits : goal.returns-in-FenceWaits
+returns-in-FenceWaits c = rw c.in-FenceWaits.is refl

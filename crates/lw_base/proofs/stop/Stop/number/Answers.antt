@@ -1,5 +1,0 @@
-use Rattle.lw_base.proofs.Common.{refl}
-use Rattle.lw_base.proofs.stop.Stop.number.Goals as goal
-
-pub returns-in-FenceWaits : goal.returns-in-FenceWaits
-returns-in-FenceWaits c = rw c.in-FenceWaits.is refl

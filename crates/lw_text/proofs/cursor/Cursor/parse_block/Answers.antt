@@ -1,0 +1,123 @@
+use Rattle.lw_text.proofs.Common.{ℕ, ◌≡◌, ◌<◌, ap, arith, remaining_texts, remaining, IsSuffix}
+use Rattle.lw_text.proofs.Faults.{Err-clause_known, ran_out, unexpected}
+use Rattle.lw_text.proofs.Lists.{IsSuffix-join, shorter_behind}
+use Rattle.lw_text.proofs.Atoms.{IsSite-shorter, Value-shorter, value_missing}
+use Rattle.lw_text.proofs.SiteLists.{initializers, initializers_fault}
+use Rattle.lw_text.proofs.Readings.{read_none, read_end, read_more, read_last, read_no_mark, More}
+use Rattle.lw_text.proofs.cursor.Cursor.parse_block.Given.{Over}
+use Rattle.lw_text.proofs.cursor.Cursor.parse_block.Goals.{After-parse_site, In_ok-word, In_ok-expect_either}
+use Rattle.lw_text.proofs.cursor.Cursor.parse_block.Goals as goal
+
+pub returns-in_err-expect : goal.returns-in_err-expect
+returns-in_err-expect g c =
+    Err-clause_known _ _ _ c.from_residual.ensures.1 (λ _ es rest block few. c.in_err-expect.ensures.err block.0 block.1)
+
+pub initializers-init : goal.initializers-init
+initializers-init g c = rw c.new-initializers.ensures (record {
+  read = read_none (initializers c.args.arch) c.args.locs.now (remaining_texts c.args.self.now) _ c.in_ok-expect.ensures.ok;
+  leaves = c.in_ok-expect.ensures.leaves;
+})
+
+pub returns-then-accept : goal.returns-then-accept
+returns-then-accept g c =
+    let whole = read_end c.initializers.invariant.read _ (c.accept.ensures.taken c.if-accept.true) in
+    record {
+      is = whole.whole;
+      names_are = whole.names_are;
+      within = whole.within;
+      leaves = IsSuffix-join c.initializers.invariant.leaves c.accept.ensures.leaves;
+    }
+
+-- Where no `}` stands, a site is read where the cursor was.
+kept : (g : Over) (c : After-parse_site g) → remaining_texts c.accept.new.self ≡ remaining_texts c.initializers.self
+kept g c = ap remaining_texts (c.accept.ensures.kept c.if-accept.false)
+
+-- An initializer was read.
+entry_read : (g : Over) (c : In_ok-word g)
+    → More (initializers c.args.arch) c.initializers.locs c.parse_site.new.locs (remaining_texts c.initializers.self)
+    (remaining_texts c.parse_value.new.self)
+    (record { token = c.accept.new.self.next; site = c.in_ok-site.site; word = c.in_ok-word.word })
+entry_read g c = record {
+  grows = c.in_ok-site.ensures.names_are;
+  is_in = c.in_ok-site.ensures.within;
+  fits = tt;
+  stands =
+      (let same = ap remaining_texts (c.accept.ensures.kept c.if-accept.false) in
+      (remaining_texts c.parse_site.new.self, rw same at c.in_ok-site.ensures.is, c.in_ok-word.ensures.0));
+}
+
+-- What is left behind it and its mark is left of the text.
+leaves : (g : Over) (c : In_ok-expect_either g) → IsSuffix (remaining c.args.self.now) (remaining c.expect_either.new.self)
+leaves g c =
+    IsSuffix-join c.initializers.invariant.leaves
+    (IsSuffix-join c.accept.ensures.leaves
+    (IsSuffix-join c.in_ok-site.ensures.leaves (IsSuffix-join c.in_ok-word.ensures.1 c.in_ok-expect_either.ensures.1)))
+
+pub returns-in_err-site : goal.returns-in_err-site
+returns-in_err-site g c =
+    let same = kept g (goal.at.returns-in_err-site g c).After-parse_site in
+    Err-clause_known _ _ _ c.from_residual-in_err-site.ensures.1
+    (λ ne.
+    initializers_fault c.args.arch c.initializers.invariant.read (c.accept.ensures.other c.if-accept.false)
+    (λ e back initializer some. (rw same at (c.in_err-site.ensures ne)) e.site initializer.0 initializer.1 tt some))
+
+pub returns-in_err-word : goal.returns-in_err-word
+returns-in_err-word g c =
+    let same = kept g (goal.at.returns-in_err-word g c).After-parse_site in
+    Err-clause_known _ _ _ c.from_residual-in_err-word.ensures.1
+    (λ ne.
+    initializers_fault c.args.arch c.initializers.invariant.read (c.accept.ensures.other c.if-accept.false)
+    (λ e back initializer some.
+    value_missing c.args.arch _ _ _ (rw same at c.in_ok-site.ensures.is) c.in_err-word.ensures e back initializer))
+
+pub returns-in_err-expect_either : goal.returns-in_err-expect_either
+returns-in_err-expect_either g c =
+    let initializer = entry_read g (goal.at.returns-in_err-expect_either g c).In_ok-word in
+    Err-clause_known _ _ _ c.from_residual-in_err-expect_either.ensures.1 (λ ne es rest block few.
+    read_no_mark c.initializers.invariant.read _ _ initializer.stands c.in_err-expect_either.ensures.1
+    c.in_err-expect_either.ensures.0 es rest block)
+
+pub returns-then-branch : goal.returns-then-branch
+returns-then-branch g c =
+    let d = goal.at.returns-then-branch g c in
+    let mark = rw c.if-branch.true at c.in_ok-expect_either.ensures.0 in
+    let whole =
+    read_last c.initializers.invariant.read (entry_read g d.In_ok-word) (remaining_texts c.expect_either.new.self) mark in
+    rw c.in_ok-push.ensures.ok
+    (record { is = whole.whole; names_are = whole.names_are; within = whole.within; leaves = leaves g d.In_ok-expect_either })
+
+-- what is less than what is less
+less : (k m n : ℕ) → k < m → m < n → k < n
+less k m n p q = omega arith
+
+pub initializers-smaller : goal.initializers-smaller
+initializers-smaller g c =
+    let mark = rw c.if-branch.false at c.in_ok-expect_either.ensures.0 in
+    let same = kept g (goal.at.initializers-smaller g c).After-parse_site in
+    shorter_behind _ _ _ _
+    (rw same at
+    (less _ _ _ (Value-shorter _ _ _ c.in_ok-word.ensures.0) (IsSite-shorter c.args.arch _ _ _ c.in_ok-site.ensures.is))) mark
+
+pub initializers-preserved : goal.initializers-preserved
+initializers-preserved g c =
+    let d = goal.at.initializers-preserved g c in
+    let mark = rw c.if-branch.false at c.in_ok-expect_either.ensures.0 in
+    rw c.in_ok-push.ensures.ok (record {
+      read = read_more c.initializers.invariant.read (entry_read g d.In_ok-word) (remaining_texts c.expect_either.new.self) mark;
+      leaves = leaves g d.In_ok-expect_either;
+    })
+
+pub returns-in_err-push : goal.returns-in_err-push
+returns-in_err-push g c = ran_out _ _ _ c.from_residual-in_err-push.ensures.1
+
+pub expect-requires : goal.expect-requires
+expect-requires g c = unexpected
+
+pub parse_site-requires : goal.parse_site-requires
+parse_site-requires g c = unexpected
+
+pub parse_value-requires : goal.parse_value-requires
+parse_value-requires g c = unexpected
+
+pub expect_either-requires : goal.expect_either-requires
+expect_either-requires g c = unexpected

@@ -1,0 +1,13 @@
+use Rattle.lw_text.proofs.Common.{length, IsSuffix, remaining, remaining_texts}
+use Rattle.lw_text.proofs.SiteLists.{initializers}
+use Rattle.lw_text.proofs.Readings.{Read}
+use Rattle.lw_text.proofs.cursor.Cursor.parse_block.Given as goal
+
+abbrev pub invariant-initializers : goal.invariant-initializers
+invariant-initializers g l = record {
+  read : Read (initializers l.arch) l.fn.locs l.locs (remaining_texts l.fn.self) (remaining_texts l.self) l.initializers;
+  leaves : IsSuffix (remaining l.fn.self) (remaining l.self);
+}
+
+abbrev pub decreases-initializers : goal.decreases-initializers
+decreases-initializers g l = length (remaining_texts l.self)

@@ -1,0 +1,101 @@
+use Rattle.lw_text.proofs.Common.{◌≡◌, ◌∷◌, ◌∙◌, inl, inr, refl, ap, sym, codes, All-nil, IsIn}
+use Rattle.lw_text.proofs.Common.{remaining_texts}
+use Rattle.lw_text.proofs.Lists.{same_behind, shorter_behind}
+use Rattle.lw_text.proofs.Atoms.{IsSite-shorter, bracket}
+use Rattle.lw_text.proofs.Faults.{Err-clause_known, ran_out}
+use Rattle.lw_text.proofs.SiteLists.{sites, list_behind, syntax_same}
+use Rattle.lw_text.proofs.Readings.{read_none, read_end, read_more, read_last, read_none_here, read_no_mark}
+use Rattle.lw_text.proofs.Readings.{More}
+use Rattle.lw_text.proofs.Texts.{token_not_next}
+use Rattle.lw_text.proofs.cursor.Cursor.parse_listed.Given.{Over}
+use Rattle.lw_text.proofs.cursor.Cursor.parse_listed.Goals.{After-parse_site, In_ok-parse_site}
+use Rattle.lw_text.proofs.cursor.Cursor.parse_listed.Goals as goal
+
+pub returns-then-not-accept : goal.returns-then-not-accept
+returns-then-not-accept g c = rw c.new.ensures (record {
+  is =
+      inr (
+        c.accept.ensures.other c.if-not-accept.true,
+        refl,
+        sym (ap remaining_texts (c.accept.ensures.kept c.if-not-accept.true)),
+      );
+  there = tt;
+  names_are = refl;
+  within = All-nil (IsIn c.args.locs.now);
+})
+
+pub returns-in_err-expect : goal.returns-in_err-expect
+returns-in_err-expect g c = Err-clause_known _ _ _ c.from_residual.ensures.1 (λ _ ss rest listed there few.
+    let word = c.accept.ensures.taken c.if-not-accept.false in
+    let whole = list_behind c.args.arch c.args.threads (remaining_texts c.args.self.now) _ word ss rest listed in
+    c.in_err-expect.ensures.err whole.0 (same_behind _ word whole.1))
+
+pub sites-init : goal.sites-init
+sites-init g c = rw c.new-sites.ensures (record {
+  read =
+      read_none _ c.args.locs.now (remaining_texts c.args.self.now) (remaining_texts c.expect.new.self)
+      (c.accept.ensures.taken c.if-not-accept.false ∙ ap (λ l. codes "locations" ∷ l) c.in_ok-expect.ensures.ok);
+})
+
+pub returns-then-accept : goal.returns-then-accept
+returns-then-accept g c =
+    let whole = read_end c.sites.invariant.read _ (c.accept-in-sites.ensures.taken c.if-accept.true) in
+    record { is = inl whole.whole; there = whole.there; names_are = whole.names_are; within = whole.within }
+
+-- Where no `]` stands, a site is read where the cursor was.
+kept : (g : Over) (c : After-parse_site g) → remaining_texts c.accept-in-sites.new.self ≡ remaining_texts c.sites.self
+kept g c = ap remaining_texts (c.accept-in-sites.ensures.kept c.if-accept.false)
+
+-- A site was read.
+site_read : (g : Over) (c : In_ok-parse_site g)
+    → More (sites c.args.arch c.args.threads) c.sites.locs c.parse_site.new.locs (remaining_texts c.sites.self)
+    (remaining_texts c.parse_site.new.self) c.in_ok-parse_site.field-0
+site_read g c = record {
+  grows = c.in_ok-parse_site.ensures.names_are;
+  is_in = c.in_ok-parse_site.ensures.within;
+  fits = c.in_ok-parse_site.ensures.there;
+  stands =
+      (let same = ap remaining_texts (c.accept-in-sites.ensures.kept c.if-accept.false) in
+      rw same at c.in_ok-parse_site.ensures.is);
+}
+
+pub returns-in_err-parse_site : goal.returns-in_err-parse_site
+returns-in_err-parse_site g c =
+    let same = kept g (goal.at.returns-in_err-parse_site g c).After-parse_site in
+    Err-clause_known _ _ _ c.from_residual-in_err-parse_site.ensures.1 (λ ne all rest listed there few.
+    read_none_here c.sites.invariant.read
+    (λ l. token_not_next bracket (remaining_texts c.sites.self) l (c.accept-in-sites.ensures.other c.if-accept.false))
+    (rw same at (c.in_err-parse_site.ensures ne)) all rest
+    (list_behind _ c.args.threads (remaining_texts c.args.self.now) (codes "[" ∷ c.sites.invariant.read.start)
+    c.sites.invariant.read.begun all rest listed) there (syntax_same c.args.locs.now all few))
+
+pub returns-in_err-expect_either : goal.returns-in_err-expect_either
+returns-in_err-expect_either g c =
+    let site = site_read g (goal.at.returns-in_err-expect_either g c).In_ok-parse_site in
+    Err-clause_known _ _ _ c.from_residual-in_err-expect_either.ensures.1 (λ ne all rest listed there few.
+    read_no_mark c.sites.invariant.read _ _ site.stands c.in_err-expect_either.ensures.1 c.in_err-expect_either.ensures.0 all rest
+    (list_behind c.args.arch c.args.threads (remaining_texts c.args.self.now) _ c.sites.invariant.read.begun all rest listed))
+
+pub returns-then-branch : goal.returns-then-branch
+returns-then-branch g c =
+    let site = site_read g (goal.at.returns-then-branch g c).In_ok-parse_site in
+    let mark = rw c.if-branch.true at c.in_ok-expect_either.ensures.0 in
+    let whole = read_last c.sites.invariant.read site (remaining_texts c.expect_either.new.self) mark in
+    rw c.in_ok-push.ensures.ok
+    (record { is = inl whole.whole; there = whole.there; names_are = whole.names_are; within = whole.within })
+
+pub sites-smaller : goal.sites-smaller
+sites-smaller g c =
+    let same = kept g (goal.at.sites-smaller g c).After-parse_site in
+    let mark = rw c.if-branch.false at c.in_ok-expect_either.ensures.0 in
+    shorter_behind _ _ _ _ (rw same at (IsSite-shorter c.args.arch _ _ _ c.in_ok-parse_site.ensures.is)) mark
+
+pub sites-preserved : goal.sites-preserved
+sites-preserved g c =
+    let site = site_read g (goal.at.sites-preserved g c).In_ok-parse_site in
+    let mark = rw c.if-branch.false at c.in_ok-expect_either.ensures.0 in
+    rw c.in_ok-push.ensures.ok
+    (record { read = read_more c.sites.invariant.read site (remaining_texts c.expect_either.new.self) mark })
+
+pub returns-in_err-push : goal.returns-in_err-push
+returns-in_err-push g c = ran_out _ _ _ c.from_residual-in_err-push.ensures.1

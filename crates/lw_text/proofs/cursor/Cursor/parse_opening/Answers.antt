@@ -1,0 +1,39 @@
+use Rattle.lw_text.proofs.Common.{◌≡◌, ◌∷◌, [], sym, ap, subst, with_sites, Atom, IsAtom, sites_in}
+use Rattle.lw_text.proofs.Common.{remaining_texts}
+use Rattle.lw_text.proofs.TerminalLists.{site_alone}
+use Rattle.lw_text.proofs.Faults.{Err-clause_known}
+use Rattle.lw_text.proofs.cursor.Cursor.parse_opening.Goals as goal
+
+pub returns-in_err-site : goal.returns-in_err-site
+returns-in_err-site g c =
+    let kept = ap remaining_texts (c.parse_opening_keyword.ensures.kept c.in_default.is) in
+    Err-clause_known _ _ _ c.from_residual.ensures.1 (λ ne s rest terminal begins few.
+    let claim = c.in_default.ensures.none c.args.arch c.args.threads s rest terminal begins in
+    let says = rw claim.2 at terminal in
+    (rw kept at c.in_err-site.ensures) ne claim.0 says.0 says.1 says.2 (rw claim.2 at few))
+
+pub returns-in_err-word : goal.returns-in_err-word
+returns-in_err-word g c =
+    let kept = ap remaining_texts (c.parse_opening_keyword.ensures.kept c.in_default.is) in
+    let stands = rw kept at c.in_ok-site.ensures.is in
+    Err-clause_known _ _ _ c.from_residual-in_err-word.ensures.1 (λ ne s rest terminal begins few.
+    site_alone c.args.arch c.args.threads _ (remaining_texts c.parse_site.new.self) _ stands c.in_err-word.ensures s rest
+    terminal)
+
+pub returns : goal.returns
+returns g c =
+    let kept = ap remaining_texts (c.parse_opening_keyword.ensures.kept c.in_default.is) in
+    let table = c.parse_site.new.locs in
+    let taken = c.in_ok-site.ensures in
+    let syntax = sym (c.atom_at.ensures.syntax table) in
+    record {
+      is =
+          subst (λ claim.
+          IsAtom c.args.arch c.args.threads (remaining_texts c.args.self.now) claim (remaining_texts c.parse_value.new.self))
+          syntax (remaining_texts c.parse_site.new.self, rw kept at taken.is, taken.there, c.in_ok-word.ensures.0);
+      names_are = subst (λ claim. table ≡ with_sites c.args.locs.now (sites_in (Atom claim ∷ []))) syntax taken.names_are;
+      within = c.atom_at.ensures.within table taken.within;
+    }
+
+pub returns-in-Some : goal.returns-in-Some
+returns-in-Some g c = c.in-Some.ensures.found c.args.arch c.args.threads c.args.locs.now

@@ -1,0 +1,15 @@
+use Rattle.lw_text.proofs.Common.{refl}
+use Rattle.lw_text.proofs.TerminalLists.{only_claim}
+use Rattle.lw_text.proofs.cursor.Cursor.parse_opening_keyword.Goals as goal
+
+pub returns-clause-none : goal.returns-clause-none
+returns-clause-none c =
+    let one = c.if-accept.ensures.kept refl in
+    let two = c.if-accept-2.ensures.kept refl in
+    let three = c.if-accept-3.ensures.kept refl in
+    let four = c.if-accept-4.ensures.kept refl in
+    let tilde = rw one at (c.accept-2.ensures.other c.if-accept-2.false) in
+    let word_not = rw (two, one) at (c.accept-3.ensures.other c.if-accept-3.false) in
+    let word_true = rw (three, two, one) at (c.accept-4.ensures.other c.if-accept-4.false) in
+    let word_false = rw (four, three, two, one) at (c.accept-5.ensures.other c.if-accept-5.false) in
+    λ arch threads. only_claim arch threads _ (c.accept.ensures.other c.if-accept.false) tilde word_not word_true word_false

@@ -1,0 +1,47 @@
+use Rattle.lw_text.proofs.Common.{◌∷◌, [], ◌∙◌, ap, sym, length, arith, length-append, map_push, length-map}
+use Rattle.lw_text.proofs.Common.{cells_texts, remaining_texts}
+use Rattle.lw_text.proofs.Faults.{Err-clause_known, ran_out}
+use Rattle.lw_text.proofs.Cells.{Row-shorter, Rows-found, Rows-more, Rows-fault, Rows-many}
+use Rattle.lw_text.proofs.CellPlaces.{rows_more}
+use Rattle.lw_text.proofs.cursor.Cursor.parse_rows.Goals as goal
+
+pub returns-then-at_stop : goal.returns-then-at_stop
+returns-then-at_stop g c = (
+  Rows-found c.args.threads _ (remaining_texts c.rows.self) _ c.rows.invariant.passed (sym c.at_stop.ensures ∙ c.if-at_stop.true)
+      (omega (arith, c.rows.invariant.few, length-map c.rows.rows cells_texts)),
+  c.rows.invariant.cut,
+)
+
+pub returns-then-len-eq-MAX_ROWS : goal.returns-then-len-eq-MAX_ROWS
+returns-then-len-eq-MAX_ROWS g c =
+    λ _.
+    Rows-many c.args.threads _ _ _ c.rows.invariant.passed (sym c.at_stop.ensures ∙ c.if-at_stop.false)
+    (omega (arith, c.if-len-eq-MAX_ROWS.true, c.len.ensures, length-map c.rows.rows cells_texts))
+
+pub returns-in_err-parse_row : goal.returns-in_err-parse_row
+returns-in_err-parse_row g c = Err-clause_known _ _ _ c.from_residual.ensures.1 (λ ne.
+    Rows-fault c.args.threads _ _ _ c.rows.invariant.passed (sym c.at_stop.ensures ∙ c.if-at_stop.false)
+    (c.in_err-parse_row.ensures ne))
+
+pub rows-smaller : goal.rows-smaller
+rows-smaller g c = Row-shorter c.args.threads _ _ _ c.in_ok-parse_row.ensures.0
+
+pub rows-preserved : goal.rows-preserved
+rows-preserved g c = record {
+  passed =
+      rw (c.in_ok-push.ensures.ok, map_push cells_texts c.rows.rows)
+      (Rows-more c.args.threads _ _ _ c.rows.invariant.passed _ _ (sym c.at_stop.ensures ∙ c.if-at_stop.false)
+      c.in_ok-parse_row.ensures.0);
+  cut = rw c.in_ok-push.ensures.ok (rows_more _ _ _ c.rows.rows _ c.rows.invariant.cut c.in_ok-parse_row.ensures.1);
+  few = omega (
+    arith,
+    ap length c.in_ok-push.ensures.ok,
+    length-append c.rows.rows (c.in_ok-parse_row.field-0 ∷ []),
+    c.if-len-eq-MAX_ROWS.false,
+    c.len.ensures,
+    c.rows.invariant.few,
+  );
+}
+
+pub returns-in_err-push : goal.returns-in_err-push
+returns-in_err-push g c = ran_out _ _ _ c.from_residual-in_err-push.ensures.1

@@ -1,0 +1,14 @@
+use Rattle.lw_text.proofs.Common.{◌≤◌, length, Row, begins_stop, all_texts, with_spans, placed_cells}
+use Rattle.lw_text.proofs.Common.{RowsFrom, remaining, remaining_texts}
+use Rattle.lw_text.proofs.Lists.{Passed}
+use Rattle.lw_text.proofs.cursor.Cursor.parse_rows.Given as goal
+
+abbrev pub invariant-rows : goal.invariant-rows
+invariant-rows g l = record {
+  passed : Passed begins_stop (Row l.threads) (remaining_texts l.fn.self) (all_texts l.rows) (remaining_texts l.self);
+  cut : RowsFrom (with_spans (remaining l.fn.self)) (placed_cells l.rows) (with_spans (remaining l.self));
+  few : length l.rows ≤ 64;
+}
+
+abbrev pub decreases-rows : goal.decreases-rows
+decreases-rows g l = length (remaining_texts l.self)

@@ -1,0 +1,59 @@
+use Rattle.lw_text.proofs.Common.{◌∷◌, [], ◌∙◌, inl, inr, refl, sym, ap, subst, arith, codes}
+use Rattle.lw_text.proofs.Common.{MatchResult-weaker, remaining_texts, ParsedSite}
+use Rattle.lw_text.proofs.Atoms.{site_none}
+use Rattle.lw_text.proofs.Lists.{IsSuffix-join}
+use Rattle.lw_text.proofs.Texts.{is_text, is_no_text}
+use Rattle.lw_text.proofs.Sites.{entered, allowed_thread, brackets_none, thread_refused, register_none}
+use Rattle.lw_text.proofs.Sites.{location_none}
+use Rattle.lw_text.proofs.Faults.{Err-clause_known}
+use Rattle.lw_text.proofs.cursor.Cursor.parse_site.Goals as goal
+
+pub returns-in-Err : goal.returns-in-Err
+returns-in-Err g c = λ ne s rest site there few.
+    location_none c.args.arch _ c.in_ok-first.ensures.ok (is_no_text _ _ (sym c.eq.ensures ∙ c.if-eq.false)) c.in_default.ensures
+    (c.in-Err.ensures ne) s rest site few
+
+pub returns-in_err-first : goal.returns-in_err-first
+returns-in_err-first g c =
+    Err-clause_known _ _ _ c.from_residual.ensures.1
+    (λ ne s rest p there few. site_none c.args.arch (remaining_texts c.args.self.now) rest s c.in_err-first.ensures.err p)
+
+pub returns-in_err-inside : goal.returns-in_err-inside
+returns-in_err-inside g c = Err-clause_known _ _ _ c.from_residual-in_err-inside.ensures.1 (λ ne s rest p there few.
+    brackets_none c.args.arch c.args.locs.now c.in_ok-first.ensures.ok (is_text _ _ (sym c.eq.ensures ∙ c.if-eq.true))
+    (c.in_err-inside.ensures ne) s rest p few)
+
+pub returns-then-eq : goal.returns-then-eq
+returns-then-eq g c =
+    let inside = c.in_ok-inside.ensures in
+    entered inside.2 (IsSuffix-join (c.in_ok-first.first ∷ [], c.in_ok-first.ensures.token) inside.3)
+    (inr (c.in_ok-first.ensures.ok
+    ∙ ap (λ y. y ∷ remaining_texts c.take.new.self) (is_text _ _ (sym c.eq.ensures ∙ c.if-eq.true))
+    ∙ ap (λ l. codes "[" ∷ l) inside.1))
+
+pub returns-then-not-is_allowed : goal.returns-then-not-is_allowed
+returns-then-not-is_allowed g c = λ ne s rest p there few.
+    thread_refused c.args.arch c.args.locs.now c.in_ok-first.ensures.ok _ c.in-Some.ensures c.args.threads
+    (sym c.is_allowed.ensures ∙ c.if-not-is_allowed.true) s rest p there
+
+pub returns-in-Some : goal.returns-in-Some
+returns-in-Some g c =
+    let names = c.args.locs.now in
+    let taken = ParsedSite c.args.arch c.args.threads c.args.self.now c.parse_register.new.self names names in
+    MatchResult-weaker c.parse_register.result c.parse_register.ensures (λ s reg. subst taken (sym reg.4) (record {
+      is = (
+        c.in_ok-first.first.text.now,
+        reg.0,
+        c.in_ok-first.ensures.ok ∙ ap (λ l. c.in_ok-first.first.text.now ∷ l) reg.2,
+        c.in-Some.ensures,
+        reg.3,
+      );
+      there = allowed_thread c.args.threads _ _ (sym c.is_allowed.ensures ∙ c.if-not-is_allowed.false);
+      names_are = refl;
+      within = omega arith;
+      leaves = IsSuffix-join (c.in_ok-first.first ∷ [], c.in_ok-first.ensures.token) reg.5;
+    })) (λ f never ne s rest p there few.
+    register_none c.args.arch c.args.locs.now c.in_ok-first.ensures.ok c.in-Some.thread c.in-Some.ensures never s rest p)
+
+pub returns-in-Ok : goal.returns-in-Ok
+returns-in-Ok g c = entered c.in-Ok.ensures (c.in_ok-first.first ∷ [], c.in_ok-first.ensures.token) (inl c.in_ok-first.ensures.ok)

@@ -1,0 +1,13 @@
+use Rattle.lw_text.proofs.Common.{codes, ◌∷◌, [], ◌∙◌, ap}
+use Rattle.lw_text.proofs.Lists.{IsSuffix-join}
+use Rattle.lw_text.proofs.Atoms.{value_none}
+use Rattle.lw_text.proofs.cursor.Cursor.parse_value.Goals as goal
+
+pub returns-in-Some : goal.returns-in-Some
+returns-in-Some c = (
+  (c.in_ok-token.token.text.now, c.in_ok-expect.ensures.ok ∙ ap (λ l. codes "=" ∷ l) c.in_ok-token.ensures.ok, c.in-Some.ensures),
+  IsSuffix-join c.in_ok-expect.ensures.leaves (c.in_ok-token.token ∷ [], c.in_ok-token.ensures.token),
+)
+
+pub returns-in-None : goal.returns-in-None
+returns-in-None c = value_none _ _ _ _ c.in_ok-expect.ensures.ok c.in_ok-token.ensures.ok c.in-None.ensures

@@ -1,0 +1,74 @@
+use Rattle.lw_text.proofs.Common.{◌≡◌, arith, ap, subst, length, length-append, false≢true, nat_tests}
+use Rattle.lw_text.proofs.Common.{IsTestName, ◌∙◌, sym, ◌++◌, name_ascii, refl}
+use Rattle.lw_text.proofs.Preambles.{ParsesTestName-parts}
+use Rattle.lw_text.proofs.lexer.Lexer.parse_test_name.Goals as goal
+
+pub returns-then-is_empty-clause-reads : goal.returns-then-is_empty-clause-reads
+returns-then-is_empty-clause-reads c =
+    let b = c.prefix_of_kind.ensures in
+    let u = c.prefix_of_kind-2.ensures in
+    let none : length c.prefix_of_kind-2.result.0.now ≡ 0 = grind (arith, nat_tests) in (
+      λ n r p.
+          let k = ParsesTestName-parts c.args.self.now.rest.now _ _ _ _ b.parts b.all b.longest u.parts u.all u.longest n r p in
+          omega (arith, none, p.is_name.some, ap length k.1),
+      omega arith,
+    )
+
+pub returns-then-is_empty-2-clause-reads : goal.returns-then-is_empty-2-clause-reads
+returns-then-is_empty-2-clause-reads c =
+    let b = c.prefix_of_kind.ensures in
+    let u = c.prefix_of_kind-2.ensures in
+    let none : length c.prefix_of_kind.result.0.now ≡ 0 = grind (arith, nat_tests) in (
+      λ n r p.
+          let k = ParsesTestName-parts _ _ _ _ _ b.parts b.all b.longest u.parts u.all u.longest n r p in
+          omega (arith, none, p.apart, ap length k.0),
+      omega arith,
+    )
+
+pub returns-then-not-is_test_name-clause-reads : goal.returns-then-not-is_test_name-clause-reads
+returns-then-not-is_test_name-clause-reads c =
+    let b = c.prefix_of_kind.ensures in
+    let u = c.prefix_of_kind-2.ensures in (
+      λ n r p.
+          let k = ParsesTestName-parts _ _ _ _ _ b.parts b.all b.longest u.parts u.all u.longest n r p in
+          false≢true (c.if-not-is_test_name.ensures.1 (subst IsTestName k.1 p.is_name)),
+      omega arith,
+    )
+
+pub overflow_sub-at : goal.overflow_sub-at
+overflow_sub-at c = omega (
+  arith,
+  c.args.self.now.within,
+  ap length c.prefix_of_kind.ensures.parts,
+  length-append c.prefix_of_kind.result.0.now c.prefix_of_kind.result.1.now,
+)
+
+pub ascii_text-requires : goal.ascii_text-requires
+ascii_text-requires c = name_ascii c.prefix_of_kind-2.result.0.now (c.if-not-is_test_name.ensures.0 refl)
+
+pub invariant_of-self : goal.invariant_of-self
+invariant_of-self c = record {
+  within = omega (
+    arith,
+    c.args.self.now.within,
+    ap length c.prefix_of_kind.ensures.parts,
+    length-append c.prefix_of_kind.result.0.now c.prefix_of_kind.result.1.now,
+    ap length c.prefix_of_kind-2.ensures.parts,
+    length-append c.prefix_of_kind-2.result.0.now c.prefix_of_kind-2.result.1.now,
+  );
+}
+
+pub returns-clause-reads : goal.returns-clause-reads
+returns-clause-reads c =
+    let space = c.prefix_of_kind.result.0.now in
+    record {
+      blanks = space;
+      parts =
+          c.prefix_of_kind.ensures.parts
+          ∙ ap (λ x. space ++ x)
+          (c.prefix_of_kind-2.ensures.parts ∙ ap (λ x. x ++ c.prefix_of_kind-2.result.1.now) (sym c.ascii_text.ensures));
+      apart = grind (arith, nat_tests);
+      blank = c.prefix_of_kind.ensures.all;
+      is_name = subst IsTestName (sym c.ascii_text.ensures) (c.if-not-is_test_name.ensures.0 refl);
+      longest = c.prefix_of_kind-2.ensures.longest;
+    }

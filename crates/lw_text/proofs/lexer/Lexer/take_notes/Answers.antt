@@ -1,8 +1,0 @@
-use Rattle.lw_text.proofs.Common.{arith, ap, length, length-append}
-use Rattle.lw_text.proofs.NoteRows.{Notes-suffix}
-use Rattle.lw_text.proofs.lexer.Lexer.take_notes.Goals as goal
-
-pub invariant_of-self : goal.invariant_of-self
-invariant_of-self c =
-    let n = Notes-suffix c.in-Ok.ensures in
-    record { within = omega (arith, c.args.self.now.within, ap length n.1, length-append n.0 c.in-Ok.rest.now) }
