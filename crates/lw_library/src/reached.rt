@@ -9,7 +9,7 @@ ghost use Rattle.lw_library.specs.Reached.{request_of, IsReachTold, TellsFault};
 use crate::call_result::{ANSWER, CallResult, FAULT, write_result};
 use lw_arena::{Arena, Memory};
 use lw_bench::{BenchFault, memory_line};
-use lw_beyond::{BeyondFault, Renderer, Request, answer_request, fault_line, status_of};
+use lw_beyond::{BeyondFault, Output, Request, answer_request, fault_line, status_of};
 
 /// `beyond --budget BUDGET states`: the report of the test that the text is, within the limits of lists or past them.
 #[unsafe(no_mangle)]
@@ -24,7 +24,7 @@ pub extern "C" fn lw_reach_states(
     ensures machine { IsReachedOnMachine text.now }
     ensures caches { IsReachedOverCaches text.now }
 {
-    *told = run_request(memory, &request_of(Renderer::States, budget), text, room);
+    *told = run_request(memory, &request_of(Output::States, budget), text, room);
 }
 
 /// `beyond --budget BUDGET schedules`: the list of the test's final states, each with a schedule, within the limits of lists or past them.
@@ -40,11 +40,11 @@ pub extern "C" fn lw_reach_schedules(
     ensures machine { IsReachedOnMachine text.now }
     ensures caches { IsReachedOverCaches text.now }
 {
-    *told = run_request(memory, &request_of(Renderer::Schedules, budget), text, room);
+    *told = run_request(memory, &request_of(Output::Schedules, budget), text, room);
 }
 
 /// Returns the request for an output within a budget.
-fn request_of(output: Renderer, budget: usize) -> Request
+fn request_of(output: Output, budget: usize) -> Request
     ensures { result ≡ request_of output budget }
 {
     Request {

@@ -7,8 +7,8 @@ initial_registers-requires g c = c.args.self.now.few
 pub initial_words-requires : goal.initial_words-requires
 initial_words-requires g c = subst (λ (n : ℕ). n ≤ 8) (sym c.len-len.ensures.len) c.len-len.ensures.table.few
 
-pub seen_among-requires-clause-threads : goal.seen_among-requires-clause-threads
-seen_among-requires-clause-threads g c = c.args.self.now.few
+pub restrict_seen-requires-clause-threads : goal.restrict_seen-requires-clause-threads
+restrict_seen-requires-clause-threads g c = c.args.self.now.few
 
-pub seen_among-requires-clause-len : goal.seen_among-requires-clause-len
-seen_among-requires-clause-len g c = subst (λ (n : ℕ). n ≤ 8) (sym c.len-len.ensures.len) c.len-len.ensures.table.few
+pub restrict_seen-requires-clause-len : goal.restrict_seen-requires-clause-len
+restrict_seen-requires-clause-len g c = subst (λ (n : ℕ). n ≤ 8) (sym c.len-len.ensures.len) c.len-len.ensures.table.few
