@@ -1,4 +1,4 @@
-//! The allocator: lent memory that is not cut yet, and a shelf of spare blocks for each size.
+//! The allocator: lent memory that is not cut into blocks yet, and a list of free blocks for each size.
 ghost use Rattle.std.specs.Prelude.{◌≡◌, ◌^◌, ◌<◌, ◌≤◌, IfSome};
 ghost use Rattle.lw_arena.specs.Sizes.{block_units};
 ghost use Rattle.lw_arena.specs.Ownership.{block_token};
@@ -10,7 +10,7 @@ use std::alloc::{AllocError, Allocator};
 use std::array;
 use std::cell::Cell;
 
-/// An allocator over the memory that it was lent. A collection holds a `&` to it.
+/// An allocator over lent memory. A collection holds a `&` to it.
 #[derive(Drop)]
 pub struct Arena {
     rest: Cell<Option<Memory>>,
@@ -18,7 +18,7 @@ pub struct Arena {
 }
 
 impl Arena {
-    /// An allocator over this memory, of which nothing is cut yet. What it has is behind cells, so there is no clause to say of it.
+    /// Creates an allocator over this memory. What it holds is behind cells, so a contract cannot speak of it.
     pub fn new(memory: Memory) -> Arena {
         Arena {
             rest: Cell::new(Some(memory)),
@@ -26,8 +26,8 @@ impl Arena {
         }
     }
 
-    /// A block for so many bytes: a spare one, or else one that is cut off the front. None where there is no such block, or where
-    /// more is asked than a block can have.
+    /// Returns a block of at least `size` bytes: a free one, or one that is cut off the lent memory. Returns `None`
+    /// if there is none, or if more is requested than a block can have.
     fn take(&self, size: usize, align: usize) -> Option<Block>
         ensures { IfSome result (λ b. (b.units ≡ block_units size) × (size < 2 ^ 63) × (align ≤ 16)) }
     {
@@ -42,7 +42,7 @@ impl Arena {
         }
     }
 
-    /// A spare block of this class, if there is one. The units are those of a block of the class.
+    /// Returns a free block of this class, if there is one. `units` is the size of the class's blocks.
     fn take_spare(&self, class: usize, units: usize) -> Option<Block>
         ensures { IfSome result (λ b. b.units ≡ units) }
     {
@@ -57,7 +57,7 @@ impl Arena {
         block
     }
 
-    /// A block of so many units off the front of what is not cut yet.
+    /// Cuts a block of `units` units off the memory that is not cut yet.
     fn take_new(&self, units: usize) -> Option<Block>
         requires { (1 ≤ units) × (units < 2 ^ 60) }
         ensures { IfSome result (λ b. b.units ≡ units) }
@@ -74,7 +74,7 @@ impl Arena {
         }
     }
 
-    /// Takes back the block that was given for so many bytes, and puts it on the shelf of its size.
+    /// Frees the block of an allocation of `size` bytes: inserts it into the free list of its size.
     fn give(&self, block: Block, size: usize)
         requires { (block.units ≡ block_units size) × (size < 2 ^ 63) }
     {
@@ -95,7 +95,7 @@ impl Arena {
 unsafe impl Allocator for Arena {
     ghost dealloc_token = { λ _. block_token };
 
-    /// A block of the arena with room for so many bytes; an error is that none is left.
+    /// Allocates a block with room for `size` bytes. Fails if none is left.
     fn allocate(&self, size: usize, align: usize) -> Result<*mut u8, AllocError> {
         match self.take(size, align) {
             Some(Block { at }) => Ok(at),

@@ -1,4 +1,4 @@
-//! Memory in which nothing lies: a block, and what is lent and not cut into blocks yet.
+//! Unused memory: blocks, and lent memory that is not cut into blocks yet.
 ghost use Rattle.std.specs.Prelude.{◌≡◌, ℕ, ◌+◌, ◌/◌, ◌^◌, ◌<◌, ◌≤◌, IfOk, IfSome};
 ghost use Rattle.lw_arena.specs.Ownership.{memory};
 
@@ -6,7 +6,7 @@ use crate::sizes::UNIT;
 use std::alloc::Allocator;
 use std::marker::Model;
 
-/// Units of memory at a pointer, which nobody else owns. They are aligned to 16 bytes.
+/// Units of memory at a pointer, owned by nobody else. They are aligned to 16 bytes.
 #[repr(C)]
 #[derive(Drop)]
 pub struct Block {
@@ -19,7 +19,8 @@ impl Model for Block {
 }
 
 impl Block {
-    /// So many units of another allocator, which never has them back: what a caller lends that has an allocator, as tests.
+    /// Takes `units` units from another allocator, which never gets them back. For callers with an allocator, such as
+    /// tests.
     fn kept<A: Allocator>(alloc: &A, units: usize) -> Option<Block>
         requires { units < 2 ^ 59 }
         ensures { IfSome result (λ b. b.units ≡ units) }
@@ -30,7 +31,7 @@ impl Block {
         }
     }
 
-    /// Cuts the block in two: so many units off its front, and those behind them.
+    /// Cuts the block in two: its first `units` units, and the rest.
     pub(crate) fn cut(self, units: usize) -> (Block, Block)
         requires { (1 ≤ units) × (units ≤ self.units) × (units < 2 ^ 60) }
         ensures { (result.0.units ≡ units) × (result.1.units + units ≡ self.units) }
@@ -41,8 +42,8 @@ impl Block {
     }
 }
 
-/// Memory that is lent, and how many bytes it has. What is left over of a whole unit is not used. Where it has fewer than 16 bytes,
-/// its pointer may be null.
+/// Lent memory, and its size in bytes. Bytes beyond the last whole unit are not used. The pointer may be null if
+/// there are fewer than 16 bytes.
 #[repr(C)]
 #[derive(Drop)]
 pub struct Memory {
@@ -52,7 +53,8 @@ pub struct Memory {
 }
 
 impl Memory {
-    /// So many bytes of another allocator, which never has them back, to lend to an arena: for a caller that has one, as tests.
+    /// Takes `size` bytes from another allocator, which never gets them back, to lend them to an arena. For callers
+    /// with an allocator, such as tests.
     pub fn kept<A: Allocator>(alloc: &A, size: usize) -> Option<Memory>
         ensures { IfSome result (λ m. (m.size ≡ size) × (size < 2 ^ 63)) }
     {
@@ -63,7 +65,8 @@ impl Memory {
         Some(Memory { block, size })
     }
 
-    /// Cuts a block of so many units off the front, and answers it with what is left; or answers all of it, where it has fewer.
+    /// Cuts a block of `units` units off the start, and returns it with the rest. Returns all of the memory as an
+    /// error if it is smaller.
     pub(crate) fn take(self, units: usize) -> Result<(Block, Memory), Memory>
         requires { (1 ≤ units) × (units < 2 ^ 60) }
         ensures { IfOk result (λ r. r.0.units ≡ units) }

@@ -1,4 +1,4 @@
-//! The spare blocks of one size, as a list that is kept in those blocks: each begins with a pointer to the next.
+//! The free list of one size, stored in its own blocks: each begins with a pointer to the next.
 ghost use Rattle.std.specs.Prelude.{◌≡◌, ℕ, ◌+◌, ◌≤◌, true, IfSome};
 ghost use Rattle.lw_arena.specs.Ownership.{chain};
 
@@ -6,13 +6,13 @@ use crate::block::Block;
 use std::marker::Model;
 use std::ptr::null_mut;
 
-/// What is written at the front of a spare block.
+/// The content of the start of a free block.
 #[repr(C)]
 struct Node {
     next: *mut Node,
 }
 
-/// A list of spare blocks, each of so many units.
+/// A list of free blocks, each of `units` units.
 #[derive(Drop)]
 struct SpareList {
     first: *mut Node,
@@ -25,14 +25,14 @@ impl Model for SpareList {
 }
 
 impl SpareList {
-    /// An empty list, for blocks of so many units.
+    /// Creates an empty list for blocks of `_units` units.
     fn new(_units: usize) -> SpareList
         ensures { (result.units ≡ _units) × (result.count ≡ 0) }
     {
         SpareList { first: null_mut() }
     }
 
-    /// The list with one block more, at its front.
+    /// Returns the list with one more block, at its head.
     fn push(self, block: Block) -> SpareList
         requires { (block.units ≡ self.units) × (1 ≤ self.units) }
         ensures { (result.units ≡ self.units) × (result.count ≡ self.count + 1) }
@@ -44,7 +44,7 @@ impl SpareList {
         SpareList { first: node }
     }
 
-    /// The block at the front, and the list of the others.
+    /// Returns the block at the head, and the list of the others.
     fn pop(self) -> (Block, SpareList)
         requires { 1 ≤ self.count }
         ensures { (result.0.units ≡ self.units) × (result.1.units ≡ self.units) × (result.1.count + 1 ≡ self.count) }
@@ -60,7 +60,7 @@ impl SpareList {
     }
 }
 
-/// A list of spare blocks, with how many there are and how many units each has.
+/// A list of free blocks, with their number and their size in units.
 #[derive(Drop)]
 pub(crate) struct Shelf {
     units: usize,
@@ -71,7 +71,7 @@ pub(crate) struct Shelf {
 }
 
 impl Shelf {
-    /// A shelf for blocks of so many units, with none.
+    /// Creates an empty shelf for blocks of `units` units.
     pub(crate) fn new(units: usize) -> Shelf
         requires { 1 ≤ units }
         ensures { result.units ≡ units }
@@ -83,14 +83,15 @@ impl Shelf {
         }
     }
 
-    /// Whether its blocks have so many units.
+    /// Returns whether its blocks have `units` units.
     pub(crate) fn holds(&self, units: usize) -> bool
         ensures { result ≡ true → self.now.units ≡ units }
     {
         self.units == units
     }
 
-    /// The shelf with one block more. No memory holds so many blocks that they cannot be counted; one more would be lost.
+    /// Returns the shelf with one more block. No memory holds more blocks than can be counted; one more would be
+    /// lost.
     pub(crate) fn put(self, block: Block) -> Shelf
         requires { block.units ≡ self.units }
         ensures { result.units ≡ self.units }
@@ -106,7 +107,7 @@ impl Shelf {
         }
     }
 
-    /// One of its blocks, where it has any, and the shelf without it.
+    /// Returns one of its blocks, if there is one, and the shelf without it.
     pub(crate) fn take(self) -> (Option<Block>, Shelf)
         ensures { IfSome result.0 (λ b. b.units ≡ self.units) × (result.1.units ≡ self.units) }
     {

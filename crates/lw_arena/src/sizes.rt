@@ -2,13 +2,13 @@
 ghost use Rattle.std.specs.Prelude.{◌≡◌, ◌*◌, ◌^◌, ◌<◌, ◌≤◌};
 ghost use Rattle.lw_arena.specs.Sizes.{block_class};
 
-/// The bytes of a unit, to which each block is aligned.
+/// The size of a unit in bytes, to which each block is aligned.
 pub(crate) const UNIT: usize = 16;
 
-/// The classes of blocks. A block of the last is larger than any that is asked for.
+/// The number of classes of blocks. A block of the last class is larger than any that can be requested.
 pub(crate) const CLASSES: usize = 60;
 
-/// The class of the block for so many bytes.
+/// Returns the class of the block for `size` bytes.
 pub(crate) fn size_class(size: usize) -> usize
     requires { size < 2 ^ 63 }
     ensures class { result ≡ block_class size }
@@ -18,7 +18,7 @@ pub(crate) fn size_class(size: usize) -> usize
     (usize::BITS - before_last.leading_zeros()) as usize
 }
 
-/// The units of a block of this class.
+/// Returns the number of units of a block of this class.
 pub(crate) fn class_units(class: usize) -> usize
     requires { class < 60 }
     ensures units { result ≡ 2 ^ class }

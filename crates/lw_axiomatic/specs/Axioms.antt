@@ -9,26 +9,26 @@ use Rattle.lw_litmus.specs.Tests.{X86Test}
 use Rattle.lw_axiomatic.specs.Executions.{MemoryEvent, Execution, Rf, Co, Fr, PoLoc, Ppo, Rfe}
 use Rattle.lw_axiomatic.specs.Candidates.{IsCandidate}
 
--- No cycle: the events can be numbered so that every pair goes up.
+-- Acyclic relations: the events can be numbered so that the numbers increase along every pair.
 module _ {E : Type 0} (R : E → E → Type 0) where
-  -- R has no cycle: there are ranks that go up along it
+  -- The relation R is acyclic: there are ranks that increase along it.
   abbrev pub Acyclic : Type 0
   Acyclic = (rank : E → ℕ) × ((a b : E) → R a b → rank a < rank b)
 
 module _ (test : X86Test) (x : Execution) where
-  -- the relations of coherence: program order on one location, reads-from, coherence order and from-reads
+  -- The relations of coherence: program order on one location, reads-from, coherence order and from-reads.
   abbrev pub OnOneLocation : MemoryEvent → MemoryEvent → Type 0
   OnOneLocation a b = PoLoc x86_language test x a b ⊎ (Rf x86_language test x a b ⊎ (Co x86_language test x a b ⊎ Fr x86_language test x a b))
 
-  -- the relations of global happens-before: preserved program order, reads-from between threads, coherence order, from-reads
+  -- The relations of global happens-before: preserved program order, reads-from between threads, coherence order, from-reads.
   abbrev pub HappensBefore : MemoryEvent → MemoryEvent → Type 0
   HappensBefore a b = Ppo x86_language test x a b ⊎ (Rfe x86_language test x a b ⊎ (Co x86_language test x a b ⊎ Fr x86_language test x a b))
 
-  -- Coherence: on each location the events go as if it were the only one.
+  -- Coherence: on each location the events are ordered as if it were the only one.
   abbrev pub Coherence : Type 0
   Coherence = Acyclic OnOneLocation
 
-  -- Global happens-before: what all threads see alike goes round in no cycle.
+  -- Global happens-before: the order that all threads observe is acyclic.
   abbrev pub GlobalHappensBefore : Type 0
   GlobalHappensBefore = Acyclic HappensBefore
 
@@ -37,7 +37,7 @@ module _ (test : X86Test) (x : Execution) where
     pub coherence : Coherence
     pub happens_before : GlobalHappensBefore
 
--- Some execution of the test with this outcome keeps the axioms.
+-- Some execution of the test with this outcome satisfies the axioms.
 pub record IsAllowed (test : X86Test) (o : FinalState) : Type 0 where
   pub execution : Execution
   pub candidate : IsCandidate x86_language test execution o

@@ -1,8 +1,6 @@
--- Candidate executions of a test, of either language, and their outcomes: each thread by itself goes along its path, where it
--- reads the words that the execution says; each read has the word of the write that it reads from. No axiom of a memory model
--- is asked here.
--- The source is 'Herding Cats' (Alglave, Maranget and Tautschnig, TOPLAS 2014): control flow semantics, then data
--- flow.
+-- Candidate executions of a test, of either language, and their outcomes: each thread by itself follows its path, on which it reads the
+-- words that the execution says; each read has the word of the write that it reads from. No axiom of a memory model is required here. The
+-- source is 'Herding Cats' (Alglave, Maranget and Tautschnig, TOPLAS 2014): control flow semantics, then data flow.
 use Rattle.std.specs.Prelude.{◌≡◌, ℕ, ◌<◌, ◌≤◌, ◌⊎◌, true, Option, Some, None, List, [], ◌∷◌, length, slice_get, slice_index}
 use Rattle.std.specs.Prelude.{slice_index_or}
 use Rattle.lw_base.specs.Outcomes.{FinalState, HasOutcomeShape}
@@ -14,7 +12,7 @@ use Rattle.lw_axiomatic.specs.ThreadStates.{ThreadState, first_state, state_afte
 use Rattle.lw_axiomatic.specs.Executions.{MemoryEvent, Execution, Reads, Writes}
 
 module _ {S : Type 0} (language : Language S) where
-  -- Thread t goes along a path to the end of its code, where its events read and write the words that the execution says.
+  -- Thread t follows a path to the end of its code, on which its events read and write the words that the execution says.
   abbrev pub ThreadExecutes : Execution → ℕ → List S → List ℕ → ThreadState → ThreadState → Type 0
   ThreadExecutes x t code [] s end = (s.position ≡ length code) × (end ≡ s)
   ThreadExecutes x t code (j ∷ path) s end =
@@ -25,21 +23,20 @@ module _ {S : Type 0} (language : Language S) where
       × ThreadExecutes x t code path (state_after (language.operation_of i) s (x.read e)) end
 
   module _ (test : Test S) (x : Execution) where
-    -- what r reads of the location l is the initial word, or what this event wrote there
+    -- The word that r reads of the location l is the initial word, or the word that this event wrote there.
     abbrev pub IsReadFrom : MemoryEvent → ℕ → Option MemoryEvent → Type 0
     IsReadFrom r l None = x.read r ≡ slice_index test.head.init_words l
     IsReadFrom r l (Some w) = Writes language test x w l × (x.read r ≡ x.written w)
 
-    -- the location l ends with the word w: with the initial one if nothing writes it, or that of its last write in coherence
-    -- order
+    -- The final word of the location l is w: the initial one if nothing writes it, or that of its last write in coherence order.
     abbrev pub IsLast : ℕ → ℕ → Type 0
     IsLast l w =
         (((e : MemoryEvent) → Writes language test x e l → ⊥) × (w ≡ slice_index test.head.init_words l))
         ⊎ ((e : MemoryEvent) × Writes language test x e l
         × ((f : MemoryEvent) → Writes language test x f l → x.co f ≤ x.co e) × (w ≡ x.written e))
 
-    -- A candidate execution with this outcome: the threads go to their ends, each read has its write, and two writes to a
-    -- location never stand at one index in coherence order.
+    -- The execution is a candidate with this outcome: the threads run to their ends, each read has the word of its write, and no two writes
+    -- to a location have the same index in coherence order.
     pub record IsCandidate (o : FinalState) : Type 0 where
       pub as_many : length x.paths ≡ length test.threads
       pub threads : (t : ℕ) → t < length test.threads → (end : ThreadState)

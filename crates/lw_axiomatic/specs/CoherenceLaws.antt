@@ -7,25 +7,25 @@ use Rattle.lw_litmus.specs.Tests.{X86Test}
 use Rattle.lw_axiomatic.specs.Executions.{MemoryEvent, Execution, Po, Reads, Writes, Rf, Co}
 
 module _ (test : X86Test) (x : Execution) where
-  -- a write, and then a write: the first comes before the second in coherence order
+  -- Two writes in program order: the first comes before the second in coherence order.
   abbrev pub CoWW : Type 0
   CoWW =
       (w v : MemoryEvent) (l : ℕ) → Po x w v → Writes x86_language test x w l → Writes x86_language test x v l
       → Co x86_language test x w v
 
-  -- a write, and then a read: it reads from that write, or from one behind it
+  -- A write before a read in program order: the read reads from it, or from a later write in coherence order.
   abbrev pub CoWR : Type 0
   CoWR =
       (w r : MemoryEvent) (l : ℕ) → Po x w r → Writes x86_language test x w l → Reads x86_language test x r l
       → (v : MemoryEvent) × Rf x86_language test x v r × ((v ≡ w) ⊎ Co x86_language test x w v)
 
-  -- a read, and then a write: what the read reads from comes before the write
+  -- A read before a write in program order: what the read reads from comes before the write.
   abbrev pub CoRW : Type 0
   CoRW =
       (r w v : MemoryEvent) (l : ℕ) → Po x r w → Reads x86_language test x r l → Writes x86_language test x w l → Rf x86_language test x v r
       → Co x86_language test x v w
 
-  -- a read, and then a read: the second reads from what the first does, or from a write behind it
+  -- Two reads in program order: the second reads from the write of the first, or from a later one.
   abbrev pub CoRR : Type 0
   CoRR =
       (r s v : MemoryEvent) (l : ℕ) → Po x r s → Reads x86_language test x r l → Reads x86_language test x s l → Rf x86_language test x v r

@@ -1,6 +1,6 @@
--- Data races of an x86 test, in its runs by interleaving.
--- The source is Adve and Hill ('Weak ordering: a new definition', ISCA 1990). C++ and Java have notions of their own, of accesses that are not
--- atomic or volatile; here every load and store counts that is no locked instruction.
+-- Data races of an x86 test, in its runs by interleaving. The source is Adve and Hill ('Weak ordering: a new definition', ISCA 1990). C++
+-- and Java have notions of their own, of accesses that are not atomic or volatile; here every load and store counts that is not a locked
+-- instruction.
 use Rattle.std.specs.Prelude.{◌≢◌, ◌||◌, ℕ, Bool, List}
 use Rattle.lw_litmus.specs.declared.operation.Operation.{Operation}
 use Rattle.lw_litmus.specs.Operations.{is_store, is_load, writes}
@@ -9,7 +9,8 @@ use Rattle.lw_litmus.specs.Tests.{X86Test}
 use Rattle.lw_axiomatic.specs.Interleavings.{Interleaved, InterleavedRunsTo, start}
 use Rattle.lw_axiomatic.specs.Races.{IsNext}
 
-abbrev pub is_plain : Operation → Bool  -- It is a load or a store, and no locked instruction.
+-- Tests whether an operation is a plain load or store.
+abbrev pub is_plain : Operation → Bool
 is_plain o = is_load o || is_store o
 
 -- In some run by interleaving, the next instruction of thread q is a load or a store of a location, which the next instruction of

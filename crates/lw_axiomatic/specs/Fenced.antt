@@ -9,30 +9,30 @@ use Rattle.lw_litmus.specs.Tests.{X86Test}
 use Rattle.lw_axiomatic.specs.Executions.{MemoryEvent, Execution, operation_is, location, Writes, Po, Rf, Co, Fr}
 
 module _ (test : X86Test) (x : Execution) where
-  -- a store and a load behind it in its thread
+  -- The event a is a store, and b a later load of its thread.
   pub record AreStoreAndLoad (a b : MemoryEvent) : Type 0 where
     pub po : Po x a b
     pub store : operation_is x86_language test is_store a ≡ true
     pub load : operation_is x86_language test is_load b ≡ true
 
-  -- between two events of a thread stands what waits for an empty store buffer: a fence or a locked instruction
+  -- A fence or a locked instruction is between two events of a thread.
   abbrev pub HasFenceBetween : MemoryEvent → MemoryEvent → Type 0
   HasFenceBetween a b = (f : MemoryEvent) × Po x a f × Po x f b × (operation_is x86_language test needs_empty_buffer f ≡ true)
 
-  -- between every store and every load behind it in its thread there is a fence or a locked instruction
+  -- A fence or a locked instruction is between every store and every later load of its thread.
   abbrev pub IsFenced : Type 0
   IsFenced = (a b : MemoryEvent) → AreStoreAndLoad a b → HasFenceBetween a b
 
-  -- no other thread of the execution writes the location that this event, a load, reads
+  -- No other thread of the execution writes the location that this load reads.
   abbrev pub IsOfOneThread : MemoryEvent → Type 0
   IsOfOneThread b = (c : MemoryEvent) (l : ℕ) → location x86_language test b ≡ Some l → Writes x86_language test x c l → c.thread ≡ b.thread
 
-  -- between stores and loads there is a fence, unless no other thread writes what the load reads
+  -- A fence is between every store and every later load of its thread, unless no other thread writes what the load reads.
   abbrev pub IsFencedWhereShared : Type 0
   IsFencedWhereShared = (a b : MemoryEvent) → AreStoreAndLoad a b → HasFenceBetween a b ⊎ IsOfOneThread b
 
-  -- If a load reads what was there before another thread's write, there is a fence between it and each store before it in its
-  -- thread. This is of executions; the triangular races of runs by interleaving are in Races.
+  -- If a load reads a word that another thread's write overwrites, there is a fence between it and each earlier store of its thread. This
+  -- is a property of executions; the triangular races of runs by interleaving are in Races.
   abbrev pub IsFencedWhereOverwritten : Type 0
   IsFencedWhereOverwritten =
       (a b c : MemoryEvent) → AreStoreAndLoad a b → Fr x86_language test x b c → b.thread ≢ c.thread → HasFenceBetween a b
@@ -45,10 +45,10 @@ module _ (test : X86Test) (x : Execution) where
         → ⊥
     pub after_initial : (r v : MemoryEvent) → operation_is x86_language test is_locked r ≡ true → x.rf r ≡ None → Co x86_language test x v r → ⊥
 
--- ---- on the paths of a code
+-- ---- On the paths of a code.
 
 module _ (code : List Instr) (path : List ℕ) (i j : ℕ) where
-  -- on this path there is a store at i, and behind it at j this load
+  -- On this path there is a store at i, and this load later at j.
   pub record AreOnPath (load : Instr) : Type 0 where
     pub path_is : IsFlowPathFrom x86_language code 0 path
     pub on_path : Contains path i
@@ -60,7 +60,7 @@ module _ (code : List Instr) (path : List ℕ) (i j : ℕ) where
     pub stores : is_store (x86_operation store) ≡ true
     pub loads : is_load (x86_operation load) ≡ true
 
-  -- between the positions i and j of the path stands an instruction that waits for an empty store buffer
+  -- Between the positions i and j of the path there is an instruction that needs an empty store buffer.
   pub record HasFenceOnPath : Type 0 where
     pub index_in : ℕ
     pub on_path : Contains path index_in
@@ -70,20 +70,20 @@ module _ (code : List Instr) (path : List ℕ) (i j : ℕ) where
     pub at : slice_get code index_in ≡ Some fence
     pub is : needs_empty_buffer (x86_operation fence) ≡ true
 
--- no thread but t has an instruction that writes the location that this load of t reads
+-- No thread except t has an instruction that writes the location of this load of t.
 abbrev pub IsLocationOnlyWrittenBy : X86Test → ℕ → Instr → Type 0
 IsLocationOnlyWrittenBy test t load =
     (u k l : ℕ) (c : Instr) → slice_get (thread_code test.threads u) k ≡ Some c → writes (x86_operation c) ≡ true
     → location_of (x86_operation c) ≡ Some l → location_of (x86_operation load) ≡ Some l → u ≡ t
 
--- On each path of each thread a fence or a locked instruction stands between each store and each load behind it.
+-- On each path of each thread a fence or a locked instruction is between each store and each later load.
 abbrev pub IsFencedInAllThreads : X86Test → Type 0
 IsFencedInAllThreads test =
     (t : ℕ) (path : List ℕ) (i j : ℕ) (load : Instr) → AreOnPath (thread_code test.threads t) path i j load
     → HasFenceOnPath (thread_code test.threads t) path i j
 
--- On each path a fence or a locked instruction stands between each store and each load behind it, but of what no other thread has
--- an instruction to write.
+-- On each path a fence or a locked instruction is between each store and each later load, unless no instruction of another thread writes
+-- what the load reads.
 abbrev pub IsFencedWhereOthersWrite : X86Test → Type 0
 IsFencedWhereOthersWrite test =
     (t : ℕ) (path : List ℕ) (i j : ℕ) (load : Instr) → AreOnPath (thread_code test.threads t) path i j load

@@ -1,6 +1,5 @@
--- Runs of a test by interleaving, of either language: some thread's next statement at a time, on one memory, without store
--- buffers.
--- The source is Lamport ('How to make a multiprocessor computer that correctly executes multiprocess programs', 1979).
+-- Runs of a test by interleaving, of either language: at each step one thread executes its next statement, on one memory, without store
+-- buffers. The source is Lamport ('How to make a multiprocessor computer that correctly executes multiprocess programs', 1979).
 use Rattle.std.specs.Prelude.{◌≡◌, ℕ, ◌≤◌, Some, List, [], ◌∷◌, length, map, slice_get}
 use Rattle.std.specs.Prelude.{slice_set}
 use Rattle.lw_base.specs.Changes.{word_or_zero, apply_change_if_some}
@@ -12,24 +11,28 @@ use Rattle.lw_litmus.specs.Operations.{location_of, written_change}
 use Rattle.lw_litmus.specs.Tests.{Test}
 use Rattle.lw_axiomatic.specs.ThreadStates.{ThreadState, first_state, state_after}
 
-pub record Interleaved : Type 0 where  -- the threads, and one map from locations to words
+-- The state of a run: the threads, and the word of each location.
+pub record Interleaved : Type 0 where
   pub threads : List ThreadState
   pub words : List ℕ
 
-abbrev pub read_value : Operation → List ℕ → ℕ  -- the word that an operation finds at its location
+-- The word that an operation finds at its location.
+abbrev pub read_value : Operation → List ℕ → ℕ
 read_value o words = word_or_zero (location_of o) words
 
-abbrev pub words_after : Operation → List ℕ → List ℕ → List ℕ  -- the memory after an operation of a thread with these registers
+-- The memory after an operation of a thread with these registers.
+abbrev pub words_after : Operation → List ℕ → List ℕ → List ℕ
 words_after o regs words = apply_change_if_some (location_of o) (written_change o regs) words
 
-abbrev pub after : ℕ → ThreadState → Operation → Interleaved → Interleaved  -- after an operation of thread t
+-- The state after an operation of thread t.
+abbrev pub after : ℕ → ThreadState → Operation → Interleaved → Interleaved
 after t th o s = record {
   threads = slice_set s.threads t (state_after o th (read_value o s.words));
   words = words_after o th.regs s.words;
 }
 
 module _ {S : Type 0} (language : Language S) where
-  -- Thread t does its next statement.
+  -- Thread t executes its next statement.
   pub record IsStep (program : List (List S)) (t : ℕ) (s next : Interleaved) : Type 0 where
     pub thread : ThreadState
     pub statement : S
@@ -37,12 +40,13 @@ module _ {S : Type 0} (language : Language S) where
     pub at : slice_get (thread_code program t) thread.position ≡ Some statement
     pub is : next ≡ after t thread (language.operation_of statement) s
 
-  -- The threads of the order do a step each, one after another.
+  -- The threads of the order execute a step each, in sequence.
   abbrev pub InterleavedRunsTo : List (List S) → List ℕ → Interleaved → Interleaved → Type 0
   InterleavedRunsTo program [] s end = end ≡ s
   InterleavedRunsTo program (t ∷ order) s end = (mid : Interleaved) × IsStep program t s mid × InterleavedRunsTo program order mid end
 
-  abbrev pub IsEnd : List (List S) → Interleaved → Type 0  -- all threads are at their ends
+  -- All threads have terminated.
+  abbrev pub IsEnd : List (List S) → Interleaved → Type 0
   IsEnd program s = (t : ℕ) (th : ThreadState) → slice_get s.threads t ≡ Some th → length (thread_code program t) ≤ th.position
 
   module _ (test : Test S) where
@@ -55,5 +59,6 @@ module _ {S : Type 0} (language : Language S) where
       pub final : IsEnd test.threads end
       pub is : o ≡ record { regs = map (λ (th : ThreadState). th.regs) end.threads; words = end.words }
 
-    abbrev pub InterleavingOutcome : FinalState → Type 0  -- Some list of threads leads there.
+    -- Some sequence of threads leads to the outcome.
+    abbrev pub InterleavingOutcome : FinalState → Type 0
     InterleavingOutcome o = (order : List ℕ) × InterleavedOutcome order o

@@ -11,14 +11,14 @@ use Rattle.lw_axiomatic.specs.Interleavings.{Interleaved, IsStep, InterleavedRun
 use Rattle.lw_axiomatic.specs.ThreadStates.{ThreadState}
 
 module _ (test : X86Test) where
-  -- a run in which thread q does nothing that waits for an empty store buffer: no fence, and no locked instruction
+  -- A run in which thread q executes no fence and no locked instruction.
   abbrev pub RunsToWithoutBarrier : ℕ → List ℕ → Interleaved → Interleaved → Type 0
   RunsToWithoutBarrier q [] s end = end ≡ s
   RunsToWithoutBarrier q (t ∷ order) s end =
       (mid : Interleaved) × (step : IsStep x86_language test.threads t s mid)
       × (t ≡ q → needs_empty_buffer (x86_operation step.statement) ≡ false) × RunsToWithoutBarrier q order mid end
 
-  -- the next instruction of thread t is of this kind, on this location
+  -- The next instruction of thread t passes the test, and is on this location.
   pub record IsNext (kind : Operation → Bool) (l t : ℕ) (s : Interleaved) : Type 0 where
     pub thread : ThreadState
     pub instruction : Instr
@@ -27,8 +27,8 @@ module _ (test : X86Test) where
     pub is : kind (x86_operation instruction) ≡ true
     pub on : location_of (x86_operation instruction) ≡ Some l
 
-  -- In some run by interleaving, thread q has done a store, and since then nothing that waits; and now its next instruction is
-  -- a load of another location, which the next instruction of another thread p writes.
+  -- In some run by interleaving, thread q has executed a store, and since then no fence and no locked instruction; and now its next
+  -- instruction is a load of another location, which the next instruction of another thread p writes.
   pub record HasTriangularRace : Type 0 where
     pub q : ℕ
     pub p : ℕ

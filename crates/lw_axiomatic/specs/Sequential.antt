@@ -1,6 +1,6 @@
--- Sequentially consistent executions of a test, of either language, and their outcomes.
--- The source is Lamport ('How to make a multiprocessor computer that correctly executes multiprocess programs', 1979), as the
--- axiom of herd's sc.cat: program order, reads-from, coherence order and from-reads together go round in no cycle.
+-- Sequentially consistent executions of a test, of either language, and their outcomes. The source is Lamport ('How to make a
+-- multiprocessor computer that correctly executes multiprocess programs', 1979), as the axiom of herd's sc.cat: program order, reads-from,
+-- coherence order and from-reads together are acyclic.
 use Rattle.std.specs.Prelude.{◌⊎◌}
 use Rattle.lw_base.specs.Outcomes.{FinalState}
 use Rattle.lw_litmus.specs.Languages.{Language}
@@ -11,7 +11,7 @@ use Rattle.lw_axiomatic.specs.Axioms.{Acyclic}
 
 module _ {S : Type 0} (language : Language S) (test : Test S) where
   module _ (x : Execution) where
-    -- program order, and what threads see of each other
+    -- Program order, and the communication of threads: reads-from, coherence order and from-reads.
     abbrev pub ScOrder : MemoryEvent → MemoryEvent → Type 0
     ScOrder a b = Po x a b ⊎ (Rf language test x a b ⊎ (Co language test x a b ⊎ Fr language test x a b))
 

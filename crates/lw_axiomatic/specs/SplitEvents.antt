@@ -1,7 +1,5 @@
--- The same axioms as herd has them: a locked instruction is two events, its read and then its write, with an axiom of their
--- own.
--- The source is herd's x86tso.cat: `empty rmw & (fre;coe)`, and `implied`, by which all of program order to and from a locked
--- instruction is kept.
+-- The axioms in herd's form: a locked instruction is two events, its read followed by its write, with an axiom of their own. The source is
+-- herd's x86tso.cat: `empty rmw & (fre;coe)`, and `implied`, by which all of program order to and from a locked instruction is preserved.
 use Rattle.std.specs.Prelude.{◌≡◌, ◌≢◌, ℕ, ◌<◌, ◌||◌, ◌&&◌, ◌⊎◌, Bool, true, false, not}
 use Rattle.std.specs.Option.{ForSome}
 use Rattle.std.specs.Prelude.{Some}
@@ -14,71 +12,76 @@ use Rattle.lw_axiomatic.specs.Executions.{MemoryEvent, Execution, IsEvent, Reads
 use Rattle.lw_axiomatic.specs.Candidates.{IsCandidate}
 use Rattle.lw_axiomatic.specs.Axioms.{Acyclic}
 
-pub record Half : Type 0 where  -- of a locked instruction its read, or second its write; of another event itself
+-- The read or, second, the write of a locked instruction; any other event itself.
+pub record Half : Type 0 where
   pub event : MemoryEvent
   pub is_second : Bool
 
 module _ (test : X86Test) (x : Execution) where
-  abbrev pub IsHalf : Half → Type 0  -- only locked instructions have a second half
+  -- Only locked instructions have a second half.
+  abbrev pub IsHalf : Half → Type 0
   IsHalf h = IsEvent x h.event × (h.is_second ≡ true → operation_is x86_language test is_locked h.event ≡ true)
 
-  abbrev pub HalfReads : Half → ℕ → Type 0  -- the first half of what reads the location
+  -- The half is the first of an event that reads the location.
+  abbrev pub HalfReads : Half → ℕ → Type 0
   HalfReads h l = Reads x86_language test x h.event l × (h.is_second ≡ false)
 
-  abbrev pub HalfWrites : Half → ℕ → Type 0  -- a store to the location, or the second half of a locked instruction
+  -- The half is a store to the location, or the second half of a locked instruction.
+  abbrev pub HalfWrites : Half → ℕ → Type 0
   HalfWrites h l = Writes x86_language test x h.event l × (h.is_second ≡ operation_is x86_language test is_locked h.event)
 
-  abbrev pub AreHalves : Half → Half → Type 0  -- the read and the write of one locked instruction
+  -- The halves are the read and the write of one locked instruction.
+  abbrev pub AreHalves : Half → Half → Type 0
   AreHalves a b = IsHalf a × IsHalf b × (a.event ≡ b.event) × (a.is_second ≡ false) × (b.is_second ≡ true)
 
-  -- program order of halves, in which a locked instruction's read comes before its write
+  -- Program order of halves, in which a locked instruction's read comes before its write.
   abbrev pub HalvesPo : Half → Half → Type 0
   HalvesPo a b = (IsHalf a × IsHalf b × Po x a.event b.event) ⊎ AreHalves a b
 
-  -- reads-from of halves: from what writes to what reads
+  -- Reads-from of halves.
   abbrev pub HalvesRf : Half → Half → Type 0
   HalvesRf w r = (l : ℕ) × HalfWrites w l × HalfReads r l × (x.rf r.event ≡ Some w.event)
 
-  -- coherence order of halves that write
+  -- Coherence order of halves that write.
   abbrev pub HalvesCo : Half → Half → Type 0
   HalvesCo w v = (l : ℕ) × HalfWrites w l × HalfWrites v l × (x.co w.event < x.co v.event)
 
-  -- from-reads of halves: from what reads to a write behind the one that it reads from
+  -- From-reads of halves: to a write later in coherence order than the one that is read from.
   abbrev pub HalvesFr : Half → Half → Type 0
   HalvesFr r w = (l : ℕ) × HalfReads r l × HalfWrites w l × ForSome (x.rf r.event) (λ v. x.co v < x.co w.event)
 
-  -- program order of halves on one location
+  -- Program order of halves on one location.
   abbrev pub HalvesPoLoc : Half → Half → Type 0
   HalvesPoLoc a b = HalvesPo a b × (l : ℕ) × (location x86_language test a.event ≡ Some l) × (location x86_language test b.event ≡ Some l)
 
-  -- a half that reads: a load, or the first half of a locked instruction
+  -- Tests whether a half reads: a load, or the first half of a locked instruction.
   abbrev pub reads_first : Half → Bool
   reads_first h = operation_is x86_language test reads h.event && not h.is_second
 
-  -- a half that writes: a store, or the second half of a locked instruction
+  -- Tests whether a half writes: a store, or the second half of a locked instruction.
   abbrev pub writes_last : Half → Bool
   writes_last h = operation_is x86_language test operations.writes h.event && (not (operation_is x86_language test is_locked h.event) || h.is_second)
 
-  -- a half that is in order with all others of its thread: a fence, or a half of a locked instruction
+  -- Tests whether a half is ordered with all others of its thread: a fence, or a half of a locked instruction.
   abbrev pub holds_all : Half → Bool
   holds_all h = operation_is x86_language test is_fence h.event || operation_is x86_language test is_locked h.event
 
-  -- preserved program order of halves: the first reads, the second writes, or one is a fence or of a locked instruction
+  -- Preserved program order of halves: the first reads, the second writes, or one is a fence or a half of a locked instruction.
   abbrev pub HalvesPpo : Half → Half → Type 0
   HalvesPpo a b = HalvesPo a b × ((reads_first a || (writes_last b || (holds_all a || holds_all b))) ≡ true)
 
-  -- the halves are of two threads
+  -- The halves are of two threads.
   abbrev pub AreOfTwoThreads : Half → Half → Type 0
   AreOfTwoThreads a b = a.event.thread ≢ b.event.thread
 
-  -- The axioms by halves: coherence, atomicity and global happens-before.
+  -- The axioms of halves: coherence, atomicity and global happens-before.
   pub record SatisfiesSplitAxioms : Type 0 where
     pub coherence : Acyclic (λ a b. HalvesPoLoc a b ⊎ (HalvesRf a b ⊎ (HalvesCo a b ⊎ HalvesFr a b)))
-    -- atomicity: no write of another thread comes between the two halves
+    -- Atomicity: no write of another thread comes between the two halves.
     pub atomic : (r w v : Half) → AreHalves r w → HalvesFr r v → AreOfTwoThreads r v → HalvesCo v w → AreOfTwoThreads v w → ⊥
     pub happens_before : Acyclic (λ a b. HalvesPpo a b ⊎ ((HalvesRf a b × AreOfTwoThreads a b) ⊎ (HalvesCo a b ⊎ HalvesFr a b)))
 
--- Some execution of the test with this outcome keeps the axioms by halves.
+-- Some execution of the test with this outcome satisfies the axioms of halves.
 pub record IsAllowedBySplitAxioms (test : X86Test) (o : FinalState) : Type 0 where
   pub execution : Execution
   pub candidate : IsCandidate x86_language test execution o

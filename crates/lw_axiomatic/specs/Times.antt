@@ -1,6 +1,6 @@
--- Executions with times: one order in which instructions are done and reach memory.
--- The source is Owens, Sarkar and Sewell ('A better x86 memory model: x86-TSO', TPHOLs 2009), and the axiom of values in
--- SPARC's Architecture Manual, version 8: a read has the word of the newest write that is before it in memory or in its thread.
+-- Executions with times: one order in which instructions execute and reach memory. The source is Owens, Sarkar and Sewell ('A better x86
+-- memory model: x86-TSO', TPHOLs 2009), and the axiom of values in SPARC's Architecture Manual, version 8: a read has the word of the
+-- newest write that is before it in memory or in its thread.
 use Rattle.std.specs.Prelude.{◌≡◌, ℕ, ◌<◌, ◌≤◌, ◌⊎◌, true, false, Option, Some, None}
 use Rattle.lw_litmus.specs.Operations.{is_store}
 use Rattle.lw_litmus.specs.Programs.{x86_language}
@@ -8,20 +8,20 @@ use Rattle.lw_litmus.specs.Tests.{X86Test}
 use Rattle.lw_axiomatic.specs.Executions.{MemoryEvent, Execution, operation_is, IsEvent, Reads, Writes, Po, Co, Ppo}
 
 module _ (x : Execution) (done reached : MemoryEvent → ℕ) where
-  -- w has reached memory when r is done, or is before it in its own thread
+  -- The write w has reached memory when r executes, or is before it in its own thread.
   abbrev pub IsBefore : MemoryEvent → MemoryEvent → Type 0
   IsBefore w r = (reached w < done r) ⊎ Po x w r
 
 module _ (test : X86Test) (x : Execution) (done reached : MemoryEvent → ℕ) where
-  -- of the writes to l that are before r, this is the last to reach memory; None: there is none
+  -- This is the last to reach memory of the writes to l that are before r; `None` if there are none.
   abbrev pub IsNewest : MemoryEvent → ℕ → Option MemoryEvent → Type 0
   IsNewest r l None = (w : MemoryEvent) → Writes x86_language test x w l → IsBefore x done reached w r → ⊥
   IsNewest r l (Some v) =
       Writes x86_language test x v l × IsBefore x done reached v r
       × ((w : MemoryEvent) → Writes x86_language test x w l → IsBefore x done reached w r → reached w ≤ reached v)
 
-  -- Each thread's instructions are done in their order; a store reaches memory later, all else when it is done; what preserved
-  -- program order and coherence order say is so in memory; and each read has its newest write.
+  -- Each thread's instructions execute in their order; a store reaches memory later, everything else when it executes; preserved program
+  -- order and coherence order hold in memory; and each read has its newest write.
   pub record HasConsistentTimes : Type 0 where
     pub po : (a b : MemoryEvent) → Po x a b → done a < done b
     pub later : (e : MemoryEvent) → IsEvent x e → operation_is x86_language test is_store e ≡ true → done e < reached e
@@ -31,7 +31,7 @@ module _ (test : X86Test) (x : Execution) (done reached : MemoryEvent → ℕ) w
     pub apart : (a b : MemoryEvent) → IsEvent x a → IsEvent x b → reached a ≡ reached b → a ≡ b
     pub newest : (r : MemoryEvent) (l : ℕ) → Reads x86_language test x r l → IsNewest r l (x.rf r)
 
--- an execution has times: when each event is done, and when it reaches memory
+-- The execution has times: when each event executes, and when it reaches memory.
 pub record HasTimes (test : X86Test) (x : Execution) : Type 0 where
   pub done : MemoryEvent → ℕ
   pub reached : MemoryEvent → ℕ

@@ -1,5 +1,5 @@
-//! Laws for those who come from herd: where the definitions have other words than herd's, they say the same.
-//! A law is a function without a result, whose contract is the law.
+//! Laws that relate the definitions to herd's, which use other words. A law is a function without a result, whose
+//! contract states the law.
 ghost use Rattle.std.specs.Prelude.{◌≡◌, ◌↔◌, ℕ, ◌<◌, Bool, true, nat_lt};
 ghost use Rattle.lw_axiomatic.specs.Axioms.{Coherence, GlobalHappensBefore, OnOneLocation, HappensBefore};
 ghost use Rattle.lw_axiomatic.specs.Axioms.{SatisfiesAxioms, IsAllowed};
@@ -14,8 +14,8 @@ ghost use Rattle.lw_litmus.specs.Programs.{x86_language};
 ghost use Rattle.lw_litmus.specs.Sources.{source_language};
 ghost use Rattle.lw_litmus.specs.Tests.{SourceTest, X86Test};
 
-/// That events can be numbered so that each pair of an axiom's relations goes up says the same as that no walk along them leads
-/// back.
+/// States that the relations of an axiom are acyclic if and only if some numbering of the events increases along
+/// them.
 pub fn acyclic_is_without_cycles()
     ensures coherence { (test : X86Test) (x : Execution) → Coherence test x ↔ HasNoCycle (OnOneLocation test x) }
     ensures happens_before { (test : X86Test) (x : Execution)
@@ -26,15 +26,16 @@ pub fn acyclic_is_without_cycles()
         → IsSequentiallyConsistent source_language test x ↔ HasNoCycle (ScOrder source_language test x) }
 {}
 
-/// A locked instruction as one event, which reads and writes, is the same as two with the axiom that no write of another thread
-/// comes between them: of every candidate execution, and so of the outcomes.
+/// States that a locked instruction as one event, which reads and writes, is equivalent to two events with the axiom
+/// that no write of another thread comes between them: for every candidate execution, and so for the outcomes.
 pub fn locked_instructions_can_be_two_events()
     ensures executions { (test : X86Test) (x : Execution) (o : FinalState) → IsCandidate x86_language test x o
         → SatisfiesAxioms test x ↔ SatisfiesSplitAxioms test x }
     ensures outcomes { (test : X86Test) (o : FinalState) → IsAllowed test o ↔ IsAllowedBySplitAxioms test o }
 {}
 
-/// Coherence order by ranks is a total order of each location's writes, and each such order has ranks.
+/// States that coherence order by ranks is a total order of each location's writes, and that each such order has
+/// ranks.
 pub fn coherence_ranks_are_total_orders()
     ensures orders { (test : X86Test) (x : Execution) (o : FinalState) → IsCandidate x86_language test x o
         → IsCoherenceOrder x86_language test x (λ w v. nat_lt (x.co w) (x.co v)) }

@@ -1,5 +1,5 @@
-//! The theorem on the axiomatic model of x86-TSO, and what it says of the workbench.
-//! A law is a function without a result, whose contract is the law; who needs it calls the function.
+//! The theorem on the axiomatic model of x86-TSO, and its consequences for the workbench. A law is a function without
+//! a result, whose contract states the law. A proof uses the law by calling the function.
 ghost use Rattle.std.specs.Prelude.{◌↔◌, ℕ, List};
 ghost use Rattle.lw_axiomatic.specs.Axioms.{IsAllowed};
 ghost use Rattle.lw_axiomatic.specs.Interleavings.{InterleavingOutcome};
@@ -27,8 +27,9 @@ use lw_bench::{a_text_has_one_test, what_a_text_says_is_well_formed};
 use lw_finals::x86_outcomes_are_those_of_choices;
 use lw_tso_caches::{outcomes_over_caches_are_flat, replays_over_caches_are_flat};
 
-/// The theorem: the outcomes of a well-formed x86 test on the machine, store buffers over flat memory, are exactly those that
-/// the axioms allow; and so they are over caches of each protocol that hold nothing at the start, evictions at any time.
+/// States the theorem: the outcomes of a well-formed x86 test on the machine, with store buffers over flat memory,
+/// are exactly those that the axioms allow. The same holds over caches of each protocol, empty at the start, with
+/// evictions at any time.
 pub fn the_machine_is_what_the_axioms_allow()
     ensures flat_memory { (test : X86Test) (o : FinalState) → IsWellFormedProgram test
         → IsMachineOutcome flat_memory test test.head.init_words o ↔ IsAllowed test o }
@@ -40,8 +41,8 @@ pub fn the_machine_is_what_the_axioms_allow()
     replays_over_caches_are_flat();
 }
 
-/// The outcomes of a well-formed source test, by interleaving on one memory, are exactly those that the axioms of x86-TSO allow
-/// its compiled program.
+/// States that the outcomes of a well-formed source test, by interleaving on one memory, are exactly those that the
+/// axioms of x86-TSO allow its compiled program.
 pub fn compiled_programs_are_what_the_axioms_allow()
     ensures { (test : SourceTest) (program : X86Test) (starts : List (List ℕ)) (o : FinalState) → IsWellFormedSource test
         → IsCompiled test program starts → SourceOutcome test o ↔ IsAllowed program o }
@@ -49,9 +50,9 @@ pub fn compiled_programs_are_what_the_axioms_allow()
     the_machine_is_what_the_axioms_allow();
 }
 
-/// The outcomes of a well-formed test by interleaving on one memory are exactly those of its sequentially consistent
-/// executions: program order, reads-from, coherence order and from-reads together go round in no cycle. So it is of source
-/// tests, and of x86 tests, where each instruction is then done at once on one memory.
+/// States that the outcomes of a well-formed test by interleaving on one memory are exactly those of its sequentially
+/// consistent executions, in which program order, reads-from, coherence order and from-reads together are acyclic.
+/// This holds of source tests, and of x86 tests whose instructions take effect at once on one memory.
 pub fn interleaving_outcomes_are_sequential()
     ensures source { (test : SourceTest) (o : FinalState) → IsWellFormedSource test
         → SourceOutcome test o ↔ IsScOutcome source_language test o }
@@ -59,9 +60,9 @@ pub fn interleaving_outcomes_are_sequential()
         → InterleavingOutcome x86_language test o ↔ IsScOutcome x86_language test o }
 {}
 
-/// What `lw states` prints of the text of a test is exactly the report of the outcomes that the axioms allow, where the test is
-/// within the limits of lists: those of an x86 test itself, and those of a source test's compiled program, which are the ones
-/// of the source test's sequentially consistent executions.
+/// States that `lw states` prints, of the text of a test within the limits of lists, exactly the report of the
+/// outcomes that the axioms allow: those of an x86 test itself, and those of a source test's compiled program, which
+/// are the outcomes of the source test's sequentially consistent executions.
 pub fn states_prints_what_the_axioms_allow()
     ensures x86 { (text made : Bytes) (test : X86Test) → HasTest text (Of_x86 test)
         → IsOutputOf IsStatesReport text made ↔ (IsWithinListLimits (Of_x86 test) × IsReport test.head (IsAllowed test) Exact made) }

@@ -1,15 +1,14 @@
-//! The axiomatic model of x86-TSO: which executions of a test are allowed, by relations between their events. Its theorem is
-//! that of a well-formed test the axioms allow exactly the outcomes of the machine.
-//!
-//! There is no code here. `specs/` has the definitions: executions and candidates (of tests of either language), the axioms of
-//! x86-TSO and of sequential consistency, the same in other words, runs by interleaving, and fences; nothing of the machine is
-//! named there. `laws` has the theorem, `herd` what those who come from herd look for, `times` the same model by times in place
-//! of relations, `programs` what follows for those who program, and `examples` classic tests.
-//!
-//! It names lw_base, of lw_litmus the tests of both languages, and of lw_tso what it is to insert an MFENCE into a code. Its
-//! laws and proofs name lw_interleaving, lw_memory, lw_mesi, lw_tso and lw_tso_caches, whose outcomes they speak of; lw_fence, of
-//! what a source test is compiled to; lw_orders, lw_paths and lw_finals, by whose orders of items the theorem is proved; and
-//! lw_report and lw_bench, of what `lw states` prints. Nothing of the program stands on it.
+//! The axiomatic model of x86-TSO: which executions of a test are allowed, by relations between their events. Its
+//! theorem: the axioms allow exactly the outcomes that a well-formed test has on the machine.
+//! There is no code here. `specs/` has the definitions: executions and candidates (of tests of either language), the
+//! axioms of x86-TSO and of sequential consistency, equivalent forms, runs by interleaving, and fences; they do not
+//! name the machine. `laws` has the theorem, `herd` the relation to herd's definitions, `times` the same model by
+//! times in place of relations, `programs` consequences for programmers, and `examples` classic tests.
+//! This crate depends on lw_base, on the tests of both languages in lw_litmus, and on the insertion of an MFENCE into
+//! a code in lw_tso. Its laws and proofs name lw_interleaving, lw_memory, lw_mesi, lw_tso and lw_tso_caches, whose
+//! outcomes they relate; lw_fence, for the compiled program of a source test; lw_orders, lw_paths and lw_finals, by
+//! whose orders of items the theorem is proved; and lw_report and lw_bench, for the output of `lw states`. The
+//! program does not depend on this crate.
 #![tactic(auto)]
 
 mod examples;

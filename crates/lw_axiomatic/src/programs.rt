@@ -1,5 +1,4 @@
-//! What follows from the axioms for those who program.
-//! A law is a function without a result, whose contract is the law.
+//! Consequences of the axioms for programmers. A law is a function without a result, whose contract states the law.
 ghost use Rattle.std.specs.Prelude.{◌≡◌, ◌↔◌, ◌⊎◌, ℕ, true};
 ghost use Rattle.lw_axiomatic.specs.Axioms.{Acyclic, SatisfiesAxioms, IsAllowed};
 ghost use Rattle.lw_axiomatic.specs.Candidates.{IsCandidate};
@@ -28,9 +27,9 @@ use crate::laws::{interleaving_outcomes_are_sequential, the_machine_is_what_the_
 use crate::times::executions_have_times;
 use lw_tso::{fences_only_take_outcomes_away, tests_without_fences_are_well_formed};
 
-/// Two accesses of a thread to one location, in program order: two writes are so in coherence order; a read reads from the
-/// write before it, or from one behind that; what a read reads from comes before a write behind it; and of two reads the second
-/// reads from nothing older.
+/// States, of two accesses of a thread to one location in program order: two writes are in this order in coherence
+/// order; a read reads from the write before it, or from one later in coherence order; what a read reads from comes
+/// before a later write; and the second of two reads reads from nothing older.
 pub fn accesses_of_one_location_are_coherent()
     ensures co_ww { (test : X86Test) (x : Execution) (o : FinalState) → IsCandidate x86_language test x o → SatisfiesAxioms test x
         → CoWW test x }
@@ -42,9 +41,9 @@ pub fn accesses_of_one_location_are_coherent()
         → CoRR test x }
 {}
 
-/// A locked instruction is atomic: no write comes in coherence order between what it reads, a write or the initial word, and what
-/// it writes. So no two locked instructions read the same write, and no two read the initial word of one location: of all threads
-/// that exchange with a free lock, at most one takes it.
+/// States that a locked instruction is atomic: no write comes in coherence order between what it reads, a write or
+/// the initial word, and what it writes. So no two locked instructions read the same write, and no two read the
+/// initial word of one location: of all threads that exchange with a free lock, at most one takes it.
 pub fn locked_instructions_are_atomic()
     ensures between { (test : X86Test) (x : Execution) → SatisfiesAxioms test x → IsAtomic test x }
     ensures apart { (test : X86Test) (x : Execution) (o : FinalState) → IsCandidate x86_language test x o → SatisfiesAxioms test x
@@ -52,7 +51,7 @@ pub fn locked_instructions_are_atomic()
         → Reads x86_language test x r l → Reads x86_language test x s l → x.rf r ≡ x.rf s → r ≡ s }
 {}
 
-/// No word comes out of thin air: program order and reads-from make no cycle.
+/// States that no word comes out of thin air: program order and reads-from are acyclic together.
 pub fn no_word_comes_out_of_thin_air()
     ensures { (test : X86Test) (x : Execution) (o : FinalState) → IsWellFormedProgram test → IsCandidate x86_language test x o
         → SatisfiesAxioms test x → Acyclic (λ a b. Po x a b ⊎ Rf x86_language test x a b) }
@@ -60,15 +59,16 @@ pub fn no_word_comes_out_of_thin_air()
     executions_have_times();
 }
 
-/// Every sequentially consistent execution keeps the axioms: what interleaving can do, x86-TSO can.
+/// States that every sequentially consistent execution satisfies the axioms: x86-TSO has every outcome of
+/// interleaving.
 pub fn sequential_outcomes_are_allowed()
     ensures executions { (test : X86Test) (x : Execution) → IsSequentiallyConsistent x86_language test x → SatisfiesAxioms test x }
     ensures outcomes { (test : X86Test) (o : FinalState) → IsScOutcome x86_language test o → IsAllowed test o }
 {}
 
-/// An execution that keeps the axioms is sequentially consistent if a fence or a locked instruction is between each store and
-/// each later load of its thread that reads what was there before another thread's write. So an outcome is one of interleaving if
-/// this holds of every execution with it.
+/// States that an execution that satisfies the axioms is sequentially consistent if a fence or a locked instruction
+/// is between each store and each later load of its thread that reads a word that another thread's write overwrites.
+/// So an outcome is one of interleaving if this holds of every execution with it.
 pub fn executions_fenced_where_overwritten_are_sequential()
     ensures executions { (test : X86Test) (x : Execution) → IsWellFormedProgram test → SatisfiesAxioms test x
         → IsFencedWhereOverwritten test x → IsSequentiallyConsistent x86_language test x }
@@ -77,8 +77,8 @@ pub fn executions_fenced_where_overwritten_are_sequential()
         → IsAllowed test o → IsScOutcome x86_language test o }
 {}
 
-/// An execution is sequentially consistent if a fence or a locked instruction is between each store and each later load of its
-/// thread.
+/// States that an execution is sequentially consistent if a fence or a locked instruction is between each store and
+/// each later load of its thread.
 pub fn well_fenced_executions_are_sequential()
     ensures { (test : X86Test) (x : Execution) → IsWellFormedProgram test → SatisfiesAxioms test x → IsFenced test x
         → IsSequentiallyConsistent x86_language test x }
@@ -86,9 +86,10 @@ pub fn well_fenced_executions_are_sequential()
     executions_fenced_where_overwritten_are_sequential();
 }
 
-/// An execution is sequentially consistent if a fence or a locked instruction is between each store and each later load of its
-/// thread, except loads of locations that no other thread writes in the execution. This is a law of all loads at once: where
-/// another load lacks its fence, the one before such a load may be needed (`spare_fences_change_no_outcome`).
+/// States that an execution is sequentially consistent if a fence or a locked instruction is between each store and
+/// each later load of its thread, except loads of locations that no other thread writes in the execution. This is a
+/// law of all loads at once: if another load lacks its fence, the fence before such a load may be needed
+/// (`spare_fences_change_no_outcome`).
 pub fn executions_fenced_where_shared_are_sequential()
     ensures { (test : X86Test) (x : Execution) → IsWellFormedProgram test → SatisfiesAxioms test x → IsFencedWhereShared test x
         → IsSequentiallyConsistent x86_language test x }
@@ -96,8 +97,8 @@ pub fn executions_fenced_where_shared_are_sequential()
     executions_fenced_where_overwritten_are_sequential();
 }
 
-/// A test has exactly the outcomes of its sequentially consistent executions, and on the machine exactly those of interleaving, if
-/// on each path a fence or a locked instruction is between each store and each later load.
+/// States that a test has exactly the outcomes of its sequentially consistent executions, and on the machine exactly
+/// those of interleaving, if on each path a fence or a locked instruction is between each store and each later load.
 pub fn fenced_tests_have_sequential_outcomes()
     ensures axioms { (test : X86Test) (o : FinalState) → IsWellFormedProgram test → IsFencedInAllThreads test
         → IsAllowed test o ↔ IsScOutcome x86_language test o }
@@ -110,9 +111,9 @@ pub fn fenced_tests_have_sequential_outcomes()
     interleaving_outcomes_are_sequential();
 }
 
-/// A test has on the machine exactly the outcomes of interleaving, if on each path a fence or a locked instruction is between each
-/// store and each later load, except loads of what no other thread has an instruction to write. This is a law of all loads at once,
-/// as `executions_fenced_where_shared_are_sequential` is.
+/// States that a test has on the machine exactly the outcomes of interleaving, if on each path a fence or a locked
+/// instruction is between each store and each later load, except loads of locations that no instruction of another
+/// thread writes. This is a law of all loads at once, as `executions_fenced_where_shared_are_sequential` is.
 pub fn tests_fenced_where_others_write_are_interleaving()
     ensures axioms { (test : X86Test) (o : FinalState) → IsWellFormedProgram test → IsFencedWhereOthersWrite test
         → IsAllowed test o ↔ IsScOutcome x86_language test o }
@@ -125,10 +126,10 @@ pub fn tests_fenced_where_others_write_are_interleaving()
     interleaving_outcomes_are_sequential();
 }
 
-/// MFENCEs can be left out, one or several, and the outcomes stay exactly the same, if they are spare. For each store and each later
-/// load that one of them separates on a path, either another fence or a locked instruction, which stays, separates them too, or no
-/// other thread has an instruction that writes what the load reads. The laws above speak of all loads at once, this one of each
-/// fence by itself.
+/// States that spare MFENCEs can be removed, one or several, without any change of the outcomes. They are spare if
+/// for each store and each later load that one of them separates on a path, either another fence or a locked
+/// instruction, which remains, separates them too, or no instruction of another thread writes what the load reads.
+/// The laws above speak of all loads at once, this one of each fence by itself.
 pub fn spare_fences_change_no_outcome()
     ensures axioms { (test fenced : X86Test) (o : FinalState) (inserted : IsFencedTest test fenced) → IsTestName test.head.name
         → IsWellFormedProgram fenced → AreSpare test fenced inserted → IsAllowed test o ↔ IsAllowed fenced o }
@@ -144,9 +145,9 @@ pub fn spare_fences_change_no_outcome()
     the_machine_is_what_the_axioms_allow();
 }
 
-/// A test without a triangular race in any of its runs by interleaving has exactly the outcomes of interleaving: those that the
-/// axioms allow, and the machine's, over flat memory and over caches of each protocol. So who programs without triangular races
-/// may think of one memory.
+/// States that a test without a triangular race in any of its runs by interleaving has exactly the outcomes of
+/// interleaving: these are the outcomes that the axioms allow, and the machine's, over flat memory and over caches of
+/// each protocol. So without triangular races programmers may think of one memory.
 pub fn tests_without_triangular_races_are_interleaving()
     ensures axioms { (test : X86Test) (o : FinalState) → IsWellFormedProgram test → (HasTriangularRace test → ⊥)
         → IsAllowed test o ↔ InterleavingOutcome x86_language test o }
@@ -160,10 +161,11 @@ pub fn tests_without_triangular_races_are_interleaving()
     sequential_outcomes_are_allowed();
 }
 
-/// A test without a data race in any of its runs by interleaving has exactly the outcomes of interleaving: those that the axioms
-/// allow, and the machine's, over flat memory and over caches of each protocol. C++ and Java promise the same of their own
-/// notions of a data race (DRF-SC). The law of triangular races says more: of data races only those count in which a load follows a store
-/// of its thread to another location, with neither a fence nor a locked instruction between.
+/// States that a test without a data race in any of its runs by interleaving has exactly the outcomes of
+/// interleaving: these are the outcomes that the axioms allow, and the machine's, over flat memory and over caches of
+/// each protocol. C++ and Java promise the same of their own notions of a data race (DRF-SC). The law of triangular
+/// races is stronger: of data races it counts only those in which a load follows a store of its thread to another
+/// location, with neither a fence nor a locked instruction between.
 pub fn tests_without_data_races_are_interleaving()
     ensures axioms { (test : X86Test) (o : FinalState) → IsWellFormedProgram test → (HasDataRace test → ⊥)
         → IsAllowed test o ↔ InterleavingOutcome x86_language test o }
@@ -175,7 +177,7 @@ pub fn tests_without_data_races_are_interleaving()
     tests_without_triangular_races_are_interleaving();
 }
 
-/// Where an outcome is one of x86-TSO and none of interleaving, the test has a triangular race.
+/// States that a test has a triangular race if some outcome of x86-TSO is not one of interleaving.
 pub fn relaxed_outcomes_come_of_triangular_races()
     ensures { (test : X86Test) (o : FinalState) → IsWellFormedProgram test → IsAllowed test o
         → InterleavingOutcome x86_language test o ⊎ HasTriangularRace test }

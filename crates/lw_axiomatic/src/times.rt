@@ -1,5 +1,5 @@
-//! Laws of executions with times: the same model by one order in which instructions are done and reach memory.
-//! A law is a function without a result, whose contract is the law.
+//! Laws of executions with times: the same model by one order in which instructions execute and reach memory. A law
+//! is a function without a result, whose contract states the law.
 ghost use Rattle.std.specs.Prelude.{ℕ};
 ghost use Rattle.lw_axiomatic.specs.Axioms.{SatisfiesAxioms};
 ghost use Rattle.lw_axiomatic.specs.Candidates.{IsCandidate};
@@ -10,12 +10,12 @@ ghost use Rattle.lw_litmus.specs.Programs.{x86_language};
 ghost use Rattle.lw_litmus.specs.Tests.{X86Test};
 ghost use Rattle.lw_litmus.specs.WellFormedTests.{IsWellFormedProgram};
 
-/// An execution with times keeps the axioms.
+/// States that an execution with times satisfies the axioms.
 pub fn timed_executions_keep_the_axioms()
     ensures { (test : X86Test) (x : Execution) → IsWellFormedProgram test → HasTimes test x → SatisfiesAxioms test x }
 {}
 
-/// A candidate execution that keeps the axioms has times.
+/// States that a candidate execution that satisfies the axioms has times.
 pub fn executions_have_times()
     ensures { (test : X86Test) (x : Execution) (o : FinalState) → IsWellFormedProgram test → IsCandidate x86_language test x o
         → SatisfiesAxioms test x → HasTimes test x }

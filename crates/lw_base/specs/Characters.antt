@@ -1,4 +1,4 @@
--- The bytes that texts and schedules are made of.
+-- The characters of texts and schedules.
 use Prim.Native.String.{String}
 use Rattle.std.specs.Prelude.{◌≡◌, ◌≢◌, ℕ, ◌+◌, ◌==◌, ◌||◌, Bool, false, [], ◌∷◌, ◌++◌, codes, slice_index_or}
 use Rattle.std.specs.List.{list_any, AllByRecursion}
@@ -8,27 +8,35 @@ use Rattle.lw_base.specs.Types.{Bytes}
 abbrev pub byte : String → ℕ  -- the byte of a character, as `byte "a"`
 byte s = slice_index_or (codes s) 0 0
 
-abbrev pub digit : ℕ → ℕ  -- the digit of a number below 10
+-- The decimal digit of a number below 10.
+abbrev pub digit : ℕ → ℕ
 digit n = byte "0" + n
 
-abbrev pub is_blank : ℕ → Bool  -- whether a byte is a blank: space, tab, line feed, carriage return
+-- Tests whether a byte is blank: space, tab, line feed or carriage return.
+abbrev pub is_blank : ℕ → Bool
 is_blank b = list_any (λ c. c == b) (codes " \t\n\r")
 
-abbrev pub is_name_byte : ℕ → Bool  -- whether a byte is a letter, a digit or `_`
+-- Tests whether a byte is a letter, a digit or `_`.
+abbrev pub is_name_byte : ℕ → Bool
 is_name_byte b = is_ascii_alphanumeric b || b == byte "_"
 
-abbrev pub is_key_byte : ℕ → Bool  -- whether a byte may stand in a note's key: a letter, a digit, `_` or `-`
+-- Tests whether a byte may appear in a note's key: a letter, a digit, `_` or `-`.
+abbrev pub is_key_byte : ℕ → Bool
 is_key_byte b = is_name_byte b || b == byte "-"
 
-abbrev pub is_space : ℕ → Bool  -- whether a byte is a space or a tab
+-- Tests whether a byte is a space or a tab.
+abbrev pub is_space : ℕ → Bool
 is_space b = list_any (λ c. c == b) (codes " \t")
 
-abbrev pub DoesNotContain : ℕ → Bytes → Type 0  -- this byte is nowhere in the text
+-- The text does not contain this byte.
+abbrev pub DoesNotContain : ℕ → Bytes → Type 0
 DoesNotContain b text = AllByRecursion (λ c. c ≢ b) text
 
-abbrev pub IsSplitAtFirst : ℕ → Bytes → Bytes → Bytes → Type 0  -- The text is cut in two at the first such byte, which is in neither part.
+-- The text is the first part, this byte and the second part, and the first part does not contain the byte.
+abbrev pub IsSplitAtFirst : ℕ → Bytes → Bytes → Bytes → Type 0
 IsSplitAtFirst b text front rest = (text ≡ front ++ b ∷ rest) × DoesNotContain b front
 
-abbrev pub first_byte_is : (ℕ → Bool) → Bytes → Bool  -- whether the first byte of a text passes a test
+-- Tests whether a text has a first byte that passes a test.
+abbrev pub first_byte_is : (ℕ → Bool) → Bytes → Bool
 first_byte_is p [] = false
 first_byte_is p (b ∷ text) = p b

@@ -1,5 +1,4 @@
--- How conditions are printed.
--- The source is the format of the workbench, docs/FORMAT.md.
+-- The printed form of conditions, by docs/FORMAT.md.
 use Rattle.std.specs.Prelude.{ℕ, Bool, true, false, ◌||◌, if◌then◌else◌, ◌++◌, codes, slice_index_or, []}
 use Rattle.std.specs.Fmt.{decimal}
 use Rattle.lw_base.specs.Types.{Bytes, NameTable}
@@ -12,32 +11,39 @@ use Rattle.lw_base.specs.Formula.{Formula, Yes, No, Reg_is, Word_is, Not, And, O
 use Rattle.lw_base.specs.Heads.{TestHead}
 use Rattle.lw_base.specs.Registers.{register_name}
 
-abbrev pub site_text : Arch → NameTable → Seen → Bytes  -- a thread's register, as `0:EAX`, or a location's name
+-- The name of a thread's register, as in `0:EAX`, or of a location.
+abbrev pub site_text : Arch → NameTable → Seen → Bytes
 site_text arch names (Register t r) = decimal t ++ (codes ":" ++ register_name arch r)
 site_text arch names (Location x) = slice_index_or names x []
 
-abbrev pub assignment : Bytes → ℕ → Bytes  -- `name=word`
+-- The text `name=word`.
+abbrev pub assignment : Bytes → ℕ → Bytes
 assignment name word = name ++ (codes "=" ++ decimal word)
 
-abbrev pub parenthesized : Bytes → Bytes  -- a text between parentheses
+-- A text in parentheses.
+abbrev pub parenthesized : Bytes → Bytes
 parenthesized text = codes "(" ++ (text ++ codes ")")
 
-abbrev pub parenthesized_if : Bool → Bytes → Bytes  -- a text, between parentheses where they are needed
+-- A text, in parentheses if they are needed.
+abbrev pub parenthesized_if : Bool → Bytes → Bytes
 parenthesized_if needed text = if needed then parenthesized text else text
 
-abbrev pub is_and : Formula → Bool  -- whether its outermost connective is a `/\`
+-- Tests whether the outermost connective is a conjunction.
+abbrev pub is_and : Formula → Bool
 is_and (And p q) = true
 is_and p = false
 
-abbrev pub is_or : Formula → Bool  -- whether its outermost connective is a `\/`
+-- Tests whether the outermost connective is a disjunction.
+abbrev pub is_or : Formula → Bool
 is_or (Or p q) = true
 is_or p = false
 
-abbrev pub is_binary : Formula → Bool  -- whether it is either, so that it has two parts
+-- Tests whether the outermost connective is binary.
+abbrev pub is_binary : Formula → Bool
 is_binary p = is_and p || is_or p
 
--- A proposition. Parentheses stand round a `\/` that is a part of a `/\`, round a `/\` that is the right part of a `/\`,
--- round a `\/` that is the right part of a `\/`, and round either behind a `~`.
+-- The text of a proposition. Parentheses enclose a disjunction inside a conjunction, a conjunction that is the right operand of a
+-- conjunction, a disjunction that is the right operand of a disjunction, and either of the two after a `~`.
 abbrev pub proposition_text : Arch → NameTable → Formula → Bytes
 proposition_text arch names Yes = codes "true"
 proposition_text arch names No = codes "false"
@@ -52,11 +58,13 @@ proposition_text arch names (Or p q) =
     proposition_text arch names p
     ++ (codes " \\/ " ++ parenthesized_if (is_or q) (proposition_text arch names q))
 
-abbrev pub quantifier_text : Quant → Bytes  -- a quantifier, as it is printed
+-- The printed form of a quantifier.
+abbrev pub quantifier_text : Quant → Bytes
 quantifier_text Exists = codes "exists"
 quantifier_text NotExists = codes "~exists"
 quantifier_text Forall = codes "forall"
 
-abbrev pub condition_text : TestHead → Bytes  -- a head's condition: the quantifier, and the proposition in parentheses
+-- The text of a head's condition: the quantifier, and the proposition in parentheses.
+abbrev pub condition_text : TestHead → Bytes
 condition_text head =
     quantifier_text head.quant ++ (codes " " ++ parenthesized (proposition_text head.arch head.locs head.condition))

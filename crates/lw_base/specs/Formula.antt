@@ -1,7 +1,7 @@
--- What a condition asks of a final state. A processor, a register and a location are their numbers.
+-- Propositions over final states. Processors, registers and locations are their indices.
 use Rattle.std.specs.Prelude.{ℕ, ◌+◌, suc}
 
--- a proposition over final states: `true`, `false`, a register or a location with its word, and connectives
+-- A proposition over final states: true, false, a register or a location has a word, and the connectives.
 pub data Formula : Type 0 where
   Yes : Formula
   No : Formula
@@ -11,7 +11,8 @@ pub data Formula : Type 0 where
   And : (p q : Formula) → Formula
   Or : (p q : Formula) → Formula
 
-abbrev pub nodes : Formula → ℕ  -- how many atoms and connectives it has
+-- The number of atoms and connectives of a formula.
+abbrev pub nodes : Formula → ℕ
 nodes Yes = 1
 nodes No = 1
 nodes (Reg_is cpu reg word) = 1

@@ -1,4 +1,4 @@
--- What the head of a test says.
+-- The head of a test as plain data.
 use Rattle.std.specs.Prelude.{ℕ, ◌-◌, ◌++◌, List, length, replicate}
 use Rattle.lw_base.specs.Formula.{Formula}
 use Rattle.lw_base.specs.Propositions.{formula_of}
@@ -7,7 +7,8 @@ use Rattle.lw_base.specs.declared.head.Quant.{Quant}
 use Rattle.lw_base.specs.declared.head.Seen.{Seen}
 use Rattle.lw_base.specs.declared.head.Head.{Head}
 
-pub record TestHead : Type 0 where  -- what a head says; a name is its bytes, a location its index in the table
+-- The content of a head. A name is its bytes, a location its index in the table.
+pub record TestHead : Type 0 where
   pub name : List ℕ
   pub arch : Arch
   pub threads : ℕ
@@ -18,7 +19,8 @@ pub record TestHead : Type 0 where  -- what a head says; a name is its bytes, a 
   pub quant : Quant
   pub condition : Formula
 
-abbrev pub head_of : {A : Type 0} → Head A → TestHead  -- the head that a `Head` in memory is
+-- The content of a `Head` in memory.
+abbrev pub head_of : {A : Type 0} → Head A → TestHead
 head_of h =
     record {
       name = h.name;
@@ -32,7 +34,8 @@ head_of h =
       condition = formula_of h.prop;
     }
 
-abbrev pub set_location_names : TestHead → List (List ℕ) → TestHead  -- the head with a longer table; each new location begins with 0
+-- The head with a longer table. The initial word of each new location is 0.
+abbrev pub set_location_names : TestHead → List (List ℕ) → TestHead
 set_location_names head names =
     record {
       name = head.name;

@@ -1,26 +1,34 @@
 -- The limits of a test. The code's constants are these numbers, as src/limits.rt proves.
 use Rattle.std.specs.Prelude.{ℕ}
 
-abbrev pub most_threads : ℕ  -- the threads of a test, and the processors
+-- The maximum number of threads of a test, and the number of processors.
+abbrev pub most_threads : ℕ
 most_threads = 4
 
-abbrev pub most_locations : ℕ  -- the locations of a test
+-- The maximum number of locations of a test.
+abbrev pub most_locations : ℕ
 most_locations = 8
 
-abbrev pub registers : ℕ  -- the registers of a thread, always as many
+-- The number of registers of a thread.
+abbrev pub registers : ℕ
 registers = 6
 
-abbrev pub most_name_bytes : ℕ  -- of the name of a location or a label
+-- The maximum length of the name of a location or a label, in bytes.
+abbrev pub most_name_bytes : ℕ
 most_name_bytes = 32
 
-abbrev pub most_test_name_bytes : ℕ  -- of the name of a test
+-- The maximum length of the name of a test, in bytes.
+abbrev pub most_test_name_bytes : ℕ
 most_test_name_bytes = 128
 
-abbrev pub most_text_bytes : ℕ  -- of a whole test
+-- The maximum length of the text of a test, in bytes.
+abbrev pub most_text_bytes : ℕ
 most_text_bytes = 65536
 
-abbrev pub most_rows : ℕ  -- the rows of cells of a test
+-- The maximum number of rows of cells of a test.
+abbrev pub most_rows : ℕ
 most_rows = 64
 
-abbrev pub most_nodes : ℕ  -- the atoms and connectives of a condition
+-- The maximum number of atoms and connectives of a condition.
+abbrev pub most_nodes : ℕ
 most_nodes = 256

@@ -1,4 +1,4 @@
--- Outcomes, each with a schedule that leads to it.
+-- Outcomes, each with a schedule.
 use Rattle.std.specs.Prelude.{List, length}
 use Rattle.std.specs.List.{AllByRecursion}
 use Rattle.lw_base.specs.Heads.{TestHead}
@@ -6,7 +6,7 @@ use Rattle.lw_base.specs.Outcomes.{FinalState, HasOutcomeShape}
 use Rattle.lw_base.specs.Schedules.{IsEvent}
 use Rattle.lw_base.specs.declared.event.Event.{Event}
 
--- An outcome of a test with this head, with a schedule that speaks of its locations alone.
+-- The outcome has the threads and locations of the head, and its schedule names only locations of the head.
 pub record IsListedOutcome (head : TestHead) (entry : FinalState × List Event) : Type 0 where
   pub outcome : HasOutcomeShape head.threads (length head.locs) entry.0
   pub schedule : AllByRecursion (IsEvent head.locs) entry.1

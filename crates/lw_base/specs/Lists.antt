@@ -1,7 +1,7 @@
--- Lists in which nothing stands twice.
+-- Lists without duplicates.
 use Rattle.std.specs.Prelude.{List, [], ◌∷◌, Contains}
 
--- each element stands in the list once
+-- The list has no duplicates.
 abbrev pub IsDuplicateFree : {X : Type 0} → List X → Type 0
 IsDuplicateFree [] = Unit {0}
 IsDuplicateFree (x ∷ xs) = (Contains xs x → ⊥) × IsDuplicateFree xs

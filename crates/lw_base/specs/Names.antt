@@ -8,55 +8,54 @@ use Rattle.lw_base.specs.Limits.{most_locations, most_name_bytes, most_test_name
 use Rattle.lw_base.specs.Types.{Bytes, NameTable}
 use Rattle.lw_base.specs.Characters.{byte, is_name_byte, first_byte_is}
 
--- a letter or `_`, and then letters, digits and `_`
+-- The text is a letter or `_`, followed by letters, digits and `_`.
 pub record IsNameShaped (w : Bytes) : Type 0 where
   pub some : 0 < length w
   pub all : AllByRecursion (λ b. is_name_byte b ≡ true) w
   pub front : first_byte_is is_ascii_digit w ≡ false
 
--- a name: name-shaped, and of at most 32 bytes
+-- The text is a name: name-shaped, and at most 32 bytes long.
 abbrev pub IsName : Bytes → Type 0
 IsName w = IsNameShaped w × (length w ≤ most_name_bytes)
 
--- the reserved keywords of tests and of the source language
+-- The reserved keywords of the test format and of the source language.
 abbrev pub keywords : List Bytes
 keywords =
     codes "if" ∷ codes "goto" ∷ codes "swap" ∷ codes "fetchadd" ∷ codes "exists" ∷ codes "forall"
     ∷ codes "locations" ∷ codes "filter" ∷ codes "true" ∷ codes "false" ∷ codes "not" ∷ []
 
--- x86's registers of 32 bits, in small letters
+-- The 32-bit registers of x86, in small letters.
 abbrev pub x86_registers : List Bytes
 x86_registers =
     codes "eax" ∷ codes "ebx" ∷ codes "ecx" ∷ codes "edx" ∷ codes "esi" ∷ codes "edi" ∷ codes "ebp"
     ∷ codes "esp" ∷ []
 
--- whether all bytes are decimal digits, and there is one
+-- Tests whether all bytes are decimal digits, and there is at least one.
 abbrev pub are_digits : Bytes → Bool
 are_digits ds = not (length ds == 0) && list_all is_ascii_digit ds
 
--- whether a text is `r` and then digits alone
+-- Tests whether a text is `r` followed by digits.
 abbrev pub is_numbered_register : Bytes → Bool
 is_numbered_register [] = false
 is_numbered_register (b ∷ ds) = (b == byte "r") && are_digits ds
 
--- whether a text is reserved, so that it names no location and no label: a keyword, `r` with digits, or a register
--- of x86 in any case
+-- Tests whether a text is reserved, so that it names no location and no label: a keyword, `r` with digits, or an x86 register in any case.
 abbrev pub is_reserved : Bytes → Bool
 is_reserved w =
     (is_numbered_register w || list_any (λ k. bytes_eq w k) keywords)
     || list_any (λ r. bytes_eq (map to_ascii_lowercase w) r) x86_registers
 
--- a name that a location or a label may have: one that is not reserved
+-- The text can name a location or a label: it is a name and not reserved.
 abbrev pub IsLocationName : Bytes → Type 0
 IsLocationName w = IsName w × (is_reserved w ≡ false)
 
--- A table of locations: at most eight allowed names, each once.
+-- The names are a table of locations: at most eight valid names, without duplicates.
 pub record IsNameTable (names : NameTable) : Type 0 where
   pub few : length names ≤ most_locations
   pub all : AllByRecursion IsLocationName names
   pub once : IsDuplicateFree names
 
--- a test's name: 1 to 128 printing ASCII bytes
+-- The text is a test's name: 1 to 128 printable ASCII bytes.
 pub record IsTestName (name : Bytes) : Type 0 where
   pub some : 0 < length name
   pub short : length name ≤ most_test_name_bytes

@@ -1,4 +1,4 @@
--- What is left at the end of a run.
+-- The final states of runs.
 use Rattle.std.specs.Prelude.{◌≡◌, ℕ, List, length}
 use Rattle.std.specs.List.{AllByRecursion}
 use Rattle.std.specs.Cmp.Lexicographic.{slice_cmp}
@@ -6,19 +6,18 @@ use Rattle.std.specs.Ordering.{nat_cmp, ordering_then}
 use Rattle.std.specs.declared.cmp.Ordering.{Ordering}
 use Rattle.lw_base.specs.Limits.{registers}
 
-pub record FinalState : Type 0 where  -- an outcome: six words for each thread, and one word for each location
+-- An outcome: six words for each thread, and one word for each location.
+pub record FinalState : Type 0 where
   pub regs : List (List ℕ)
   pub words : List ℕ
 
--- An outcome of so many threads, each with its registers, and of so many locations.
+-- The outcome has these numbers of threads and locations, and six registers for each thread.
 pub record HasOutcomeShape (threads locs : ℕ) (o : FinalState) : Type 0 where
   pub regs_of : length o.regs ≡ threads
   pub six : AllByRecursion (λ row. length row ≡ registers) o.regs
   pub words_of : length o.words ≡ locs
 
--- The order of outcomes: by the registers, and by the words where the registers are the same.
--- Lists go by the first items that differ,
--- and a list comes before its longer ones.
+-- The order of outcomes: by the registers, then by the words. Lists are compared lexicographically; a list comes before its extensions.
 abbrev pub final_state_cmp : FinalState → FinalState → Ordering
 final_state_cmp o p =
     ordering_then (slice_cmp (slice_cmp nat_cmp) o.regs p.regs) (slice_cmp nat_cmp o.words p.words)

@@ -1,8 +1,8 @@
--- The formula that a `Prop` in memory is. The addresses of its boxes are no part of it.
+-- The formula of a `Prop` in memory, without the addresses of its boxes.
 use Rattle.lw_base.specs.declared.proposition.Prop.{Prop, Always, Never, RegIs, WordIs, Neg', Both', Either'}
 use Rattle.lw_base.specs.Formula.{Formula, Yes, No, Reg_is, Word_is, Not, And, Or}
 
--- the formula that a `Prop` is, part by part
+-- The formula of a `Prop`, by recursion.
 abbrev pub formula_of : {A : Type 0} → Prop A → Formula
 formula_of Always = Yes
 formula_of Never = No

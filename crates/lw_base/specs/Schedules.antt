@@ -1,4 +1,4 @@
--- How a schedule is written: the texts of its events, between blanks.
+-- The text of a schedule: the texts of its events, separated by blanks.
 use Rattle.std.specs.Prelude.{◌≡◌, ℕ, ◌<◌, true, false, if◌then◌else◌, ◌⊎◌, List, [], ◌∷◌, ◌++◌, length, map, filter, drop, codes, slice_index_or, Contains}
 use Rattle.std.specs.List.{AllByRecursion}
 use Rattle.lw_base.specs.Texts.{joined}
@@ -11,37 +11,37 @@ use Rattle.lw_base.specs.declared.event.Event.TheVariants.{Step, Drain, Evict}
 use Rattle.lw_base.specs.declared.fault.ScheduleCause.{ScheduleCause}
 use Rattle.lw_base.specs.declared.fault.ScheduleCause.TheVariants.{Word, Cpu, Location, Memory}
 
--- an event of one of the processors, on a location of the table
+-- The event is of an existing processor, and on a location of the table.
 abbrev pub IsEvent : NameTable → Event → Type 0
 IsEvent names (Step cpu) = cpu < most_threads
 IsEvent names (Drain cpu) = cpu < most_threads
 IsEvent names (Evict cpu loc) = (cpu < most_threads) × (loc < length names)
 
--- the text of an event: `P0`, `D0`, `E0:x`
+-- The text of an event: `P0`, `D0` or `E0:x`.
 abbrev pub event_text : NameTable → Event → Bytes
 event_text names (Step cpu) = byte "P" ∷ digit cpu ∷ []
 event_text names (Drain cpu) = byte "D" ∷ digit cpu ∷ []
 event_text names (Evict cpu loc) = byte "E" ∷ digit cpu ∷ byte ":" ∷ slice_index_or names loc []
 
--- the piece is the text of this event
+-- The piece is the text of this event.
 abbrev pub IsEventText : NameTable → Event → Bytes → Type 0
 IsEventText names e w = IsEvent names e × (event_text names e ≡ w)
 
--- some pieces, with one byte more at the front of the first
+-- The pieces, with one more byte at the start of the first.
 abbrev pub prepend_to_first : ℕ → List Bytes → List Bytes
 prepend_to_first b [] = (b ∷ []) ∷ []
 prepend_to_first b (w ∷ ws) = (b ∷ w) ∷ ws
 
--- a text, cut at its blanks
+-- The pieces of a text between its blanks.
 abbrev pub split_blanks : Bytes → List Bytes
 split_blanks [] = [] ∷ []
 split_blanks (b ∷ text) = if is_blank b then [] ∷ split_blanks text else prepend_to_first b (split_blanks text)
 
--- the pieces of a text that are not empty, each of which should be an event's text
+-- The pieces of a text that are not empty, each of which should be the text of an event.
 abbrev pub event_texts : Bytes → List Bytes
 event_texts text = filter (first_byte_is (λ b. true)) (split_blanks text)
 
--- the texts of some events, joined by one space
+-- The texts of events, separated by single spaces.
 abbrev pub schedule_text : NameTable → List Event → Bytes
 schedule_text names events = joined (codes " ") (map (event_text names) events)
 
@@ -50,26 +50,26 @@ abbrev pub IsSchedule : NameTable → Bytes → List Event → Type 0
 IsSchedule names text events =
     AllByRecursion (IsEvent names) events × (event_texts text ≡ map (event_text names) events)
 
--- the text of an eviction: `E`, the digits ds, `:` and the name n
+-- The text is that of an eviction: `E`, the digits ds, `:` and the name n.
 abbrev pub IsEviction : Bytes → Bytes → Bytes → Type 0
 IsEviction w ds n = w ≡ byte "E" ∷ ds ++ byte ":" ∷ n
 
--- A piece of these parts: `P` or `D`, and then ds; or `E`, ds, `:` and a name of any length.
+-- The piece has the parts of an event: `P` or `D`, and then ds; or `E`, ds, `:` and a name of any length.
 abbrev pub HasEventParts : Bytes → Bytes → Type 0
 HasEventParts w ds =
     (w ≡ byte "P" ∷ ds)
     ⊎ ((w ≡ byte "D" ∷ ds) ⊎ ((n : Bytes) × IsNameShaped n × IsEviction w ds n))
 
--- the piece has an event's shape, with the digits ds
+-- The piece has the shape of an event with the digits ds.
 abbrev pub HasEventShape : Bytes → Bytes → Type 0
 HasEventShape w ds = (are_digits ds ≡ true) × HasEventParts w ds
 
--- the digits are one digit, the index of a processor
+-- The digits are one digit, the index of a processor.
 abbrev pub IsCpu : Bytes → Type 0
 IsCpu ds = (c : ℕ) × (c < most_threads) × (ds ≡ digit c ∷ [])
 
--- The cause for which a piece is refused: it has no event's shape; or its digits are no processor's; or
--- they are, and its name is not in the table.
+-- The piece is rejected for this cause: it does not have the shape of an event; or its digits are no processor's index; or they are, and
+-- its name is not in the table.
 abbrev pub IsFaultyPiece : NameTable → Bytes → ScheduleCause → Type 0
 IsFaultyPiece names w Word = (ds : Bytes) → HasEventShape w ds → ⊥
 IsFaultyPiece names w Cpu = (ds : Bytes) × HasEventShape w ds × (IsCpu ds → ⊥)
@@ -77,8 +77,7 @@ IsFaultyPiece names w Location =
     (ds n : Bytes) × IsCpu ds × IsNameShaped n × IsEviction w ds n × (Contains names n → ⊥)
 IsFaultyPiece names w Memory = ⊥
 
--- The first faulty piece of a text begins at a byte: the pieces before it are events', and it is refused
--- for this cause.
+-- The first faulty piece of a text begins at this byte and is rejected for this cause; the pieces before it are texts of events.
 pub record IsFirstFault (names : NameTable) (text : Bytes) (at : ℕ) (cause : ScheduleCause) : Type 0
   where
     pub before : List Event

@@ -1,10 +1,10 @@
--- How people are told of a refused event: a number and a name.
+-- The printed codes and names of the causes for which an event is rejected.
 use Rattle.std.specs.Prelude.{ℕ, codes}
 use Rattle.lw_base.specs.Types.{Bytes}
 use Rattle.lw_base.specs.declared.stop.Stop.{Stop}
 use Rattle.lw_base.specs.declared.stop.Stop.TheVariants.{NoCpu, NoLocation, Ended, FenceWaits, SwapWaits, BufferEmpty, NotHeld, Memory}
 
--- the number under which people are told why an event is refused
+-- The printed code of the cause.
 abbrev pub stop_code : Stop → ℕ
 stop_code NoCpu = 1
 stop_code NoLocation = 2
@@ -15,7 +15,7 @@ stop_code BufferEmpty = 6
 stop_code NotHeld = 7
 stop_code Memory = 8
 
--- the name under which people are told why an event is refused
+-- The printed name of the cause.
 abbrev pub stop_name : Stop → Bytes
 stop_name NoCpu = codes "NoCpu"
 stop_name NoLocation = codes "NoLocation"

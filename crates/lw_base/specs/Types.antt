@@ -1,17 +1,22 @@
--- The types that definitions and clauses speak of again and again.
+-- Short names for frequent types.
 use Rattle.std.specs.Prelude.{ℕ, List}
 
-abbrev pub Bytes : Type 0  -- a text, a name or a token: its bytes
+-- The bytes of a text, a name or a token.
+abbrev pub Bytes : Type 0
 Bytes = List ℕ
 
-abbrev pub NameTable : Type 0  -- the names of a test's locations; a location's index is its name's
+-- The names of a test's locations. The index of a location is that of its name.
+abbrev pub NameTable : Type 0
 NameTable = List Bytes
 
-abbrev pub TokenList : Type 0  -- tokens, one behind another
+-- A sequence of tokens.
+abbrev pub TokenList : Type 0
 TokenList = List Bytes
 
-abbrev pub Cells : Type 0  -- the tokens of each cell of a row, or of a column
+-- The tokens of each cell of a row, or of a column.
+abbrev pub Cells : Type 0
 Cells = List TokenList
 
-abbrev pub CellGrid : Type 0  -- the tokens of all cells
+-- The tokens of all cells.
+abbrev pub CellGrid : Type 0
 CellGrid = List Cells

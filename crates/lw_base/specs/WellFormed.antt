@@ -1,4 +1,4 @@
--- What always holds of a test's head: it is well-formed.
+-- Well-formed heads: what is true of the head of every test.
 use Rattle.std.specs.Prelude.{◌≡◌, ℕ, ◌<◌, ◌≤◌, ◌^◌, ◌⊎◌, List, [], ◌∷◌, length}
 use Rattle.std.specs.List.{AllByRecursion}
 use Rattle.lw_base.specs.Limits.{most_threads, registers, most_nodes}
@@ -8,32 +8,32 @@ use Rattle.lw_base.specs.Formula.{Formula, Yes, No, Reg_is, Word_is, Not, And, O
 use Rattle.lw_base.specs.Heads.{TestHead}
 use Rattle.lw_base.specs.Names.{IsNameTable, IsTestName}
 
--- a number that is a word: below 2 ^ 32
+-- The number is a word: below 2^32.
 abbrev pub IsWordNumber : ℕ → Type 0
 IsWordNumber n = n < 2 ^ 32
 
--- the index of one of a thread's registers
+-- The number is the index of a register of a thread.
 abbrev pub IsRegisterIndex : ℕ → Type 0
 IsRegisterIndex r = r < registers
 
--- a register of one of so many threads, or one of so many locations
+-- The register is of a thread below `threads`, or the location is below `locs`.
 abbrev pub IsSeenInRange : ℕ → ℕ → Seen → Type 0
 IsSeenInRange threads locs (Register t r) = (t < threads) × (r < registers)
 IsSeenInRange threads locs (Location x) = x < locs
 
--- which of two comes first: registers by thread and index, then locations by index
+-- The first comes before the second: registers by thread and index, then locations by index.
 abbrev pub IsSeenLess : Seen → Seen → Type 0
 IsSeenLess (Register t r) (Register u s) = (t < u) ⊎ ((t ≡ u) × (r < s))
 IsSeenLess (Register t r) (Location x) = Unit {0}
 IsSeenLess (Location x) (Register t r) = ⊥
 IsSeenLess (Location x) (Location y) = x < y
 
--- registers and locations in their order, each once
+-- The list is strictly ascending in this order, so it has no duplicates.
 abbrev pub IsAscending : List Seen → Type 0
 IsAscending [] = Unit {0}
 IsAscending (s ∷ ss) = AllByRecursion (IsSeenLess s) ss × IsAscending ss
 
--- The formula speaks of so many threads and locations only, and of words.
+-- The formula mentions only threads and locations below these numbers, and only words.
 abbrev pub MentionsOnly : ℕ → ℕ → Formula → Type 0
 MentionsOnly threads locs Yes = Unit {0}
 MentionsOnly threads locs No = Unit {0}
@@ -43,7 +43,7 @@ MentionsOnly threads locs (Not p) = MentionsOnly threads locs p
 MentionsOnly threads locs (And p q) = MentionsOnly threads locs p × MentionsOnly threads locs q
 MentionsOnly threads locs (Or p q) = MentionsOnly threads locs p × MentionsOnly threads locs q
 
--- Each location that the formula speaks of has an index below this number.
+-- The formula mentions only locations below this number.
 abbrev pub MentionsLocationsBelow : ℕ → Formula → Type 0
 MentionsLocationsBelow locs Yes = Unit {0}
 MentionsLocationsBelow locs No = Unit {0}
@@ -53,9 +53,9 @@ MentionsLocationsBelow locs (Not p) = MentionsLocationsBelow locs p
 MentionsLocationsBelow locs (And p q) = MentionsLocationsBelow locs p × MentionsLocationsBelow locs q
 MentionsLocationsBelow locs (Or p q) = MentionsLocationsBelow locs p × MentionsLocationsBelow locs q
 
--- An allowed name; one to `most_threads` threads; a table of at most eight names, each allowed and each once; six words for each
--- thread and one for each location; what is listed, sorted and each once; a condition of at most 256 nodes; and only
--- threads, registers and locations that exist.
+-- The head is well-formed: a valid name; 1 to `most_threads` threads; a table of at most eight valid names without duplicates; six words
+-- for each thread and one for each location; listed names, sorted and without duplicates; and a condition on existing threads and
+-- locations, of at most 256 nodes.
 pub record IsWellFormedHead (h : TestHead) : Type 0 where
   pub name : IsTestName h.name
   pub some : 1 ≤ h.threads

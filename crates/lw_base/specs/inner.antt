@@ -1,3 +1,3 @@
--- What serves the code's own readers and scanners: no theorem on a test cites it.
+-- Definitions for the code's own parsers. No theorem on a test cites them.
 pub mod Kinds
 pub mod Digits

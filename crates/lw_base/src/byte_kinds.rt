@@ -1,4 +1,4 @@
-//! The scanner of a text: the bytes of one kind at its front.
+//! Splitting a text after the longest prefix of bytes of one kind.
 ghost use Rattle.std.specs.Prelude.{◌≡◌, ◌++◌, false, true};
 ghost use Rattle.std.specs.List.{AllByRecursion};
 ghost use Rattle.lw_base.specs.Characters.{first_byte_is};
@@ -6,25 +6,25 @@ ghost use Rattle.lw_base.specs.inner.Kinds.{is_of_kind};
 
 use crate::name::{is_blank, is_name_byte};
 
-/// A kind of bytes that stand side by side in a text.
+/// A kind of bytes, by which a text is split.
 #[derive(Clone, Copy)]
 pub enum ByteKind {
     /// Spaces, tabs, line feeds and carriage returns.
     Blank,
-    /// All others.
+    /// Every byte that is not blank.
     NotBlank,
     /// Letters, digits and `_`.
     NameByte,
-    /// Those of a note's key: letters, digits, `_` and `-`.
+    /// The bytes of a note's key: letters, digits, `_` and `-`.
     Key,
     /// Spaces and tabs.
     Space,
-    /// All but this byte.
+    /// Every byte except this one.
     Not(u8),
 }
 
 impl ByteKind {
-    /// Whether the byte is of this kind.
+    /// Returns whether the byte is of this kind.
     pub fn contains(self, byte: u8) -> bool
         ensures { result ≡ is_of_kind self byte }
     {
@@ -39,7 +39,7 @@ impl ByteKind {
     }
 }
 
-/// All bytes of a kind at the front of a text, up to the first of another kind, and what stands behind them.
+/// Splits a text after its longest prefix of bytes of a kind. Returns the prefix and the rest.
 pub fn prefix_of_kind(bytes: &[u8], kind: ByteKind) -> (&[u8], &[u8])
     ensures parts { bytes.now ≡ result.0.now ++ result.1.now }
     ensures all { AllByRecursion (λ b. is_of_kind kind b ≡ true) result.0.now }

@@ -1,20 +1,20 @@
-//! What is made of a location's word.
+//! Changes of a location's word.
 ghost use Rattle.std.specs.Prelude.{◌≡◌};
 ghost use Rattle.lw_base.specs.Changes as table;
 
 use crate::indices::Word;
 
-/// What a store or a read-modify-write makes of a location's word.
+/// How a store or a read-modify-write changes a location's word.
 #[derive(Clone, Copy)]
 pub enum Change {
-    /// This word takes its place.
+    /// Replaces it by this word.
     Put(Word),
-    /// This word is added to it, modulo 2 to the 32.
+    /// Adds this word to it, modulo 2^32.
     Add(Word),
 }
 
 impl Change {
-    /// A location's word after the change, by the one before.
+    /// Returns the word after the change.
     pub fn word_after(self, old: Word) -> Word
         ensures { result ≡ table.changed_word self old }
     {

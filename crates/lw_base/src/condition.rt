@@ -1,4 +1,4 @@
-//! The printing of a condition.
+//! Printing a condition.
 ghost use Rattle.std.specs.Prelude.{◌≡◌, ◌++◌, [], length, IfOk, OnOk};
 ghost use Rattle.std.specs.String.{string_bytes};
 ghost use Rattle.lw_base.specs.ConditionTexts as printed;
@@ -15,12 +15,12 @@ use crate::register::reg_name;
 use crate::text::Text;
 use std::alloc::{AllocError, Allocator};
 
-/// The text of a head's condition, quantifier included, without a line's end.
+/// Renders the condition of a head, its quantifier included, without a line end. Fails only if memory runs out.
 pub fn write_condition<A: Allocator, B: Allocator>(
     alloc: A,
     head: &Head<B>,
 ) -> Result<Text<A>, AllocError>
-    // The table has the proposition's locations.
+    // Every location of the proposition is in the table.
     requires { MentionsLocationsBelow (length head.now.locs) (formula_of head.now.prop) }
     ensures { IfOk result (λ text. text ≡ condition_text (head_of head.now)) }
 {
@@ -31,7 +31,7 @@ pub fn write_condition<A: Allocator, B: Allocator>(
     Ok(Text::from(out))
 }
 
-/// A quantifier, as it is printed.
+/// Returns the printed text of a quantifier.
 fn quantifier_text(quant: Quant) -> &'static str
     ensures { result.now ≡ printed.quantifier_text quant }
 {
@@ -42,7 +42,7 @@ fn quantifier_text(quant: Quant) -> &'static str
     }
 }
 
-/// Writes the text of a proposition of the head's condition, or of a part of it.
+/// Writes a proposition, which is the condition's or a part of it.
 #[cycle(propositions)]
 fn write_proposition<A: Allocator, B: Allocator>(
     out: &mut String<A>,
@@ -70,7 +70,7 @@ fn write_proposition<A: Allocator, B: Allocator>(
     }
 }
 
-/// Writes the atom that asks a thread's register for a word, as `0:EAX=1`.
+/// Writes an atom on a thread's register, as in `0:EAX=1`.
 fn write_register_is<A: Allocator>(
     out: &mut String<A>,
     arch: Arch,
@@ -84,7 +84,7 @@ fn write_register_is<A: Allocator>(
     write!(out, "{}:{}={}", cpu.index(), reg_name(arch, reg), word)
 }
 
-/// Writes a connective, and behind it a part of a proposition, in parentheses where they are needed.
+/// Writes a connective and its right operand, in parentheses if `needs_parentheses` is set.
 #[cycle(propositions)]
 fn write_right_operand<A: Allocator, B: Allocator>(
     out: &mut String<A>,
@@ -101,7 +101,7 @@ fn write_right_operand<A: Allocator, B: Allocator>(
     write_part(out, head, part, needs_parentheses)
 }
 
-/// Writes a part of a proposition, in parentheses where they are needed.
+/// Writes a part of a proposition, in parentheses if `needs_parentheses` is set.
 #[cycle(propositions)]
 fn write_part<A: Allocator, B: Allocator>(
     out: &mut String<A>,

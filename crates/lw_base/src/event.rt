@@ -1,14 +1,14 @@
-//! The events that a schedule is made of.
+//! The events of a schedule.
 
 use crate::indices::{Cpu, Loc};
 
-/// One act of the machine, or one step of a source test.
+/// An event of the machine, or a step of a source test.
 #[derive(Clone, Copy, PartialEq, Eq)]
 pub enum Event {
-    /// The next instruction (or source statement) of the processor.
+    /// The processor executes its next instruction (or source statement).
     Step(Cpu),
-    /// The oldest entry of the processor's store buffer goes to memory.
+    /// The oldest entry of the processor's store buffer drains to memory.
     Drain(Cpu),
-    /// The processor's cache gives up its line of the location.
+    /// The processor's cache evicts its line of the location.
     Evict(Cpu, Loc),
 }

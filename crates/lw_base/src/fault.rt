@@ -1,4 +1,4 @@
-//! Why a cell of a test, or a schedule, is refused.
+//! Why a cell of a test, or a schedule, is rejected.
 ghost use Rattle.std.specs.Prelude.{◌≡◌};
 ghost use Rattle.lw_base.specs.Faults.{cell_cause_code, cell_cause_name, schedule_cause_code, schedule_cause_name};
 ghost use Rattle.lw_base.specs.declared.fault.CellCause.TheVariants as cell;
@@ -6,27 +6,27 @@ ghost use Rattle.lw_base.specs.declared.fault.ScheduleCause.TheVariants as sched
 
 use std::alloc::{AllocError, AllocFailed};
 
-/// What is wrong with a cell.
+/// Why a cell is rejected.
 #[derive(Clone, Copy, PartialEq, Eq)]
 pub enum CellCause {
-    /// A token fits no statement or instruction there, or the cell ends too early.
+    /// A token that fits no statement or instruction at its position, or a cell that ends too early.
     Form,
-    /// A register where none may stand, or one that there isn't.
+    /// A register where none is allowed, or a name of a register that does not exist.
     Register,
-    /// A jump to a label that the thread lacks.
+    /// A jump to a label that the thread does not have.
     LabelMissing,
-    /// A label that the thread already has.
+    /// A label that the thread has already.
     LabelTwice,
     /// A jump to a label at or before the jump.
     Backward,
     /// A ninth location, a 17th statement or a 33rd instruction.
     TooMany,
-    /// There was no memory.
+    /// Memory ran out.
     Memory,
 }
 
 impl CellCause {
-    /// The number under which people are told why a cell is refused: 1 to 7.
+    /// Returns the printed code of the cause, 1 to 7.
     pub fn code(self) -> u8
         ensures { result ≡ cell_cause_code self }
     {
@@ -41,7 +41,7 @@ impl CellCause {
         }
     }
 
-    /// The name under which people are told why a cell is refused.
+    /// Returns the printed name of the cause.
     pub fn name(self) -> &'static str
         ensures { result.now ≡ cell_cause_name self }
     {
@@ -57,8 +57,8 @@ impl CellCause {
     }
 }
 
-/// A refused cell: the cause, and the byte of the test's text at which it stands. Where memory ran
-/// out the place is 0, and says nothing.
+/// A rejected cell: the cause, and the offset of the byte at which it was found in the test's text. If memory ran
+/// out, the offset is 0 and means nothing.
 #[derive(Clone, Copy)]
 pub struct CellFault {
     pub at: usize,
@@ -69,7 +69,7 @@ pub struct CellFault {
 impl From<AllocError> for CellFault {
     ghost from_gives = { λ _ f. (f.at ≡ 0) × (f.cause ≡ cell.Memory) };
 
-    /// A growth of memory that was refused, as a fault of a cell, whose place says nothing.
+    /// Converts a refused allocation. The offset is 0 and means nothing.
     fn from(_error: AllocError) -> CellFault {
         CellFault {
             at: 0,
@@ -81,7 +81,7 @@ impl From<AllocError> for CellFault {
 impl<T: Drop> From<AllocFailed<T>> for CellFault {
     ghost from_gives = { λ _ f. (f.at ≡ 0) × (f.cause ≡ cell.Memory) };
 
-    /// A value that could not be put into memory, as a fault of a cell, whose place says nothing.
+    /// Converts a value that could not be moved into memory. The offset is 0 and means nothing.
     fn from(_error: AllocFailed<T>) -> CellFault {
         CellFault {
             at: 0,
@@ -90,21 +90,21 @@ impl<T: Drop> From<AllocFailed<T>> for CellFault {
     }
 }
 
-/// What is wrong with a schedule.
+/// Why a schedule is rejected.
 #[derive(Clone, Copy, PartialEq, Eq)]
 pub enum ScheduleCause {
-    /// A piece between blanks that has not the shape of an event.
+    /// A piece between blanks that does not have the shape of an event.
     Word,
-    /// A number that is no processor's.
+    /// A number that no processor has.
     Cpu,
-    /// A name that is no location of the test.
+    /// A name that no location of the test has.
     Location,
-    /// There was no memory.
+    /// Memory ran out.
     Memory,
 }
 
 impl ScheduleCause {
-    /// The number under which people are told why a schedule is refused: 1 to 4.
+    /// Returns the printed code of the cause, 1 to 4.
     pub fn code(self) -> u8
         ensures { result ≡ schedule_cause_code self }
     {
@@ -116,7 +116,7 @@ impl ScheduleCause {
         }
     }
 
-    /// The name under which people are told why a schedule is refused.
+    /// Returns the printed name of the cause.
     pub fn name(self) -> &'static str
         ensures { result.now ≡ schedule_cause_name self }
     {
@@ -129,8 +129,8 @@ impl ScheduleCause {
     }
 }
 
-/// A refused schedule: the cause, and the byte at which the first faulty piece begins. Where memory
-/// ran out the place is 0, and says nothing.
+/// A rejected schedule: the cause, and the offset at which the first faulty piece begins. If memory ran out, the
+/// offset is 0 and means nothing.
 #[derive(Clone, Copy)]
 pub struct ScheduleFault {
     pub at: usize,
@@ -141,7 +141,7 @@ pub struct ScheduleFault {
 impl<T: Drop> From<AllocFailed<T>> for ScheduleFault {
     ghost from_gives = { λ _ f. (f.at ≡ 0) × (f.cause ≡ schedule.Memory) };
 
-    /// A value that could not be put into memory, as a fault of a schedule, whose place says nothing.
+    /// Converts a value that could not be moved into memory. The offset is 0 and means nothing.
     fn from(_error: AllocFailed<T>) -> ScheduleFault {
         ScheduleFault {
             at: 0,

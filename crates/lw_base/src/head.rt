@@ -1,4 +1,4 @@
-//! The head of a test: all that stands in it beside its threads' code.
+//! The head of a test: everything except its threads' code.
 ghost use Rattle.std.specs.Prelude.{◌≡◌, IfOk};
 ghost use Rattle.lw_base.specs.Heads.{head_of};
 
@@ -19,18 +19,18 @@ pub enum Arch {
     X86,
 }
 
-/// How a condition speaks of the final states.
+/// The quantifier of a condition over the final states.
 #[derive(Clone, Copy, PartialEq, Eq)]
 pub enum Quant {
-    /// Some final state makes the proposition true.
+    /// Some final state satisfies the proposition.
     Exists,
-    /// None does.
+    /// No final state satisfies it.
     NotExists,
-    /// All do.
+    /// Every final state satisfies it.
     Forall,
 }
 
-/// What a report shows of a final state: a thread's register, or a location.
+/// A column of a report's states: a thread's register, or a location.
 #[derive(Clone, Copy, PartialEq, Eq)]
 pub enum Seen {
     Register(Cpu, Reg),
@@ -52,17 +52,17 @@ pub struct Head<A: Allocator = Global> {
     pub init_regs: Sequence<[Word; REGISTERS], A>,
     /// The initial words of the locations, one for each name of the table.
     pub init_words: Sequence<Word, A>,
-    /// What the list of names has, each once: registers by thread and number, then locations by
-    /// number.
+    /// The observed registers and locations that the text lists, without duplicates: registers by thread and index,
+    /// then locations by index.
     pub listed: Sequence<Seen, A>,
-    /// How the condition speaks of the final states.
+    /// The quantifier of the condition.
     pub quant: Quant,
-    /// What the condition asks of a final state.
+    /// The proposition of the condition.
     pub prop: Prop<A>,
 }
 
 impl<A: Allocator + Copy> Head<A> {
-    /// An equal head, over the same allocator.
+    /// Copies the head, with the same allocator. Fails only if memory runs out.
     pub fn copy(&self) -> Result<Self, AllocError>
         ensures { IfOk result (λ h. head_of h ≡ head_of self.now) }
     {

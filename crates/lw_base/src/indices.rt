@@ -1,4 +1,4 @@
-//! A processor, a location, a register and a word. A clause sees each as its number.
+//! Indices of processors, locations and registers, and words. A contract sees each as its number.
 ghost use Rattle.std.specs.Prelude.{◌≡◌, ℕ, ◌<◌};
 ghost use Rattle.std.specs.List.{range_with_len};
 ghost use Rattle.std.specs.Option.{SomeIff};
@@ -8,10 +8,10 @@ ghost use Rattle.lw_base.specs.Limits.{most_threads, most_locations, registers};
 use crate::limits::{MAX_LOCATIONS, MAX_THREADS, REGISTERS};
 use std::marker::Model;
 
-/// What a register or a location holds: 32 bits, without a sign.
+/// The content of a register or a location: an unsigned 32-bit word.
 pub type Word = u32;
 
-/// A processor, which runs the thread of its number: below `MAX_THREADS`.
+/// The index of a processor and of the thread that it runs, below `MAX_THREADS`.
 #[derive(Clone, Copy, PartialEq, Eq)]
 pub struct Cpu(u8);
 
@@ -29,14 +29,14 @@ impl Model for Cpu {
 }
 
 impl Cpu {
-    /// All processors, by their indices.
+    /// Returns all processors, in ascending order.
     pub fn all() -> [Cpu; MAX_THREADS]
         ensures { result ≡ range_with_len 0 most_threads }
     {
         [Cpu(0), Cpu(1), Cpu(2), Cpu(3)]
     }
 
-    /// The processor of an index, where it is below `MAX_THREADS`.
+    /// Returns the processor with this index, or `None` if the index is not below `MAX_THREADS`.
     pub fn new(number: u8) -> Option<Self>
         ensures { SomeIff result (number < most_threads) number }
     {
@@ -47,7 +47,7 @@ impl Cpu {
         }
     }
 
-    /// The processor's index.
+    /// Returns the processor's index.
     pub fn index(self) -> usize
         ensures value { result ≡ self }
         ensures below { result < most_threads }
@@ -55,7 +55,7 @@ impl Cpu {
         usize::from(self.0)
     }
 
-    /// The processor's index, as a digit.
+    /// Returns the processor's index as a decimal digit.
     pub fn digit(self) -> char
         ensures { result ≡ digit self }
     {
@@ -63,7 +63,7 @@ impl Cpu {
     }
 }
 
-/// A location, which is its name's index in the table: 0 to 7.
+/// The index of a location in the table of names, 0 to 7.
 #[derive(Clone, Copy, PartialEq, Eq)]
 pub struct Loc(u8);
 
@@ -81,7 +81,7 @@ impl Model for Loc {
 }
 
 impl Loc {
-    /// All locations, by their indices.
+    /// Returns all locations, in ascending order.
     pub fn all() -> [Loc; MAX_LOCATIONS]
         ensures { result ≡ range_with_len 0 most_locations }
     {
@@ -97,7 +97,7 @@ impl Loc {
         ]
     }
 
-    /// The location of an index, where it is below 8.
+    /// Returns the location with this index, or `None` if the index is not below `MAX_LOCATIONS`.
     pub fn new(number: u8) -> Option<Self>
         ensures { SomeIff result (number < most_locations) number }
     {
@@ -108,7 +108,7 @@ impl Loc {
         }
     }
 
-    /// The location's index.
+    /// Returns the location's index.
     pub fn index(self) -> usize
         ensures value { result ≡ self }
         ensures below { result < most_locations }
@@ -117,7 +117,7 @@ impl Loc {
     }
 }
 
-/// A register of a thread: 0 to 5.
+/// The index of a register of a thread, 0 to 5.
 #[derive(Clone, Copy, PartialEq, Eq)]
 pub struct Reg(u8);
 
@@ -135,14 +135,14 @@ impl Model for Reg {
 }
 
 impl Reg {
-    /// All registers, by their indices.
+    /// Returns all registers, in ascending order.
     pub fn all() -> [Reg; REGISTERS]
         ensures { result ≡ range_with_len 0 registers }
     {
         [Reg(0), Reg(1), Reg(2), Reg(3), Reg(4), Reg(5)]
     }
 
-    /// The register of an index, where it is below 6.
+    /// Returns the register with this index, or `None` if the index is not below `REGISTERS`.
     pub fn new(number: u8) -> Option<Self>
         ensures { SomeIff result (number < registers) number }
     {
@@ -153,7 +153,7 @@ impl Reg {
         }
     }
 
-    /// The register's index.
+    /// Returns the register's index.
     pub fn index(self) -> usize
         ensures value { result ≡ self }
         ensures below { result < registers }

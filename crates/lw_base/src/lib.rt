@@ -1,9 +1,8 @@
-//! What all crates of the workbench share: the small numbers of a test (processors, locations,
-//! registers, words), outcomes, events and schedules, names, conditions and the head of a test.
-//!
-//! It names std alone. What is here is a value, or reads or prints one: a schedule, a condition, the names of registers
-//! and causes. Nothing here steps or reads a whole test. Each type is seen by a contract as plain data of `specs/`: a
-//! number, a list, or a record of lists. What proofs of other crates cite stands in `proofs/api/`.
+//! What all crates of the workbench share: indices of processors, locations and registers, words, outcomes, events
+//! and schedules, names, conditions and the head of a test.
+//! This crate depends only on std. It has values, and functions that parse or print one (a schedule, a condition, the
+//! names of registers and causes). It executes nothing and parses no whole test. A contract sees each type as plain
+//! data of `specs/`: a number, a list, or a record of lists. Lemmas that other crates cite are in `proofs/api/`.
 #![tactic(auto)]
 
 mod byte_kinds;

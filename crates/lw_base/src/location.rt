@@ -1,4 +1,4 @@
-//! The table of a test's locations.
+//! The table of a test's location names.
 ghost use Rattle.lw_base.specs.Limits.{most_locations};
 ghost use Rattle.lw_base.specs.Names.{IsLocationName, IsNameTable};
 ghost use Rattle.std.specs.Prelude.{◌≡◌, [], ◌∷◌, ◌++◌, ◌<◌, length, Contains, MatchOption, IfOk, OnOk, OnErr, OnSome, IfNone, Some, slice_get};
@@ -9,8 +9,8 @@ use crate::limits::MAX_LOCATIONS;
 use std::alloc::{AllocError, Allocator, Global};
 use std::marker::Model;
 
-/// Up to eight names of locations, each once. A location's number is its name's index in this
-/// table; a clause sees the list of the names.
+/// Up to eight names of locations, without duplicates. A location's index is the position of its name. A contract
+/// sees the table as the list of names.
 #[derive(Drop)]
 pub struct LocNames<A: Allocator = Global> {
     names: Vec<String<A>, A>,
@@ -29,7 +29,7 @@ impl<A: Allocator> Model for LocNames<A> {
 }
 
 impl<A: Allocator> LocNames<A> {
-    /// A table of no names. It takes no memory.
+    /// Creates an empty table. Does not allocate.
     pub fn new(alloc: A) -> Self
         ensures { result ≡ [] }
     {
@@ -38,7 +38,7 @@ impl<A: Allocator> LocNames<A> {
         }
     }
 
-    /// The number of names in the table.
+    /// Returns the number of names.
     pub fn len(&self) -> usize
         ensures len { result ≡ length self.now }
         ensures table { IsNameTable self.now }
@@ -46,7 +46,7 @@ impl<A: Allocator> LocNames<A> {
         self.names.len()
     }
 
-    /// The name of a location.
+    /// Returns the name of a location.
     pub fn name(&self, loc: Loc) -> &str
         requires { loc < length self.now }
         ensures { slice_get self.now loc ≡ Some result.now }
@@ -54,7 +54,7 @@ impl<A: Allocator> LocNames<A> {
         self.names[loc.index()].as_str()
     }
 
-    /// The location that has this name, if it is in the table.
+    /// Returns the location with this name, or `None` if the table does not have it.
     pub fn find(&self, name: &str) -> Option<Loc>
         ensures { MatchOption result (¬ Contains self.now name.now)
             (λ loc. slice_get self.now loc ≡ Some name.now) }
@@ -67,14 +67,14 @@ impl<A: Allocator> LocNames<A> {
         None
     }
 
-    /// The allocator that holds the names.
+    /// Returns the allocator that holds the names.
     pub fn allocator(&self) -> &A {
         self.names.allocator()
     }
 }
 
 impl<A: Allocator + Copy> LocNames<A> {
-    /// Puts a name last, and answers its location.
+    /// Appends a name and returns its location. If memory runs out, the table is unchanged.
     pub fn add(&mut self, name: &str) -> Result<Loc, AllocError>
         requires few { length self.old < most_locations }
         requires name { IsLocationName name.now }
@@ -90,8 +90,8 @@ impl<A: Allocator + Copy> LocNames<A> {
         Ok(Loc::new(index as u8).unwrap())
     }
 
-    /// The location of a name that appears: where the table has the name, that; else the name is put last. `None` where
-    /// it would be the ninth.
+    /// Returns the location with this name, and appends the name if the table does not have it. Returns `None`, and
+    /// leaves the table unchanged, if it would be the ninth.
     pub fn find_or_add(&mut self, name: &str) -> Result<Option<Loc>, AllocError>
         requires { IsLocationName name.now }
         ensures index { IfOk result
@@ -115,7 +115,7 @@ impl<A: Allocator + Copy> LocNames<A> {
         }
     }
 
-    /// An equal table, over the same allocator.
+    /// Copies the table, with the same allocator. Fails only if memory runs out.
     pub fn copy(&self) -> Result<Self, AllocError>
         ensures { IfOk result (λ names. names ≡ self.now) }
     {

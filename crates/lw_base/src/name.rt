@@ -10,21 +10,21 @@ ghost use Rattle.lw_base.specs.Names as names;
 use crate::limits::MAX_NAME_BYTES;
 use std::str;
 
-/// Whether the byte is a space, a tab, a line feed or a carriage return.
+/// Returns whether the byte is a space, a tab, a line feed or a carriage return.
 pub fn is_blank(byte: u8) -> bool
     ensures { result ≡ characters.is_blank byte }
 {
     b" \t\n\r".contains(&byte)
 }
 
-/// Whether the byte is a letter, a digit or `_`.
+/// Returns whether the byte is a letter, a digit or `_`.
 pub fn is_name_byte(byte: u8) -> bool
     ensures { result ≡ characters.is_name_byte byte }
 {
     byte.is_ascii_alphanumeric() || byte == b'_'
 }
 
-/// Whether the bytes are a letter or `_`, and then letters, digits and `_`.
+/// Returns whether the bytes are a letter or `_`, followed by letters, digits and `_`.
 pub fn is_name_shaped(bytes: &[u8]) -> bool
     ensures { IsTrue result ↔ IsNameShaped bytes.now }
 {
@@ -35,51 +35,52 @@ pub fn is_name_shaped(bytes: &[u8]) -> bool
     }
 }
 
-/// Whether all bytes are letters, digits or `_`.
+/// Returns whether all bytes are letters, digits or `_`.
 fn are_name_bytes(bytes: &[u8]) -> bool
     ensures { IsTrue result ↔ AllByRecursion (λ b. characters.is_name_byte b ≡ true) bytes.now }
 {
     bytes.iter().all(|byte| is_name_byte(*byte))
 }
 
-/// Whether the text is a name: name-shaped, and at most 32 bytes.
+/// Returns whether the text is a name: name-shaped, and at most 32 bytes long.
 pub fn is_name(text: &str) -> bool
     ensures { IsTrue result ↔ IsName text.now }
 {
     text.len() <= MAX_NAME_BYTES && is_name_shaped(text.as_bytes())
 }
 
-/// Whether the text can name a location or a label: a name that is not reserved.
+/// Returns whether the text can name a location or a label: it is a name and not reserved.
 pub fn is_location(text: &str) -> bool
     ensures { IsTrue result ↔ IsLocationName text.now }
 {
     is_name(text) && !is_reserved(text)
 }
 
-/// The bytes as a text, where all of them are below 128.
+/// Views bytes below 128 as a text.
 pub fn ascii_text(bytes: &[u8]) -> &str
     requires { IsAscii bytes.now }
     ensures { result.now ≡ bytes.now }
 {
-    // Such bytes are UTF-8, and are not looked at again.
+    // Bytes below 128 are valid UTF-8, so they are not validated again.
     unsafe { str::from_utf8_unchecked(bytes) }
 }
 
-/// Whether two texts are equal but for the case of their letters.
+/// Returns whether two texts are equal if the case of letters is ignored.
 pub fn eq_ignore_ascii_case(text: &str, other: &str) -> bool
     ensures { result ≡ bytes_eq (map to_ascii_lowercase text.now) (map to_ascii_lowercase other.now) }
 {
     text.eq_ignore_ascii_case(other)
 }
 
-/// Whether a text is reserved, so no location's or label's name: `r` and digits, a keyword, or a register of x86.
+/// Returns whether a text is reserved, so that it names no location or label: `r` and digits, a keyword, or an x86
+/// register.
 fn is_reserved(text: &str) -> bool
     ensures { result ≡ names.is_reserved text.now }
 {
     is_numbered(text.as_bytes()) || is_keyword(text) || is_x86_register(text)
 }
 
-/// Whether the bytes are `r` and then digits alone.
+/// Returns whether the bytes are `r` followed by digits only.
 pub fn is_numbered(bytes: &[u8]) -> bool
     ensures { result ≡ names.is_numbered_register bytes.now }
 {
@@ -89,28 +90,28 @@ pub fn is_numbered(bytes: &[u8]) -> bool
     *first == b'r' && are_digits(rest)
 }
 
-/// Whether the bytes are digits, one or more.
+/// Returns whether the bytes are digits, at least one.
 pub(crate) fn are_digits(bytes: &[u8]) -> bool
     ensures { result ≡ names.are_digits bytes.now }
 {
     !bytes.is_empty() && are_all_digits(bytes)
 }
 
-/// Whether all bytes are decimal digits.
+/// Returns whether all bytes are decimal digits.
 fn are_all_digits(bytes: &[u8]) -> bool
     ensures { result ≡ list_all is_ascii_digit bytes.now }
 {
     bytes.iter().all(|byte| byte.is_ascii_digit())
 }
 
-/// Whether two texts are equal. Its clause compares them as the definition of `is_reserved` does.
+/// Returns whether two texts are equal. Its contract states the comparison that `is_reserved` is defined by.
 fn is_same(text: &str, other: &str) -> bool
     ensures { result ≡ bytes_eq text.now other.now }
 {
     text == other
 }
 
-/// Whether a text is a keyword of a test or of the source language.
+/// Returns whether a text is a keyword of the test format or of the source language.
 fn is_keyword(text: &str) -> bool
     ensures { result ≡ list_any (λ k. bytes_eq text.now k) keywords }
 {
@@ -127,7 +128,7 @@ fn is_keyword(text: &str) -> bool
         || is_same(text, "not")
 }
 
-/// Whether a text names a register of x86, in any case.
+/// Returns whether a text names an x86 register, in any case.
 fn is_x86_register(text: &str) -> bool
     ensures { result ≡ list_any (λ r. bytes_eq (map to_ascii_lowercase text.now) r) x86_registers }
 {

@@ -1,11 +1,11 @@
-//! What a statement or an instruction takes its value from.
+//! Operands of statements and instructions.
 ghost use Rattle.std.specs.Prelude.{◌≡◌};
 ghost use Rattle.lw_base.specs.Threads.{operand_value};
 
 use crate::indices::{Reg, Word};
 use crate::limits::REGISTERS;
 
-/// A register's word, or a number that stands in the text.
+/// A register, or a number that is written in the text.
 #[derive(Clone, Copy, PartialEq, Eq)]
 pub enum Operand {
     Register(Reg),
@@ -13,7 +13,7 @@ pub enum Operand {
 }
 
 impl Operand {
-    /// The word of the operand, by the words of a thread's registers.
+    /// Returns the operand's word, by the words of the thread's registers.
     pub fn value(self, regs: &[Word; REGISTERS]) -> Word
         ensures { result ≡ operand_value self regs.now }
     {

@@ -1,4 +1,4 @@
-//! Propositions over final states. A clause sees a proposition as a formula without boxes.
+//! Propositions over final states. A contract sees a proposition as a formula without boxes.
 ghost use Rattle.std.specs.Prelude.{◌≡◌, IfOk};
 ghost use Rattle.lw_base.specs.ConditionTexts.{is_or, is_binary};
 ghost use Rattle.lw_base.specs.Propositions.{formula_of};
@@ -6,27 +6,27 @@ ghost use Rattle.lw_base.specs.Propositions.{formula_of};
 use crate::indices::{Cpu, Loc, Reg, Word};
 use std::alloc::{AllocError, Allocator, Global};
 
-/// What a condition asks of a final state.
+/// A proposition over a final state, which a condition quantifies.
 #[derive(Drop)]
 pub enum Prop<A: Allocator = Global> {
     /// True in every state.
     Always,
     /// True in no state.
     Never,
-    /// The thread's register ends with the word.
+    /// The thread's register has this word.
     RegIs(Cpu, Reg, Word),
-    /// The location ends with the word.
+    /// The location has this word.
     WordIs(Loc, Word),
-    /// Not so.
+    /// Negation.
     Neg(Box<Prop<A>, A>),
-    /// Both are so.
+    /// Conjunction.
     Both(Box<Prop<A>, A>, Box<Prop<A>, A>),
-    /// One of them is so, or both.
+    /// Disjunction.
     Either(Box<Prop<A>, A>, Box<Prop<A>, A>),
 }
 
 impl<A: Allocator + Copy> Prop<A> {
-    /// An equal proposition.
+    /// Copies the proposition. Fails only if memory runs out.
     #[cycle(copies)]
     pub fn copy(&self, alloc: A) -> Result<Self, AllocError>
         ensures { IfOk result (λ p. formula_of p ≡ formula_of self.now) }
@@ -42,7 +42,7 @@ impl<A: Allocator + Copy> Prop<A> {
         })
     }
 
-    /// An equal proposition in a box of its own.
+    /// Copies the proposition into a new box. Fails only if memory runs out.
     #[cycle(copies)]
     fn boxed(&self, alloc: A) -> Result<Box<Self, A>, AllocError>
         ensures { IfOk result (λ b. formula_of b.value ≡ formula_of self.now) }
@@ -52,14 +52,14 @@ impl<A: Allocator + Copy> Prop<A> {
 }
 
 impl<A: Allocator> Prop<A> {
-    /// Whether the proposition joins two by a `\/`.
+    /// Returns whether the proposition is a disjunction.
     pub(crate) fn is_either(&self) -> bool
         ensures { result ≡ is_or (formula_of self.now) }
     {
         matches!(self, Prop::Either(_, _))
     }
 
-    /// Whether the proposition joins two by a `/\` or a `\/`.
+    /// Returns whether the proposition is a conjunction or a disjunction.
     pub(crate) fn is_joined(&self) -> bool
         ensures { result ≡ is_binary (formula_of self.now) }
     {

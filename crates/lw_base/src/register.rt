@@ -8,8 +8,8 @@ use crate::head::Arch;
 use crate::indices::Reg;
 use crate::name::eq_ignore_ascii_case;
 
-/// The name of a register as it is printed: `r0` to `r5` in source tests; `EAX`, `EBX`, `ECX`,
-/// `EDX`, `ESI` and `EDI` in x86 tests.
+/// Returns the printed name of a register: `r0` to `r5` in source tests; `EAX`, `EBX`, `ECX`, `EDX`, `ESI` or `EDI`
+/// in x86 tests.
 pub fn reg_name(arch: Arch, reg: Reg) -> &'static str
     ensures { result.now ≡ register_name arch reg }
 {
@@ -29,7 +29,7 @@ pub fn reg_name(arch: Arch, reg: Reg) -> &'static str
     }
 }
 
-/// The register of a language that has this name. Names of x86 are read in any case.
+/// Returns the register of a language with this name, if there is one. Names of x86 registers are read in any case.
 pub fn reg_from_name(arch: Arch, name: &str) -> Option<Reg>
     ensures { MatchOption result (HoldsOfNothing (IsRegisterName arch name.now)) (IsRegisterName arch name.now) }
 {
@@ -41,7 +41,7 @@ pub fn reg_from_name(arch: Arch, name: &str) -> Option<Reg>
     None
 }
 
-/// Whether a register has this name, which x86 takes in any case.
+/// Returns whether a register has this name. The case of letters is ignored in x86.
 fn has_name(arch: Arch, reg: Reg, name: &str) -> bool
     ensures { result ≡ bytes_eq
         (lowercase_if_x86 arch (register_name arch reg)) (lowercase_if_x86 arch name.now) }

@@ -1,4 +1,4 @@
-//! Schedules: events between blanks.
+//! Schedules: events separated by blanks.
 ghost use Rattle.std.specs.Prelude.{◌≡◌, ◌≢◌, ◌<◌, ◌≤◌, List, [], ◌∷◌, ◌++◌, length, MatchOption, IfOk, IfErr, OnOk};
 ghost use Rattle.std.specs.List.{AllByRecursion};
 ghost use Rattle.std.specs.String.{string_bytes};
@@ -22,27 +22,26 @@ use crate::sequence::Sequence;
 use crate::text::Text;
 use std::alloc::{AllocError, Allocator};
 
-/// Reads a schedule against a table of locations. Its events are separated by blanks: `P0` is a step
-/// of processor 0, `D0` a drain of its store buffer, and `E0:x` the eviction of its line of `x`.
-///
-/// The first piece between blanks that is no event is told, at its first byte. One of another shape is `Word`;
-/// digits that are no processor's are `Cpu`; a name that is not in the table is
-/// `Location`, after `Cpu`.
+/// Parses a schedule. Its events are separated by blanks: `P0` is a step of processor 0, `D0` a drain of its store
+/// buffer, and `E0:x` the eviction of its line of `x`.
+/// Fails at the first piece between blanks that is no event, with the offset of its first byte. The cause is `Word`
+/// if the piece has another shape, `Cpu` if its digits are no processor's index, and otherwise `Location`, if the
+/// name is not in the table.
 pub fn read_schedule<A: Allocator, B: Allocator>(
     alloc: A,
     text: &str,
     names: &LocNames<B>,
 ) -> Result<Sequence<Event, A>, ScheduleFault>
-    // What is read is a schedule of these events.
+    // The text is a schedule of the returned events.
     ensures found { IfOk result (λ events. IsSchedule names.now text.now events) }
-    // Where nothing is read, the text is no schedule, unless memory ran out.
+    // If it fails, the text is no schedule, or memory ran out.
     ensures fault { IfErr result (λ f. HoldsOfNothingOrOutOfMemory causes.Memory f.cause (IsSchedule names.now text.now)) }
-    // The first faulty piece is told, at its first byte, with its cause.
+    // Unless memory ran out, the offset and the cause are those of the first faulty piece.
     ensures first { IfErr result
         (λ f. f.cause ≢ causes.Memory → IsFirstFault names.now text.now f.at f.cause) }
     ensures place { IfErr result (λ f. f.at ≤ length text.now) }
 {
-    // What the names of a table are.
+    // Brings the table's invariant into scope.
     let _len = names.len();
     let mut events = Sequence::new(alloc);
     let (_, mut rest) = prefix_of_kind(text.as_bytes(), ByteKind::Blank);
@@ -58,7 +57,7 @@ pub fn read_schedule<A: Allocator, B: Allocator>(
     Ok(events)
 }
 
-/// The event that a piece between blanks says, or why it says none.
+/// Parses one piece between blanks as an event.
 fn parse_event<B: Allocator>(piece: &[u8], names: &LocNames<B>) -> Result<Event, ScheduleCause>
     ensures ok { IfOk result (λ e. IsEventText names.now e piece.now) }
     ensures err { IfErr result (IsFaultyPiece names.now piece.now) }
@@ -77,7 +76,7 @@ fn parse_event<B: Allocator>(piece: &[u8], names: &LocNames<B>) -> Result<Event,
     }
 }
 
-/// The processor whose index stands in these digits of an event, or why they are refused.
+/// Parses the digits of an event as a processor's index.
 fn parse_cpu(digits: &[u8]) -> Result<Cpu, ScheduleCause>
     ensures ok { IfOk result (λ c. (c < most_threads) × (digits.now ≡ digit c ∷ [])) }
     ensures err { IfErr result (HasBadDigits digits.now) }
@@ -91,7 +90,7 @@ fn parse_cpu(digits: &[u8]) -> Result<Cpu, ScheduleCause>
     }
 }
 
-/// What an eviction speaks of, by its text behind the `E`: digits, a `:` and a name.
+/// Parses the part of an eviction after the `E`: digits, a `:` and a name.
 fn parse_eviction<B: Allocator>(
     text: &[u8],
     names: &LocNames<B>,
@@ -112,7 +111,7 @@ fn parse_eviction<B: Allocator>(
     }
 }
 
-/// What stands before the first `:` of a text, and what behind it; `None` where it has no `:`.
+/// Splits a text at its first `:`. Returns `None` if there is none.
 fn split_at_colon(text: &[u8]) -> Option<(&[u8], &[u8])>
     ensures { MatchOption result (DoesNotContain (byte ":") text.now)
         (λ x. IsSplitAtFirst (byte ":") text.now x.0.now x.1.now) }
@@ -122,7 +121,7 @@ fn split_at_colon(text: &[u8]) -> Option<(&[u8], &[u8])>
     Some((digits, name))
 }
 
-/// Writes the text of a schedule: its events, joined by one space.
+/// Writes a schedule: its events, separated by single spaces.
 pub fn write_schedule<A: Allocator, B: Allocator>(
     out: &mut String<A>,
     events: &[Event],
@@ -142,7 +141,7 @@ pub fn write_schedule<A: Allocator, B: Allocator>(
     Ok(())
 }
 
-/// Writes the text of an event: `P0`, `D0` or `E0:x`.
+/// Writes an event: `P0`, `D0` or `E0:x`.
 fn write_event<A: Allocator, B: Allocator>(
     out: &mut String<A>,
     event: &Event,
@@ -162,7 +161,7 @@ fn write_event<A: Allocator, B: Allocator>(
     }
 }
 
-/// Writes what each event's text begins with: its letter, and the digit of its processor.
+/// Writes the common start of an event: its letter, and the digit of its processor.
 fn write_cpu<A: Allocator>(out: &mut String<A>, letter: char, cpu: Cpu) -> Result<(), AllocError>
     requires { letter < 128 }
     ensures { OnOk result (string_bytes out.new ≡ string_bytes out.old ++ letter ∷ digit cpu ∷ []) }
@@ -171,14 +170,13 @@ fn write_cpu<A: Allocator>(out: &mut String<A>, letter: char, cpu: Cpu) -> Resul
     out.push(cpu.digit())
 }
 
-/// A theorem for readers: what `write_schedule` writes is a schedule of the same events; so `read_schedule` reads them
-/// again.
+/// States, for readers, that `read_schedule` reads back the events that `write_schedule` writes.
 pub fn a_written_schedule_is_read_back()
     ensures { (names : NameTable) (events : List Event) → IsNameTable names → AllByRecursion (IsEvent names) events
         → IsSchedule names (schedule_text names events) events }
 {}
 
-/// A theorem for readers: a text is a schedule of at most one list of events.
+/// States, for readers, that a text is a schedule of at most one list of events.
 pub fn a_text_has_one_schedule()
     ensures { (names : NameTable) → IsNameTable names → (text : Bytes) (events others : List Event)
         → IsSchedule names text events → IsSchedule names text others → events ≡ others }

@@ -1,4 +1,4 @@
-//! The list type of the workbench. A clause sees it as the list of its items alone.
+//! The list type of the workbench. A contract sees it as the list of its items.
 ghost use Rattle.std.specs.Prelude.{◌≡◌, [], ◌∷◌, ◌++◌, ◌<◌, ◌==◌, length, slice_get, slice_set, IfOk, IfErr, OnOk, OnErr, option_copied};
 ghost use Rattle.std.specs.Cmp.Lexicographic.{pointwise, slice_cmp, slice_partial_cmp, lists_equiv, lists_agrees, lists_total, lists_ties, lists_po, lists_per};
 ghost use Rattle.std.specs.Hash as fed;
@@ -9,7 +9,7 @@ use std::cmp::Ordering;
 use std::hash::{Hash, Hasher};
 use std::marker::Model;
 
-/// A list that owns its items, in memory of the allocator that `new` took.
+/// A list that owns its items, in memory of the allocator passed to `new`.
 #[derive(Drop)]
 pub struct Sequence<T, A: Allocator = Global> {
     items: Vec<T, A>,
@@ -24,7 +24,7 @@ impl<T, A: Allocator> Model for Sequence<T, A> {
 }
 
 impl<T, A: Allocator> Sequence<T, A> {
-    /// An empty list. It takes no memory.
+    /// Creates an empty list. Does not allocate.
     pub fn new(alloc: A) -> Self
         ensures { result ≡ [] }
     {
@@ -33,35 +33,35 @@ impl<T, A: Allocator> Sequence<T, A> {
         }
     }
 
-    /// The number of items of the list.
+    /// Returns the number of items.
     pub fn len(&self) -> usize
         ensures { result ≡ length self.now }
     {
         self.items.len()
     }
 
-    /// Whether the list has no item.
+    /// Returns whether the list is empty.
     pub fn is_empty(&self) -> bool
         ensures { result ≡ (length self.now == 0) }
     {
         self.items.is_empty()
     }
 
-    /// The items of the list, to be read.
+    /// Borrows the items as a slice.
     pub fn as_slice(&self) -> &[T]
         ensures { result.now ≡ self.now }
     {
         self.items.as_slice()
     }
 
-    /// The item at an index.
+    /// Returns the item at an index, or `None` past the end.
     pub fn get(&self, index: usize) -> Option<&T>
         ensures { option_copied result ≡ slice_get self.now index }
     {
         self.items.get(index)
     }
 
-    /// Adds an item at the end, or hands it back where there is no memory.
+    /// Appends an item. If memory runs out, the error returns the item, and the list is unchanged.
     pub fn push(&mut self, item: T) -> Result<(), AllocFailed<T>>
         ensures ok { OnOk result (self.new ≡ self.old ++ item ∷ []) }
         ensures value_returned { IfErr result (λ e. e.value ≡ item) }
@@ -70,31 +70,31 @@ impl<T, A: Allocator> Sequence<T, A> {
         self.items.push(item)
     }
 
-    /// The items as a `Vec`, in the memory that they have. It takes no more.
+    /// Converts the list into a `Vec`. Does not allocate.
     pub fn into_vec(self) -> Vec<T, A>
         ensures { result.items ≡ self }
     {
         self.items
     }
 
-    /// The allocator that holds the items.
+    /// Returns the allocator that holds the items.
     pub fn allocator(&self) -> &A {
         self.items.allocator()
     }
 }
 
-/// The items of a `Vec`, in the memory that they have. It takes no more.
+/// Converts a `Vec` into a list. Does not allocate.
 impl<T, A: Allocator> From<Vec<T, A>> for Sequence<T, A> {
     ghost from_gives = { λ items sequence. sequence ≡ items.items };
 
-    /// A list of the items of a `Vec`.
+    /// Converts a `Vec` into a list of its items.
     fn from(items: Vec<T, A>) -> Sequence<T, A> {
         Sequence { items }
     }
 }
 
 impl<T: Copy, A: Allocator> Sequence<T, A> {
-    /// A list of the same items.
+    /// Copies the items of a slice into a new list. Fails only if memory runs out.
     pub fn from_slice(alloc: A, items: &[T]) -> Result<Self, AllocError>
         ensures { IfOk result (λ s. s ≡ items.now) }
     {
@@ -103,7 +103,7 @@ impl<T: Copy, A: Allocator> Sequence<T, A> {
         })
     }
 
-    /// An equal list, over the same allocator.
+    /// Copies the list, with the same allocator. Fails only if memory runs out.
     pub fn copy(&self) -> Result<Self, AllocError>
     where
         A: Copy,
@@ -112,7 +112,7 @@ impl<T: Copy, A: Allocator> Sequence<T, A> {
         Sequence::from_slice(*self.items.allocator(), self.items.as_slice())
     }
 
-    /// Puts an item at an index, for the one that stands there.
+    /// Replaces the item at an index.
     pub fn set(&mut self, index: usize, item: T)
         requires { index < length self.old }
         ensures { self.new ≡ slice_set self.old index item }
@@ -120,7 +120,7 @@ impl<T: Copy, A: Allocator> Sequence<T, A> {
         self.items[index] = item;
     }
 
-    /// Makes the items those of another list, of the same length. It takes no memory.
+    /// Overwrites all items with those of a slice of the same length. Does not allocate.
     pub fn copy_from(&mut self, items: &[T])
         requires { length items.now ≡ length self.old }
         ensures { self.new ≡ items.now }
@@ -134,7 +134,7 @@ impl<T: PartialEq, A: Allocator> PartialEq for Sequence<T, A> {
 
     ghost laws = { lists_per T.laws };
 
-    /// Whether two lists have equal items.
+    /// Returns whether two lists have equal items.
     fn eq(&self, other: &Self) -> bool {
         self.items == other.items
     }
@@ -149,7 +149,7 @@ impl<T: PartialOrd, A: Allocator> PartialOrd for Sequence<T, A> {
 
     ghost laws = { lists_po T.PartialOrd.laws };
 
-    /// Which of two lists comes first, by the first items that differ, where they can be compared.
+    /// Compares two lists lexicographically. Returns `None` if the first items that differ are not comparable.
     fn partial_cmp(&self, other: &Self) -> Option<Ordering> {
         self.items.partial_cmp(&other.items)
     }
@@ -164,7 +164,7 @@ impl<T: Ord, A: Allocator> Ord for Sequence<T, A> {
 
     ghost matches_eq = { lists_ties T.cmp T.matches_eq };
 
-    /// Which of two lists comes first, by the first items that differ.
+    /// Compares two lists lexicographically.
     fn cmp(&self, other: &Self) -> Ordering {
         self.items.cmp(&other.items)
     }

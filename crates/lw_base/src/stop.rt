@@ -1,30 +1,31 @@
-//! Why an event is refused, and how a replay ends.
+//! Why an event is rejected, and how a replay ends.
 ghost use Rattle.std.specs.Prelude.{◌≡◌};
 ghost use Rattle.lw_base.specs.Stops.{stop_code, stop_name};
 
-/// Why an event of a schedule could not be carried out. Nothing has changed then.
+/// Why an event of a schedule is not possible. A rejected event changes nothing.
 #[derive(Clone, Copy, PartialEq, Eq)]
 pub enum Stop {
     /// The test has no such thread.
     NoCpu,
     /// The test has no such location.
     NoLocation,
-    /// The thread is at its end.
+    /// The thread has terminated.
     Ended,
-    /// A fence waits until the thread's store buffer is empty.
+    /// A fence needs an empty store buffer.
     FenceWaits,
-    /// A locked instruction waits until the thread's store buffer is empty.
+    /// A locked instruction needs an empty store buffer.
     SwapWaits,
-    /// There is no entry to drain.
+    /// The store buffer has no entry to drain.
     BufferEmpty,
     /// The processor's cache does not hold the line.
     NotHeld,
-    /// There was no memory for an entry of the store buffer. No event is refused so now: there is always room.
+    /// Memory ran out for an entry of the store buffer. This does not happen: the buffer's capacity is allocated at
+    /// the start.
     Memory,
 }
 
 impl Stop {
-    /// The number under which people are told why an event is refused: 1 to 8.
+    /// Returns the printed code of the cause, 1 to 8.
     pub fn code(self) -> u8
         ensures { result ≡ stop_code self }
     {
@@ -40,7 +41,7 @@ impl Stop {
         }
     }
 
-    /// The name under which people are told why an event is refused.
+    /// Returns the printed name of the cause.
     pub fn name(self) -> &'static str
         ensures { result.now ≡ stop_name self }
     {
@@ -64,15 +65,14 @@ pub enum End {
     Final,
     /// All events were carried out, and the state is not final.
     NotFinal,
-    /// An event was refused.
+    /// An event was rejected.
     Stopped(Stop),
 }
 
-/// What became of a schedule.
+/// The result of a replay.
 #[derive(Clone, Copy)]
 pub struct Replay {
-    /// The number of events carried out. Where the replay stopped, this is the index of
-    /// the refused event.
+    /// The number of events carried out. If the replay stopped, this is the index of the rejected event.
     pub done: usize,
     pub end: End,
 }

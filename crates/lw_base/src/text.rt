@@ -1,4 +1,4 @@
-//! The text type of the workbench. A clause sees it as the list of its bytes alone.
+//! The text type of the workbench. A contract sees it as the list of its bytes.
 ghost use Rattle.std.specs.Prelude.{◌≡◌, IfOk};
 ghost use Rattle.std.specs.String.{string_bytes};
 
@@ -21,7 +21,7 @@ impl<A: Allocator> Model for Text<A> {
 }
 
 impl<A: Allocator> Text<A> {
-    /// The same text, in memory of its own.
+    /// Copies a text into memory of its own. Fails only if memory runs out.
     pub fn from_str(alloc: A, text: &str) -> Result<Self, AllocError>
         ensures { IfOk result (λ t. t ≡ text.now) }
     {
@@ -30,21 +30,21 @@ impl<A: Allocator> Text<A> {
         })
     }
 
-    /// The text, to be read.
+    /// Borrows the text as a `str`.
     pub fn as_str(&self) -> &str
         ensures { result.now ≡ self.now }
     {
         self.text.as_str()
     }
 
-    /// The text as a `String`, in the memory that it has. It takes no more.
+    /// Converts the text into a `String`. Does not allocate.
     pub fn into_string(self) -> String<A>
         ensures { string_bytes result ≡ self }
     {
         self.text
     }
 
-    /// An equal text, over the same allocator.
+    /// Copies the text, with the same allocator. Fails only if memory runs out.
     pub fn copy(&self) -> Result<Self, AllocError>
     where
         A: Copy,
@@ -54,11 +54,11 @@ impl<A: Allocator> Text<A> {
     }
 }
 
-/// The text of a `String`, in the memory that it has. It takes no more.
+/// Converts a `String` into a text. Does not allocate.
 impl<A: Allocator> From<String<A>> for Text<A> {
     ghost from_gives = { λ string text. text ≡ string_bytes string };
 
-    /// A text of the bytes of a `String`.
+    /// Converts a `String` into a text of its bytes.
     fn from(string: String<A>) -> Text<A> {
         Text { text: string }
     }

@@ -1,4 +1,4 @@
--- Three classic tests as values. In examples/ their texts are SB, SB-x86 and MP-x86.
+-- Three classic tests as values. Their texts are SB, SB-x86 and MP-x86 in examples/.
 use Rattle.std.specs.Prelude.{ℕ, List, [], ◌∷◌, codes, replicate}
 use Rattle.lw_base.specs.Formula.{Formula, And, Reg_is}
 use Rattle.lw_base.specs.Heads.{TestHead}
@@ -11,7 +11,7 @@ use Rattle.lw_litmus.specs.Tests.{SourceTest, X86Test}
 use Rattle.lw_litmus.specs.declared.instr.Instr.TheVariants as x86
 use Rattle.lw_litmus.specs.declared.stmt.Stmt.TheVariants as source
 
--- The head of a test of two threads and the locations x and y, all 0, by its name, language, quantifier and proposition.
+-- The head of a test of two threads and the locations x and y, all 0, with this name, language, quantifier and proposition.
 abbrev pub two_threads : List ℕ → Arch → Quant → Formula → TestHead
 two_threads name arch quant condition = record {
   name = name;
@@ -25,15 +25,15 @@ two_threads name arch quant condition = record {
   condition = condition;
 }
 
--- the proposition that both loads take the 0 from before the stores
+-- The proposition that both loads read the initial 0.
 abbrev pub both_loads_are_early : Formula
 both_loads_are_early = And (Reg_is 0 0 0) (Reg_is 1 0 0)
 
--- the proposition that the flag is seen, and the message is not
+-- The proposition that the flag is seen without the message.
 abbrev pub flag_without_message : Formula
 flag_without_message = And (Reg_is 1 0 1) (Reg_is 1 1 0)
 
--- `x := 1; r0 := y` beside `y := 1; r0 := x`
+-- Store buffering: `x := 1; r0 := y` beside `y := 1; r0 := x`.
 abbrev pub store_buffering : SourceTest
 store_buffering = record {
   head = two_threads (codes "SB") Source Exists both_loads_are_early;
@@ -42,7 +42,7 @@ store_buffering = record {
       ∷ (source.Store 1 (Number 1) ∷ source.Load 0 0 ∷ []) ∷ [];
 }
 
--- store buffering in x86: `MOV [x],1; MOV EAX,[y]` beside `MOV [y],1; MOV EAX,[x]`
+-- Store buffering in x86: `MOV [x],1; MOV EAX,[y]` beside `MOV [y],1; MOV EAX,[x]`.
 abbrev pub store_buffering_in_x86 : X86Test
 store_buffering_in_x86 = record {
   head = two_threads (codes "SB-x86") X86 Exists both_loads_are_early;
@@ -51,7 +51,7 @@ store_buffering_in_x86 = record {
       ∷ (x86.Store 1 (Number 1) ∷ x86.Load 0 0 ∷ []) ∷ [];
 }
 
--- x is the message and y the flag: `MOV [x],1; MOV [y],1` beside `MOV EAX,[y]; MOV EBX,[x]`
+-- Message passing in x86, with the message x and the flag y: `MOV [x],1; MOV [y],1` beside `MOV EAX,[y]; MOV EBX,[x]`.
 abbrev pub message_passing_in_x86 : X86Test
 message_passing_in_x86 = record {
   head = two_threads (codes "MP-x86") X86 NotExists flag_without_message;

@@ -1,4 +1,4 @@
--- What the compilation of a test is.
+-- The compilation of a test.
 use Rattle.std.specs.Prelude.{◌≡◌, ◌↔◌, ℕ, List}
 use Rattle.lw_base.specs.Outcomes.{FinalState}
 use Rattle.lw_base.specs.Types.{Bytes}
@@ -10,7 +10,7 @@ use Rattle.lw_x86.specs.CanonicalTexts.{canonical_text}
 use Rattle.lw_bench.specs.LitmusTests.{LitmusTest, Of_source, Of_x86}
 use Rattle.lw_tso_caches.specs.OverCaches.{OutcomeOverCaches}
 
--- The canonical text of a source test's compiled program, which reaches on the whole machine, over all steps, drains and
+-- The text is the canonical text of a source test's compiled program, which reaches on the whole machine, over all steps, drains and
 -- evictions, exactly the outcomes that the source reaches by interleaving on one memory.
 pub record IsCompiledText (test : SourceTest) (text : Bytes) : Type 0 where
   pub program : X86Test
@@ -19,7 +19,7 @@ pub record IsCompiledText (test : SourceTest) (text : Bytes) : Type 0 where
   pub is : text ≡ canonical_text program
   pub outcomes : (protocol : Protocol) (o : FinalState) → OutcomeOverCaches protocol program o ↔ SourceOutcome test o
 
--- The text is the compilation of a test: of a source test that of its compiled program, of an x86 test its own canonical text.
+-- The text is the compilation of a test: of a source test the text of its compiled program, of an x86 test its own canonical text.
 abbrev pub IsCompilation : LitmusTest → Bytes → Type 0
 IsCompilation (Of_source test) text = IsCompiledText test text
 IsCompilation (Of_x86 test) text = text ≡ canonical_text test

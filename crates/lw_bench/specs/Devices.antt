@@ -1,24 +1,23 @@
--- What came in, and what went out.
+-- The bytes that are read and written.
 use Rattle.std.specs.Prelude.{◌≡◌, ℕ, ◌+◌, ◌≤◌, ◌⊎◌, Option, Some, [], ◌++◌, length, drop}
 use Rattle.std.specs.Option.{IfSome}
 use Rattle.std.specs.Io.KnownBytes.{Consumes, IsAtEnd, Appends}
 use Rattle.lw_base.specs.Types.{Bytes}
 use Rattle.lw_bench.specs.Limits.{most_read_bytes}
 
--- Where the bytes that are to come are known, these are the first of them: all, or 65,537.
+-- These are the first bytes of the input, if it is known: all of it, or 65,537.
 abbrev pub IsInput : Option Bytes → Bytes → Type 0
 IsInput known bytes = IfSome known (λ input. (rest : Bytes) × (input ≡ bytes ++ rest) × ((rest ≡ []) ⊎ (length bytes ≡ most_read_bytes)))
 
--- Where the bytes that are to come are known: all of them were taken, or the first 65,537, and what is left is what was there
--- without these.
+-- If the input is known, all of it was consumed, or its first 65,537 bytes, and the rest remains.
 abbrev pub TakesInput : Option Bytes → Option Bytes → Type 0
 TakesInput before after = IfSome before (λ input. after ≡ Some (drop most_read_bytes input))
 
--- some of the first 65,537 bytes were taken, where the bytes are known, and what is left is the rest
+-- If the input is known, some of its first 65,537 bytes were consumed, and the rest remains.
 abbrev pub TakesSome : Option Bytes → Option Bytes → Type 0
 TakesSome before after = IfSome before (λ input. (count : ℕ) × (count ≤ most_read_bytes) × (after ≡ Some (drop count input)))
 
--- A reader gave `count` bytes more, which stand behind those read before; it gives none only at its end.
+-- A reader returned `count` more bytes, which were appended to those read before. It returns none only at its end.
 pub record ReadsMore (known left : Option Bytes) (before after : Bytes) (count : ℕ) : Type 0 where
   pub got : Bytes
   pub as_many : length got ≡ count
@@ -27,13 +26,13 @@ pub record ReadsMore (known left : Option Bytes) (before after : Bytes) (count :
   pub consumed : Consumes known left got
   pub ended : count ≡ 0 → IsAtEnd left
 
--- Some bytes were taken and lost; with those before they are no more than may be read.
+-- Some bytes were consumed and lost. Together with those read before they are at most as many as may be read.
 pub record LosesInput (known left : Option Bytes) (before : Bytes) : Type 0 where
   pub got : Bytes
   pub limit : length before + length got ≤ most_read_bytes
   pub consumed : Consumes known left got
 
--- Of the bytes that are to be written the first were written, and `rest` is left.
+-- A prefix of the bytes was written, and `rest` remains.
 pub record WritesPrefix (before after : Option Bytes) (bytes rest : Bytes) : Type 0 where
   pub written : Bytes
   pub parts : bytes ≡ written ++ rest

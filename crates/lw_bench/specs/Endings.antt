@@ -43,7 +43,8 @@ pub record WritesLine {A : Type 0} (line : Bytes) (s : ℕ) (e : Ending A) : Typ
 abbrev pub Reports : {A : Type 0} → BenchFault → Ending A → Type 0
 Reports f e = WritesLine (fault_text f) (status f) e ⊎ WritesLine (fault_text Memory) (status Memory) e
 
--- The ending of a task on a text: what the task makes of the test that the text is, with its exit status; or a fault that is true of the text.
+-- The ending of a task on a text: the output of the task on the test of the text, with its exit status; or a fault that is true of the
+-- text.
 abbrev pub EndsTask : {A : Type 0} → Task → Bytes → Ending A → Type 0
 EndsTask task text (Answer output s) = IsOutputOf (λ test made. IsTaskOutput task test made s) text output
 EndsTask task text (Refusal line s) =

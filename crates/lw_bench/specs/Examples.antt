@@ -3,7 +3,7 @@
 use Rattle.std.specs.Prelude.{◌++◌, codes}
 use Rattle.lw_base.specs.Types.{Bytes}
 
--- the comment of the example's text, between `(*` and `*)`
+-- The comment of the example's text, between `(*` and `*)`.
 abbrev pub store_buffering_notes : Bytes
 store_buffering_notes =
     codes " Store buffering in x86 instructions. Both stores wait in the store buffers while the loads go ahead, so both\n"
@@ -11,7 +11,7 @@ store_buffering_notes =
     ++ (codes "   written in state M, and memory's own words are as they were.\n"
     ++ codes "   Interleaving: forbidden. x86-TSO: allowed. A telling schedule: P0 P0 P1 P1 D0 D1 "))
 
--- the bytes of the test itself, behind the notes: the block, the rows and the condition
+-- The bytes of the test after the notes: the block, the rows and the condition.
 abbrev pub store_buffering_body : Bytes
 store_buffering_body =
     codes "{}\n"
@@ -20,11 +20,11 @@ store_buffering_body =
     ++ (codes " MOV EAX,[y] | MOV EAX,[x] ;\n"
     ++ codes "exists (0:EAX=0 /\\ 1:EAX=0)\n")))
 
--- the bytes of examples/SB-x86.litmus: the language, the name, the notes and the test
+-- The bytes of examples/SB-x86.litmus: the language, the name, the notes and the test.
 abbrev pub store_buffering_text : Bytes
 store_buffering_text = codes "X86 SB-x86\n(*" ++ (store_buffering_notes ++ (codes "*)\n" ++ store_buffering_body))
 
--- what `lw states` prints of it
+-- The output of `lw states` on it.
 abbrev pub store_buffering_report : Bytes
 store_buffering_report =
     codes "Test SB-x86 Allowed\n"

@@ -1,5 +1,4 @@
--- What a refused run tells of its text, of a cell, and of its test.
--- Out of memory is told as Memory and as nothing else.
+-- What a fault states of a run's text, of a cell, and of the test. Out of memory is always reported as `Memory`.
 use Rattle.std.specs.Prelude.{◌≡◌, ◌≢◌, ◌⊎◌, ◌<◌, ◌≤◌, Option, List, length}
 use Rattle.std.specs.Option.{IfSome}
 use Rattle.std.specs.Str.{IsUtf8, IsValidUpTo}
@@ -31,11 +30,11 @@ use Rattle.lw_bench.specs.Devices.{TakesInput, TakesSome}
 use Rattle.lw_bench.specs.LitmusTests.{LitmusTest, Of_source, Of_x86, head_of_test}
 use Rattle.lw_bench.specs.TestTexts.{FrameHasTest, HasTest}
 
--- The text has no frame, and what the fault says of its length, of its UTF-8 and of the place is so.
+-- The text has no frame, and what the fault states of its length, its encoding and the place is true.
 pub record TextFaultIsTrue (bytes : Bytes) (f : TextFault) : Type 0 where
   pub none : (frame : TestFrame) → HasFrame bytes frame → ⊥
   pub place : f.at ≤ length bytes
-  -- what is told of a text that is too long
+  -- The fault of a text that is too long.
   pub too_long : most_text_bytes < length bytes → f ≡ record { at = most_text_bytes; cause = text.TooLong }
   pub only_too_long : f.cause ≡ text.TooLong → most_text_bytes < length bytes
   pub not_utf8 : length bytes ≤ most_text_bytes → ¬ IsUtf8 bytes
@@ -44,12 +43,12 @@ pub record TextFaultIsTrue (bytes : Bytes) (f : TextFault) : Type 0 where
       → (length bytes ≤ most_text_bytes) × (¬ IsUtf8 bytes) × IsValidUpTo bytes f.at
   pub in_memory : f.cause ≢ text.Memory
 
--- What a fault of a cell tells, by the rules of the language, of the cells with their places.
+-- What a fault of a cell states, by the rules of the language, of the cells with their offsets.
 abbrev pub CellFaultIsTrueIn : Arch → NameTable → List (List PlacedCell) → CellFault → Type 0
 CellFaultIsTrueIn Source = CellFaultIsTrue source_grammar
 CellFaultIsTrueIn X86 = CellFaultIsTrue x86_grammar
 
--- The text has a frame, whose cells are no test's, and what the cause says of the place is so.
+-- The text has a frame, whose cells are no test, and what the cause states of the place is true.
 pub record CellFaultIsTrueOf (bytes : Bytes) (f : CellFault) : Type 0 where
   pub frame : TestFrame
   pub has_frame : HasFrame bytes frame
@@ -61,11 +60,11 @@ pub record CellFaultIsTrueOf (bytes : Bytes) (f : CellFault) : Type 0 where
   pub cause : CellFaultIsTrueIn frame.head.arch frame.head.locs cells f
   pub in_memory : f.cause ≢ cell.Memory
 
--- the fault is not a failure of a device
+-- The fault is not the failure of a device.
 abbrev pub IsNotDeviceFault : BenchFault → Type 0
 IsNotDeviceFault f = (f ≢ Read) × (f ≢ Write)
 
--- what a fault tells of bytes that were to be read as a test is so: of a text or a cell its place and cause
+-- The fault of reading a test from these bytes is true: of a text or a cell its place and cause.
 abbrev pub ReadFaultIsTrue : Bytes → BenchFault → Type 0
 ReadFaultIsTrue bytes (Text f) = TextFaultIsTrue bytes f
 ReadFaultIsTrue bytes (Cell f) = CellFaultIsTrueOf bytes f
@@ -75,16 +74,15 @@ ReadFaultIsTrue bytes Memory = Unit {0}
 ReadFaultIsTrue bytes Read = Unit {0}
 ReadFaultIsTrue bytes Write = Unit {0}
 
--- What a run tells that is refused: what the reading of a test tells, or what is told of the test that was read.
+-- The fault of a run is true: that of reading the test, or what it states of the test that was read.
 abbrev pub RunFaultIsTrue : (LitmusTest → BenchFault → Type 0) → Bytes → BenchFault → Type 0
-RunFaultIsTrue CellFaultIsTrue bytes f = ReadFaultIsTrue bytes f ⊎ ((test : LitmusTest) × HasTest bytes test × CellFaultIsTrue test f)
+RunFaultIsTrue TestFaultIsTrue bytes f = ReadFaultIsTrue bytes f ⊎ ((test : LitmusTest) × HasTest bytes test × TestFaultIsTrue test f)
 
--- what a run tells that is refused, of the bytes of a reader, where they are known
+-- The fault of a run is true of the bytes of a reader, if they are known.
 abbrev pub InputFaultIsTrue : (LitmusTest → BenchFault → Type 0) → Option Bytes → BenchFault → Type 0
-InputFaultIsTrue CellFaultIsTrue known f = IfSome known (λ bytes. RunFaultIsTrue CellFaultIsTrue bytes f)
+InputFaultIsTrue TestFaultIsTrue known f = IfSome known (λ bytes. RunFaultIsTrue TestFaultIsTrue bytes f)
 
--- What a run takes from its reader: the whole input, but where the reader failed or memory ran out, which may have been before
--- its end.
+-- What a run consumes of its input before this fault: the whole input, unless the reader failed or memory ran out, possibly before its end.
 abbrev pub TakesBeforeFault : BenchFault → Option Bytes → Option Bytes → Type 0
 TakesBeforeFault (Text f) = TakesInput
 TakesBeforeFault (Cell f) = TakesInput
@@ -94,18 +92,18 @@ TakesBeforeFault Memory = TakesSome
 TakesBeforeFault Read = TakesSome
 TakesBeforeFault Write = TakesInput
 
--- ---- what is told of a test that was read
+-- ---- Faults of a test that was read.
 
--- no fault tells of a test that was read: a compilation is refused for nothing in it
+-- No fault is true of a test that was read: a compilation is rejected for nothing in it.
 abbrev pub NoFaultIsTrue : LitmusTest → BenchFault → Type 0
 NoFaultIsTrue test f = ⊥
 
--- The text is no schedule of the test, and its first faulty part stands at the place that is told, for the cause that is told.
+-- The text is no schedule of the test, and its first faulty piece is at this offset, for this cause.
 pub record ScheduleFaultIsTrue (schedule : Bytes) (test : LitmusTest) (f : ScheduleFault) : Type 0 where
   pub none : (events : List Event) → IsSchedule (head_of_test test).locs schedule events → ⊥
   pub first : IsFirstFault (head_of_test test).locs schedule f.at f.cause
 
--- What a replay tells of a test: a fault of its schedule.
+-- The fault of a replay is true of a test: it is one of the schedule.
 abbrev pub ReplayFaultIsTrue : Bytes → LitmusTest → BenchFault → Type 0
 ReplayFaultIsTrue schedule test (Schedule f) = ScheduleFaultIsTrue schedule test f
 ReplayFaultIsTrue schedule test (Text f) = ⊥
@@ -115,11 +113,11 @@ ReplayFaultIsTrue schedule test Memory = ⊥
 ReplayFaultIsTrue schedule test Read = ⊥
 ReplayFaultIsTrue schedule test Write = ⊥
 
--- The test passes the limit of lists that the fault names, and so has no list.
+-- The test exceeds the limit of lists that the fault names, and so has no list.
 abbrev pub TestLimitFaultIsTrue : LitmusTest → ListFault → Type 0
 TestLimitFaultIsTrue (Of_source test) = LimitFaultIsTrue source_language test.threads
 TestLimitFaultIsTrue (Of_x86 test) = LimitFaultIsTrue x86_language test.threads
 
--- What a report or a list of schedules tells of a test: which limit it passes.
+-- The fault of a report or a list of schedules is true of a test: it names a limit that the test exceeds.
 abbrev pub ListFaultIsTrue : LitmusTest → BenchFault → Type 0
 ListFaultIsTrue test f = (limit : ListFault) × (f ≡ Limit limit) × (limit ≢ list.Memory) × TestLimitFaultIsTrue test limit

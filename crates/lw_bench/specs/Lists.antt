@@ -1,4 +1,4 @@
--- What the report of a test is, and the list of its schedules: of a test of either language.
+-- The report of a test, and the list of its schedules, for tests of either language.
 use Rattle.std.specs.Prelude.{◌↔◌, All, Contains}
 use Rattle.lw_base.specs.ListedOutcomes.{IsListedOutcome}
 use Rattle.lw_base.specs.Outcomes.{FinalState}
@@ -14,27 +14,27 @@ use Rattle.lw_bench.specs.LitmusTests.{LitmusTest, Of_source, Of_x86, head_of_te
 use Rattle.lw_bench.specs.Outcomes.{OutcomeOf, IsProgramRunFor, IsProgramOf, HasOverCaches, ProgramReplaysTo}
 use Rattle.lw_bench.specs.TestTexts.{HasTest}
 
--- Within the limits of lists: no choice of a test's flow paths has more items, and all have no more orders, than a list takes.
+-- The test is within the limits of lists: no path assignment has more items, and all together have no more orders, than a list takes.
 abbrev pub IsWithinListLimits : LitmusTest → Type 0
 IsWithinListLimits (Of_source test) = IsWithinLimits source_language test.threads
 IsWithinListLimits (Of_x86 test) = IsWithinLimits x86_language test.threads
 
--- The report of exactly the test's outcomes.
+-- The text is the report of exactly the test's outcomes.
 abbrev pub IsExactReport : LitmusTest → Bytes → Type 0
 IsExactReport test = IsReport (head_of_test test) (OutcomeOf test) Exact
 
--- The list of a test's states, each with a schedule of the program that leads to the smallest outcome that shows it.
+-- The text is the list of a test's states, each with a schedule of the program that reaches the smallest outcome with its words.
 pub record IsExactScheduleList (test : LitmusTest) (text : Bytes) : Type 0 where
   pub program : X86Test
   pub of_test : IsProgramOf test program
   pub is : IsScheduleList (head_of_test test) (OutcomeOf test) (ProgramReplaysTo program) text
 
--- The report of exactly the test's outcomes, where it is within the limits of lists.
+-- The text is the report of exactly the test's outcomes, and the test is within the limits of lists.
 pub record IsStatesReport (test : LitmusTest) (text : Bytes) : Type 0 where
   pub within : IsWithinListLimits test
   pub is : IsExactReport test text
 
--- The entries are the test's list: exactly its outcomes, sorted, without duplicates, with schedules of the program that lead to them.
+-- The entries are the test's list: exactly its outcomes, sorted, without duplicates, with schedules of the program that reach them.
 pub record IsListOf (test : LitmusTest) (entries : OutcomeEntries) : Type 0 where
   pub program : X86Test
   pub of_test : IsProgramOf test program
@@ -43,16 +43,16 @@ pub record IsListOf (test : LitmusTest) (entries : OutcomeEntries) : Type 0 wher
   pub entries_are : All (IsListedOutcome (head_of_test test)) entries
   pub lead : All (λ e. ProgramReplaysTo program e.1 e.0) entries
 
--- Of every test that the text says, the outcomes are what the program that runs for it reaches on the machine.
+-- Of every test of the text, the outcomes are those that its x86 program reaches on the machine.
 abbrev pub IsReachedOnMachine : Bytes → Type 0
 IsReachedOnMachine text = (test : LitmusTest) → HasTest text test → (program : X86Test) × IsProgramOf test program
 
--- Of every test that the text says, the outcomes are what the program that runs for it reaches over caches.
+-- Of every test of the text, the outcomes are those that its x86 program reaches over caches.
 abbrev pub IsReachedOverCaches : Bytes → Type 0
 IsReachedOverCaches text =
     (test : LitmusTest) (program : X86Test) → HasTest text test → IsProgramRunFor test program → HasOverCaches test program
 
--- The list of a test's states, each with a schedule of the program that leads to the smallest outcome that shows it, where the
+-- The text is the list of a test's states, each with a schedule of the program that reaches the smallest outcome with its words, and the
 -- test is within the limits of lists.
 pub record IsScheduleReport (test : LitmusTest) (text : Bytes) : Type 0 where
   pub within : IsWithinListLimits test

@@ -1,4 +1,4 @@
--- The outcomes of a test of either language, and the program that runs for it.
+-- The outcomes of a test of either language, and its x86 program.
 use Rattle.std.specs.Prelude.{◌≡◌, ◌↔◌, ℕ, List}
 use Rattle.lw_base.specs.Outcomes.{FinalState}
 use Rattle.lw_base.specs.declared.event.Event.{Event}
@@ -11,18 +11,18 @@ use Rattle.lw_interleaving.specs.Runs.{SourceOutcome}
 use Rattle.lw_litmus.specs.Tests.{X86Test}
 use Rattle.lw_bench.specs.LitmusTests.{LitmusTest, Of_source, Of_x86}
 
--- The outcomes of a test: of a source test those that it reaches by interleaving on one memory, of an x86 test those that the
--- machine reaches, with store buffers over one memory, over all schedules of steps and drains.
+-- The outcomes of a test: of a source test those that it reaches by interleaving on one memory, of an x86 test those that the machine
+-- reaches, with store buffers over one memory, over all schedules of steps and drains.
 abbrev pub OutcomeOf : LitmusTest → FinalState → Type 0
 OutcomeOf (Of_source test) = SourceOutcome test
 OutcomeOf (Of_x86 test) = IsMachineOutcome flat_memory test test.head.init_words
 
--- the program that runs for a test: what a source test is compiled to, an x86 test itself
+-- The x86 program of a test: the compiled program of a source test, and an x86 test itself.
 abbrev pub IsProgramRunFor : LitmusTest → X86Test → Type 0
 IsProgramRunFor (Of_source test) program = (starts : List (List ℕ)) × IsCompiled test program starts
 IsProgramRunFor (Of_x86 test) program = program ≡ test
 
--- The program runs for the test and reaches on the machine, over all schedules of steps and drains, exactly its outcomes.
+-- The program is the test's, and reaches on the machine, over all schedules of steps and drains, exactly the test's outcomes.
 pub record IsProgramOf (test : LitmusTest) (program : X86Test) : Type 0 where
   pub runs : IsProgramRunFor test program
   pub outcomes : (o : FinalState) → IsMachineOutcome flat_memory program program.head.init_words o ↔ OutcomeOf test o
@@ -31,5 +31,6 @@ pub record IsProgramOf (test : LitmusTest) (program : X86Test) : Type 0 where
 abbrev pub HasOverCaches : LitmusTest → X86Test → Type 0
 HasOverCaches test program = (protocol : Protocol) (o : FinalState) → OutcomeOverCaches protocol program o ↔ OutcomeOf test o
 
-abbrev pub ProgramReplaysTo : X86Test → List Event → FinalState → Type 0  -- the schedule leads the program to the outcome
+-- The schedule takes the program to the outcome.
+abbrev pub ProgramReplaysTo : X86Test → List Event → FinalState → Type 0
 ProgramReplaysTo program events o = (protocol : Protocol) → ReplaysToOverCaches protocol program events o

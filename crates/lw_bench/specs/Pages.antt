@@ -1,5 +1,4 @@
--- What is told of a replay: the test's name, the events carried out, how it ended, and the state
--- that it led to. The source is the format of the workbench, docs/FORMAT.md.
+-- The page of a replay: the test's name, the number of events carried out, how it ended, and the state that it reached, by docs/FORMAT.md.
 use Rattle.std.specs.Prelude.{ℕ, suc, List, [], ◌∷◌, ◌++◌, map, codes, slice_index, slice_index_or}
 use Rattle.std.specs.List.{range_with_len}
 use Rattle.std.specs.Fmt.{decimal}
@@ -18,76 +17,76 @@ use Rattle.lw_memory.specs.declared.system.LineState.TheVariants.{M, O, E, S, I}
 use Rattle.lw_interleaving.specs.Runs.{State}
 use Rattle.lw_tso.specs.Processors.{Processor}
 
--- the texts of a list's items one behind the other; `tell` makes each of the item's index, from k on, and the item
+-- The concatenated texts of a list's items, each by `tell` from the item's index, counted from k, and the item.
 abbrev pub numbered : {X : Type 0} → (ℕ → X → Bytes) → ℕ → List X → Bytes
 numbered tell k [] = []
 numbered tell k (x ∷ xs) = tell k x ++ numbered tell (suc k) xs
 
--- a name, `=`, and what `tell` says of its index k, behind a space
+-- A space, a name, `=`, and the text of its index k.
 abbrev pub named : (ℕ → Bytes) → ℕ → Bytes → Bytes
 named tell k name = codes " " ++ (name ++ (codes "=" ++ tell k))
 
--- the word at an index of these, in decimal
+-- The word at an index, in decimal.
 abbrev pub word_at : List ℕ → ℕ → Bytes
 word_at words k = decimal (slice_index words k)
 
--- how a replay ended: `FinalState`, `NotFinal`, or `Stopped at k by c Name`
+-- How a replay ended: `Final`, `NotFinal`, or `Stopped at k by c Name`.
 abbrev pub end_text : ℕ → End → Bytes
 end_text done Final = codes "Final"
 end_text done NotFinal = codes "NotFinal"
 end_text done (Stopped stop) =
     codes "Stopped at " ++ (decimal done ++ (codes " by " ++ (decimal (stop_code stop) ++ (codes " " ++ stop_name stop))))
 
--- the first lines of a page: the test's name, the events carried out and how the replay ended
+-- The first lines of a page: the test's name, the number of events carried out and how the replay ended.
 abbrev pub first_lines : TestHead → Replay → Bytes
 first_lines head r =
     codes "Test " ++ (head.name
     ++ (codes "\nSteps " ++ (decimal r.done
     ++ (codes "\nEnd " ++ (end_text r.done r.end ++ codes "\n")))))
 
--- the names of a language's registers
+-- The names of a language's registers.
 abbrev pub register_names : Arch → List Bytes
 register_names arch = map (register_name arch) (range_with_len 0 registers)
 
--- a thread's line: its position, and its registers
+-- A thread's line: its position, and its registers.
 abbrev pub thread_line : Arch → ℕ → ℕ → List ℕ → Bytes
 thread_line arch t position regs =
     codes "P" ++ (decimal t ++ (codes " at " ++ (decimal position
     ++ (numbered (named (word_at regs)) 0 (register_names arch) ++ codes "\n"))))
 
--- a line with what `tell` says of each location's index, behind a title
+-- A title, and the text of each location's index.
 abbrev pub location_line : Bytes → (ℕ → Bytes) → NameTable → Bytes
 location_line title tell names = title ++ (numbered (named tell) 0 names ++ codes "\n")
 
--- a line of words, one for each location
+-- A title, and a word for each location.
 abbrev pub word_line : Bytes → NameTable → List ℕ → Bytes
 word_line title names words = location_line title (word_at words) names
 
--- ---- a source test
+-- ---- Source tests.
 
--- the page of a source test: its threads, and the words in memory
+-- The page of a source test: its threads, and the words in memory.
 abbrev pub source_page : TestHead → Replay → State → Bytes
 source_page head r s =
     first_lines head r
     ++ (numbered (λ t th. thread_line head.arch t th.position th.regs) 0 s.threads
     ++ word_line (codes "Memory") head.locs s.words)
 
--- ---- an x86 test
+-- ---- x86 tests.
 
--- `P` and the processor's number, with what stands behind it in its line
+-- `P`, the processor's index, and the rest of its line.
 abbrev pub processor_title : ℕ → Bytes → Bytes
 processor_title t word = codes "P" ++ (decimal t ++ word)
 
--- an entry of a store buffer, behind a space
+-- A space, and an entry of a store buffer.
 abbrev pub entry_text : NameTable → ℕ → (ℕ × ℕ) → Bytes
 entry_text names k entry = codes " " ++ assignment (slice_index_or names entry.0 []) entry.1
 
--- the line of a processor's store buffer
+-- The line of a processor's store buffer.
 abbrev pub buffer_line : NameTable → ℕ → List (ℕ × ℕ) → Bytes
 buffer_line names t buffer =
     processor_title t (codes " buffer" ++ (numbered (entry_text names) 0 buffer ++ codes "\n"))
 
--- the letter of a cache line's state
+-- The letter of a cache line's state.
 abbrev pub letter : LineState → Bytes
 letter M = codes "M"
 letter O = codes "O"
@@ -95,17 +94,17 @@ letter E = codes "E"
 letter S = codes "S"
 letter I = codes "I"
 
--- how a processor's cache holds each location
+-- The line of a processor's cache: the state of each location.
 abbrev pub cache_line : NameTable → ℕ → (ℕ → LineState) → Bytes
 cache_line names t held =
     processor_title t (codes " lines" ++ (numbered (named (λ x. letter (held x))) 0 names ++ codes "\n"))
 
--- the lines of a processor: its position and registers, its store buffer, and its cache lines
+-- The lines of a processor: its position and registers, its store buffer, and its cache lines.
 abbrev pub processor_lines : TestHead → (ℕ → ℕ → LineState) → ℕ → Processor → Bytes
 processor_lines head held t p =
     thread_line head.arch t p.position p.regs ++ (buffer_line head.locs t p.buffer ++ cache_line head.locs t (held t))
 
--- the page of an x86 test: its processors, the words in memory, and the content
+-- The page of an x86 test: its processors, the words in memory, and the coherent words.
 abbrev pub machine_page : TestHead → Replay → List Processor → (ℕ → ℕ → LineState) → List ℕ → List ℕ → Bytes
 machine_page head r processors held memory content =
     first_lines head r

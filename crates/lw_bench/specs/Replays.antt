@@ -1,4 +1,4 @@
--- What a replay of a test is.
+-- The replay of a test.
 use Rattle.std.specs.Prelude.{◌≡◌, ℕ, List}
 use Rattle.lw_base.specs.Types.{Bytes}
 use Rattle.lw_base.specs.declared.event.Event.{Event}
@@ -17,8 +17,8 @@ use Rattle.lw_bench.specs.LitmusTests.{LitmusTest, Of_source, Of_x86, head_of_te
 use Rattle.lw_tso_caches.specs.OverCaches.{initial_caches}
 use Rattle.lw_bench.specs.Pages.{source_page, machine_page}
 
--- The page tells of the state that the events lead to from a source test's start, on one memory, or those before the
--- first that is refused.
+-- The page is of the state that the events reach from a source test's initial state, on one memory, or the events before the first that is
+-- rejected.
 pub record SourcePage (test : SourceTest) (events : List Event) (page : Bytes) (end : End) : Type 0 where
   pub replay : Replay
   pub state : State
@@ -26,27 +26,27 @@ pub record SourcePage (test : SourceTest) (events : List Event) (page : Bytes) (
   pub ended : replay.end ≡ end
   pub told : page ≡ source_page test.head replay state
 
--- The same of an x86 test, on the machine over a memory that begins as m; `words` tells memory's words, caches left out.
+-- The same for an x86 test, on the machine over a memory with the initial state m; `words` are memory's words without the caches.
 pub record MachinePage
     {M : Type 0} (mem : Memory M) (words : M → List ℕ) (test : X86Test) (m : M) (events : List Event) (page : Bytes) (end : End) : Type 0 where
   pub replay : Replay
   pub state : MachineState M
   pub replayed : IsMachineReplay mem test.threads events (initial_machine_state test m) replay state
   pub ended : replay.end ≡ end
-  -- the page is this state's text
+  -- The page is the text of this state.
   pub told :
       page ≡ machine_page test.head replay state.processors (mem.state state.memory) (words state.memory) (mem.content state.memory)
 
--- The page of an x86 test's replay by these events over caches that keep a protocol, and hold nothing at the start.
+-- The page is of an x86 test's replay by these events over caches of a protocol, empty at the start.
 abbrev pub CachesPage : Protocol → X86Test → List Event → Bytes → End → Type 0
 CachesPage protocol test = MachinePage (caches_by protocol) memory_words_of test (initial_caches test)
 
--- The page of the replay of a test by these events, and how it ended: of a source test on one memory, of an x86 test over caches.
+-- The page is of the replay of a test by these events, which ended like this: of a source test on one memory, of an x86 test over caches.
 abbrev pub IsPageOf : Protocol → LitmusTest → List Event → Bytes → End → Type 0
 IsPageOf protocol (Of_source test) = SourcePage test
 IsPageOf protocol (Of_x86 test) = CachesPage protocol test
 
--- The schedule says some events, and the page tells of the test's replay by these.
+-- The schedule is one of events, and the page is of the test's replay by these.
 pub record IsReplayPage (protocol : Protocol) (test : LitmusTest) (schedule page : Bytes) (end : End) : Type 0 where
   pub events : List Event
   pub is_schedule : IsSchedule (head_of_test test).locs schedule events

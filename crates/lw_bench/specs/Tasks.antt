@@ -1,4 +1,4 @@
--- What a task makes of a test, and what it tells where it is refused.
+-- The output of a task on a test, and what its fault states.
 use Rattle.std.specs.Prelude.{◌≡◌, ℕ}
 use Rattle.lw_base.specs.Types.{Bytes}
 use Rattle.lw_base.specs.declared.stop.End.{End}
@@ -12,7 +12,7 @@ use Rattle.lw_bench.specs.declared.command.Task.{Task}
 use Rattle.lw_bench.specs.declared.command.Task.TheVariants.{States, Compile, Schedules, Replay}
 use Rattle.lw_bench.specs.declared.fault.BenchFault.{BenchFault}
 
--- The task makes these bytes of the test, and ends with this exit status.
+-- The task has this output on the test, and this exit status.
 abbrev pub IsTaskOutput : Task → LitmusTest → Bytes → ℕ → Type 0
 IsTaskOutput States test made status = IsStatesReport test made × (status ≡ success_status)
 IsTaskOutput Compile test made status = IsCompilation test made × (status ≡ success_status)
@@ -20,7 +20,7 @@ IsTaskOutput Schedules test made status = IsScheduleReport test made × (status 
 IsTaskOutput (Replay schedule protocol) test made status =
     (end : End) × IsReplayPage protocol test schedule.now made end × (status ≡ end_status end)
 
--- what a task tells of a test that it refuses
+-- The fault of a task is true of a test.
 abbrev pub TaskFaultIsTrue : Task → LitmusTest → BenchFault → Type 0
 TaskFaultIsTrue States = ListFaultIsTrue
 TaskFaultIsTrue Compile = NoFaultIsTrue

@@ -1,4 +1,4 @@
-//! The arguments of a command, and the task that they name.
+//! The words of a command line, and the task that they name.
 ghost use Rattle.std.specs.Prelude.{◌≡◌, [], ◌∷◌, MatchOption, codes, map};
 ghost use Rattle.lw_base.specs.NoParse.{HoldsOfNothing};
 ghost use Rattle.lw_bench.specs.declared.command.Task.{Task};
@@ -6,23 +6,23 @@ ghost use Rattle.lw_bench.specs.Commands.{IsCommand, IsProtocolOption};
 
 use lw_mesi::Protocol;
 
-/// What is to be done.
+/// The task of a run.
 #[derive(Clone, Copy, PartialEq, Eq)]
 pub enum Task<'a> {
-    /// Write the report of the test that is read: its final states and the verdict on its condition.
+    /// Writes the report of the test: its final states and the verdict on its condition.
     States,
-    /// Write the canonical text of the test that is read, a source test compiled to x86.
+    /// Writes the canonical text of the test; a source test is compiled to x86 first.
     Compile,
-    /// Write the list of the test's final states, each with a schedule.
+    /// Writes the list of the test's final states, each with a schedule.
     Schedules,
-    /// Run the test that is read by this schedule, an x86 test over caches that keep this protocol, and print the state
-    /// that it leads to.
+    /// Replays the test by this schedule, an x86 test over caches of this protocol, and writes the state that it
+    /// reaches.
     Replay(&'a str, Protocol),
 }
 
-/// The task that the arguments after the program's name give: `states`, `compile` or `schedules`; or `replay` and a schedule, which may be empty, and
-/// then nothing or `--protocol` and a protocol's name. Without the option the protocol is MESI. `None` for all other arguments.
-/// It takes no memory.
+/// Parses the arguments after the program's name: `states`, `compile` or `schedules`; or `replay` and a schedule,
+/// which may be empty, and optionally `--protocol` and a protocol's name. Without the option the protocol is MESI.
+/// Returns `None` for all other arguments. Does not allocate.
 pub fn command_of<'a>(arguments: &[&'a str]) -> Option<Task<'a>>
     ensures { MatchOption result
         (HoldsOfNothing (IsCommand (map (λ w. w.now) arguments.now)))
@@ -40,7 +40,7 @@ pub fn command_of<'a>(arguments: &[&'a str]) -> Option<Task<'a>>
     }
 }
 
-/// This task, where no arguments stand behind its name; else `None`: for the tasks that take none.
+/// Returns the task if no arguments follow its name, and `None` otherwise. For the tasks that take none.
 fn without_arguments<'a>(others: &[&'a str], task: Task<'a>) -> Option<Task<'a>>
     ensures { MatchOption result (others.now ≡ [] → ⊥) (λ given. (others.now ≡ []) × (given ≡ task.entry)) }
 {
@@ -50,7 +50,7 @@ fn without_arguments<'a>(others: &[&'a str], task: Task<'a>) -> Option<Task<'a>>
     Some(task)
 }
 
-/// The task that the arguments behind `replay` give.
+/// Parses the arguments after `replay`.
 fn replay_command<'a>(others: &[&'a str]) -> Option<Task<'a>>
     ensures { MatchOption result
         (HoldsOfNothing (IsCommand (codes "replay" ∷ map (λ w. w.now) others.now)))
@@ -63,7 +63,7 @@ fn replay_command<'a>(others: &[&'a str]) -> Option<Task<'a>>
     Some(Task::Replay(schedule, protocol))
 }
 
-/// The protocol that the arguments behind the schedule give: MESI where there are none.
+/// Parses the arguments after the schedule as a protocol, which is MESI if there are none.
 fn protocol_of(option: &[&str]) -> Option<Protocol>
     ensures { MatchOption result
         (HoldsOfNothing (IsProtocolOption (map (λ w. w.now) option.now)))

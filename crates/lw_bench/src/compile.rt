@@ -1,4 +1,4 @@
-//! The text of the compilation of a test.
+//! Rendering the compilation of a test.
 ghost use Rattle.std.specs.Prelude.{IfOk};
 ghost use Rattle.lw_litmus.specs.Views.{source_of};
 ghost use Rattle.lw_bench.specs.LitmusTests.{litmus_test_of};
@@ -12,7 +12,7 @@ use lw_tso_caches::outcomes_over_caches_are_flat;
 use lw_x86::write_program;
 use std::alloc::{AllocError, Allocator};
 
-/// The canonical text of the program that a source test is compiled to.
+/// Renders the canonical text of the compiled program of a source test.
 fn compiled_text<A: Allocator + Copy>(alloc: A, source: &Source<A>) -> Result<Text<A>, AllocError>
     ensures { IfOk result (IsCompiledText (source_of source.now)) }
 {
@@ -23,7 +23,7 @@ fn compiled_text<A: Allocator + Copy>(alloc: A, source: &Source<A>) -> Result<Te
     text
 }
 
-/// The text of the compilation of a test.
+/// Renders the compilation of a test.
 pub(crate) fn compilation_of<A: Allocator + Copy>(
     alloc: A,
     test: &LitmusTest<A>,

@@ -1,43 +1,43 @@
-//! The devices that bytes come from and go to. Each can tell whether it has failed.
+//! Devices that bytes are read from and written to. Each records whether it has failed.
 ghost use Rattle.std.specs.Prelude.{◌≡◌, ℕ, ◌<◌, ◌≤◌, Option, Bool, List, false, length, IfOk, is_err};
 ghost use Rattle.std.specs.Io.KnownBytes.{ReadConsumes, WriteAppends};
 
 use std::io::{Read, Write};
 
-/// The device failed. Nothing is asked of it any more.
+/// The device failed. It must not be called again.
 #[derive(Clone, Copy)]
 pub struct Failed;
 
-/// What bytes come from.
+/// A source of bytes.
 pub trait ByteReader {
-    /// The bytes that are still to come, where they are known.
+    /// The bytes that remain, if they are known.
     ghost remaining: { Self → Option (List ℕ) };
 
     /// Whether a call has failed.
     ghost failed: { Self → Bool };
 
-    /// Puts the next bytes at the front of the buffer, and answers how many: none only at the end,
-    /// or where there is no room.
+    /// Fills the start of the buffer with the next bytes, and returns their number, which is 0 only at the end or if
+    /// the buffer is empty.
     fn pull(&mut self, buf: &mut [u8]) -> Result<usize, Failed>
         requires { failed self.old ≡ false }
         ensures bound { IfOk result (λ n. n ≤ length buf.new) }
         ensures failed { failed self.new ≡ is_err result }
         ensures bytes { ReadConsumes (remaining self.old) (remaining self.new) result buf.new };
 
-    /// Whether a call has failed.
+    /// Returns whether a call has failed.
     fn has_failed(&self) -> bool
         ensures { result ≡ failed self.now };
 }
 
-/// What bytes go to.
+/// A sink of bytes.
 pub trait ByteWriter {
-    /// The bytes that it holds, where they are known.
+    /// The bytes that it holds, if they are known.
     ghost contents: { Self → Option (List ℕ) };
 
     /// Whether a call has failed.
     ghost failed: { Self → Bool };
 
-    /// Takes bytes from the front, and answers how many: at least one, where there is one.
+    /// Writes a prefix of the bytes, and returns its length, which is at least 1 if there are bytes.
     fn put(&mut self, bytes: &[u8]) -> Result<usize, Failed>
         requires { failed self.old ≡ false }
         ensures bound { IfOk result (λ n. n ≤ length bytes.now) }
@@ -45,12 +45,12 @@ pub trait ByteWriter {
         ensures failed { failed self.new ≡ is_err result }
         ensures bytes { WriteAppends (contents self.old) (contents self.new) result bytes.now };
 
-    /// Whether a call has failed.
+    /// Returns whether a call has failed.
     fn has_failed(&self) -> bool
         ensures { result ≡ failed self.now };
 }
 
-/// A reader of the standard library. Every error of it is a failure, an interruption too.
+/// A reader of the standard library. Every error is a failure, including an interruption.
 #[derive(Drop)]
 pub struct FromRead<R: Read + Drop> {
     pub reader: R,
@@ -58,7 +58,7 @@ pub struct FromRead<R: Read + Drop> {
 }
 
 impl<R: Read + Drop> FromRead<R> {
-    /// The reader, which has not failed.
+    /// Wraps a reader that has not failed.
     pub fn new(reader: R) -> Self
         ensures reader { result.reader ≡ reader }
         ensures failed { result.failed ≡ false }
@@ -75,7 +75,7 @@ impl<R: Read + Drop> ByteReader for FromRead<R> {
 
     ghost failed = { λ r. r.failed };
 
-    /// Reads some bytes; a failure is kept in mind.
+    /// Reads some bytes, and records a failure.
     fn pull(&mut self, buf: &mut [u8]) -> Result<usize, Failed> {
         match self.reader.read(buf) {
             Ok(count) => Ok(count),
@@ -86,14 +86,14 @@ impl<R: Read + Drop> ByteReader for FromRead<R> {
         }
     }
 
-    /// Whether a read has failed.
+    /// Returns whether a read has failed.
     fn has_failed(&self) -> bool {
         self.failed
     }
 }
 
-/// A writer of the standard library. Every error of it is a failure, an interruption too, and so is
-/// a write of one byte or more that takes none.
+/// A writer of the standard library. Every error is a failure, including an interruption, and so is a write that
+/// accepts none of one or more bytes.
 #[derive(Drop)]
 pub struct ToWrite<W: Write + Drop> {
     pub writer: W,
@@ -101,7 +101,7 @@ pub struct ToWrite<W: Write + Drop> {
 }
 
 impl<W: Write + Drop> ToWrite<W> {
-    /// The writer, which has not failed.
+    /// Wraps a writer that has not failed.
     pub fn new(writer: W) -> Self
         ensures writer { result.writer ≡ writer }
         ensures failed { result.failed ≡ false }
@@ -118,7 +118,7 @@ impl<W: Write + Drop> ByteWriter for ToWrite<W> {
 
     ghost failed = { λ w. w.failed };
 
-    /// Writes some bytes; a failure is kept in mind.
+    /// Writes some bytes, and records a failure.
     fn put(&mut self, bytes: &[u8]) -> Result<usize, Failed> {
         match self.writer.write(bytes) {
             Ok(count) if count > 0 || bytes.is_empty() => Ok(count),
@@ -129,7 +129,7 @@ impl<W: Write + Drop> ByteWriter for ToWrite<W> {
         }
     }
 
-    /// Whether a write has failed.
+    /// Returns whether a write has failed.
     fn has_failed(&self) -> bool {
         self.failed
     }

@@ -10,9 +10,9 @@ use std::alloc::Allocator;
 /// A line without its line end.
 #[derive(Drop)]
 pub enum Line<A: Allocator> {
-    /// A line that was made for a fault.
+    /// A line that was rendered for a fault.
     Made(Text<A>),
-    /// A line that the program always has.
+    /// A constant line of the program.
     Fixed(&'static str),
 }
 
@@ -26,7 +26,7 @@ pub enum Ending<A: Allocator> {
 }
 
 impl<A: Allocator> Line<A> {
-    /// Returns the line, to be read.
+    /// Borrows the line as a `str`.
     fn as_str(&self) -> &str
         ensures { result.now ≡ line_bytes self.now }
     {

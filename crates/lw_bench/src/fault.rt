@@ -1,4 +1,4 @@
-//! Why a run of the workbench is refused, and how people are told of it.
+//! Why a run of the workbench is rejected, and the printed line of each fault.
 ghost use Rattle.std.specs.Prelude.{◌≡◌, ◌⊎◌, IfOk};
 ghost use Rattle.std.specs.String.{string_bytes};
 ghost use Rattle.lw_bench.specs.declared.fault.BenchFault.TheVariants as bench;
@@ -11,18 +11,18 @@ use lw_text::{TextCause, TextFault};
 use std::alloc::{AllocError, AllocFailed, Allocator};
 use std::io;
 
-/// Why a run is refused. `Memory` is told wherever memory ran out.
+/// Why a run is rejected. `Memory` is reported wherever memory ran out.
 #[derive(Clone, Copy)]
 pub enum BenchFault {
     /// The text is not in the format.
     Text(TextFault),
     /// A cell of the text is not in the language of its test.
     Cell(CellFault),
-    /// The schedule is none for the test.
+    /// The schedule is not one of the test.
     Schedule(ScheduleFault),
-    /// The test passes a limit of lists.
+    /// The test exceeds a limit of lists.
     Limit(ListFault),
-    /// There was no memory.
+    /// Memory ran out.
     Memory,
     /// The reader failed.
     Read,
@@ -33,7 +33,7 @@ pub enum BenchFault {
 impl From<AllocError> for BenchFault {
     ghost from_gives = { λ _ f. f ≡ bench.Memory };
 
-    /// A growth of memory that was refused, as a fault of the run.
+    /// Converts a refused allocation.
     fn from(_error: AllocError) -> BenchFault {
         BenchFault::Memory
     }
@@ -42,7 +42,7 @@ impl From<AllocError> for BenchFault {
 impl<T: Drop> From<AllocFailed<T>> for BenchFault {
     ghost from_gives = { λ _ f. f ≡ bench.Memory };
 
-    /// A value that could not be put into memory, as a fault of the run.
+    /// Converts a value that could not be moved into memory.
     fn from(_error: AllocFailed<T>) -> BenchFault {
         BenchFault::Memory
     }
@@ -51,7 +51,7 @@ impl<T: Drop> From<AllocFailed<T>> for BenchFault {
 impl From<TextFault> for BenchFault {
     ghost from_gives = { λ e f. f ≡ text_run_fault e };
 
-    /// A text's fault as one of the run, or memory that ran out.
+    /// Converts a text's fault, which may be that memory ran out.
     fn from(fault: TextFault) -> BenchFault {
         if fault.cause == TextCause::Memory {
             return BenchFault::Memory;
@@ -63,7 +63,7 @@ impl From<TextFault> for BenchFault {
 impl From<CellFault> for BenchFault {
     ghost from_gives = { λ e f. f ≡ cell_run_fault e };
 
-    /// A cell's fault as one of the run, or memory that ran out.
+    /// Converts a cell's fault, which may be that memory ran out.
     fn from(fault: CellFault) -> BenchFault {
         if fault.cause == CellCause::Memory {
             return BenchFault::Memory;
@@ -75,7 +75,7 @@ impl From<CellFault> for BenchFault {
 impl From<ScheduleFault> for BenchFault {
     ghost from_gives = { λ e f. f ≡ schedule_run_fault e };
 
-    /// A schedule's fault as one of the run, or memory that ran out.
+    /// Converts a schedule's fault, which may be that memory ran out.
     fn from(fault: ScheduleFault) -> BenchFault {
         if fault.cause == ScheduleCause::Memory {
             return BenchFault::Memory;
@@ -87,7 +87,7 @@ impl From<ScheduleFault> for BenchFault {
 impl From<ListFault> for BenchFault {
     ghost from_gives = { λ e f. f ≡ limit_run_fault e };
 
-    /// A limit that a test passes as a fault of the run, or memory that ran out.
+    /// Converts an exceeded limit, or memory that ran out.
     fn from(fault: ListFault) -> BenchFault {
         match fault {
             ListFault::Memory => BenchFault::Memory,
@@ -99,7 +99,7 @@ impl From<ListFault> for BenchFault {
 impl From<io::Error> for BenchFault {
     ghost from_gives = { λ _ f. (f ≡ bench.Memory) ⊎ (f ≡ bench.Read) };
 
-    /// Returns a failure to read the words of a command line as a fault of the run: memory that ran out, or a device that failed.
+    /// Converts a failure to read the words of a command line: memory ran out, or a device failed.
     fn from(error: io::Error) -> BenchFault {
         if error.kind() == io::ErrorKind::OutOfMemory {
             return BenchFault::Memory;
@@ -108,7 +108,7 @@ impl From<io::Error> for BenchFault {
     }
 }
 
-/// The line that tells of a fault, without a line end.
+/// Renders the line of a fault, without a line end. Fails only if memory runs out.
 pub fn fault_line<A: Allocator + Copy>(
     alloc: A,
     fault: &BenchFault,
@@ -137,7 +137,7 @@ pub fn fault_line<A: Allocator + Copy>(
     }
 }
 
-/// The line that tells of a fault of this kind, with the number and the name of its cause, at this place.
+/// Renders the line of a fault of this kind, with the code and the name of its cause, and the offset.
 fn placed_line<A: Allocator>(
     alloc: A,
     kind: &str,
@@ -150,8 +150,8 @@ fn placed_line<A: Allocator>(
     format!(in alloc; "lw: {} {} {} at {}", kind, number, name, place)
 }
 
-/// The exit status that tells of a fault: 1 where the text, a cell or the schedule is refused, 3 where a limit is passed, and
-/// 4 for memory and devices.
+/// Returns the exit status of a fault: 1 if the text, a cell or the schedule is rejected, 3 if a limit is exceeded,
+/// and 4 for memory and devices.
 pub fn status_of(fault: &BenchFault) -> u8
     ensures { result ≡ faults.status fault.now }
 {
@@ -162,35 +162,35 @@ pub fn status_of(fault: &BenchFault) -> u8
     }
 }
 
-/// The exit status of a run that wrote what it was to write.
+/// Returns the exit status of a run that wrote its output.
 pub fn success_status() -> u8
     ensures { result ≡ faults.success_status }
 {
     0
 }
 
-/// The line that tells that memory ran out, for where there is no memory for the line of a fault either.
+/// Returns the out-of-memory message as a constant, since no memory may be left to render one.
 pub fn memory_line() -> &'static str
     ensures { result.now ≡ fault_text bench.Memory }
 {
     "lw: memory"
 }
 
-/// The line that tells which arguments the program takes.
+/// Returns the usage line.
 pub fn usage_line() -> &'static str
     ensures { result.now ≡ usage_text }
 {
     "usage: lw states | lw compile | lw schedules | lw replay SCHEDULE"
 }
 
-/// The exit status for arguments that the program does not take.
+/// Returns the exit status of wrong arguments.
 pub fn usage_status() -> u8
     ensures { result ≡ faults.usage_status }
 {
     2
 }
 
-/// The exit status of a replay: 0 where it ended in a final state, else 1.
+/// Returns the exit status of a replay: 0 if it ended in a final state, and 1 otherwise.
 pub fn end_status(end: End) -> u8
     ensures { result ≡ faults.end_status end }
 {

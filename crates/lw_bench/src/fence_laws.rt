@@ -1,5 +1,5 @@
-//! Theorems about fences, in tests as values: what they take away, and where none is needed.
-//! A law is a function without a result, whose contract is the law.
+//! Theorems about fences, for tests as values: which outcomes they remove, and where none is needed. A law is a
+//! function without a result, whose contract states the law.
 ghost use Rattle.std.specs.Prelude.{◌≡◌, ◌↔◌, ℕ, Bool, false, List};
 ghost use Rattle.lw_base.specs.Names.{IsTestName};
 ghost use Rattle.lw_base.specs.Outcomes.{FinalState};
@@ -20,8 +20,8 @@ use crate::laws::compiled_programs_have_their_sources_outcomes;
 use lw_tso::{fences_only_take_outcomes_away, tests_without_fences_are_well_formed};
 use lw_tso_caches::outcomes_over_caches_are_flat;
 
-/// Fences only take outcomes away over caches too, by each protocol: of a test with MFENCEs inserted, at any places, every outcome is
-/// one of the test.
+/// States that fences only remove outcomes over caches too, of each protocol: every outcome of a test with MFENCEs
+/// inserted, at any places, is an outcome of the test.
 pub fn fences_only_take_outcomes_away_over_caches()
     ensures { (protocol : Protocol) (test fenced : X86Test) (o : FinalState) → IsTestName test.head.name → IsWellFormedProgram fenced
         → IsFencedTest test fenced → OutcomeOverCaches protocol fenced o → OutcomeOverCaches protocol test o }
@@ -31,14 +31,15 @@ pub fn fences_only_take_outcomes_away_over_caches()
     tests_without_fences_are_well_formed();
 }
 
-/// Fences do take outcomes away: with an MFENCE inserted in each thread of store buffering no outcome is left that has both loads 0.
+/// States that fences do remove outcomes: with an MFENCE inserted in each thread of store buffering, no outcome has
+/// both loads 0.
 pub fn store_buffering_is_forbidden_with_fences()
     ensures { (fenced : X86Test) × IsFencedTest store_buffering_in_x86 fenced
         × ((o : FinalState) → IsMachineOutcome flat_memory fenced fenced.head.init_words o → is_true fenced.head.condition o ≡ false) }
 {}
 
-/// A source with more fences is the one with fewer, with MFENCEs inserted, and has no outcome that it lacks with fewer. So whatever
-/// fences it has, it has no outcome that it lacks without any.
+/// States that a compiled program with more fences is the one with fewer fences with MFENCEs inserted, and that it
+/// has only outcomes of the one with fewer. So with any fences it has only outcomes that it has without fences.
 pub fn more_fences_have_no_more_outcomes()
     ensures are_inserted { (fences others : List (List Bool)) (source : SourceTest) (program other : X86Test)
         (starts begins : List (List ℕ)) → AreSubset fences others → IsCompiledWith fences source program starts
@@ -60,8 +61,9 @@ pub fn more_fences_have_no_more_outcomes()
     fences_only_take_outcomes_away_over_caches();
 }
 
-/// Where no statement of a source needs a fence by the compiler's rule, since no load comes behind a store with nothing between that
-/// waits for an empty store buffer, the compiled program is the one without fences, and that has exactly the source's outcomes.
+/// States, of a source in which no statement needs a fence by the compiler's rule (no load follows a store without a
+/// locked instruction between), that the compiled program is the one without fences, and has exactly the source's
+/// outcomes.
 pub fn no_fence_is_needed_where_no_store_waits()
     ensures same_program { (source : SourceTest) (program : X86Test) (starts : List (List ℕ)) → NeedsNoFence source
         → IsCompiled source program starts ↔ IsCompiledWithoutFences source program starts }

@@ -1,4 +1,4 @@
-//! Reads all that comes, up to one byte more than a text may have.
+//! Reading all input, up to one byte more than a text may have.
 ghost use Rattle.std.specs.Prelude.{◌≡◌, ◌<◌, false, if◌then◌else◌, length, IfOk, IfErr, OnOk, OnErr};
 ghost use Rattle.lw_bench.specs.Limits.{most_read_bytes};
 ghost use Rattle.lw_bench.specs.Devices.{IsInput, TakesInput, TakesSome, ReadsMore, LosesInput};
@@ -8,15 +8,14 @@ use crate::fault::BenchFault;
 use lw_base::MAX_TEXT_BYTES;
 use std::alloc::Allocator;
 
-/// Reading ends once this many bytes have come: one more than a text may have.
+/// The number of bytes after which reading ends: one more than a text may have.
 const MAX_READ_BYTES: usize = MAX_TEXT_BYTES + 1;
 
-/// How many bytes are asked for at once.
+/// The number of bytes that are requested at once.
 const CHUNK: usize = 1024;
 
-/// The bytes of the reader, to its end or up to 65,537, one more than a text may have.
-///
-/// The reader may not have failed before, and is not called again after it failed.
+/// Reads to the end of the input, or up to 65,537 bytes, one more than a text may have.
+/// The reader must not have failed before, and is not called again after it failed.
 pub fn read_input<R: ByteReader, A: Allocator>(
     alloc: A,
     reader: &mut R,
@@ -37,7 +36,7 @@ pub fn read_input<R: ByteReader, A: Allocator>(
     Ok(bytes)
 }
 
-/// Adds the bytes that come next, at most as many as are still to be read, and answers how many.
+/// Appends the next bytes, at most as many as may still be read, and returns their number.
 fn pull_chunk<R: ByteReader, A: Allocator>(
     reader: &mut R,
     bytes: &mut Vec<u8, A>,

@@ -1,5 +1,5 @@
-//! Theorems about tests as values, which a reader can hold in the hand: of three classic tests, and of all tests.
-//! A law is a function without a result, whose contract is the law; of the workbench's calls `answer` and the runs cite one.
+//! Theorems about tests as values: of three classic tests, and of all tests. A law is a function without a result,
+//! whose contract states the law; `answer` and the runs cite one of them.
 ghost use Rattle.std.specs.Prelude.{◌≡◌, ◌↔◌, ℕ, List, Bool, true, false, Option};
 ghost use Rattle.std.specs.Option.{IfSome};
 ghost use Rattle.lw_base.specs.Outcomes.{FinalState};
@@ -34,12 +34,12 @@ use lw_tso::outcomes_are_flat;
 use lw_tso_caches::outcomes_over_caches_are_flat;
 use lw_x86::a_canonical_text_reads_back;
 
-/// Store buffering: by interleaving no outcome has both loads 0.
+/// States of store buffering that no interleaving has the outcome that both loads are 0.
 pub fn store_buffering_is_forbidden_by_interleaving()
     ensures { (o : FinalState) → SourceOutcome store_buffering o → is_true store_buffering.head.condition o ≡ false }
 {}
 
-/// Store buffering: on x86, over caches of either protocol, some outcome has both loads 0.
+/// States of store buffering on x86, over caches of either protocol, that in some outcome both loads are 0.
 pub fn store_buffering_is_allowed_on_x86()
     ensures { (protocol : Protocol) → (o : FinalState) × OutcomeOverCaches protocol store_buffering_in_x86 o
         × (is_true store_buffering_in_x86.head.condition o ≡ true) }
@@ -47,7 +47,8 @@ pub fn store_buffering_is_allowed_on_x86()
     outcomes_over_caches_are_flat();
 }
 
-/// Message passing: on x86, over caches of either protocol, no outcome has the flag and lacks the message.
+/// States of message passing on x86, over caches of either protocol, that no outcome has the flag without the
+/// message.
 pub fn message_passing_is_forbidden_on_x86()
     ensures { (protocol : Protocol) (o : FinalState) → OutcomeOverCaches protocol message_passing_in_x86 o
         → is_true message_passing_in_x86.head.condition o ≡ false }
@@ -55,13 +56,14 @@ pub fn message_passing_is_forbidden_on_x86()
     outcomes_over_caches_are_flat();
 }
 
-/// Every test that a text says is well-formed: all that the laws below ask of a test holds of whatever is read.
+/// States that every test of a text is well-formed, which is what the laws below require of a test.
 pub fn what_a_text_says_is_well_formed()
     ensures { (text : Bytes) (test : LitmusTest) → HasTest text test → IsWellFormedTest test }
 {}
 
-/// Every well-formed test has an outcome: a source test by interleaving on one memory; an x86 test over flat memory, and over
-/// caches of either protocol. For jumps lead forward, and what waits for an empty store buffer goes on once that is drained.
+/// States that every well-formed test has an outcome: a source test by interleaving on one memory, an x86 test over
+/// flat memory and over caches of either protocol. The reason is that jumps lead forward, and that a full store
+/// buffer can always drain.
 pub fn every_test_has_an_outcome()
     ensures source { (test : SourceTest) → IsWellFormedSource test → (o : FinalState) × SourceOutcome test o }
     ensures flat_memory { (test : X86Test) → IsWellFormedProgram test → (o : FinalState) × IsMachineOutcome flat_memory test test.head.init_words o }
@@ -71,14 +73,15 @@ pub fn every_test_has_an_outcome()
     outcomes_over_caches_are_flat();
 }
 
-/// A text has at most one report: whatever writes a report of what the text says writes these bytes.
+/// States that a text has at most one report.
 pub fn a_text_has_one_report()
     ensures { (text a b : Bytes) → IsOutputOf IsStatesReport text a → IsOutputOf IsStatesReport text b → a ≡ b }
 {
     a_text_has_one_test();
 }
 
-/// A well-formed source test has exactly one compiled program, with the numbers at which its statements start.
+/// States that a well-formed source test has exactly one compiled program, with the indices at which its statements
+/// start.
 pub fn a_source_has_one_compiled_program()
     ensures some { (source : SourceTest) → IsWellFormedSource source
         → (program : X86Test) × (starts : List (List ℕ)) × IsCompiled source program starts }
@@ -86,7 +89,7 @@ pub fn a_source_has_one_compiled_program()
         → IsCompiled source program starts → IsCompiled source other begins → (program ≡ other) × (starts ≡ begins) }
 {}
 
-/// The compiled program has exactly its source's outcomes, over every memory that keeps the laws of memories, from any of its
+/// States that the compiled program has exactly its source's outcomes, over every lawful memory, from any of its
 /// states with the source's initial words.
 pub fn compiled_programs_have_their_sources_outcomes_over_every_memory<M: MemorySystem>()
     ensures { (source : SourceTest) (program : X86Test) (starts : List (List ℕ)) (m : M) (o : FinalState)
@@ -97,8 +100,8 @@ pub fn compiled_programs_have_their_sources_outcomes_over_every_memory<M: Memory
     outcomes_are_flat::<M>();
 }
 
-/// The compiled program of a well-formed source test has exactly its source's outcomes over flat memory, and over caches of
-/// either protocol that hold nothing at the start, evictions at any time.
+/// States that the compiled program of a well-formed source test has exactly its source's outcomes over flat memory,
+/// and over caches of either protocol, empty at the start, with evictions at any time.
 pub fn compiled_programs_have_their_sources_outcomes()
     ensures flat_memory { (source : SourceTest) (program : X86Test) (starts : List (List ℕ)) (o : FinalState)
         → IsWellFormedSource source → IsCompiled source program starts
@@ -110,8 +113,8 @@ pub fn compiled_programs_have_their_sources_outcomes()
     outcomes_over_caches_are_flat();
 }
 
-/// Every interleaving outcome is one of the compiled program without its fences, and of that with fences before any other of its
-/// loads: whatever outcomes fences take away, interleaving has none of them.
+/// States that every interleaving outcome is an outcome of the compiled program without its fences, and with fences
+/// before any other of its loads: interleaving has none of the outcomes that fences remove.
 pub fn interleaving_outcomes_need_no_fences()
     ensures without { (source : SourceTest) (program : X86Test) (starts : List (List ℕ)) (protocol : Protocol) (o : FinalState)
         → IsWellFormedSource source → IsCompiledWithoutFences source program starts
@@ -123,8 +126,9 @@ pub fn interleaving_outcomes_need_no_fences()
     outcomes_over_caches_are_flat();
 }
 
-/// Of every test that a text says, the program that runs for it is there, and reaches on the machine exactly the test's outcomes,
-/// over one memory and over caches of each protocol: the compiled program of a source test, an x86 test itself.
+/// States, of every test of a text, that it has its x86 program, which reaches on the machine exactly the test's
+/// outcomes, over one memory and over caches of each protocol. The program is the compiled program of a source test,
+/// and an x86 test itself.
 pub fn every_test_has_its_program()
     ensures there { (text : Bytes) → IsReachedOnMachine text }
     ensures caches { (text : Bytes) → IsReachedOverCaches text }
@@ -134,7 +138,8 @@ pub fn every_test_has_its_program()
     outcomes_over_caches_are_flat();
 }
 
-/// `every_test_has_its_program` of the bytes of a reader, where they are known: a run over devices says so of its input.
+/// States `every_test_has_its_program` of the bytes of a reader, if they are known. A run over devices uses it for
+/// its input.
 pub(crate) fn what_is_known_is_reached_on_the_machine()
     ensures machine { (known : Option Bytes) → IfSome known IsReachedOnMachine }
     ensures caches { (known : Option Bytes) → IfSome known IsReachedOverCaches }
@@ -142,8 +147,7 @@ pub(crate) fn what_is_known_is_reached_on_the_machine()
     every_test_has_its_program();
 }
 
-/// Outcomes over one protocol are those over any other, for whatever `states` takes: for every text that is a test, of the program
-/// that runs for it.
+/// States that outcomes are the same over any two protocols, for every text that is a test, of its x86 program.
 pub fn protocols_cannot_be_told_apart()
     ensures { (protocol other : Protocol) (text : Bytes) (test : LitmusTest) (program : X86Test) (o : FinalState)
         → HasTest text test → IsProgramRunFor test program
@@ -152,14 +156,15 @@ pub fn protocols_cannot_be_told_apart()
     outcomes_over_caches_are_flat();
 }
 
-/// The report of an example, byte by byte: the text of examples/SB-x86.litmus is a test, and what `lw states` prints of it is the
-/// report of exactly its outcomes. Nothing but the definitions says so: no reader, no list and no printer is called.
+/// States the report of an example, byte by byte: the text of examples/SB-x86.litmus is a test, and what `lw states`
+/// prints of it is the report of exactly its outcomes. The proof uses only the definitions, no reader, no list and no
+/// printer.
 pub fn the_text_of_store_buffering_has_this_report()
     ensures { IsOutputOf IsStatesReport store_buffering_text store_buffering_report }
 {}
 
-/// The canonical text of a compiled program, which `lw compile` writes, is a test itself, and has as that the outcomes of its source,
-/// under the source's head in x86: the states are the source's but for the names of registers.
+/// States that the text that `lw compile` writes is a test itself, and that its outcomes are those of its source,
+/// under the source's head in x86. So its states differ from the source's only in the names of registers.
 pub fn compiled_texts_have_their_sources_outcomes()
     ensures { (text made : Bytes) (source : SourceTest) → HasTest text (Of_source source) → IsOutputOf IsCompilation text made
         → (program : X86Test) × HasTest made (Of_x86 program)

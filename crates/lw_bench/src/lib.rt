@@ -1,13 +1,12 @@
-//! The workbench: from the bytes of a test to the bytes of what is told of it. `answer` does that in memory; the runs do it
+//! The workbench: from the bytes of a test to the bytes of an output. `answer` does this in memory; the runs do it
 //! between devices.
-//!
-//! It stands on both wings. Of the crates that read it names lw_text for frames and their faults, lw_statements for what the fault of
-//! a cell tells, lw_source and lw_x86 for the reading of tests and for the canonical text. Of those that say what is meant it
-//! names lw_base; lw_litmus for the tests, lw_interleaving for the runs of source tests, lw_fence for the compiler, and lw_tso for
-//! the machine, over the caches of lw_mesi, which are a memory system of lw_memory; lw_tso_caches for that an x86 test has over caches
-//! the outcomes that it has over flat memory; lw_finals for the complete lists of tests, lw_outcome_map for a list and lw_paths for
-//! why there is none; and lw_report for the states of a list, its report and its schedules. Its tests, as all of the
-//! workbench's, stand in lw_run_tests.
+//! This crate depends on both wings. Of the crates that read tests it uses lw_text for frames and their faults,
+//! lw_statements for the meaning of a cell's fault, and lw_source and lw_x86 for reading tests and for the canonical
+//! text. Of the crates of the semantics it uses lw_base; lw_litmus for tests, lw_interleaving for runs of source
+//! tests, lw_fence for the compiler, and lw_tso for the machine, over the caches of lw_mesi, which are a memory
+//! system of lw_memory; lw_tso_caches for the law that an x86 test has the same outcomes over caches as over flat
+//! memory; lw_finals for complete lists, lw_outcome_map for a list and lw_paths for why there is none; and lw_report
+//! for states, reports and lists of schedules. Its tests are in lw_run_tests.
 #![tactic(auto)]
 
 mod cache_laws;

@@ -14,7 +14,7 @@ use lw_report::{Claim, states_of, write_report, write_schedules};
 use lw_tso_caches::outcomes_over_caches_are_flat;
 use std::alloc::{AllocError, Allocator};
 
-/// The complete list of a test: its outcomes, each with a schedule of the program that runs for it.
+/// Lists all outcomes of a test, each with a schedule of its x86 program.
 pub fn list_test<A: Allocator + Copy>(
     alloc: A,
     test: &LitmusTest<A>,
@@ -30,7 +30,7 @@ pub fn list_test<A: Allocator + Copy>(
     }
 }
 
-/// The report of the outcomes of a test.
+/// Renders the report of the outcomes of a test.
 pub(crate) fn report_of<A: Allocator + Copy>(
     alloc: A,
     test: &LitmusTest<A>,
@@ -43,7 +43,7 @@ pub(crate) fn report_of<A: Allocator + Copy>(
     Ok(report_of_listing(alloc, test, listing)?)
 }
 
-/// The report of a test that has this list. The list is dropped before the report is written.
+/// Renders the report of a test with this list. The list is dropped before the report is written.
 pub fn report_of_listing<A: Allocator + Copy>(
     alloc: A,
     test: &LitmusTest<A>,
@@ -61,7 +61,7 @@ pub fn report_of_listing<A: Allocator + Copy>(
     report
 }
 
-/// The list of the schedules of a test.
+/// Renders the list of the schedules of a test.
 pub(crate) fn schedules_of<A: Allocator + Copy>(
     alloc: A,
     test: &LitmusTest<A>,
@@ -76,7 +76,7 @@ pub(crate) fn schedules_of<A: Allocator + Copy>(
     Ok(list?)
 }
 
-/// The list of the schedules of a test that has this list.
+/// Renders the list of the schedules of a test with this list.
 pub fn schedules_of_listing<A: Allocator + Copy>(
     alloc: A,
     test: &LitmusTest<A>,

@@ -1,4 +1,4 @@
-//! A test of either language, and how it is read.
+//! A test of either language, and reading it.
 ghost use Rattle.std.specs.Prelude.{◌≡◌, ◌≤◌, IfOk, IfErr};
 ghost use Rattle.lw_base.specs.Types.{Bytes};
 ghost use Rattle.lw_base.specs.Heads.{head_of};
@@ -28,7 +28,7 @@ pub enum LitmusTest<A: Allocator> {
 }
 
 impl<A: Allocator> LitmusTest<A> {
-    /// The head of the test, of whichever language.
+    /// Borrows the head of the test.
     pub fn head(&self) -> &Head<A>
         ensures head { head_of result.now ≡ head_of_test (litmus_test_of self.now) }
         ensures formed { IsWellFormedHead (head_of result.now) }
@@ -40,7 +40,7 @@ impl<A: Allocator> LitmusTest<A> {
     }
 }
 
-/// A text has at most one test, of one language.
+/// States that a text has at most one test, of one language.
 pub fn a_text_has_one_test()
     ensures { (text : Bytes) (s t : specs.LitmusTest) → HasTest text s → HasTest text t → s ≡ t }
 {
@@ -49,7 +49,7 @@ pub fn a_text_has_one_test()
     a_frame_has_one_program();
 }
 
-/// The test that the bytes are.
+/// Reads the test of the bytes.
 pub fn read_test<A: Allocator + Copy>(alloc: A, text: &[u8]) -> Result<LitmusTest<A>, BenchFault>
     ensures found { IfOk result (λ test. HasTest text.now (litmus_test_of test)) }
     ensures told { IfErr result (ReadFaultIsTrue text.now) }
@@ -59,7 +59,7 @@ pub fn read_test<A: Allocator + Copy>(alloc: A, text: &[u8]) -> Result<LitmusTes
     Ok(read_cells(alloc, frame)?)
 }
 
-/// The test of a frame, in the frame's language.
+/// Reads the test of a frame, in the frame's language.
 fn read_cells<A: Allocator + Copy>(
     alloc: A,
     frame: Frame<'_, A>,

@@ -1,4 +1,4 @@
-//! Writes all of some bytes.
+//! Writing all of the output.
 ghost use Rattle.std.specs.Prelude.{◌≡◌, false, is_err, IfErr, OnOk};
 ghost use Rattle.std.specs.Io.KnownBytes.{Appends};
 
@@ -6,8 +6,8 @@ use crate::device::ByteWriter;
 use crate::fault::BenchFault;
 
 /// Writes the bytes, one piece after another.
-///
-/// The writer may not have failed before, and is not called again after it failed; then nothing is said of how much went out.
+/// The writer must not have failed before, and is not called again after it failed; then the contract does not say
+/// how much was written.
 pub fn write_output<W: ByteWriter>(writer: &mut W, bytes: &[u8]) -> Result<(), BenchFault>
     requires { W.failed writer.old ≡ false }
     ensures err { IfErr result (λ f. f ≡ BenchFault.Write) }

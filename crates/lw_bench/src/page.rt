@@ -1,4 +1,4 @@
-//! The text that tells of a replay.
+//! The page of a replay.
 ghost use Rattle.std.specs.Prelude.{◌≡◌, ◌<◌, ◌≤◌, ◌++◌, ℕ, Some, codes, length, map, slice_get, slice_index, slice_index_or, [], IfOk, OnOk};
 ghost use Rattle.std.specs.Fmt.{decimal};
 ghost use Rattle.std.specs.String.{string_bytes};
@@ -23,7 +23,7 @@ use lw_memory::{LineState, MemorySystem};
 use lw_tso::Machine;
 use std::alloc::{AllocError, Allocator};
 
-/// The text that tells of a source test's replay and of the state that it led to.
+/// Renders the page of a source test's replay and of the state that it reached.
 pub(crate) fn source_page<A: Allocator + Copy>(
     alloc: A,
     head: &Head<A>,
@@ -43,8 +43,8 @@ pub(crate) fn source_page<A: Allocator + Copy>(
     Ok(Text::from(out))
 }
 
-/// Writes the page of a source test's replay; `state` has the registers and the words of the state that the run is in. It is
-/// lent, and the caller drops it: a drop is proved at each exit of the function that owns.
+/// Writes the page of a source test's replay; `state` has the registers and words of the run's current state. It is
+/// borrowed, and the caller drops it, since a drop is proved at each exit of the function that owns the value.
 fn write_source_page<A: Allocator>(
     out: &mut String<A>,
     head: &Head<A>,
@@ -64,7 +64,7 @@ fn write_source_page<A: Allocator>(
     write_words(out, "Memory", &head.locs, state.words.as_slice())
 }
 
-/// The text that tells of an x86 test's replay and of the state that it led to.
+/// Renders the page of an x86 test's replay and of the state that it reached.
 pub(crate) fn machine_page<M: MemorySystem, A: Allocator + Copy>(
     alloc: A,
     head: &Head<A>,
@@ -86,7 +86,7 @@ pub(crate) fn machine_page<M: MemorySystem, A: Allocator + Copy>(
     Ok(Text::from(out))
 }
 
-/// Writes the page of an x86 test's replay; `state` has the registers and the content of the state that the machine is in.
+/// Writes the page of an x86 test's replay; `state` has the registers and the content of the machine's current state.
 fn write_machine_page<M: MemorySystem, A: Allocator>(
     out: &mut String<A>,
     head: &Head<A>,
@@ -108,7 +108,7 @@ fn write_machine_page<M: MemorySystem, A: Allocator>(
     write_words(out, "Content", &head.locs, state.words.as_slice())
 }
 
-/// The test's name, the number of events that were carried out, and how the replay ended.
+/// Writes the test's name, the number of events that were carried out, and how the replay ended.
 fn write_first_lines<A: Allocator>(
     out: &mut String<A>,
     head: &Head<A>,
@@ -125,7 +125,7 @@ fn write_first_lines<A: Allocator>(
     write_end(out, replay)
 }
 
-/// Writes how a replay ended, and the line's end.
+/// Writes how a replay ended, and the line end.
 fn write_end<A: Allocator>(out: &mut String<A>, replay: Replay) -> Result<(), AllocError>
     ensures { OnOk result (string_bytes out.new ≡ string_bytes out.old ++ (end_text replay.done replay.end ++ codes "\n")) }
 {
@@ -139,7 +139,7 @@ fn write_end<A: Allocator>(out: &mut String<A>, replay: Replay) -> Result<(), Al
     }
 }
 
-/// A line for each thread of a source test.
+/// Writes a line for each thread of a source test.
 fn write_threads<A: Allocator>(
     out: &mut String<A>,
     head: &Head<A>,
@@ -158,7 +158,7 @@ fn write_threads<A: Allocator>(
     Ok(())
 }
 
-/// A thread's position and its registers.
+/// Writes a thread's position and its registers.
 fn write_thread<A: Allocator>(
     out: &mut String<A>,
     arch: Arch,
@@ -175,7 +175,7 @@ fn write_thread<A: Allocator>(
     out.push_str("\n")
 }
 
-/// A name with its word, behind a space.
+/// Writes a space, and a name with its word.
 fn write_assignment<A: Allocator>(
     out: &mut String<A>,
     name: &str,
@@ -186,7 +186,7 @@ fn write_assignment<A: Allocator>(
     write!(out, " {}={}", name, word)
 }
 
-/// Writes a line with a word for each location, behind a title.
+/// Writes a line with a title and a word for each location.
 fn write_words<A: Allocator>(
     out: &mut String<A>,
     title: &str,
@@ -203,7 +203,7 @@ fn write_words<A: Allocator>(
     out.push_str("\n")
 }
 
-/// The word that each location has in memory, caches left out.
+/// Writes the word that each location has in memory, without the caches.
 fn write_memory<M: MemorySystem, A: Allocator>(
     out: &mut String<A>,
     locs: &LocNames<A>,
@@ -240,7 +240,7 @@ fn write_processors<M: MemorySystem, A: Allocator>(
     Ok(())
 }
 
-/// The lines of a processor that has these registers.
+/// Writes the lines of a processor with these registers.
 fn write_processor<M: MemorySystem, A: Allocator>(
     out: &mut String<A>,
     head: &Head<A>,
@@ -259,7 +259,7 @@ fn write_processor<M: MemorySystem, A: Allocator>(
     write_cache_line(out, &head.locs, machine.memory(), cpu)
 }
 
-/// The entries of a processor's store buffer, the oldest first.
+/// Writes the entries of a processor's store buffer, the oldest first.
 fn write_buffer<M: MemorySystem, A: Allocator>(
     out: &mut String<A>,
     locs: &LocNames<A>,
@@ -279,7 +279,7 @@ fn write_buffer<M: MemorySystem, A: Allocator>(
     out.push_str("\n")
 }
 
-/// How a processor's cache holds each location.
+/// Writes the state of each location in a processor's cache.
 fn write_cache_line<M: MemorySystem, A: Allocator>(
     out: &mut String<A>,
     locs: &LocNames<A>,
@@ -298,7 +298,7 @@ fn write_cache_line<M: MemorySystem, A: Allocator>(
     out.push_str("\n")
 }
 
-/// A name with the letter of a cache line's state, behind a space.
+/// Writes a space, and a name with the letter of a cache line's state.
 fn write_line_state<A: Allocator>(
     out: &mut String<A>,
     name: &str,
@@ -309,7 +309,7 @@ fn write_line_state<A: Allocator>(
     write!(out, " {}={}", name, letter(state))
 }
 
-/// The letter of a cache line's state.
+/// Returns the letter of a cache line's state.
 fn letter(state: LineState) -> &'static str
     ensures { result.now ≡ pages.letter state }
 {

@@ -1,5 +1,5 @@
-//! What a task makes of a text: a test is read, and whatever is made of it is made whole.
-//! All that is claimed of the workbench is claimed here first, of bytes in memory, under no condition.
+//! Rendering the output of a task: the test is read, and then the output is rendered as a whole. Everything that is
+//! claimed of the workbench is claimed here first, of bytes in memory, without a precondition.
 ghost use Rattle.std.specs.Prelude.{◌≡◌, ◌⊎◌, IfOk, IfErr};
 ghost use Rattle.lw_base.specs.Types.{Bytes};
 ghost use Rattle.lw_bench.specs.LitmusTests as specs;
@@ -22,25 +22,26 @@ use lw_base::{End, Text};
 use lw_mesi::Protocol;
 use std::alloc::Allocator;
 
-/// What is made of a test: bytes, and an answer.
+/// A renderer of a test's output: bytes, and an answer.
 pub(crate) trait Renderer<A: Allocator + Copy> {
-    /// What is answered beside the bytes.
+    /// The answer beside the bytes.
     type Answer: Copy;
 
-    /// With this answer the bytes are what is made of a test.
+    /// The relation between a test, its output and the answer.
     ghost is_made: { Self → Self.Answer → specs.LitmusTest → Bytes → Type 0 };
 
-    /// What a fault tells of a test.
+    /// What a fault means for a test.
     ghost tells: { Self → specs.LitmusTest → Fault → Type 0 };
 
-    /// The bytes that are made of a test, and the answer beside them: of a task its exit status, of a replay how it ended.
+    /// Renders the output of a test, and returns it with an answer: the exit status of a task, or the end of a
+    /// replay.
     fn render(&self, alloc: A, test: &LitmusTest<A>) -> Result<(Text<A>, Self::Answer), BenchFault>
         ensures found { IfOk result (λ x. is_made self.now x.1 (litmus_test_of test.now) x.0) }
         ensures told { IfErr result (λ f. (f ≡ Fault.Memory) ⊎ tells self.now (litmus_test_of test.now) f) }
         ensures device { IfErr result IsNotDeviceFault };
 }
 
-/// A task makes its bytes, and answers the exit status.
+/// A task renders its output, and answers with the exit status.
 impl<'a, A: Allocator + Copy> Renderer<A> for Task<'a> {
     type Answer = u8;
 
@@ -48,7 +49,7 @@ impl<'a, A: Allocator + Copy> Renderer<A> for Task<'a> {
 
     ghost tells = { TaskFaultIsTrue };
 
-    /// What the task makes of a test, with its exit status.
+    /// Renders the output of the task on a test, and returns it with the exit status.
     fn render(&self, alloc: A, test: &LitmusTest<A>) -> Result<(Text<A>, u8), BenchFault> {
         match self {
             Task::States => Ok((report_of(alloc, test)?, success_status())),
@@ -62,7 +63,7 @@ impl<'a, A: Allocator + Copy> Renderer<A> for Task<'a> {
     }
 }
 
-/// The replay of a test by a schedule, which answers how it ended.
+/// The replay of a test by a schedule, which answers with its end.
 #[derive(Clone, Copy)]
 pub(crate) struct ReplayRenderer<'a> {
     pub(crate) schedule: &'a str,
@@ -76,13 +77,13 @@ impl<'a, A: Allocator + Copy> Renderer<A> for ReplayRenderer<'a> {
 
     ghost tells = { λ r. ReplayFaultIsTrue r.schedule.now };
 
-    /// The page of the test's replay, and how it ended.
+    /// Renders the page of the test's replay, and returns it with the replay's end.
     fn render(&self, alloc: A, test: &LitmusTest<A>) -> Result<(Text<A>, End), BenchFault> {
         page_of(alloc, test, self.schedule, self.protocol)
     }
 }
 
-/// What is made of the test that the bytes are.
+/// Renders the output of the test of these bytes.
 pub(crate) fn render_text<O: Renderer<A>, A: Allocator + Copy>(
     alloc: A,
     output: &O,
@@ -98,23 +99,24 @@ pub(crate) fn render_text<O: Renderer<A>, A: Allocator + Copy>(
     made
 }
 
-/// What a task makes of a text, and the exit status: of a replay whether it ended in a final state, else that it is done.
-///
-/// The text is read whole first: its frame, then its cells; a schedule is read against the test's names.
+/// Renders the output of a task on a text, and returns it with the exit status: of a replay whether it ended in a
+/// final state, otherwise that of success.
+/// The whole text is read first: its frame, then its cells. A schedule is parsed against the test's names.
 pub fn answer<A: Allocator + Copy>(
     alloc: A,
     task: Task<'_>,
     text: &[u8],
 ) -> Result<(Text<A>, u8), BenchFault>
-    // Where it answers, the bytes are a test, and what is made is exactly what the task makes of that test, with its status.
+    // If it returns an output, the bytes are a test, and the output and the exit status are exactly those of the task
+    // on that test.
     ensures made { IfOk result (λ x. IsOutputOf (λ test made. IsTaskOutput task.entry test made x.1) text.now x.0) }
-    // What a fault tells is so: of the text, of a cell, or of what the task asks of the test.
+    // What a fault says is true: of the text, of a cell, or of what the task requires of the test.
     ensures told { IfErr result (RunFaultIsTrue (TaskFaultIsTrue task.entry) text.now) }
-    // For every test that the bytes say, its outcomes are what the program that runs for it reaches on the machine,
+    // For every test of the bytes, its outcomes are those that its x86 program reaches on the machine,
     ensures machine { IsReachedOnMachine text.now }
     // and over caches of each protocol.
     ensures caches { IsReachedOverCaches text.now }
-    // No device's failure is told.
+    // No failure of a device is reported.
     ensures device { IfErr result IsNotDeviceFault }
 {
     every_test_has_its_program();

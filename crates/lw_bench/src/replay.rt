@@ -1,6 +1,5 @@
-//! The replay of a test by a schedule, and the page that tells of it.
-//! Frames, tests and runs are dropped by calls of `drop`, which is proved once for each type: what goes at
-//! the end of a scope is proved there anew.
+//! Replaying a test by a schedule, and rendering the page. Frames, tests and runs are dropped by calls of `drop`,
+//! which is proved once for each type; what is dropped at the end of a scope is proved there each time.
 ghost use Rattle.std.specs.Prelude.{◌≡◌, ◌⊎◌, ◌≤◌, length, IfOk, IfErr};
 ghost use Rattle.lw_memory.specs.Memory.{memory_of};
 ghost use Rattle.lw_litmus.specs.Views.{source_of, program_of};
@@ -21,7 +20,7 @@ use lw_mesi::{
 use lw_tso::Machine;
 use std::alloc::Allocator;
 
-/// The page that tells of the replay of a source test by these events, and how the replay ended.
+/// Replays a source test by these events, and returns the page and the replay's end.
 fn page_of_source<A: Allocator + Copy>(
     alloc: A,
     source: &Source<A>,
@@ -37,7 +36,7 @@ fn page_of_source<A: Allocator + Copy>(
     Ok((page?, replay.end))
 }
 
-/// The page that tells of the replay of an x86 test by these events, over a memory system, and how the replay ended.
+/// Replays an x86 test by these events, over a memory system, and returns the page and the replay's end.
 fn page_over_memory<M: MemorySystem + Drop, A: Allocator + Copy>(
     alloc: A,
     program: &Program<A>,
@@ -59,8 +58,7 @@ fn page_over_memory<M: MemorySystem + Drop, A: Allocator + Copy>(
     Ok((page?, replay.end))
 }
 
-/// The page that tells of the replay of an x86 test by these events, over caches that keep a protocol, and how the
-/// replay ended.
+/// Replays an x86 test by these events, over caches of a protocol, and returns the page and the replay's end.
 fn page_over_caches<P: ProtocolType + Drop, A: Allocator + Copy>(
     alloc: A,
     program: &Program<A>,
@@ -75,7 +73,7 @@ fn page_over_caches<P: ProtocolType + Drop, A: Allocator + Copy>(
     page_over_memory(alloc, program, caches, events)
 }
 
-/// The page that tells of the replay of a test by these events, and how the replay ended.
+/// Replays a test by these events, and returns the page and the replay's end.
 fn page_of_events<A: Allocator + Copy>(
     alloc: A,
     test: &LitmusTest<A>,
@@ -96,7 +94,7 @@ fn page_of_events<A: Allocator + Copy>(
     }
 }
 
-/// The page that tells of the replay of a test by a schedule, and how the replay ended.
+/// Replays a test by a schedule, and returns the page and the replay's end.
 pub(crate) fn page_of<A: Allocator + Copy>(
     alloc: A,
     test: &LitmusTest<A>,

@@ -1,4 +1,4 @@
-//! The runs over devices: a text is read, what is made of it is made whole, and only then written.
+//! The runs over devices: a text is read, its output is rendered as a whole, and only then written.
 ghost use Rattle.std.specs.Prelude.{◌≡◌, false};
 ghost use Rattle.lw_bench.specs.Compilations.{IsCompilation};
 ghost use Rattle.lw_bench.specs.Lists.{IsStatesReport, IsScheduleReport};
@@ -18,7 +18,7 @@ use lw_base::End;
 use lw_mesi::Protocol;
 use std::alloc::Allocator;
 
-/// Reads a test, and writes what is made of it.
+/// Reads a test, and writes its output.
 fn run_text<O: Renderer<A>, R: ByteReader, W: ByteWriter, A: Allocator + Copy>(
     alloc: A,
     output: &O,
@@ -37,13 +37,12 @@ fn run_text<O: Renderer<A>, R: ByteReader, W: ByteWriter, A: Allocator + Copy>(
     Ok(answer)
 }
 
-/// Carries a task out on the test that the reader gives, writes what that makes, and answers the exit
-/// status: of a replay whether it ended in a final state, else that it is done.
-///
-/// The test is read whole first: its text, then its cells. What is written is made whole before the first byte of it is
-/// written, so any fault but `Write` leaves the writer as it was; after `Write` nothing is said of how much went out. The
-/// devices may not have failed before, and after a failure they are not called again. What is said of bytes is said of
-/// devices that tell theirs; of bytes in memory `answer` says the same of all.
+/// Carries out a task on the test from the reader, writes its output, and returns the exit status: of a replay
+/// whether it ended in a final state, otherwise that of success.
+/// The whole test is read first: its text, then its cells. The output is rendered as a whole before its first byte is
+/// written, so any fault except `Write` leaves the writer unchanged; after `Write` the contract does not say how much
+/// was written. The devices must not have failed before, and are not called again after a failure. The contract
+/// speaks of bytes if the devices know theirs; `answer` states the same of all bytes in memory.
 pub fn carry_out<R: ByteReader, W: ByteWriter, A: Allocator + Copy>(
     alloc: A,
     task: Task<'_>,
@@ -59,9 +58,8 @@ pub fn carry_out<R: ByteReader, W: ByteWriter, A: Allocator + Copy>(
     run_text(alloc, &task, reader, writer)
 }
 
-/// Writes the report of the test that the reader gives: its final states, and the verdict on its condition.
-///
-/// The test is read, and the report written, as by `carry_out`.
+/// Writes the report of the test from the reader: its final states, and the verdict on its condition.
+/// Reads and writes as `carry_out` does.
 pub fn states<R: ByteReader, W: ByteWriter, A: Allocator + Copy>(
     alloc: A,
     reader: &mut R,
@@ -76,10 +74,9 @@ pub fn states<R: ByteReader, W: ByteWriter, A: Allocator + Copy>(
     Ok(())
 }
 
-/// Writes for each final state of the test that the reader gives a schedule that leads to it: of a source test, a schedule
-/// of its compiled program.
-///
-/// The test is read, and the list written, as by `carry_out`.
+/// Writes each final state of the test from the reader with a schedule that reaches it; for a source test it is a
+/// schedule of the compiled program.
+/// Reads and writes as `carry_out` does.
 pub fn schedules_text<R: ByteReader, W: ByteWriter, A: Allocator + Copy>(
     alloc: A,
     reader: &mut R,
@@ -94,11 +91,10 @@ pub fn schedules_text<R: ByteReader, W: ByteWriter, A: Allocator + Copy>(
     Ok(())
 }
 
-/// Compiles the test that the reader gives, and writes the text of its compilation: of a source test the canonical text
-/// of an x86 test that reaches the same outcomes, with fences where they are needed; of an x86 test its own canonical
+/// Compiles the test from the reader, and writes the text of its compilation: of a source test the canonical text of
+/// an x86 test that reaches the same outcomes, with fences where they are needed; of an x86 test its own canonical
 /// text.
-///
-/// The test is read, and the text written, as by `carry_out`.
+/// Reads and writes as `carry_out` does.
 pub fn compile_text<R: ByteReader, W: ByteWriter, A: Allocator + Copy>(
     alloc: A,
     reader: &mut R,
@@ -113,10 +109,9 @@ pub fn compile_text<R: ByteReader, W: ByteWriter, A: Allocator + Copy>(
     Ok(())
 }
 
-/// Replays the test that the reader gives by a schedule, and writes the page that tells of it. An x86 test runs on
-/// store buffers over caches that keep the protocol; a source test has neither, and the protocol changes nothing.
-///
-/// The test is read, and the page written, as by `carry_out`; the schedule is read against the test's names.
+/// Replays the test from the reader by a schedule, and writes its page. An x86 test runs on store buffers over caches
+/// of the protocol; a source test has neither, and ignores the protocol.
+/// Reads and writes as `carry_out` does; the schedule is parsed against the test's names.
 pub fn replay_text<R: ByteReader, W: ByteWriter, A: Allocator + Copy>(
     alloc: A,
     reader: &mut R,

@@ -1,4 +1,5 @@
-//! The whole command: from the words of a command line, and what reading standard input gave, to how the run ends.
+//! The whole command: from the words of a command line, and the result of reading standard input, to the ending of
+//! the run.
 ghost use Rattle.std.specs.Prelude.{◌≡◌, ◌⊎◌, false, map, if◌then◌else◌, IfOk, IfErr};
 ghost use Rattle.std.specs.String.{string_bytes};
 ghost use Rattle.lw_base.specs.NoParse.{HoldsOfNothing};

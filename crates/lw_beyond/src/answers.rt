@@ -1,4 +1,4 @@
-//! What a request makes of a text.
+//! Answering a request on a text.
 ghost use Rattle.std.specs.Prelude.{IfOk, IfErr};
 ghost use Rattle.lw_bench.specs.LitmusTests.{litmus_test_of};
 ghost use Rattle.lw_bench.specs.Lists.{IsReachedOnMachine, IsReachedOverCaches};
@@ -14,13 +14,13 @@ use std::alloc::Allocator;
 /// The answer to a request.
 #[derive(Drop)]
 pub struct Answer<A: Allocator> {
-    /// The bytes that were asked for.
+    /// The requested bytes.
     pub text: Text<A>,
     /// How the list was made.
     pub method: Method,
 }
 
-/// Reads a text as a test, and makes the output of a request.
+/// Reads a text as a test, and renders the output of a request.
 fn answer_text<A: Allocator + Copy>(
     alloc: A,
     request: &Request,
@@ -38,18 +38,20 @@ fn answer_text<A: Allocator + Copy>(
     Ok(Answer { text, method })
 }
 
-/// Answers a request on a text: the report or the list of schedules that `lw` would print if it had no limits.
+/// Answers a request on a text: renders the report or the list of schedules that `lw` would print if it had no
+/// limits.
 pub fn answer_request<A: Allocator + Copy>(
     alloc: A,
     request: &Request,
     text: &[u8],
 ) -> Result<Answer<A>, BeyondFault>
-    // The bytes are a test, and the output is that of exactly its outcomes; the list was made as it says.
+    // The bytes are a test, and the output is that of exactly its outcomes; the list was made by the method that is
+    // returned.
     ensures made { IfOk result (λ a. IsOutputOf
         (λ test made. IsMadeFor request.now.output test made × IsListedBy test request.now a.method) text.now a.text) }
-    // A fault is true of the text, of a cell, or of the states of the program that runs for the test.
+    // A fault is true of the text, of a cell, or of the states of the test's x86 program.
     ensures refused { IfErr result (RefusesText request.now text.now) }
-    // For every test that the bytes say, its outcomes are what the program that runs for it reaches on the machine,
+    // For every test of the bytes, its outcomes are those that its x86 program reaches on the machine,
     ensures machine { IsReachedOnMachine text.now }
     // and over caches of each protocol.
     ensures caches { IsReachedOverCaches text.now }

@@ -1,21 +1,21 @@
-//! The words of a command line, and the request that they give.
+//! The words of a command line, and the request that they name.
 
 use crate::lists::{Output, Request};
 
-/// The budget of a search if the words give none.
+/// The budget of a search if the words name none.
 const DEFAULT_BUDGET: usize = 10_000_000;
 
 /// A command: a request, and whether the method of its list is to be reported.
 #[derive(Clone, Copy)]
 pub struct Command {
-    /// What is asked for.
+    /// The request.
     pub request: Request,
     /// Whether a line on standard error says how the list was made.
     pub reports_method: bool,
 }
 
-/// Returns the command of the words after the program's name: the options `--search`, `--budget N` and `--method`, each at most once and
-/// in any order, followed by `states` or `schedules`. Returns `None` for all other words. Does not allocate.
+/// Parses the words after the program's name: the options `--search`, `--budget N` and `--method`, each at most once
+/// and in any order, followed by `states` or `schedules`. Returns `None` for all other words. Does not allocate.
 pub fn command_of(words: &[&str]) -> Option<Command> {
     let mut rest = words;
     let mut search = false;
@@ -49,7 +49,7 @@ pub fn command_of(words: &[&str]) -> Option<Command> {
     })
 }
 
-/// Returns the number that a word of digits gives, or `None` for any other word and for a number that does not fit.
+/// Parses a word of digits as a number. Returns `None` for any other word and for a number that does not fit.
 fn budget_of(word: &str) -> Option<usize> {
     if !word.bytes().all(|byte| byte.is_ascii_digit()) {
         return None;

@@ -1,4 +1,4 @@
-//! Why a request is refused, and its line and exit status.
+//! Why a request is rejected, and its line and exit status.
 ghost use Rattle.std.specs.Prelude.{◌≡◌, IfOk};
 ghost use Rattle.std.specs.String.{string_bytes};
 ghost use Rattle.lw_bench.specs.declared.fault.BenchFault.TheVariants as bench;
@@ -8,7 +8,7 @@ ghost use Rattle.lw_beyond.specs.Faults.{fault_text, fault_status};
 use lw_bench::BenchFault;
 use std::alloc::{AllocError, Allocator};
 
-/// Why a request is refused.
+/// Why a request is rejected.
 #[derive(Clone, Copy)]
 pub enum BeyondFault {
     /// What `lw` reports too: a fault of the text or of a cell, memory that ran out, or a device that failed.
@@ -20,7 +20,7 @@ pub enum BeyondFault {
 impl From<AllocError> for BeyondFault {
     ghost from_gives = { λ _ f. f ≡ beyond.Bench bench.Memory };
 
-    /// Returns the fault of memory that ran out.
+    /// Converts a refused allocation.
     fn from(_error: AllocError) -> BeyondFault {
         BeyondFault::Bench(BenchFault::Memory)
     }
@@ -29,14 +29,14 @@ impl From<AllocError> for BeyondFault {
 impl From<BenchFault> for BeyondFault {
     ghost from_gives = { λ e f. f ≡ beyond.Bench e };
 
-    /// Returns a fault of `lw` as one of a request.
+    /// Converts a fault of `lw`.
     fn from(fault: BenchFault) -> BeyondFault {
         BeyondFault::Bench(fault)
     }
 }
 
-/// Returns the line that reports a fault, without a line end: that of `lw`, or `beyond: budget` and the budget. Fails only if memory runs
-/// out.
+/// Renders the line of a fault, without a line end: that of `lw`, or `beyond: budget` and the budget. Fails only if
+/// memory runs out.
 pub fn fault_line<A: Allocator + Copy>(
     alloc: A,
     fault: &BeyondFault,
@@ -49,7 +49,7 @@ pub fn fault_line<A: Allocator + Copy>(
     }
 }
 
-/// Returns the exit status that reports a fault: that of `lw`, or 3 for the budget, as for a limit.
+/// Returns the exit status of a fault: that of `lw`, or 3 for the budget, as for a limit.
 pub fn status_of(fault: &BeyondFault) -> u8
     ensures { result ≡ fault_status fault.now }
 {

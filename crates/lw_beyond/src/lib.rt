@@ -1,8 +1,7 @@
-//! Complete lists of any size: within the limits of lists by `lw_finals`' enumeration of orders, past them by `lw_search`'s search of
-//! the machine's states, within a budget of states.
-//!
-//! `answer_request` makes of a text the bytes that `lw states` or `lw schedules` would print if it had no limits, and says how the list
-//! was made. The program `beyond` calls it; the program `lw` does not depend on this crate.
+//! Complete lists of any size: within the limits of lists by the enumeration of orders of lw_finals, past them by the
+//! search of the machine's states of lw_search, within a budget of states.
+//! `answer_request` renders the bytes that `lw states` or `lw schedules` would print if it had no limits, and says
+//! how the list was made. The program `beyond` calls it; the program `lw` does not depend on this crate.
 #![tactic(auto)]
 
 mod answers;

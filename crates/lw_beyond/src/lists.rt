@@ -14,7 +14,7 @@ use lw_search::{SearchFault, Searched, reach_program, reach_source};
 use lw_tso_caches::outcomes_over_caches_are_flat;
 use std::alloc::{AllocError, Allocator};
 
-/// What is made of a list.
+/// The output that is rendered from a list.
 #[derive(Clone, Copy, PartialEq, Eq)]
 pub enum Output {
     /// The report of the final states, with the verdict on the condition.
@@ -26,11 +26,11 @@ pub enum Output {
 /// A request for a complete list.
 #[derive(Clone, Copy)]
 pub struct Request {
-    /// What is made of the list.
+    /// The output that is rendered from the list.
     pub output: Output,
     /// Whether the list is made by a search even if the test is within the limits of lists.
     pub search: bool,
-    /// The most states that a search may find.
+    /// The maximum number of states that a search may find.
     pub budget: usize,
 }
 
@@ -39,11 +39,11 @@ pub struct Request {
 pub enum Method {
     /// By an enumeration of the orders of conflicting items.
     Orders,
-    /// By a search that visited so many states of the machine.
+    /// By a search that visited this number of states of the machine.
     Search(usize),
 }
 
-/// Lists a test by a search of the states of the program that runs for it.
+/// Lists a test by a search of the states of its x86 program.
 fn list_by_search<A: Allocator + Copy>(
     alloc: A,
     test: &LitmusTest<A>,
@@ -61,7 +61,7 @@ fn list_by_search<A: Allocator + Copy>(
     }
 }
 
-/// Lists a test by orders. Returns `None` if the test passes a limit of lists.
+/// Lists a test by orders. Returns `None` if the test exceeds a limit of lists.
 fn list_by_orders<A: Allocator + Copy>(
     alloc: A,
     test: &LitmusTest<A>,
@@ -76,7 +76,7 @@ fn list_by_orders<A: Allocator + Copy>(
     }
 }
 
-/// Lists a test by a search, for a request that asks for one or cannot do without.
+/// Lists a test by a search, for a request that asks for a search or a test that exceeds a limit.
 fn list_found<A: Allocator + Copy>(
     alloc: A,
     test: &LitmusTest<A>,
@@ -114,7 +114,7 @@ fn list_of<A: Allocator + Copy>(
     }
 }
 
-/// Writes the output that is made of a list.
+/// Renders the output of a test from its list.
 fn write_output<A: Allocator + Copy>(
     alloc: A,
     test: &LitmusTest<A>,
@@ -134,7 +134,7 @@ fn write_output<A: Allocator + Copy>(
     }
 }
 
-/// Makes the output of a test for a request, and says how the list was made.
+/// Renders the output of a test for a request, and returns it with the method of the list.
 pub(crate) fn make<A: Allocator + Copy>(
     alloc: A,
     test: &LitmusTest<A>,

@@ -1,5 +1,5 @@
--- The schedule of a source run on the compiled program: a step for each instruction of each statement, and after a store
--- a drain, so that a store is in memory before the next statement of any thread.
+-- The schedule of the compiled program that simulates a source run: a step for each instruction of each statement, and after a store a
+-- drain, so that a store is in memory before the next statement of any thread.
 use Rattle.std.specs.Prelude.{ℕ, ◌+◌, ◌-◌, if◌then◌else◌, Option, Some, None, Result, Ok, Err, List, [], ◌∷◌, ◌++◌, replicate, slice_get, slice_index}
 use Rattle.lw_base.specs.Threads.{thread_code}
 use Rattle.lw_base.specs.declared.event.Event.{Event}
@@ -11,24 +11,24 @@ use Rattle.lw_interleaving.specs.Runs.{State, source_step}
 use Rattle.lw_litmus.specs.Operations.{is_store}
 use Rattle.lw_litmus.specs.Sources.{source_operation}
 
--- the events of thread t for the statement of this index, if there is one
+-- The events of thread t for the statement at this index, if there is one.
 abbrev pub statement_events : ℕ → List ℕ → ℕ → Option Stmt → List Event
 statement_events t starts j None = []
 statement_events t starts j (Some s) =
     replicate (slice_index starts (j + 1) - slice_index starts j) (Step t) ++ (if is_store (source_operation s) then Drain t ∷ [] else [])
 
--- the events of thread t for its next statement
+-- The events of thread t for its next statement.
 abbrev pub thread_events : List (List Stmt) → List (List ℕ) → ℕ → Option Thread → List Event
 thread_events program starts t None = []
 thread_events program starts t (Some th) =
     statement_events t (thread_code starts t) th.position (slice_get (thread_code program t) th.position)
 
--- what follows a step, if it was possible
+-- The events that follow a step, if it was enabled.
 abbrev pub after_step : Result State Stop → (State → List Event) → List Event
 after_step (Ok next) rest = rest next
 after_step (Err stop) rest = []
 
--- the events for these threads' steps, one after another, from a state
+-- The events for the steps of these threads in sequence, from a state.
 abbrev pub compiled_schedule : List (List Stmt) → List (List ℕ) → List ℕ → State → List Event
 compiled_schedule program starts [] s = []
 compiled_schedule program starts (t ∷ order) s =

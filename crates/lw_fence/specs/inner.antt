@@ -1,2 +1,2 @@
--- What serves the compiler's own pass over a thread: no public call cites it.
+-- Definitions for the compiler's own pass over a thread. No public call cites them.
 pub mod Marks

@@ -1,4 +1,4 @@
-//! A source test compiled to x86.
+//! The result of compiling a source test.
 
 use lw_base::Sequence;
 use lw_litmus::Program;
@@ -7,9 +7,9 @@ use std::alloc::{Allocator, Global};
 /// A compiled source test.
 #[derive(Drop)]
 pub struct Compiled<A: Allocator = Global> {
-    /// The instructions.
+    /// The x86 test.
     pub program: Program<A>,
-    /// For each thread the index of the first instruction of each statement, its fence included,
-    /// and last the number of instructions.
+    /// For each thread the index of each statement's first instruction, its fence included, and at the end the number
+    /// of instructions.
     pub starts: Sequence<Sequence<usize, A>, A>,
 }

@@ -1,4 +1,4 @@
-//! Compiles a source test to x86.
+//! The compiler from source tests to x86.
 ghost use Rattle.std.specs.Prelude.{◌≡◌, ◌↔◌, ℕ, ◌<◌, ◌≤◌, List, length, Some, slice_get, IfOk};
 ghost use Rattle.std.specs.Option.{ForSome};
 ghost use Rattle.lw_base.specs.Outcomes.{FinalState};
@@ -24,15 +24,15 @@ use lw_base::{Arch, Sequence};
 use lw_litmus::{Instr, Program, Source, Stmt};
 use std::alloc::{AllocError, Allocator};
 
-/// The source test in x86: of each statement its instructions, with a fence before each load that needs one,
-/// and before no other.
+/// Compiles a source test to x86: each statement is lowered to its instructions, with a fence before each load that
+/// needs one, and before no other. Fails only if memory runs out.
 pub fn compile<A: Allocator + Copy>(alloc: A, source: &Source<A>) -> Result<Compiled<A>, AllocError>
     ensures compiled { IfOk result
         (λ c. IsCompiled (source_of source.now) (program_of c.program) c.starts) }
-    // It means what the source means: over flat memory it has the source's outcomes, both ways.
+    // The compiled program means what the source means: over flat memory they have the same outcomes.
     ensures outcomes { IfOk result (λ c. (o : FinalState)
         → IsMachineOutcome flat_memory (program_of c.program) c.program.head.init_words o ↔ SourceOutcome (source_of source.now) o) }
-    // Each of its runs can be brought to a final state.
+    // Every run of the compiled program can be extended to a final state.
     ensures ends { IfOk result (λ c. (events : List Event) (s : MachineState (List ℕ))
         → MachineRunsTo flat_memory c.program.threads events (initial_machine_state (program_of c.program) c.program.head.init_words) s
         → CanTerminate flat_memory c.program.threads s) }
@@ -49,14 +49,14 @@ pub fn compile<A: Allocator + Copy>(alloc: A, source: &Source<A>) -> Result<Comp
     })
 }
 
-/// For each thread its instructions, and where its statements start.
+/// The instructions of all threads, and where their statements start.
 #[derive(Drop)]
 struct ThreadCodes<A: Allocator> {
     instrs: Sequence<Sequence<Instr, A>, A>,
     starts: Sequence<Sequence<usize, A>, A>,
 }
 
-/// Compiles each thread of a source: the instructions of all, and where their statements start.
+/// Compiles every thread of a source test.
 fn compile_threads<A: Allocator + Copy>(
     alloc: A,
     source: &Source<A>,
@@ -85,7 +85,7 @@ struct ThreadCode<A: Allocator> {
     starts: Sequence<usize, A>,
 }
 
-/// Compiles one thread: its instructions, and where its statements start.
+/// Compiles one thread.
 fn compile_thread<A: Allocator + Copy>(
     alloc: A,
     stmts: &[Stmt],

@@ -1,4 +1,4 @@
-//! Which statements of a thread need a fence before them, found in one pass with marks.
+//! The analysis that finds which statements need a fence: one forward pass with marks.
 ghost use Rattle.std.specs.Prelude.{◌≡◌, ◌<◌, ◌≤◌, ◌+◌, ◌↔◌, ◌&&◌, ℕ, true, false, if◌then◌else◌, Some, length, slice_get, slice_index_or, slice_set, IfOk};
 ghost use Rattle.std.specs.Option.{ForSome};
 ghost use Rattle.lw_litmus.specs.Limits.{most_statements};
@@ -11,8 +11,8 @@ ghost use Rattle.lw_fence.specs.inner.Marks.{may_wait, mark_successors};
 use lw_litmus::{Operation, Statement as _, Stmt};
 use std::alloc::{AllocError, Allocator};
 
-/// For each position of a thread's code, its end included, whether a flow path leads to it from a store that may still wait
-/// in the store buffer.
+/// Returns for each position of a thread, its end included, whether some flow path reaches it from a store that may
+/// still be in the store buffer.
 fn marks_of<A: Allocator>(alloc: A, code: &[Stmt]) -> Result<Vec<bool, A>, AllocError>
     requires short { length code.now ≤ most_statements }
     requires forward { (j : ℕ) (s : SourceStatement) → slice_get code.now j ≡ Some s
@@ -28,7 +28,7 @@ fn marks_of<A: Allocator>(alloc: A, code: &[Stmt]) -> Result<Vec<bool, A>, Alloc
     Ok(marks)
 }
 
-/// Whether a store may wait in the store buffer behind an operation, where one may before it.
+/// Returns whether a store may be in the buffer after an operation, if one may be before it.
 fn stores_wait_past(operation: Operation, before: bool) -> bool
     ensures { result ≡ may_wait operation before }
 {
@@ -36,7 +36,7 @@ fn stores_wait_past(operation: Operation, before: bool) -> bool
     operation.is_store() || !waits && before
 }
 
-/// Marks the successors of an operation, if a store may wait behind it.
+/// Marks the successors of an operation if a store may be in the buffer after it.
 fn propagate_marks(marks: &mut [bool], operation: Operation, index: usize)
     requires next { index + 1 < length marks.old }
     requires target { ForSome (branch_target operation) (λ to. to < length marks.old) }
@@ -54,7 +54,7 @@ fn propagate_marks(marks: &mut [bool], operation: Operation, index: usize)
     }
 }
 
-/// For each statement of a thread whether it needs a fence before it.
+/// Returns for each statement of a thread whether it needs a fence before it.
 pub(crate) fn fences_of<A: Allocator + Copy>(
     alloc: A,
     code: &[Stmt],
@@ -74,7 +74,7 @@ pub(crate) fn fences_of<A: Allocator + Copy>(
     Ok(fences)
 }
 
-/// Whether the operation is a load at a marked position.
+/// Returns whether the operation is a load at a marked position.
 fn needs_fence(operation: Operation, mark: bool) -> bool
     ensures { result ≡ (is_load operation && mark) }
 {

@@ -1,10 +1,9 @@
-//! The compiler from the source language to x86: of each statement its instructions, with a fence before each load that
-//! needs one, and before no other.
-//!
-//! It names lw_base, of lw_litmus the tests of both languages, and of lw_interleaving the runs of source tests; its contracts
-//! name the outcomes of lw_tso over the flat memory of lw_memory. What is made is said by `specs/Compiling.antt` and
-//! docs/FORMAT.md.
-//! The promise that the crates above use: what `compile` makes is a well-formed program that has the source's outcomes.
+//! The compiler from the source language to x86: each statement is lowered to its instructions, with a fence before
+//! each load that needs one, and before no other.
+//! This crate depends on lw_base, on the tests of both languages in lw_litmus, and on the runs of source tests in
+//! lw_interleaving. Its contracts name the outcomes of lw_tso over the flat memory of lw_memory.
+//! `specs/Compiling.antt` and docs/FORMAT.md define the result. Crates above rely on one promise: `compile` returns a
+//! well-formed program with the source's outcomes.
 #![tactic(auto)]
 
 mod compiled;

@@ -1,4 +1,4 @@
-//! The lowering of a statement: its instructions, at most two.
+//! The lowering of one statement to at most two instructions.
 ghost use Rattle.std.specs.Prelude.{◌≡◌, ◌≤◌, ◌++◌, length, slice_index, OnOk};
 ghost use Rattle.lw_fence.specs.Compiling as table;
 
@@ -14,8 +14,8 @@ pub enum Lowered {
 }
 
 impl Lowered {
-    /// The lowering of a statement, with a fence or without, where `starts` has the first instruction of each
-    /// statement. It is as long whatever the starts are; where there are none yet, a jump leads to 0.
+    /// Lowers a statement, with a fence or without, by a table `starts` of each statement's first instruction. The
+    /// length does not depend on the table; a target that the table does not have yet becomes 0.
     pub(crate) fn of(stmt: &Stmt, fence: bool, starts: &[usize]) -> Lowered
         ensures { result ≡ table.lowered starts.now fence stmt.now }
     {
@@ -45,7 +45,7 @@ impl Lowered {
         }
     }
 
-    /// An instruction behind a fence, or without one.
+    /// Returns the instruction, after a fence if `fence` is set.
     fn fenced(fence: bool, last: Instr) -> Lowered
         ensures { result ≡ table.with_fence_if fence last }
     {
@@ -56,7 +56,7 @@ impl Lowered {
         }
     }
 
-    /// An instruction behind one that takes a register's word to another, if it is another.
+    /// Returns the instruction, after a move from `src` to `dst` if they differ.
     fn moved(dst: Reg, src: Reg, last: Instr) -> Lowered
         ensures { result ≡ table.with_move_if dst src last }
     {
@@ -70,7 +70,7 @@ impl Lowered {
         Lowered::Two(first, last)
     }
 
-    /// The lowering of a sum. Where the register that gets it is the right one, the left one is added to it.
+    /// Lowers a sum. If the destination is the right operand, the left operand is added to it.
     fn summed(dst: Reg, left: Reg, right: Operand) -> Lowered
         ensures { result ≡ table.lower_sum dst left right }
     {
@@ -88,7 +88,7 @@ impl Lowered {
         )
     }
 
-    /// How many instructions it has.
+    /// Returns the number of instructions.
     pub(crate) fn len(&self) -> usize
         ensures is { result ≡ length (table.instrs_of self.now) }
         ensures few { result ≤ 2 }
@@ -99,7 +99,7 @@ impl Lowered {
         }
     }
 
-    /// Adds its instructions to those of a thread.
+    /// Appends the instructions to those of a thread.
     pub(crate) fn push_to<A: Allocator>(
         self,
         instrs: &mut Sequence<Instr, A>,
@@ -116,7 +116,7 @@ impl Lowered {
     }
 }
 
-/// The instruction that sets the zero flag where a register has a word.
+/// Returns the instruction that sets the zero flag if a register has a word.
 fn compared(reg: Reg, num: Word) -> Instr
     ensures { result ≡ table.lower_compare reg num }
 {
@@ -126,7 +126,7 @@ fn compared(reg: Reg, num: Word) -> Instr
     }
 }
 
-/// The first instruction of a statement, or 0 where there is none yet.
+/// Returns the index of a statement's first instruction, or 0 if the table does not have it.
 fn start_of(starts: &[usize], index: usize) -> usize
     ensures { result ≡ slice_index starts.now index }
 {

@@ -1,4 +1,4 @@
-//! The instructions of a thread: the lowerings of its statements.
+//! The instructions of a thread: its lowered statements, concatenated.
 ghost use Rattle.std.specs.Prelude.{◌≡◌, length, IfOk};
 ghost use Rattle.lw_fence.specs.Compiling.{lowered_code};
 
@@ -7,7 +7,7 @@ use lw_base::Sequence;
 use lw_litmus::{Instr, Stmt};
 use std::alloc::{AllocError, Allocator};
 
-/// The instructions of a thread with these fences, where its statements start at these indices.
+/// Lowers a thread, by the fences and the first instructions of its statements. Fails only if memory runs out.
 pub(crate) fn lower<A: Allocator>(
     alloc: A,
     code: &[Stmt],

@@ -1,4 +1,4 @@
-//! The schedule of a compiled program that a source run stands for.
+//! The schedule of a compiled program that simulates a run of its source.
 ghost use Rattle.std.specs.Prelude.{◌≡◌, ℕ, List, ◌<◌, ◌++◌, ◌∷◌, [], if◌then◌else◌, length, map, replicate, take, slice_get, IfOk, OnErr};
 ghost use Rattle.lw_base.specs.Outcomes.{FinalState};
 ghost use Rattle.lw_base.specs.Threads.{thread_code};
@@ -20,8 +20,8 @@ use lw_interleaving::SourceRun;
 use lw_litmus::{Source, Statement, Stmt};
 use std::alloc::{AllocError, Allocator};
 
-/// Pushes the events of a statement: a step for each of its instructions, and after a store a drain. Where there is no memory for
-/// all of them, some of them may stand behind those that were there.
+/// Appends the events of a statement: a step for each of its instructions, and after a store a drain. If memory runs
+/// out, some of them may have been appended.
 fn push_statement<A: Allocator>(
     events: &mut Vec<Event, A>,
     cpu: Cpu,
@@ -41,8 +41,8 @@ fn push_statement<A: Allocator>(
     Ok(())
 }
 
-/// Pushes the events of the statement at an index of a thread: a step for each of its instructions, and after a store a drain.
-/// Where there is no memory for all of them, none is pushed.
+/// Appends the events of the statement at an index of a thread: a step for each of its instructions, and after a
+/// store a drain. If memory runs out, none is appended.
 pub fn push_next<A: Allocator>(
     events: &mut Vec<Event, A>,
     source: &Source<A>,
@@ -70,8 +70,8 @@ pub fn push_next<A: Allocator>(
     }
 }
 
-/// The schedule of the compiled program that a run of the source stands for: for each thread of the
-/// order a step for each instruction of its next statement, and after a store a drain.
+/// Returns the schedule of the compiled program that simulates a run of the source: for each thread of the order a
+/// step for each instruction of its next statement, and after a store a drain.
 pub fn schedule_of<A: Allocator + Copy>(
     alloc: A,
     source: &Source<A>,
@@ -95,7 +95,8 @@ pub fn schedule_of<A: Allocator + Copy>(
     Ok(events)
 }
 
-/// The schedule that a run of a source test stands for replays over flat memory, in the compiled program, to the run's outcome.
+/// States that the schedule of a source run replays, over flat memory in the compiled program, to the outcome of the
+/// run.
 pub fn schedules_replay()
     ensures { (s : SourceTest) (p : X86Test) (starts : List (List ℕ)) (order : List ℕ) (o : FinalState)
         → IsWellFormedSource s → IsCompiled s p starts → InterleavesTo s order o

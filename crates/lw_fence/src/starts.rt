@@ -1,4 +1,4 @@
-//! Where the instructions of each statement start.
+//! The first instruction of each statement.
 ghost use Rattle.std.specs.Prelude.{◌≡◌, ◌≤◌, length, IfOk};
 ghost use Rattle.lw_litmus.specs.Limits.{most_statements};
 ghost use Rattle.lw_fence.specs.Compiling.{starts_from};
@@ -8,7 +8,7 @@ use lw_base::Sequence;
 use lw_litmus::Stmt;
 use std::alloc::{AllocError, Allocator};
 
-/// The index of the first instruction of each statement of a thread, its fence included, and last the
+/// Returns the index of the first instruction of each statement of a thread, its fence included, and at the end the
 /// number of instructions.
 pub(crate) fn starts_of<A: Allocator>(
     alloc: A,

@@ -1,4 +1,4 @@
--- Runs of orders of an x86 test's items on the machine, over any memory.
+-- Runs of the orders of an x86 test's items on the machine, over any memory.
 use Rattle.std.specs.Prelude.{ℕ, Bool, true, false, List, map}
 use Rattle.lw_base.specs.Outcomes.{FinalState}
 use Rattle.lw_base.specs.declared.event.Event.{Event}
@@ -15,25 +15,25 @@ use Rattle.lw_paths.specs.Items.{item_at}
 use Rattle.lw_litmus.specs.Programs.{x86_language}
 use Rattle.lw_finals.specs.OrderRuns as runs
 
--- a thread's drain (true), or its step
+-- A thread's drain (true), or its step (false).
 abbrev pub event_by : Bool → ℕ → Event
 event_by true t = Drain t
 event_by false t = Step t
 
--- what an item stands for: a step of its thread, or a drain
+-- The event that an item represents: a step of its thread, or a drain.
 abbrev pub event_of : Item → Event
 event_of a = event_by a.is_drain a.thread
 
--- the events of an order's items
+-- The events of an order's items.
 abbrev pub events_of : List Item → List ℕ → List Event
 events_of items order = map (λ i. event_of (item_at items i)) order
 
 module _ {M : Type 0} (mem : Memory M) where
-  -- the item's event is done, a step where its thread is at the item's instruction
+  -- The item's event is carried out; a step only if its thread is at the item's instruction.
   abbrev pub X86ItemTransition : List (List Instr) → Item → MachineState M → MachineState M → Type 0
   X86ItemTransition program item = TransitionAt mem program (event_of item) item.position
 
-  -- the states of an x86 test's runs: where they start, which event carries out an item, and how they end
+  -- The transition system of an x86 test's items.
   abbrev pub x86_item_system : X86Test → M → runs.ItemTransitionSystem (MachineState M)
   x86_item_system test m = record {
     start = initial_machine_state test m;
@@ -42,14 +42,14 @@ module _ {M : Type 0} (mem : Memory M) where
     outcome_of = machine_outcome mem;
   }
 
-  -- An order of items of an x86 test stays on the chosen paths, and ends with an outcome.
+  -- An order of items of an x86 test follows the paths to a final state with this outcome.
   abbrev pub X86FollowsPathsToEnd : X86Test → M → List Item → List ℕ → FinalState → Type 0
   X86FollowsPathsToEnd test m = runs.FollowsPathsToEnd (x86_item_system test m)
 
-  -- an outcome of a choice of paths of an x86 test
+  -- The outcome is one of a path assignment of an x86 test.
   abbrev pub IsX86ChoiceOutcome : X86Test → M → List (List ℕ) → FinalState → Type 0
   IsX86ChoiceOutcome test m = runs.IsChoiceOutcome (x86_item_system test m) x86_language test.threads
 
--- A schedule replays over flat memory to an outcome.
+-- The schedule replays over flat memory to the outcome.
 abbrev pub ReplaysFlatTo : X86Test → List Event → FinalState → Type 0
 ReplaysFlatTo test = ReplaysTo flat_memory test test.head.init_words

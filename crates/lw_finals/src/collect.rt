@@ -1,4 +1,4 @@
-//! The outcomes of a program are gathered, choice by choice and order by order.
+//! Collecting the outcomes of a program, path assignment by path assignment and order by order.
 ghost use Rattle.std.specs.Prelude.{◌≡◌, ◌<◌, ◌≤◌, true, List, [], length, All, Contains, IfOk, IfErr, OnOk};
 ghost use Rattle.lw_orders.specs.Limits.{most_items};
 ghost use Rattle.lw_paths.specs.Items.{constraints_of};
@@ -20,8 +20,7 @@ use lw_paths::{
 };
 use std::alloc::{AllocError, Allocator};
 
-/// Runs an order of items, and adds its outcome with a schedule where it is new. An outcome that was found before costs a
-/// look-up.
+/// Runs an order of items, and adds its outcome with a schedule if it is new. A known outcome costs one look-up.
 fn collect_order<A: Allocator, R: OrderRunner<A>>(
     runner: &mut R,
     items: &[Item],
@@ -39,7 +38,7 @@ fn collect_order<A: Allocator, R: OrderRunner<A>>(
     add_last_outcome(runner, items, order, found)
 }
 
-/// Adds the outcome of the order that was run last, which was not found before, with a schedule that leads to it.
+/// Adds the outcome of the last run, which is new, with a schedule that reaches it.
 fn add_last_outcome<A: Allocator, R: OrderRunner<A>>(
     runner: &R,
     items: &[Item],
@@ -55,7 +54,7 @@ fn add_last_outcome<A: Allocator, R: OrderRunner<A>>(
     found.insert_new(outcome, schedule)
 }
 
-/// Runs each of these orders of items, and gathers what each ends with.
+/// Runs each of these orders of items, and collects their outcomes.
 fn collect_orders<A: Allocator, R: OrderRunner<A>>(
     runner: &mut R,
     items: &[Item],
@@ -74,8 +73,8 @@ fn collect_orders<A: Allocator, R: OrderRunner<A>>(
     Ok(())
 }
 
-/// Runs each order that is given for items. Where nothing conflicts, as may be known beforehand, there is one, and no pairs are
-/// made.
+/// Runs each order of the items, and collects their outcomes. If it is known that nothing conflicts, there is one
+/// order, and no pairs are computed.
 fn collect_items<S: Statement, A: Allocator + Copy, B: Allocator, R: OrderRunner<A>>(
     alloc: A,
     program: &[Sequence<S, B>],
@@ -102,7 +101,7 @@ fn collect_items<S: Statement, A: Allocator + Copy, B: Allocator, R: OrderRunner
     collect_conflicting(alloc, program, runner, items, conflicts, found)
 }
 
-/// Runs each order that is given for items with these conflicts, and gathers what each ends with.
+/// Runs each order of items with these conflicts, and collects their outcomes.
 fn collect_conflicting<S: Statement, A: Allocator + Copy, B: Allocator, R: OrderRunner<A>>(
     alloc: A,
     program: &[Sequence<S, B>],
@@ -127,7 +126,7 @@ fn collect_conflicting<S: Statement, A: Allocator + Copy, B: Allocator, R: Order
     Ok(())
 }
 
-/// Runs the one order that is given for items of which none conflict.
+/// Runs the single order of items without conflicts.
 fn collect_single_order<S: Statement, A: Allocator, B: Allocator, R: OrderRunner<A>>(
     program: &[Sequence<S, B>],
     runner: &mut R,
@@ -148,12 +147,12 @@ fn collect_single_order<S: Statement, A: Allocator, B: Allocator, R: OrderRunner
     Ok(())
 }
 
-/// The outcomes of the choices visited so far.
+/// The visitor that collects the outcomes of path assignments.
 #[derive(Drop)]
 struct Gatherer<'a, 'r, S: Statement, A: Allocator, B: Allocator, R> {
     alloc: A,
     program: &'a [Sequence<S, B>],
-    // Whether it is known beforehand that nothing conflicts.
+    // Whether it is known that nothing conflicts.
     is_apart: bool,
     items: Vec<Item, A>,
     runner: &'r mut R,
@@ -170,7 +169,7 @@ impl<'a, 'r, S: Statement, A: Allocator + Copy, B: Allocator, R: OrderRunner<A>>
 
     ghost refuses = { λ v paths e. LimitFaultOfChoice S.language v.program.now 0 paths e };
 
-    /// Makes the items of one choice, and gathers what its orders end with.
+    /// Computes the items of one path assignment, and collects the outcomes of their orders.
     fn visit(&mut self, choice: &PathAssignment) -> Result<(), ListFault> {
         fill_few_items(self.program, choice, &mut self.items)?;
         collect_items(
@@ -184,7 +183,7 @@ impl<'a, 'r, S: Statement, A: Allocator + Copy, B: Allocator, R: OrderRunner<A>>
     }
 }
 
-/// The list of the outcomes of a program: what the orders end with that are given for its choices.
+/// Lists the outcomes of a program: those of all orders of all its path assignments.
 pub(crate) fn list_program<S: Statement, A: Allocator + Copy, B: Allocator, R: OrderRunner<A>>(
     alloc: A,
     program: &[Sequence<S, B>],

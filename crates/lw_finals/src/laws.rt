@@ -1,5 +1,5 @@
-//! Laws of the orders of the items of choices of flow paths.
-//! A law is a function without a result, whose contract is the law; who needs it calls the function.
+//! Laws of the orders of the items of path assignments. A law is a function without a result, whose contract states
+//! the law. A proof uses the law by calling the function.
 ghost use Rattle.std.specs.Prelude.{◌↔◌, ℕ, List};
 ghost use Rattle.lw_base.specs.Outcomes.{FinalState};
 ghost use Rattle.lw_memory.specs.Flat.{flat_memory};
@@ -19,8 +19,8 @@ ghost use Rattle.lw_finals.specs.X86Runs as machine;
 use lw_orders::orders_are_complete;
 use lw_tso_caches::{outcomes_over_caches_are_flat, replays_over_caches_are_flat};
 
-/// What the lists of both languages rest on: all orders are alike to one that is given, and over caches the machine is what it is
-/// over flat memory.
+/// States what the lists of both languages depend on: every order is trace-equivalent to one that is enumerated, and
+/// over caches the machine has the outcomes that it has over flat memory.
 pub(crate) fn lists_are_complete()
     ensures complete { AreComplete }
     ensures caches { (program : X86Test) → IsWellFormedProgram program → AreFlat program }
@@ -30,8 +30,8 @@ pub(crate) fn lists_are_complete()
     replays_over_caches_are_flat();
 }
 
-/// Of two alike orders of the items of a choice that keep the fixed pairs, where one stays on the chosen paths the other does,
-/// and ends with the same outcome.
+/// States of two trace-equivalent linear extensions of a path assignment's items: if one follows the paths to a final
+/// state, the other does too, and has the same outcome.
 pub fn alike_source_orders_end_alike()
     ensures { (s : SourceTest) (paths : List (List ℕ)) (xs ys : List ℕ) (o : FinalState)
         → IsLinearExtension (constraints_of source_language s.threads (items_of source_language s.threads paths)) xs
@@ -41,15 +41,15 @@ pub fn alike_source_orders_end_alike()
         → SourceFollowsPathsToEnd s (items_of source_language s.threads paths) ys o }
 {}
 
-/// The outcomes of a source test are those of its choices of paths: of the orders of their items that keep the fixed pairs and
-/// stay on the chosen paths.
+/// States that the outcomes of a source test are those of its path assignments: of the linear extensions of their
+/// items that follow the paths to a final state.
 pub fn source_outcomes_are_those_of_choices()
     ensures { (s : SourceTest) (o : FinalState) → IsWellFormedSource s
         → SourceOutcome s o ↔ ((paths : List (List ℕ)) × IsPathAssignment source_language s.threads paths × IsSourceChoiceOutcome s paths o) }
 {}
 
-/// Of two alike orders of the items of a choice of an x86 test that keep the fixed pairs, over flat memory: where one stays on
-/// the chosen paths the other does, and ends with the same outcome.
+/// States of two trace-equivalent linear extensions of the items of an x86 test's path assignment, over flat memory:
+/// if one follows the paths to a final state, the other does too, and has the same outcome.
 pub fn alike_x86_orders_end_alike()
     ensures { (test : X86Test) (paths : List (List ℕ)) (xs ys : List ℕ) (o : FinalState)
         → IsWellFormedProgram test → IsPathAssignment x86_language test.threads paths
@@ -60,8 +60,8 @@ pub fn alike_x86_orders_end_alike()
         → machine.X86FollowsPathsToEnd flat_memory test test.head.init_words (items_of x86_language test.threads paths) ys o }
 {}
 
-/// The outcomes of an x86 test over flat memory are those of its choices of paths: of the orders of their items that keep the
-/// fixed pairs and stay on the chosen paths.
+/// States that the outcomes of an x86 test over flat memory are those of its path assignments: of the linear
+/// extensions of their items that follow the paths to a final state.
 pub fn x86_outcomes_are_those_of_choices()
     ensures { (test : X86Test) (o : FinalState) → IsWellFormedProgram test
         → IsMachineOutcome flat_memory test test.head.init_words o

@@ -1,21 +1,20 @@
-//! The complete lists of final states: of a source test each outcome that it reaches, once, with a schedule of its compiled
-//! program that leads to it; of an x86 test each outcome that the machine reaches, with a schedule. The promises that the crates
-//! above use are the contracts of `list_source` and `list_raw`.
-//!
-//! How a list is made, for either language, and where its parts stand:
-//! 1. lw_paths visits each choice of whole flow paths, and makes its items with the pairs that are fixed or conflict; it also
-//!    looks whether the test is within the limits.
-//! 2. lw_orders gives one order of the items for each way round in which the conflicts can stand.
-//! 3. `runner`, `source_runner`, `x86_runner`, `gather`: each order that is given is run once. One that leaves its paths is
-//!    dropped; the outcome of another is looked up in lw_outcome_map's findings, and added with its schedule where it is new.
-//!
-//! Why nothing is missing: `laws`. Any run of the test is an order of the items of a choice that keeps the fixed pairs; it is
-//! alike to one that is given; and alike orders end alike, as the orders of one Mazurkiewicz trace do. (So the lists are those of
-//! traces, by partial-order reduction.)
-//!
-//! It names lw_base; lw_paths, lw_orders and lw_outcome_map; of lw_litmus the tests of both languages, of lw_interleaving the runs
-//! of source tests; of lw_fence the compiler and its schedules; of lw_tso the machine, of lw_tso and lw_memory the outcomes over
-//! flat memory, of lw_mesi the caches, and of lw_tso_caches the laws of the machine over them.
+//! The complete lists of final states. The list of a source test has each reachable outcome once, with a schedule of
+//! the compiled program that reaches it; the list of an x86 test has each outcome that the machine reaches, with a
+//! schedule. Crates above rely on the contracts of `list_source` and `list_raw`.
+//! How a list is made, for either language:
+//! 1. lw_paths visits each path assignment, and computes its items with their preserved pairs and conflicts; it also
+//!    checks
+//!    the limits.
+//! 2. lw_orders enumerates one order of the items for each orientation of the conflicts.
+//! 3. `runner`, `source_runner`, `x86_runner`, `collect`: each enumerated order is run once. An order that leaves its
+//!    paths is
+//!    dropped; the outcome of any other is looked up in the map of lw_outcome_map, and inserted with its schedule if
+//!    it is new.
+//! Why the list is complete: `laws`. Every run of the test is a linear extension of the items of some path
+//! assignment; it is trace-equivalent to an enumerated order; and trace-equivalent orders have the same outcome. (So
+//! the list is made by partial-order reduction.)
+//! This crate depends on lw_base, lw_litmus, lw_interleaving, lw_memory, lw_mesi, lw_tso, lw_fence, lw_orders,
+//! lw_outcome_map, lw_paths and lw_tso_caches.
 #![tactic(auto)]
 
 mod collect;

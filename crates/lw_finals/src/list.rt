@@ -26,20 +26,21 @@ use lw_outcome_map::Listing;
 use lw_paths::ListFault;
 use std::alloc::Allocator;
 
-/// The list of all final states of a source test, each with a schedule of the program that it is compiled to.
+/// Lists all final states of a source test, each with a schedule of the compiled program.
 pub fn list_source<A: Allocator + Copy>(
     alloc: A,
     source: &Source<A>,
 ) -> Result<Listing<A>, ListFault>
-    // Each outcome stands once, and they go up.
+    // The outcomes are strictly ascending, so there are no duplicates.
     ensures sorted { IfOk result (λ l. IsStrictlySorted l) }
     // They are exactly those that interleaving on one memory reaches.
     ensures exactly { IfOk result (λ l. (o : FinalState) → Contains (outcomes_of l) o ↔ SourceOutcome (source_of source.now) o) }
-    // They are exactly those of the compiled program on the whole machine, and each entry's schedule replays to its outcome there.
+    // They are exactly those that the compiled program reaches on the whole machine, where each entry's schedule
+    // replays to its outcome.
     ensures machine { IfOk result (ListsMachine (source_of source.now)) }
-    // Each entry is of the test's threads and locations.
+    // Each entry has the test's threads and locations.
     ensures of_test { IfOk result (λ l. All (IsListedOutcome (head_of source.now.head)) l) }
-    // It is answered within the limits alone, and a limit is told where it is passed.
+    // A list is returned only within the limits, and a limit is reported only if it is exceeded.
     ensures within { OnOk result (IsWithinLimits source_language source.now.threads) }
     ensures limit { IfErr result (LimitFaultIsTrue source_language source.now.threads) }
 {
@@ -47,7 +48,7 @@ pub fn list_source<A: Allocator + Copy>(
     list_compiled(alloc, source, &compiled)
 }
 
-/// The list of all final states of a source test, where it is known what the test is compiled to.
+/// Lists all final states of a source test whose compiled program is known.
 fn list_compiled<A: Allocator + Copy>(
     alloc: A,
     source: &Source<A>,
@@ -66,22 +67,22 @@ fn list_compiled<A: Allocator + Copy>(
     list_program(alloc, source.threads.as_slice(), &mut runner)
 }
 
-/// The list of all final states of an x86 test on the whole machine, each with a schedule of steps and drains.
+/// Lists all final states of an x86 test on the whole machine, each with a schedule of steps and drains.
 pub fn list_raw<A: Allocator + Copy>(
     alloc: A,
     program: &Program<A>,
 ) -> Result<Listing<A>, ListFault>
-    // Each outcome stands once, and they go up.
+    // The outcomes are strictly ascending, so there are no duplicates.
     ensures sorted { IfOk result (λ l. IsStrictlySorted l) }
-    // They are exactly those that the machine reaches over caches of either protocol, over all schedules of steps, drains and
-    // evictions.
+    // They are exactly those that the machine reaches over caches of either protocol, over all schedules of steps,
+    // drains and evictions.
     ensures exactly { IfOk result (λ l. (protocol : Protocol) (o : FinalState)
         → Contains (outcomes_of l) o ↔ OutcomeOverCaches protocol (program_of program.now) o) }
     // Each entry's schedule replays there to its outcome.
     ensures replays { IfOk result (λ l. (protocol : Protocol) → All (λ e. ReplaysToOverCaches protocol (program_of program.now) e.1 e.0) l) }
-    // Each entry is of the test's threads and locations.
+    // Each entry has the test's threads and locations.
     ensures of_test { IfOk result (λ l. All (IsListedOutcome (head_of program.now.head)) l) }
-    // It is answered within the limits alone, and a limit is told where it is passed.
+    // A list is returned only within the limits, and a limit is reported only if it is exceeded.
     ensures within { OnOk result (IsWithinLimits x86_language program.now.threads) }
     ensures limit { IfErr result (LimitFaultIsTrue x86_language program.now.threads) }
 {

@@ -1,4 +1,4 @@
-//! What carries out the items of a choice, in one order after another.
+//! The trait of runners, which run the items of a path assignment in one order after another.
 ghost use Rattle.std.specs.Prelude.{◌≡◌, ◌<◌, ℕ, List, length, All, IfOk};
 ghost use Rattle.lw_base.specs.Outcomes.{FinalState};
 ghost use Rattle.lw_base.specs.declared.event.Event.{Event};
@@ -9,34 +9,34 @@ use lw_base::{Event, Outcome, Sequence};
 use lw_paths::Item;
 use std::alloc::{AllocError, Allocator};
 
-/// A machine on which the orders of a test's items are run. Its room is made once: a run takes no memory.
+/// A machine that runs the orders of a test's items. It allocates when it is created; a run does not allocate.
 pub(crate) trait OrderRunner<A: Allocator> {
-    /// What a test is.
+    /// The type of tests.
     ghost Test: { Type 0 };
 
     /// The test.
     ghost test: { Self → Test };
 
-    /// The outcome with which an order of items ends that stays on its paths to a final state.
+    /// The relation between an order of items that follows its paths to a final state, and its outcome.
     ghost ends: { Test → List Item → List ℕ → FinalState → Type 0 };
 
-    /// What a schedule leads to.
+    /// The relation between a schedule and the outcome that it reaches.
     ghost leads: { Test → List Event → FinalState → Type 0 };
 
-    /// With what the last run ended.
+    /// The outcome of the last run.
     ghost end: { Self → FinalState };
 
-    /// Runs an order of items from the start of the test, and answers whether it stays on its paths to a final state.
+    /// Runs an order of items from the initial state, and returns whether it follows its paths to a final state.
     fn run(&mut self, items: &[Item], order: &[u8]) -> bool
         requires { All (λ i. i < length items.now) order.now }
         ensures same { test self.new ≡ test self.old }
         ensures ends { RunResult (ends (test self.old) items.now order.now) result (end self.new) };
 
-    /// The outcome with which the last run that stayed on its paths ended.
+    /// Returns the outcome of the last run that followed its paths.
     fn last_outcome(&self) -> &Outcome<A>
         ensures { result.now ≡ end self.now };
 
-    /// The outcome of the last run, with a schedule that leads to it.
+    /// Returns the outcome of the last run, with a schedule that reaches it. Fails only if memory runs out.
     fn entry(
         &self,
         items: &[Item],
@@ -48,7 +48,7 @@ pub(crate) trait OrderRunner<A: Allocator> {
         ensures leads { IfOk result (λ e. leads (test self.now) e.1 e.0) };
 }
 
-/// A copy of an outcome, or that memory ran out.
+/// Copies an outcome. Fails only if memory runs out.
 pub(crate) fn copy_outcome<A: Allocator + Copy>(
     outcome: &Outcome<A>,
 ) -> Result<Outcome<A>, AllocError>

@@ -1,4 +1,4 @@
-//! Runs of the orders of a source test's items.
+//! The runner of source tests.
 ghost use Rattle.std.specs.Prelude.{◌≡◌, ◌<◌, true, false, length, All, IfOk};
 ghost use Rattle.lw_fence.specs.Compiling.{IsCompiled};
 ghost use Rattle.lw_interleaving.specs.Runs.{State};
@@ -17,7 +17,7 @@ use lw_paths::Item;
 use std::alloc::{AllocError, Allocator};
 use std::marker::Model;
 
-/// Runs a source test, whose schedules are those of what it is compiled to.
+/// Runs a source test. Its schedules are those of the compiled program.
 #[derive(Drop)]
 pub(crate) struct SourceRunner<'a, A: Allocator> {
     alloc: A,
@@ -54,8 +54,8 @@ impl<'a, A: Allocator> Model for SourceRunner<'a, A> {
         × (length r.end.regs ≡ length r.source.now.threads) × (length r.end.words ≡ length r.source.now.head.locs) };
 }
 
-/// Carries out an item, which is always a statement here, and answers whether it did: not where its thread isn't one of so many,
-/// or isn't at that statement.
+/// Executes an item, which is always a statement here, and returns whether it did. It does not if the item's thread
+/// does not exist or is at another statement.
 fn carry_out<A: Allocator, B: Allocator>(
     run: &mut SourceRun<'_, A, B>,
     threads: usize,
@@ -75,7 +75,7 @@ fn carry_out<A: Allocator, B: Allocator>(
 }
 
 impl<'a, A: Allocator + Copy> SourceRunner<'a, A> {
-    /// A runner of a source test with what it is compiled to.
+    /// Creates a runner of a source test with its compiled program. Fails only if memory runs out.
     pub(crate) fn new(
         alloc: A,
         source: &'a Source<A>,
@@ -97,7 +97,7 @@ impl<'a, A: Allocator + Copy> SourceRunner<'a, A> {
     }
 }
 
-/// The schedule of an order's items: the events of each item's statement, one after another.
+/// Returns the schedule of an order's items: the events of their statements, concatenated.
 fn schedule_of_items<A: Allocator>(
     alloc: A,
     source: &Source<A>,
@@ -130,7 +130,7 @@ impl<'a, A: Allocator + Copy> OrderRunner<A> for SourceRunner<'a, A> {
 
     ghost end = { λ r. r.end };
 
-    /// Carries out the steps of an order's items, one by one, and answers whether that stays on its paths to a final state.
+    /// Runs the steps of an order's items, and returns whether they follow their paths to a final state.
     fn run(&mut self, items: &[Item], order: &[u8]) -> bool {
         let threads = self.source.threads.len();
         self.run.restart();
@@ -146,12 +146,12 @@ impl<'a, A: Allocator + Copy> OrderRunner<A> for SourceRunner<'a, A> {
         true
     }
 
-    /// The outcome of the last run that stayed on its paths.
+    /// Returns the outcome of the last run that followed its paths.
     fn last_outcome(&self) -> &Outcome<A> {
         &self.end
     }
 
-    /// The outcome of the last run, with a schedule of the compiled program that leads to it.
+    /// Returns the outcome of the last run, with a schedule of the compiled program that reaches it.
     fn entry(
         &self,
         items: &[Item],

@@ -1,4 +1,4 @@
-//! Runs of the orders of an x86 test's items, on the machine over MESI caches.
+//! The runner of x86 tests, on the machine over MESI caches.
 ghost use Rattle.std.specs.Prelude.{◌≡◌, ◌<◌, ◌↔◌, true, false, Err, IsTrue, length, All, IfOk};
 ghost use Rattle.lw_base.specs.declared.stop.Stop.{Stop};
 ghost use Rattle.lw_memory.specs.Flat.{flat_memory};
@@ -18,7 +18,7 @@ use lw_tso::{Machine, events_are_flat};
 use std::alloc::{AllocError, Allocator};
 use std::marker::Model;
 
-/// Runs an x86 test on the machine. Which caches are under it makes no difference to its outcomes.
+/// Runs an x86 test on the machine. Its outcomes do not depend on the caches.
 #[derive(Drop)]
 pub(crate) struct X86Runner<'a, A: Allocator> {
     alloc: A,
@@ -47,7 +47,7 @@ impl<'a, A: Allocator> Model for X86Runner<'a, A> {
         × (length r.end.regs ≡ length r.program.now.head.init_regs) × (length r.end.words ≡ length r.program.now.head.init_words) };
 }
 
-/// The event that an item stands for: a step of its thread, or a drain.
+/// Returns the event that an item represents: a step of its thread, or a drain.
 fn event_of(item: &Item) -> Event
     ensures { result ≡ event_of item.now }
 {
@@ -58,7 +58,7 @@ fn event_of(item: &Item) -> Event
     }
 }
 
-/// The events of an order's items.
+/// Returns the events of an order's items.
 fn events_of<A: Allocator>(
     alloc: A,
     items: &[Item],
@@ -74,7 +74,8 @@ fn events_of<A: Allocator>(
     Ok(Sequence::from(events))
 }
 
-/// Whether an item's thread, one of so many, is at the item's instruction. A drain needs no position: of it this always holds.
+/// Returns whether an item's thread is at the item's instruction. A drain needs no position, so this is always true
+/// of a drain.
 fn is_at_item<M: MemorySystem, A: Allocator, B: Allocator>(
     machine: &Machine<'_, M, A, B>,
     threads: usize,
@@ -92,8 +93,8 @@ fn is_at_item<M: MemorySystem, A: Allocator, B: Allocator>(
     machine.position(item.thread) == usize::from(item.position)
 }
 
-/// Carries out an item, an instruction or a drain, and answers whether it did: not where its event is refused, nor where an
-/// instruction's thread isn't one of so many, or is elsewhere.
+/// Executes an item, an instruction or a drain, and returns whether it did. It does not if the event is rejected, or
+/// if the item is an instruction whose thread does not exist or is elsewhere.
 fn carry_out<M: MemorySystem, A: Allocator, B: Allocator>(
     machine: &mut Machine<'_, M, A, B>,
     threads: usize,
@@ -116,7 +117,7 @@ fn carry_out<M: MemorySystem, A: Allocator, B: Allocator>(
     machine.step(event_of(item)).is_ok()
 }
 
-/// The outcome of a program before anything is done: its initial registers and words.
+/// Returns the initial registers and words of a program as an outcome.
 fn first_outcome<A: Allocator + Copy>(program: &Program<A>) -> Result<Outcome<A>, AllocError>
     ensures { IfOk result (λ o. o ≡ record { regs = program.now.head.init_regs; words = program.now.head.init_words }) }
 {
@@ -127,7 +128,7 @@ fn first_outcome<A: Allocator + Copy>(program: &Program<A>) -> Result<Outcome<A>
 }
 
 impl<'a, A: Allocator + Copy> X86Runner<'a, A> {
-    /// A runner of an x86 test.
+    /// Creates a runner of an x86 test. Fails only if memory runs out.
     pub(crate) fn new(alloc: A, program: &'a Program<A>) -> Result<Self, AllocError>
         ensures test { IfOk result (λ r. r.test ≡ program_of program.now) }
     {
@@ -160,7 +161,7 @@ impl<'a, A: Allocator + Copy> OrderRunner<A> for X86Runner<'a, A> {
 
     ghost end = { λ r. r.end };
 
-    /// Carries out an order's items, steps and drains, and answers whether that stays on its paths to a final state.
+    /// Runs an order's items, steps and drains, and returns whether they follow their paths to a final state.
     fn run(&mut self, items: &[Item], order: &[u8]) -> bool {
         events_are_flat::<Mesi<A>>();
         let threads = self.program.threads.len();
@@ -177,12 +178,12 @@ impl<'a, A: Allocator + Copy> OrderRunner<A> for X86Runner<'a, A> {
         true
     }
 
-    /// The outcome of the last run that stayed on its paths.
+    /// Returns the outcome of the last run that followed its paths.
     fn last_outcome(&self) -> &Outcome<A> {
         &self.end
     }
 
-    /// The outcome of the last run, with the schedule of the order's events, which leads to it.
+    /// Returns the outcome of the last run, with the schedule of the order's events.
     fn entry(
         &self,
         items: &[Item],

@@ -1,5 +1,5 @@
-//! Laws of steps: which can be exchanged, where each leads, and that it moves one thread alone.
-//! A law is a function without a result, whose contract is the law; who needs it calls the function. Here no code does.
+//! Laws of steps: which steps commute, where each leads, and that each changes one thread only. A law is a function
+//! without a result, whose contract states the law. A proof uses the law by calling the function; no code does.
 ghost use Rattle.std.specs.Prelude.{◌≡◌, ◌≢◌, ℕ, List, false, Ok};
 ghost use Rattle.lw_litmus.specs.declared.stmt.Stmt.{Stmt};
 ghost use Rattle.lw_interleaving.specs.Runs.{State, source_step};
@@ -7,20 +7,20 @@ ghost use Rattle.lw_interleaving.specs.Steps.{FollowsFlow, thread_position, next
 ghost use Rattle.lw_litmus.specs.Conflicts.{operations_conflict};
 ghost use Rattle.lw_litmus.specs.Sources.{source_language};
 
-/// A theorem for readers: neighbouring steps of two threads whose statements don't conflict can be exchanged: the state
+/// States, for readers, that adjacent steps of two threads commute if their statements do not conflict: the state
 /// after both is the same.
 pub fn steps_can_be_exchanged()
     ensures { (program : List (List Stmt)) (t u : ℕ) (s : State) → t ≢ u
         → operations_conflict source_language (next_statement program s t) (next_statement program s u) ≡ false → StepsCommute program t u s }
 {}
 
-/// A theorem for readers: a step leads its thread to a successor of where it was.
+/// States, for readers, that a step takes its thread to a successor of its position in the control flow.
 pub fn a_step_follows_the_flow()
     ensures { (program : List (List Stmt)) (t : ℕ) (s next : State)
         → source_step program t s ≡ Ok next → FollowsFlow program t s next }
 {}
 
-/// A theorem for readers: a step moves no other thread.
+/// States, for readers, that a step does not change another thread's position.
 pub fn a_step_moves_one_thread()
     ensures { (program : List (List Stmt)) (t u : ℕ) (s next : State) → t ≢ u
         → source_step program t s ≡ Ok next → thread_position next u ≡ thread_position s u }

@@ -1,8 +1,7 @@
-//! Runs of source tests by interleaving: threads take their steps one at a time, each in program order, on one memory, which is
-//! sequential consistency as Lamport has it; and the laws of their steps.
-//!
-//! It names lw_base and lw_litmus. The promise that the crates above use: a step of a `SourceRun` is the one statement of
-//! the table in `specs/Statements.antt`.
+//! Runs of source tests by interleaving: threads take their steps one at a time, each in program order, on one
+//! memory. This is sequential consistency as Lamport defines it. The crate also has the laws of steps.
+//! This crate depends on lw_base and lw_litmus. Crates above rely on one promise: a step of a `SourceRun` executes
+//! one statement, by the table in `specs/Statements.antt`.
 #![tactic(auto)]
 
 mod laws;

@@ -1,4 +1,4 @@
-//! A run of a source test.
+//! Runs of source tests.
 ghost use Rattle.std.specs.Prelude.{◌≡◌, ◌<◌, length, map, Some, slice_get, slice_index, IfOk};
 ghost use Rattle.lw_litmus.specs.Views.{source_of};
 ghost use Rattle.lw_interleaving.specs.Runs.{initial_state, source_step, source_event_result, IsStepResult, IsSourceReplay, source_outcome};
@@ -10,8 +10,8 @@ use lw_litmus::{Source, Statement};
 use std::alloc::{AllocError, Allocator, Global};
 use std::marker::Model;
 
-/// A run of a source test: its threads take their steps one at a time, on one memory. There are no
-/// store buffers and no caches.
+/// A run of a source test: its threads take their steps one at a time, on one memory. There are no store buffers and
+/// no caches.
 #[derive(Drop)]
 pub struct SourceRun<'a, A: Allocator = Global, B: Allocator = Global> {
     source: &'a Source<B>,
@@ -38,7 +38,7 @@ impl<'a, A: Allocator, B: Allocator> Model for SourceRun<'a, A, B> {
 }
 
 impl<'a, A: Allocator + Copy, B: Allocator> SourceRun<'a, A, B> {
-    /// A run at the start of a test.
+    /// Creates a run in the initial state of a test. Fails only if memory runs out.
     pub fn new(alloc: A, source: &'a Source<B>) -> Result<Self, AllocError>
         ensures program { IfOk result (λ r. r.program ≡ source.now.threads) }
         ensures start { IfOk result (λ r. r.start ≡ initial_state (source_of source.now)) }
@@ -59,7 +59,7 @@ impl<'a, A: Allocator + Copy, B: Allocator> SourceRun<'a, A, B> {
         })
     }
 
-    /// The registers and the memory as they are.
+    /// Returns the current registers and memory. Fails only if memory runs out.
     pub fn outcome(&self) -> Result<Outcome<A>, AllocError>
         ensures { IfOk result (λ o. o ≡ source_outcome self.now.state) }
     {
@@ -76,7 +76,7 @@ impl<'a, A: Allocator + Copy, B: Allocator> SourceRun<'a, A, B> {
 }
 
 impl<'a, A: Allocator, B: Allocator> SourceRun<'a, A, B> {
-    /// Puts the run back to the start of its test. It takes no memory.
+    /// Resets the run to the initial state. Does not allocate.
     pub fn restart(&mut self)
         ensures program { self.new.program ≡ self.old.program }
         ensures start { self.new.start ≡ self.old.start }
@@ -94,7 +94,7 @@ impl<'a, A: Allocator, B: Allocator> SourceRun<'a, A, B> {
         self.words.copy_from(self.source.head.init_words.as_slice());
     }
 
-    /// Puts the registers and the memory as they are into an outcome of as many threads and locations. It takes no memory.
+    /// Writes the current registers and memory into an outcome of the same size. Does not allocate.
     pub fn write_outcome<C: Allocator>(&self, outcome: &mut Outcome<C>)
         requires threads { length outcome.old.regs ≡ length self.now.state.threads }
         requires words { length outcome.old.words ≡ length self.now.state.words }
@@ -106,7 +106,7 @@ impl<'a, A: Allocator, B: Allocator> SourceRun<'a, A, B> {
         outcome.words.copy_from(self.words.as_slice());
     }
 
-    /// The thread carries out its next statement. A refused step changes nothing.
+    /// Executes the thread's next statement. A rejected step changes nothing.
     pub fn step(&mut self, cpu: Cpu) -> Result<(), Stop>
         ensures program { self.new.program ≡ self.old.program }
         ensures start { self.new.start ≡ self.old.start }
@@ -127,7 +127,7 @@ impl<'a, A: Allocator, B: Allocator> SourceRun<'a, A, B> {
         Ok(())
     }
 
-    /// Carries out the events before the first that is refused, or all.
+    /// Carries out events up to the first that is rejected, or all.
     pub fn run(&mut self, events: &[Event]) -> Replay
         ensures program { self.new.program ≡ self.old.program }
         ensures start { self.new.start ≡ self.old.start }
@@ -154,7 +154,7 @@ impl<'a, A: Allocator, B: Allocator> SourceRun<'a, A, B> {
         }
     }
 
-    /// Carries out one event, if it is possible.
+    /// Carries out one event. A rejected event changes nothing.
     fn carry_out_event(&mut self, event: Event) -> Result<(), Stop>
         ensures program { self.new.program ≡ self.old.program }
         ensures start { self.new.start ≡ self.old.start }
@@ -180,7 +180,7 @@ impl<'a, A: Allocator, B: Allocator> SourceRun<'a, A, B> {
         }
     }
 
-    /// Whether all threads are at their ends.
+    /// Returns whether all threads have terminated.
     pub fn is_final(&self) -> bool
         ensures { result ≡ runs.is_source_final self.now.program self.now.state }
     {
@@ -192,7 +192,7 @@ impl<'a, A: Allocator, B: Allocator> SourceRun<'a, A, B> {
             .all(|(code, thread)| thread.is_at_end(code.len()))
     }
 
-    /// The index of the thread's next statement.
+    /// Returns the index of the thread's next statement.
     pub fn position(&self, cpu: Cpu) -> usize
         requires { cpu < length self.now.state.threads }
         ensures { slice_get (map (λ t. t.position) self.now.state.threads) cpu ≡ Some result }
@@ -200,7 +200,7 @@ impl<'a, A: Allocator, B: Allocator> SourceRun<'a, A, B> {
         self.threads.as_slice()[cpu.index()].position
     }
 
-    /// The word of a thread's register.
+    /// Returns the word of a thread's register.
     pub fn reg(&self, cpu: Cpu, reg: Reg) -> Word
         requires { cpu < length self.now.state.threads }
         ensures { slice_get (map (λ t. slice_index t.regs reg) self.now.state.threads) cpu ≡ Some result }
@@ -208,7 +208,7 @@ impl<'a, A: Allocator, B: Allocator> SourceRun<'a, A, B> {
         self.threads.as_slice()[cpu.index()].regs[reg.index()]
     }
 
-    /// The word of a location.
+    /// Returns the word of a location.
     pub fn word(&self, loc: Loc) -> Word
         requires { loc < length self.now.state.words }
         ensures { slice_get self.now.state.words loc ≡ Some result }

@@ -1,4 +1,4 @@
-//! What a thread of a running source test has of its own, and what an operation makes of it.
+//! The state of one thread of a source test, and the effect of an operation on it.
 ghost use Rattle.std.specs.Prelude.{◌≡◌, ◌+◌, ◌<◌, ◌^◌, length, nat_le};
 ghost use Rattle.lw_base.specs.Changes.{wrapping_sum};
 ghost use Rattle.lw_interleaving.specs.Statements as table;
@@ -18,14 +18,14 @@ pub struct Thread {
 }
 
 impl Thread {
-    /// Whether the thread is at the end of a code of so many statements.
+    /// Returns whether the thread is past the last of `count` statements.
     pub(crate) fn is_at_end(&self, count: usize) -> bool
         ensures { result ≡ nat_le count self.now.position }
     {
         count <= self.position
     }
 
-    /// Carries out an operation: the thread goes on, and what the operation writes is put into the memory.
+    /// Executes an operation: advances the thread, and writes to memory what the operation writes.
     pub(crate) fn carry_out<A: Allocator>(
         &mut self,
         operation: Operation,
@@ -71,7 +71,7 @@ impl Thread {
         }
     }
 
-    /// Goes on to the next statement.
+    /// Advances to the next statement.
     fn advance(&mut self)
         requires { self.old.position + 1 < 2 ^ 64 }
         ensures { self.new ≡ table.advance self.old }
@@ -79,7 +79,7 @@ impl Thread {
         self.position += 1;
     }
 
-    /// Goes on to the next statement, with a word in a register.
+    /// Writes a word to a register and advances.
     fn get(&mut self, dst: Reg, word: Word)
         requires { self.old.position + 1 < 2 ^ 64 }
         ensures { self.new ≡ table.advance_with_register self.old dst word }
@@ -88,7 +88,7 @@ impl Thread {
         self.position += 1;
     }
 
-    /// Goes on to the next statement, with a word in a register if one is named.
+    /// Writes a word to a register, if one is named, and advances.
     fn advance_with_register_if_some(&mut self, dst: Option<Reg>, word: Word)
         requires { self.old.position + 1 < 2 ^ 64 }
         ensures { self.new ≡ table.advance_with_register_if_some self.old dst word }
@@ -99,7 +99,7 @@ impl Thread {
         }
     }
 
-    /// To the target where the guard holds, and else to the next statement.
+    /// Jumps to the target if the guard holds, and advances otherwise.
     fn jump(&mut self, holds: bool, to: usize)
         requires { self.old.position + 1 < 2 ^ 64 }
         ensures { self.new ≡ table.jump_or_advance self.old holds to }
@@ -108,7 +108,7 @@ impl Thread {
     }
 }
 
-/// The sum of two words, as a word: without what is carried beyond 32 bits.
+/// Returns the sum of two words, modulo 2^32.
 fn wrapping_sum(left: Word, right: Word) -> Word
     ensures { result ≡ wrapping_sum left right }
 {

@@ -1,4 +1,4 @@
--- What a call tells of the text that it was given, and how that stands in the caller's room.
+-- The result of a call on a text, and how it is stored in the caller's buffer.
 use Rattle.std.specs.Prelude.{◌≡◌, ◌⊎◌, ◌≤◌, ◌<◌, ℕ, ◌==◌, if◌then◌else◌, ◌++◌, length, drop}
 use Rattle.lw_base.specs.Types.{Bytes}
 use Rattle.lw_base.specs.declared.stop.End.{End}
@@ -12,38 +12,38 @@ use Rattle.lw_bench.specs.Replays.{IsReplayPage}
 use Rattle.lw_bench.specs.FaultTruth.{RunFaultIsTrue, IsNotDeviceFault}
 use Rattle.lw_library.specs.declared.call_result.CallResult.{CallResult}
 
--- The bytes stand at the front of the caller's room, which is behind them as it was before.
+-- The bytes are at the start of the caller's buffer, and the rest of the buffer is unchanged.
 pub record IsWritten (bytes : Bytes) (told : CallResult) (before after : Bytes) : Type 0 where
   pub counted : told.length ≡ length bytes
   pub fits : told.length ≤ length before
   pub after_is : after ≡ bytes ++ drop told.length before
 
--- The room has too little room for the bytes: how many they are is told, and it is as it was before.
+-- The buffer is too small for the bytes: their number is returned, and the buffer is unchanged.
 pub record IsTooSmall (bytes : Bytes) (told : CallResult) (before after : Bytes) : Type 0 where
   pub counted : told.length ≡ length bytes
   pub too_small : length before < told.length
   pub unchanged : after ≡ before
 
--- Bytes of this kind are told, or that there is too little room for them, which is kind 2.
+-- Bytes of this kind are returned; or kind 2, that they do not fit.
 abbrev pub ReturnsBytes : ℕ → Bytes → CallResult → Bytes → Bytes → Type 0
 ReturnsBytes kind bytes told before after =
     ((told.kind ≡ kind) × IsWritten bytes told before after) ⊎ ((told.kind ≡ 2) × IsTooSmall bytes told before after)
 
--- The line of this fault is told, which is kind 1, and its exit status.
+-- The line of this fault is returned, which is kind 1, with its exit status.
 abbrev pub ReturnsFaultLine : BenchFault → CallResult → Bytes → Bytes → Type 0
 ReturnsFaultLine fault told before after = (told.status ≡ status fault) × ReturnsBytes 1 (fault_text fault) told before after
 
--- the protocol of the number that a caller gives: 0 is MESI, any other MOESI
+-- The protocol of a caller's number: 0 is MESI, any other MOESI.
 abbrev pub replay_protocol : ℕ → Protocol
 replay_protocol number = if number == 0 then Mesi else Moesi
 
--- the bytes are the page of the replay of the test by this schedule, over caches of this protocol, with this exit status
+-- The bytes are the page of the replay of the test by this schedule, over caches of this protocol, with this exit status.
 abbrev pub IsReplayed : Bytes → Protocol → LitmusTest → Bytes → ℕ → Type 0
 IsReplayed schedule protocol test made done =
     (end : End) × IsReplayPage protocol test schedule made end × (done ≡ end_status end)
 
--- What a call tells, if answers and faults have this status and these bytes: an answer, where the kind is 0; a fault, where it is 1; and
--- where it is 2 that there is too little room for the one or the other.
+-- The result of a call, if answers and faults have this status and these bytes: an answer if the kind is 0; a fault if it is 1; and if it
+-- is 2, that one of them does not fit.
 pub record TellsOneOf (IsAnswer IsFault : ℕ → Bytes → Type 0) (told : CallResult) (before after : Bytes) : Type 0 where
   pub kinds : told.kind ≤ 2
   pub answer : told.kind ≡ 0 → (made : Bytes) × IsAnswer told.status made × IsWritten made told before after
@@ -53,11 +53,11 @@ pub record TellsOneOf (IsAnswer IsFault : ℕ → Bytes → Type 0) (told : Call
       → (bytes : Bytes) × (IsAnswer told.status bytes ⊎ IsFault told.status bytes) × IsTooSmall bytes told before after
 
 module _ (IsMade : LitmusTest → Bytes → ℕ → Type 0) (Tells : LitmusTest → BenchFault → Type 0) (text : Bytes) where
-  -- The bytes are what the task makes of the test that the text is, with this exit status.
+  -- The bytes are the output of the task on the test of the text, with this exit status.
   abbrev pub IsAnswer : ℕ → Bytes → Type 0
   IsAnswer done made = IsOutputOf (λ test m. IsMade test m done) text made
 
-  -- The bytes are the line of a fault, which is so of the text and is no device's, and this is its exit status.
+  -- The bytes are the line of a fault, which is true of the text and not the failure of a device, with its exit status.
   pub record IsFault (done : ℕ) (line : Bytes) : Type 0 where
     pub fault : BenchFault
     pub tells : RunFaultIsTrue Tells text fault
@@ -65,6 +65,6 @@ module _ (IsMade : LitmusTest → Bytes → ℕ → Type 0) (Tells : LitmusTest 
     pub line_is : line ≡ fault_text fault
     pub status_is : done ≡ status fault
 
-  -- What a call tells: what the task makes of the test, or a fault.
+  -- The result of a call: the output of the task, or a fault.
   abbrev pub IsCallResult : CallResult → Bytes → Bytes → Type 0
   IsCallResult = TellsOneOf IsAnswer IsFault

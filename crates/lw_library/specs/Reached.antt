@@ -1,4 +1,4 @@
--- What a call for a list of any size tells.
+-- The result of a call for a list of any size.
 use Rattle.std.specs.Prelude.{◌≡◌, ℕ, false}
 use Rattle.lw_base.specs.Types.{Bytes}
 use Rattle.lw_bench.specs.Outputs.{IsOutputOf}
@@ -10,16 +10,16 @@ use Rattle.lw_beyond.specs.declared.lists.Request.{Request}
 use Rattle.lw_library.specs.CallResults.{ReturnsBytes, TellsOneOf}
 use Rattle.lw_library.specs.declared.call_result.CallResult.{CallResult}
 
--- The line of this fault is told, which is kind 1, and its exit status.
+-- The line of this fault is returned, which is kind 1, with its exit status.
 abbrev pub TellsFault : BeyondFault → CallResult → Bytes → Bytes → Type 0
 TellsFault fault told before after = (told.status ≡ fault_status fault) × ReturnsBytes 1 (fault_text fault) told before after
 
 module _ (request : Request) (text : Bytes) where
-  -- The bytes are the output of the test that the text is, with the exit status 0.
+  -- The bytes are the output on the test of the text, with the exit status 0.
   abbrev pub IsReached : ℕ → Bytes → Type 0
   IsReached done made = (done ≡ 0) × IsOutputOf (IsMadeFor request.output) text made
 
-  -- The bytes are the line of a fault, which is true of the text and is no device's, and this is its exit status.
+  -- The bytes are the line of a fault, which is true of the text and not the failure of a device, with its exit status.
   pub record IsRefused (done : ℕ) (line : Bytes) : Type 0 where
     pub fault : BeyondFault
     pub refuses : RefusesText request text fault
@@ -27,7 +27,7 @@ module _ (request : Request) (text : Bytes) where
     pub line_is : line ≡ fault_text fault
     pub status_is : done ≡ fault_status fault
 
-  -- What the call tells: the output, or a fault.
+  -- The result of the call: the output, or a fault.
   abbrev pub IsReachTold : CallResult → Bytes → Bytes → Type 0
   IsReachTold = TellsOneOf IsReached IsRefused
 

@@ -1,4 +1,4 @@
-//! What a call tells, and how it is put into the caller's room.
+//! The result of a call, and copying it into the caller's buffer.
 ghost use Rattle.std.specs.Prelude.{◌≡◌, ◌⊎◌};
 ghost use Rattle.lw_bench.specs.declared.fault.BenchFault.TheVariants.{Memory};
 ghost use Rattle.lw_library.specs.CallResults.{ReturnsBytes, ReturnsFaultLine};
@@ -6,17 +6,17 @@ ghost use Rattle.lw_library.specs.CallResults.{ReturnsBytes, ReturnsFaultLine};
 use lw_arena::Arena;
 use lw_bench::{BenchFault, fault_line, memory_line, status_of};
 
-/// The bytes are an answer.
+/// The kind of a result whose bytes are an answer.
 pub(crate) const ANSWER: u32 = 0;
 
-/// The bytes are the line of a fault.
+/// The kind of a result whose bytes are the line of a fault.
 pub(crate) const FAULT: u32 = 1;
 
-/// There is too little room for the bytes.
+/// The kind of a result whose bytes do not fit.
 const TOO_SMALL: u32 = 2;
 
-/// What a call tells: the exit status, what its bytes are, and how many they are. They stand at the front of the room, but where
-/// that is too small for them.
+/// The result of a call: the exit status, the kind of its bytes, and their number. The bytes are at the start of the
+/// buffer, unless they do not fit.
 #[repr(C)]
 #[derive(Clone, Copy)]
 pub struct CallResult {
@@ -25,7 +25,7 @@ pub struct CallResult {
     pub length: usize,
 }
 
-/// Puts the bytes to the front of the room, where there is room for all of them, and leaves the room as it is where there is not.
+/// Copies the bytes to the start of the buffer. Leaves it unchanged if they do not fit.
 pub(crate) fn write_result(kind: u32, status: u8, bytes: &[u8], room: &mut [u8]) -> CallResult
     ensures bytes { ReturnsBytes kind bytes.now result room.old room.new }
     ensures status { result.status ≡ status }
@@ -45,7 +45,7 @@ pub(crate) fn write_result(kind: u32, status: u8, bytes: &[u8], room: &mut [u8])
     told
 }
 
-/// Tells of a fault by its line. Where memory runs out while the line is made, that is told instead.
+/// Returns a fault by its line. If memory runs out for the line, it returns that fault instead.
 pub(crate) fn write_fault(arena: &Arena, fault: &BenchFault, room: &mut [u8]) -> CallResult
     ensures { ReturnsFaultLine fault.now result room.old room.new ⊎ ReturnsFaultLine Memory result room.old room.new }
 {

@@ -1,4 +1,4 @@
-//! The four commands, as C calls them.
+//! The four commands as C functions.
 ghost use Rattle.std.specs.Prelude.{◌≡◌, ◌⊎◌};
 ghost use Rattle.std.specs.Str.{IsUtf8};
 ghost use Rattle.lw_bench.specs.declared.command.Task.TheVariants as task;
@@ -12,7 +12,7 @@ use crate::call_result::{ANSWER, CallResult, write_fault, write_result};
 use lw_arena::{Arena, Memory};
 use lw_bench::{BenchFault, Protocol, Task, answer};
 
-/// `lw states`: the report of the test that the text is.
+/// Runs `lw states`: returns the report of the test of the text.
 #[unsafe(no_mangle)]
 pub extern "C" fn lw_states(memory: Memory, text: &[u8], room: &mut [u8], told: &mut CallResult)
     ensures told { IsCallResult (IsTaskOutput task.States) (TaskFaultIsTrue task.States) text.now told.new room.old room.new }
@@ -22,7 +22,7 @@ pub extern "C" fn lw_states(memory: Memory, text: &[u8], room: &mut [u8], told: 
     *told = run(memory, Task::States, text, room);
 }
 
-/// `lw schedules`: the list of the test's final states, each with a schedule.
+/// Runs `lw schedules`: returns the list of the test's final states, each with a schedule.
 #[unsafe(no_mangle)]
 pub extern "C" fn lw_schedules(memory: Memory, text: &[u8], room: &mut [u8], told: &mut CallResult)
     ensures told { IsCallResult (IsTaskOutput task.Schedules) (TaskFaultIsTrue task.Schedules) text.now told.new room.old room.new }
@@ -32,7 +32,7 @@ pub extern "C" fn lw_schedules(memory: Memory, text: &[u8], room: &mut [u8], tol
     *told = run(memory, Task::Schedules, text, room);
 }
 
-/// `lw compile`: the canonical text of the test, a source test compiled to x86.
+/// Runs `lw compile`: returns the canonical text of the test; a source test is compiled to x86 first.
 #[unsafe(no_mangle)]
 pub extern "C" fn lw_compile(memory: Memory, text: &[u8], room: &mut [u8], told: &mut CallResult)
     ensures told { IsCallResult (IsTaskOutput task.Compile) (TaskFaultIsTrue task.Compile) text.now told.new room.old room.new }
@@ -40,8 +40,9 @@ pub extern "C" fn lw_compile(memory: Memory, text: &[u8], room: &mut [u8], told:
     *told = run(memory, Task::Compile, text, room);
 }
 
-/// `lw replay SCHEDULE`: the page of the test's replay by the schedule, an x86 test over caches that keep MESI where `protocol` is 0,
-/// and else over such as keep MOESI. A schedule that is no UTF-8 is told as the program tells it, which cannot read such a word.
+/// Runs `lw replay SCHEDULE`: returns the page of the test's replay by the schedule. An x86 test runs over caches of
+/// MESI if `protocol` is 0, and of MOESI otherwise. A schedule that is not UTF-8 fails as in the program, which
+/// cannot read such a word.
 #[unsafe(no_mangle)]
 pub extern "C" fn lw_replay(
     memory: Memory,
@@ -63,7 +64,7 @@ pub extern "C" fn lw_replay(
     };
 }
 
-/// The protocol of the number that a caller gives.
+/// Returns the protocol of the number of a caller.
 fn protocol_of(number: u32) -> Protocol
     ensures { result ≡ replay_protocol number }
 {
@@ -74,7 +75,7 @@ fn protocol_of(number: u32) -> Protocol
     }
 }
 
-/// Carries a task out over the memory that is lent.
+/// Carries a task out over the lent memory.
 fn run(memory: Memory, task: Task<'_>, text: &[u8], room: &mut [u8]) -> CallResult
     ensures told { IsCallResult (IsTaskOutput task.entry) (TaskFaultIsTrue task.entry) text.now result room.old room.new }
     ensures machine { IsReachedOnMachine text.now }

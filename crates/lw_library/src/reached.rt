@@ -1,4 +1,4 @@
-//! Lists of any size, as C calls for them.
+//! Lists of any size as C functions.
 ghost use Rattle.std.specs.Prelude.{◌≡◌, ◌⊎◌};
 ghost use Rattle.lw_bench.specs.declared.fault.BenchFault.TheVariants as bench;
 ghost use Rattle.lw_beyond.specs.declared.fault.BeyondFault.TheVariants as beyond;
@@ -11,7 +11,8 @@ use lw_arena::{Arena, Memory};
 use lw_bench::{BenchFault, memory_line};
 use lw_beyond::{BeyondFault, Output, Request, answer_request, fault_line, status_of};
 
-/// `beyond --budget BUDGET states`: the report of the test that the text is, within the limits of lists or past them.
+/// Runs `beyond --budget BUDGET states`: returns the report of the test of the text, within the limits of lists or
+/// past them.
 #[unsafe(no_mangle)]
 pub extern "C" fn lw_reach_states(
     memory: Memory,
@@ -27,7 +28,8 @@ pub extern "C" fn lw_reach_states(
     *told = run_request(memory, &request_of(Output::States, budget), text, room);
 }
 
-/// `beyond --budget BUDGET schedules`: the list of the test's final states, each with a schedule, within the limits of lists or past them.
+/// Runs `beyond --budget BUDGET schedules`: returns the list of the test's final states, each with a schedule, within
+/// the limits of lists or past them.
 #[unsafe(no_mangle)]
 pub extern "C" fn lw_reach_schedules(
     memory: Memory,
@@ -54,7 +56,7 @@ fn request_of(output: Output, budget: usize) -> Request
     }
 }
 
-/// Answers a request over the memory that is lent.
+/// Answers a request over the lent memory.
 fn run_request(memory: Memory, request: &Request, text: &[u8], room: &mut [u8]) -> CallResult
     ensures told { IsReachTold request.now text.now result room.old room.new }
     ensures machine { IsReachedOnMachine text.now }
@@ -67,7 +69,7 @@ fn run_request(memory: Memory, request: &Request, text: &[u8], room: &mut [u8]) 
     }
 }
 
-/// Tells of a fault by its line. If memory runs out for the line, that is told instead.
+/// Returns a fault by its line. If memory runs out for the line, it returns that fault instead.
 fn refuse_request(arena: &Arena, fault: &BeyondFault, room: &mut [u8]) -> CallResult
     ensures { TellsFault fault.now result room.old room.new ⊎ TellsFault (beyond.Bench bench.Memory) result room.old room.new }
 {

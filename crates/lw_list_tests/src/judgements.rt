@@ -15,7 +15,7 @@ use lw_report::{Claim, States, Verdict, project, states_of, verdict, write_repor
 use lw_test_reader::{program_of, source_of};
 use std::alloc::Global;
 
-/// The word of a report for a verdict.
+/// Returns the printed word of a verdict.
 fn word_of(verdict: Verdict) -> &'static str {
     match verdict {
         Verdict::Ok => "Ok",
@@ -53,14 +53,14 @@ X86 JUMPED {} P0|P1; MOV [x],$1 | MOV [y],$1; CMP EAX,$0 | CMP EAX,$0; JE L | JE
 X86 EMPTY {} P0; exists (true) => Ok; Positive: 1 Negative: 0; Condition exists (true); Observation EMPTY Unknown 1 0; Listed, not claimed complete
 ";
 
-/// Tests of which nothing is listed.
+/// Tests, none of whose outcomes are listed.
 const LISTED_NOTHING: &str = "
 SRC A {} P0; exists (true) => Unknown; Positive: 0 Negative: 0; Condition exists (true); Observation A Unknown 0 0; Listed, not claimed complete
 SRC A {} P0; ~exists (true) => Unknown; Positive: 0 Negative: 0; Condition ~exists (true); Observation A Unknown 0 0; Listed, not claimed complete
 SRC A {} P0; forall (false) => Unknown; Positive: 0 Negative: 0; Condition forall (false); Observation A Unknown 0 0; Listed, not claimed complete
 ";
 
-/// Whether states that are claimed to be some have this verdict, and a report that ends with these lines.
+/// Returns whether states that may not be all have this verdict, and a report that ends with these lines.
 fn are_judged(alloc: Global, head: &Head, states: &States, told: &str) -> bool
     requires threads { head.now.threads ≤ most_threads }
     requires locations { MentionsLocationsBelow (length head.now.locs) (formula_of head.now.prop) }
@@ -79,7 +79,7 @@ fn are_judged(alloc: Global, head: &Head, states: &States, told: &str) -> bool
     }
 }
 
-/// Whether the states of a listing, claimed to be some, are judged so.
+/// Returns whether the states of a listing that may not be complete are judged like this.
 fn is_judged(alloc: Global, head: &Head, listing: &Listing, told: &str) -> bool
     requires threads { head.now.threads ≤ most_threads }
     requires condition { MentionsOnly head.now.threads (length head.now.locs) (formula_of head.now.prop) }
@@ -91,7 +91,7 @@ fn is_judged(alloc: Global, head: &Head, listing: &Listing, told: &str) -> bool
     }
 }
 
-/// Whether those of a source test are.
+/// Returns whether those of a source test are.
 fn is_source_judged(alloc: Global, source: &Source, told: &str) -> bool {
     match list_source(alloc, source) {
         Ok(listing) => is_judged(alloc, &source.head, &listing, told),
@@ -99,7 +99,7 @@ fn is_source_judged(alloc: Global, source: &Source, told: &str) -> bool {
     }
 }
 
-/// Whether those of an x86 test are.
+/// Returns whether those of an x86 test are.
 fn is_x86_judged(alloc: Global, program: &Program, told: &str) -> bool {
     match list_raw(alloc, program) {
         Ok(listing) => is_judged(alloc, &program.head, &listing, told),
@@ -107,7 +107,7 @@ fn is_x86_judged(alloc: Global, program: &Program, told: &str) -> bool {
     }
 }
 
-/// Whether those of a listing without entries are.
+/// Returns whether those of an empty listing are.
 fn is_none_judged(alloc: Global, source: &Source, told: &str) -> bool {
     let Ok(listing) = OutcomeMap::new(alloc).into_listing() else {
         return false;
@@ -115,7 +115,7 @@ fn is_none_judged(alloc: Global, source: &Source, told: &str) -> bool {
     listing.is_empty() && is_judged(alloc, &source.head, &listing, told)
 }
 
-/// Whether the line's source test is judged so.
+/// Returns whether the line's source test is judged as it says.
 fn holds(alloc: Global, line: &str) -> bool {
     let (text, told) = line.split_once(" => ").unwrap_or((line, ""));
     match source_of(alloc, text) {
@@ -124,7 +124,7 @@ fn holds(alloc: Global, line: &str) -> bool {
     }
 }
 
-/// Whether its x86 test is.
+/// Returns whether the line's x86 test is judged as it says.
 fn holds_of_x86(alloc: Global, line: &str) -> bool {
     let (text, told) = line.split_once(" => ").unwrap_or((line, ""));
     match program_of(alloc, text) {
@@ -133,7 +133,7 @@ fn holds_of_x86(alloc: Global, line: &str) -> bool {
     }
 }
 
-/// Whether its source test is, of which nothing is listed.
+/// Returns whether the line's source test, of which nothing is listed, is judged as it says.
 fn holds_of_none(alloc: Global, line: &str) -> bool {
     let (text, told) = line.split_once(" => ").unwrap_or((line, ""));
     match source_of(alloc, text) {
@@ -162,7 +162,7 @@ fn verdicts_and_observations(rt: HostRuntime) {
 const STORE_BUFFERING: &str =
     "SRC SB {} P0|P1; x := 1 | y := 1; r0 := y | r0 := x; forall (0:r0=1 \\/ 1:r0=1)";
 
-/// Whether the first outcome of store buffering has these words of the names in its condition.
+/// Returns whether the first outcome of store buffering has these words of the names in its condition.
 fn is_first_projection(alloc: Global, source: &Source, words: &[Word]) -> bool {
     let Ok(listing) = list_source(alloc, source) else {
         return false;

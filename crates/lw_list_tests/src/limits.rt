@@ -1,23 +1,23 @@
-//! Lists that are refused: the causes as values.
+//! Tests that exceed the limits of lists: the causes as values.
 use lw_finals::{list_raw, list_source};
 use lw_paths::ListFault;
 use lw_test_reader::{program_of, source_of};
 use std::alloc::Global;
 use std::test::Fail;
 
-/// Why there is no list of a source test.
+/// Returns why a source test has no list.
 fn fault_of(alloc: Global, text: &str) -> Option<ListFault> {
     let source = source_of(alloc, text)?;
     list_source(alloc, &source).err()
 }
 
-/// The same of an x86 test.
+/// Returns why an x86 test has no list.
 fn raw_fault_of(alloc: Global, text: &str) -> Option<ListFault> {
     let program = program_of(alloc, text)?;
     list_raw(alloc, &program).err()
 }
 
-/// Seven stores against three: 2 to the 21 ways to take their conflicts.
+/// Seven stores against three: 2^21 orientations of their conflicts.
 const SEVEN_AGAINST_THREE: &str =
     "SRC A {} P0|P1; x := 1 | x := 8; x := 2 | x := 9; x := 3 | x := 10; x := 4 |; x := 5 |; x := 6 |; x := 7 |; exists (true)";
 
@@ -42,7 +42,7 @@ fn too_many_orders(rt: HostRuntime) {
     );
 }
 
-/// Threads of as many stores as there may be, each to a location of its own, and a load by another thread.
+/// Threads with the maximum number of stores, each to a location of its own, and a load by another thread.
 #[test]
 fn too_many_items(rt: HostRuntime) -> Result<(), Fail> {
     let rows = " | MOV [x],$1 | MOV [y],$1 ;".repeat(rt.alloc(), 31)?;

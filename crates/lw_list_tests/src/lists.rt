@@ -6,7 +6,8 @@ use lw_outcome_map::Listing;
 use lw_test_reader::source_of;
 use std::alloc::Global;
 
-/// The outcome that these words spell, such as `1:r0=1 x=2`. A register or a location that none of them names has a 0.
+/// Returns the outcome that these words spell, such as `1:r0=1 x=2`. A register or a location that none of them names
+/// is 0.
 fn outcome_of(alloc: Global, head: &Head, words: &str) -> Option<Outcome> {
     let mut regs = [[0; 6]; 4];
     let mut memory = [0; 8];
@@ -26,14 +27,14 @@ fn outcome_of(alloc: Global, head: &Head, words: &str) -> Option<Outcome> {
     let words = Sequence::from_slice(alloc, memory.get(..head.locs.len())?).ok()?;
     Some(Outcome { regs, words })
 }
-/// Whether the listing has this outcome at this place, and finds it there.
+/// Returns whether the listing has this outcome at this index, and finds it there.
 fn has_outcome(listing: &Listing, place: usize, outcome: &Outcome) -> bool {
     place < listing.len()
         && *listing.outcome(place) == *outcome
         && listing.find(outcome) == Some(place)
 }
 
-/// Whether the listing has the outcome that these words spell at this place.
+/// Returns whether the listing has the outcome that these words spell at this index.
 fn is_found(
     alloc: Global,
     head: &Head,
@@ -45,7 +46,7 @@ fn is_found(
     Some(has_outcome(listing, place, &outcome))
 }
 
-/// Whether the listing has this schedule at this place.
+/// Returns whether the listing has this schedule at this index.
 fn has_schedule(
     alloc: Global,
     head: &Head,
@@ -59,7 +60,8 @@ fn has_schedule(
     }
 }
 
-/// Whether the listing has the entry at this place: an outcome, which is found there, and behind ` by ` its schedule.
+/// Returns whether the listing has the entry at this index: an outcome, which is found there, and after ` by ` its
+/// schedule.
 fn is_entry(
     alloc: Global,
     head: &Head,
@@ -76,7 +78,7 @@ fn is_entry(
     }
 }
 
-/// Whether these are the entries of the listing, in this sequence.
+/// Returns whether these are the entries of the listing, in this order.
 fn are_entries(alloc: Global, head: &Head, listing: &Listing, entries: &str) -> Option<bool> {
     let mut count = 0usize;
     for entry in entries.split(", ") {
@@ -88,7 +90,7 @@ fn are_entries(alloc: Global, head: &Head, listing: &Listing, entries: &str) -> 
     Some(listing.len() == count && !listing.is_empty())
 }
 
-/// Whether no outcome of these is in the listing.
+/// Returns whether none of these outcomes is in the listing.
 fn are_missing(alloc: Global, head: &Head, listing: &Listing, outcomes: &str) -> Option<bool> {
     for words in outcomes.split(", ") {
         if listing.find(&outcome_of(alloc, head, words)?).is_some() {
@@ -98,13 +100,13 @@ fn are_missing(alloc: Global, head: &Head, listing: &Listing, outcomes: &str) ->
     Some(true)
 }
 
-/// Whether the listing is as a line says: its entries, and behind ` but not ` what isn't listed.
+/// Returns whether the listing is as a line says: its entries, and after ` but not ` what is not listed.
 fn is_told(alloc: Global, head: &Head, listing: &Listing, told: &str) -> Option<bool> {
     let (entries, missing) = told.split_once(" but not ")?;
     Some(are_entries(alloc, head, listing, entries)? && are_missing(alloc, head, listing, missing)?)
 }
 
-/// Whether the list of a test is as a line says.
+/// Returns whether the list of a test is as a line says.
 fn is_listed(alloc: Global, source: &Source, told: &str) -> bool {
     match list_source(alloc, source) {
         Ok(listing) => is_told(alloc, &source.head, &listing, told) == Some(true),
@@ -128,7 +130,7 @@ SRC FA { 0:r1=1; 1:r1=1; } P0|P1; r0 := fetchadd x r1 | r0 := fetchadd x r1; loc
 SRC NONE { 0:r5=7; x=9; } P0|P1; exists (true) => 0:r5=7 x=9 but not x=9, 1:r5=7 x=9
 ";
 
-/// Whether the list of the line's test is as the line says.
+/// Returns whether the list of the line's test is as the line says.
 fn holds(alloc: Global, line: &str) -> bool {
     let (text, told) = line.split_once(" => ").unwrap_or((line, ""));
     match source_of(alloc, text) {

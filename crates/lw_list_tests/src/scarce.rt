@@ -1,4 +1,4 @@
-//! Lists that are made where memory is refused, each growth in turn.
+//! Making lists while memory is refused, each growth in turn.
 use lw_finals::{list_raw, list_source};
 use lw_outcome_map::Listing;
 use lw_paths::ListFault;
@@ -13,7 +13,7 @@ const STORE_BUFFERING: &str =
 const X86_STORE_BUFFERING: &str =
     "X86 SB {} P0|P1; MOV [x],$1 | MOV [y],$1; MOV EAX,[y] | MOV EAX,[x]; exists (0:EAX=0 /\\ 1:EAX=0)";
 
-/// Whether two lists have the same entries.
+/// Returns whether two lists have the same entries.
 fn are_same<A: Allocator>(listing: &Listing<A>, other: &Listing<A>) -> bool {
     if listing.len() != other.len() {
         return false;
@@ -29,7 +29,7 @@ fn are_same<A: Allocator>(listing: &Listing<A>, other: &Listing<A>) -> bool {
     true
 }
 
-/// What becomes of a list, which where it is whole is the one that is made of the same afterwards.
+/// Makes a list, and compares it, if it is whole, with the one that is made of the same test afterwards.
 fn listed<A: Allocator>(
     listing: Result<Listing<A>, ListFault>,
     whole: Result<Listing<A>, ListFault>,
@@ -41,7 +41,7 @@ fn listed<A: Allocator>(
     }
 }
 
-/// The list of store buffering.
+/// Lists store buffering.
 struct SourceList;
 
 impl MadeByAllocator for SourceList {
@@ -51,7 +51,7 @@ impl MadeByAllocator for SourceList {
     }
 }
 
-/// The same in x86 instructions.
+/// Lists store buffering in x86 instructions.
 struct X86List;
 
 impl MadeByAllocator for X86List {

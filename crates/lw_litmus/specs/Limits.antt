@@ -1,8 +1,10 @@
--- How long a thread of a test can be. The code's constants are these numbers, as src/limits.rt proves.
+-- The maximum lengths of threads. The code's constants are these numbers, as src/limits.rt proves.
 use Rattle.std.specs.Prelude.{ℕ}
 
-abbrev pub most_statements : ℕ  -- the most statements of a thread of a source test
+-- The maximum number of statements of a thread of a source test.
+abbrev pub most_statements : ℕ
 most_statements = 16
 
-abbrev pub most_instructions : ℕ  -- the most instructions of a thread of an x86 test
+-- The maximum number of instructions of a thread of an x86 test.
+abbrev pub most_instructions : ℕ
 most_instructions = 32

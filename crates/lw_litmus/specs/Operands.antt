@@ -3,12 +3,12 @@ use Rattle.std.specs.Prelude.{ℕ, List, [], ◌∷◌}
 use Rattle.lw_base.specs.declared.operand.Operand.{Operand}
 use Rattle.lw_base.specs.declared.operand.Operand.TheVariants.{Register, Number}
 
--- the register that an operand is, if it is one
+-- The register of an operand, if it is one.
 abbrev pub operand_registers : Operand → List ℕ
 operand_registers (Register r) = r ∷ []
 operand_registers (Number n) = []
 
--- the number that an operand is, if it is one
+-- The number of an operand, if it is one.
 abbrev pub operand_numbers : Operand → List ℕ
 operand_numbers (Register r) = []
 operand_numbers (Number n) = n ∷ []

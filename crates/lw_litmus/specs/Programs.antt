@@ -1,4 +1,4 @@
--- The x86 language: what its instructions do.
+-- The x86 language: the operation of each instruction.
 use Rattle.std.specs.Prelude.{Some, true}
 use Rattle.lw_base.specs.declared.head.Arch.TheVariants.{X86}
 use Rattle.lw_base.specs.declared.operand.Operand.TheVariants.{Register}
@@ -10,7 +10,8 @@ use Rattle.lw_litmus.specs.declared.operation.Operation.TheVariants as operation
 use Rattle.lw_litmus.specs.Limits.{most_instructions}
 use Rattle.lw_litmus.specs.Languages.{Language}
 
-abbrev pub x86_operation : Instr → Operation  -- what an instruction does
+-- The operation of an instruction.
+abbrev pub x86_operation : Instr → Operation
 x86_operation (Store x v) = operation.Store x v
 x86_operation (Load d x) = operation.Load d x
 x86_operation (Set d v) = operation.Set d v
@@ -23,5 +24,6 @@ x86_operation (Je to) = operation.Branch Zero to
 x86_operation (Jne to) = operation.Branch NotZero to
 x86_operation (Jmp to) = operation.Branch Always to
 
-abbrev pub x86_language : Language Instr  -- the x86 language
+-- The x86 language.
+abbrev pub x86_language : Language Instr
 x86_language = record { arch = X86; most = most_instructions; is_buffered = true; operation_of = x86_operation }

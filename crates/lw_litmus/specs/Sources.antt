@@ -1,4 +1,4 @@
--- The source language: what its statements do.
+-- The source language: the operation of each statement.
 use Rattle.std.specs.Prelude.{Some, false}
 use Rattle.lw_base.specs.declared.head.Arch.TheVariants.{Source}
 use Rattle.lw_base.specs.declared.operand.Operand.TheVariants.{Register}
@@ -10,7 +10,8 @@ use Rattle.lw_litmus.specs.declared.stmt.Stmt.TheVariants.{Store, Load, Swap, Fe
 use Rattle.lw_litmus.specs.Limits.{most_statements}
 use Rattle.lw_litmus.specs.Languages.{Language}
 
-abbrev pub source_operation : Stmt → Operation  -- what a statement does
+-- The operation of a statement.
+abbrev pub source_operation : Stmt → Operation
 source_operation (Store x v) = operation.Store x v
 source_operation (Load d x) = operation.Load d x
 source_operation (Swap d x a) = operation.Swap d x a
@@ -21,5 +22,6 @@ source_operation (IfEq a n to) = operation.Branch (Equal a n) to
 source_operation (IfNe a n to) = operation.Branch (NotEqual a n) to
 source_operation (Goto to) = operation.Branch Always to
 
-abbrev pub source_language : Language Stmt  -- the source language
+-- The source language.
+abbrev pub source_language : Language Stmt
 source_language = record { arch = Source; most = most_statements; is_buffered = false; operation_of = source_operation }

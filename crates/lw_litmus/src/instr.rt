@@ -1,43 +1,43 @@
-//! The instructions of x86.
+//! x86 instructions.
 ghost use Rattle.lw_litmus.specs.Programs.{x86_language};
 
 use crate::operation::{Guard, Operation};
 use crate::statement::Statement;
 use lw_base::{Loc, Operand, Reg};
 
-/// An instruction of a thread. A jump's target is the index of an instruction of the same thread,
-/// or the number after the last. Registers and words have 32 bits; ZF is the zero flag.
+/// An instruction of a thread. The target of a jump is the index of an instruction of the same thread, or the length
+/// of its code. Registers and words have 32 bits; ZF is the zero flag.
 #[derive(Clone, Copy, PartialEq, Eq)]
 pub enum Instr {
-    /// `MOV [x],$n`, `MOV [x],a`: the location gets the value, by way of the store buffer.
+    /// `MOV [x],$n`, `MOV [x],a`: enqueues the value into the store buffer, as an entry for the location.
     Store { loc: Loc, val: Operand },
-    /// `MOV d,[x]`: the register gets the location's word.
+    /// `MOV d,[x]`: loads the location's word into the register.
     Load { reg: Reg, loc: Loc },
-    /// `MOV d,$n`, `MOV d,a`: the register gets the value.
+    /// `MOV d,$n`, `MOV d,a`: sets the register to the value.
     Set { reg: Reg, val: Operand },
-    /// `ADD d,$n`, `ADD d,a`: the register gets the sum, modulo 2 to the 32; ZF tells whether it is 0.
+    /// `ADD d,$n`, `ADD d,a`: adds the value to the register, modulo 2^32. ZF is set if the sum is 0.
     Add { reg: Reg, val: Operand },
-    /// `CMP a,$n`, `CMP a,b`: ZF tells whether the two are equal.
+    /// `CMP a,$n`, `CMP a,b`: compares. ZF is set if the two are equal.
     Cmp { reg: Reg, val: Operand },
-    /// `XCHG [x],a`: register and location exchange their words at once, once the buffer is empty.
+    /// `XCHG [x],a`: exchanges the words of register and location atomically. Needs an empty store buffer.
     Xchg { loc: Loc, reg: Reg },
-    /// `LOCK XADD [x],a`: at once, once the buffer is empty, the register gets the location's word,
-    /// and the location the sum of that word and the register's; ZF tells whether the sum is 0.
+    /// `LOCK XADD [x],a`: atomically loads the location's word into the register, and adds the register's old word to
+    /// the location. ZF is set if the sum is 0. Needs an empty store buffer.
     Xadd { loc: Loc, reg: Reg },
-    /// `MFENCE`: goes on once the buffer is empty.
+    /// `MFENCE`: needs an empty store buffer.
     Mfence,
-    /// `JE L`: jumps where ZF is set.
+    /// `JE L`: jumps if ZF is set.
     Je { to: usize },
-    /// `JNE L`: jumps where ZF is clear.
+    /// `JNE L`: jumps if ZF is clear.
     Jne { to: usize },
-    /// `JMP L`.
+    /// `JMP L`: jumps.
     Jmp { to: usize },
 }
 
 impl Statement for Instr {
     ghost language = { x86_language };
 
-    /// What the instruction does.
+    /// Returns the operation that the instruction executes.
     fn operation(&self) -> Operation {
         match *self {
             Instr::Store { loc, val } => Operation::Store { loc, val },
@@ -73,7 +73,7 @@ impl Statement for Instr {
         }
     }
 
-    /// On x86 a store goes by way of a store buffer.
+    /// Returns true: x86 stores go through a store buffer.
     fn is_buffered() -> bool {
         true
     }

@@ -1,8 +1,8 @@
-//! Litmus tests as values, in both languages: a head, and for each thread its statements or instructions; what always holds
-//! of them, and what each statement does, from which follows where it leads, what it accesses, and what it conflicts with.
-//!
-//! It names lw_base alone: nothing here reads a text, and nothing here steps. The promise that the crates above use: a
-//! `Source` and a `Program` are well-formed, whoever made them.
+//! Litmus tests as values, in both languages: a head, and for each thread its statements or instructions. The crate
+//! says what is always true of a test, and which operation each statement executes; control flow, accesses and
+//! conflicts are derived from the operation.
+//! This crate depends only on lw_base: it parses no text and executes nothing. Crates above rely on one promise:
+//! every `Source` and every `Program` is well-formed.
 #![tactic(auto)]
 
 mod instr;

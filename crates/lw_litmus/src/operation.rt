@@ -1,49 +1,50 @@
-//! What statements do, in either language.
+//! The operations of statements and instructions, in either language.
 ghost use Rattle.std.specs.Prelude.{◌≡◌};
 ghost use Rattle.lw_litmus.specs.Operations as table;
 
 use lw_base::{Change, Loc, Operand, REGISTERS, Reg, Word};
 
-/// What a statement or an instruction does. Everything else about it follows from this.
+/// The operation of a statement or an instruction. Control flow, accesses and conflicts are derived from it.
 #[derive(Clone, Copy)]
 pub enum Operation {
-    /// The register gets the value.
+    /// Sets the register to the value.
     Set { dst: Reg, val: Operand },
-    /// The register gets the sum, modulo 2 to the 32. In x86 the zero flag tells whether it is 0.
+    /// Sets the register to the sum, modulo 2^32. In x86 the zero flag is set if the sum is 0.
     Sum { dst: Reg, left: Reg, right: Operand },
-    /// The zero flag tells whether the register has the value.
+    /// Sets the zero flag if the register has the value, and clears it otherwise.
     Compare { reg: Reg, val: Operand },
-    /// The location gets the value; in x86 by way of the store buffer.
+    /// Stores the value to the location; in x86 through the store buffer.
     Store { loc: Loc, val: Operand },
-    /// The register gets the location's word.
+    /// Loads the location's word into the register.
     Load { dst: Reg, loc: Loc },
-    /// At once, `dst` gets the location's word, and the location the word that `src` had. In x86 once the buffer is empty.
+    /// Atomically loads the location's word into `dst` and stores the word that `src` had. In x86 this needs an empty
+    /// store buffer.
     Swap { dst: Reg, loc: Loc, src: Reg },
-    /// At once, the register, if there is one, gets the location's word, and the location the sum of that word and the value,
-    /// modulo 2 to the 32. In x86 once the buffer is empty, and the zero flag tells whether the sum is 0.
+    /// Atomically loads the location's word into the register, if there is one, and adds the value to the location,
+    /// modulo 2^32. In x86 this needs an empty store buffer, and the zero flag is set if the sum is 0.
     FetchAdd(Option<Reg>, Loc, Operand),
-    /// Goes on once the store buffer is empty.
+    /// Needs an empty store buffer, and does nothing else.
     Fence,
-    /// Jumps where the guard holds.
+    /// Jumps if the guard holds.
     Branch { guard: Guard, to: usize },
 }
 
-/// When a branch jumps.
+/// The condition under which a branch jumps.
 #[derive(Clone, Copy)]
 pub enum Guard {
     Always,
     /// The register has the word.
     Equal { reg: Reg, num: Word },
-    /// It has another.
+    /// The register has another word.
     NotEqual { reg: Reg, num: Word },
     /// The zero flag is set.
     Zero,
-    /// It is clear.
+    /// The zero flag is clear.
     NotZero,
 }
 
 impl Guard {
-    /// Whether a branch jumps, where the registers have these words, and the zero flag tells this.
+    /// Returns whether the guard holds, for these registers and this zero flag.
     pub fn holds(&self, regs: &[Word; REGISTERS], zero_flag: bool) -> bool
         ensures { result ≡ table.guard_holds self.now regs.now zero_flag }
     {
@@ -58,7 +59,7 @@ impl Guard {
 }
 
 impl Operation {
-    /// The location that it reads or writes.
+    /// Returns the location that the operation reads or writes, if it accesses one.
     pub fn location(&self) -> Option<Loc>
         ensures { result ≡ table.location_of self.now }
     {
@@ -69,7 +70,8 @@ impl Operation {
         }
     }
 
-    /// What it makes of its location's word, if it writes it, where a thread's registers have these words.
+    /// Returns how the operation changes its location's word, for these registers. Returns `None` if it does not
+    /// write.
     pub fn change(&self, regs: &[Word; REGISTERS]) -> Option<Change>
         ensures { result ≡ table.written_change self.now regs.now }
     {
@@ -81,35 +83,35 @@ impl Operation {
         }
     }
 
-    /// Whether it is a store, which x86 puts into the store buffer.
+    /// Returns whether it is a plain store, which x86 puts into the store buffer.
     pub fn is_store(&self) -> bool
         ensures { result ≡ table.is_store self.now }
     {
         matches!(self, Operation::Store { .. })
     }
 
-    /// Whether it reads and writes its location at once.
+    /// Returns whether it is an atomic read-modify-write.
     pub fn is_locked(&self) -> bool
         ensures { result ≡ table.is_locked self.now }
     {
         matches!(self, Operation::Swap { .. } | Operation::FetchAdd(..))
     }
 
-    /// Whether it writes its location.
+    /// Returns whether it writes its location.
     pub fn writes(&self) -> bool
         ensures { result ≡ table.writes self.now }
     {
         self.is_store() || self.is_locked()
     }
 
-    /// Whether x86 does it only once the store buffer is empty.
+    /// Returns whether x86 executes it only if the store buffer is empty.
     pub fn waits(&self) -> bool
         ensures { result ≡ table.needs_empty_buffer self.now }
     {
         matches!(self, Operation::Fence) || self.is_locked()
     }
 
-    /// The position that a branch leads to where its guard holds. No other operation has one.
+    /// Returns the target of a branch. Returns `None` for any other operation.
     pub fn target(&self) -> Option<usize>
         ensures { result ≡ table.branch_target self.now }
     {
@@ -119,7 +121,7 @@ impl Operation {
         }
     }
 
-    /// Whether the next statement may follow: behind each but a branch that always jumps.
+    /// Returns whether control can pass to the next statement: always, except after an unconditional branch.
     pub fn falls_through(&self) -> bool
         ensures { result ≡ table.falls_through self.now }
     {

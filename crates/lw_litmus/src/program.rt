@@ -8,8 +8,9 @@ use crate::instr::Instr;
 use lw_base::{Head, Sequence};
 use std::alloc::{Allocator, Global};
 
-/// An x86 test: its head, and the instructions of each thread. It is well-formed: one to `MAX_THREADS` threads of at
-/// most 32 instructions, on locations of its table, with jumps forward, at most to the thread's end.
+/// An x86 test: its head, and the instructions of each thread. It is well-formed: it has 1 to `MAX_THREADS` threads
+/// of at most 32 instructions each, accesses only locations of its table, and jumps only forward, at most to the
+/// thread's end.
 #[derive(Drop)]
 pub struct Program<A: Allocator = Global> {
     pub head: Head<A>,

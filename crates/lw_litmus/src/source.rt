@@ -8,8 +8,9 @@ use crate::stmt::Stmt;
 use lw_base::{Head, Sequence};
 use std::alloc::{Allocator, Global};
 
-/// A source test: its head, and the statements of each thread. It is well-formed: one to `MAX_THREADS` threads of at
-/// most 16 statements, on locations of its table, with jumps forward, at most to the thread's end.
+/// A source test: its head, and the statements of each thread. It is well-formed: it has 1 to `MAX_THREADS` threads
+/// of at most 16 statements each, accesses only locations of its table, and jumps only forward, at most to the
+/// thread's end.
 #[derive(Drop)]
 pub struct Source<A: Allocator = Global> {
     pub head: Head<A>,

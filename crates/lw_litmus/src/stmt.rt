@@ -5,34 +5,35 @@ use crate::operation::{Guard, Operation};
 use crate::statement::Statement;
 use lw_base::{Loc, Operand, Reg, Word};
 
-/// A statement of a thread. A jump's target is the index of a statement of the same thread, or the number after the last.
+/// A statement of a thread. The target of a jump is the index of a statement of the same thread, or the length of its
+/// code.
 #[derive(Clone, Copy, PartialEq, Eq)]
 pub enum Stmt {
-    /// `x := n`, `x := a`: the location gets the value.
+    /// `x := n`, `x := a`: stores the value to the location.
     Store { loc: Loc, val: Operand },
-    /// `d := x`: the register gets the location's word.
+    /// `d := x`: loads the location's word into the register.
     Load { dst: Reg, loc: Loc },
-    /// `d := swap x a`: at once, the register `d` gets the location's word, and the location gets the word that `a` had.
+    /// `d := swap x a`: atomically loads the location's word into `d` and stores the word that `a` had.
     Swap { dst: Reg, loc: Loc, src: Reg },
-    /// `d := fetchadd x a`: at once, the register `d` gets the location's word, and the location gets
-    /// the sum of that word and the one that register `a` had, modulo 2 to the 32.
+    /// `d := fetchadd x a`: atomically loads the location's word into `d` and adds the word that `a` had to the
+    /// location, modulo 2^32.
     FetchAdd { dst: Reg, loc: Loc, src: Reg },
-    /// `d := n`, `d := a`: the register gets the value.
+    /// `d := n`, `d := a`: sets the register to the value.
     Set { dst: Reg, val: Operand },
-    /// `d := a + n`, `d := a + b`: the register gets the sum, modulo 2 to the 32.
+    /// `d := a + n`, `d := a + b`: sets the register to the sum, modulo 2^32.
     Sum { dst: Reg, left: Reg, right: Operand },
-    /// `if a = n goto L`.
+    /// `if a = n goto L`: jumps if the register has this word.
     IfEq { reg: Reg, num: Word, to: usize },
-    /// `if a != n goto L`.
+    /// `if a != n goto L`: jumps if the register has another word.
     IfNe { reg: Reg, num: Word, to: usize },
-    /// `goto L`.
+    /// `goto L`: jumps.
     Goto { to: usize },
 }
 
 impl Statement for Stmt {
     ghost language = { source_language };
 
-    /// What the statement does.
+    /// Returns the operation that the statement executes.
     fn operation(&self) -> Operation {
         match *self {
             Stmt::Store { loc, val } => Operation::Store { loc, val },
@@ -58,7 +59,7 @@ impl Statement for Stmt {
         }
     }
 
-    /// In the source language a store goes to memory at once.
+    /// Returns false: source stores go to memory at once.
     fn is_buffered() -> bool {
         false
     }

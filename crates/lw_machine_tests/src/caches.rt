@@ -1,4 +1,4 @@
-//! The protocols at work: rows of requests, with their answers and what is held behind the last.
+//! The protocols at work: rows of requests, with their results and the state of the caches after the last.
 use lw_base::{Change, Cpu, Loc, Word};
 use lw_memory::LineState::{self, E, I, M, O, S};
 use lw_memory::MemorySystem;
@@ -43,7 +43,7 @@ const MESI_ROWS: &str = "
 0L=0 1L=0 2L=0 => SSS 0 0
 ";
 
-/// The same where a dirty copy that others share is owned.
+/// The same, where a dirty copy that others share is owned.
 const MOESI_ROWS: &str = "
 1L=0 0S1 1L=1 => OS 0 1
 1L=0 0S1 1L=1 1E => OI 0 1
@@ -71,12 +71,12 @@ const MOESI_ROWS: &str = "
 1S5 0A3=5 => MI 0 8
 ";
 
-/// The word of a digit.
+/// Returns the word of a digit.
 fn word_of(digit: u8) -> Word {
     Word::from(digit.wrapping_sub(b'0'))
 }
 
-/// Whether a request for the one location is answered as it spells.
+/// Returns whether a request for the one location has the result that it spells.
 fn is_answered<P: ProtocolType>(
     memory: &mut SnoopingCaches<P>,
     cpu: Cpu,
@@ -104,7 +104,7 @@ fn is_answered<P: ProtocolType>(
     }
 }
 
-/// Whether all requests of a row are answered as they spell.
+/// Returns whether all requests of a row have the results that they spell.
 fn are_answered<P: ProtocolType>(memory: &mut SnoopingCaches<P>, loc: Loc, requests: &str) -> bool {
     for request in requests.split(' ') {
         let Some((first, spelled)) = request.as_bytes().split_first() else {
@@ -121,7 +121,7 @@ fn are_answered<P: ProtocolType>(memory: &mut SnoopingCaches<P>, loc: Loc, reque
     true
 }
 
-/// The letter of a line's state.
+/// Returns the letter of a line's state.
 fn letter_of(state: LineState) -> u8 {
     match state {
         M => b'M',
@@ -132,7 +132,7 @@ fn letter_of(state: LineState) -> u8 {
     }
 }
 
-/// Whether the caches hold a location in these states.
+/// Returns whether the caches hold a location in these states.
 fn are_held<P: ProtocolType>(memory: &SnoopingCaches<P>, loc: Loc, states: &str) -> bool {
     for (cpu, letter) in Cpu::all().iter().zip(states.as_bytes()) {
         if cpu.index() >= memory.cpu_count()
@@ -145,7 +145,7 @@ fn are_held<P: ProtocolType>(memory: &SnoopingCaches<P>, loc: Loc, states: &str)
     memory.cpu_count() == states.len()
 }
 
-/// Whether each processor that holds a location has this word in its copy, and the others have no copy.
+/// Returns whether each processor that holds a location has this word in its copy, and the others have no copy.
 fn are_copied<P: ProtocolType>(
     memory: &SnoopingCaches<P>,
     loc: Loc,
@@ -164,7 +164,8 @@ fn are_copied<P: ProtocolType>(
     true
 }
 
-/// Whether these digits are the word in memory and the word at the end of a location, which is that of all copies.
+/// Returns whether these digits are the word in memory and the coherent word of a location, which is that of all
+/// copies.
 fn are_words<P: ProtocolType>(
     memory: &SnoopingCaches<P>,
     loc: Loc,
@@ -180,7 +181,7 @@ fn are_words<P: ProtocolType>(
         && are_copied(memory, loc, states, word_of(*at_end))
 }
 
-/// Whether the row holds by a protocol.
+/// Returns whether the row holds by a protocol.
 fn holds<P: ProtocolType>(alloc: Global, row: &str) -> Option<bool> {
     let [loc, ..] = Loc::all();
     let (requests, held) = row.split_once(" => ")?;

@@ -1,4 +1,4 @@
-//! Where the statements of compiled tests start, and the schedules that runs of the sources stand for.
+//! Where the statements of compiled tests start, and the schedules that simulate runs of the sources.
 ghost use Rattle.std.specs.Prelude.{◌≡◌, map, true, IsTrue, IfOk};
 ghost use Rattle.lw_base.specs.declared.event.Event.TheVariants.{Step};
 ghost use Rattle.lw_fence.specs.Compiling.{IsCompiled};
@@ -12,14 +12,14 @@ use lw_litmus::Source;
 use lw_test_reader::{Made, MadeByAllocator, Refusing, refusals, source_of};
 use std::alloc::{AllocError, Allocator, Global};
 
-/// A step of each of these threads, in turn.
+/// Returns a step of each of these threads, in sequence.
 fn steps_of<A: Allocator + Copy>(alloc: A, order: &[Cpu]) -> Result<Vec<Event, A>, AllocError>
     ensures { IfOk result (λ steps. steps.items ≡ map Step order.now) }
 {
     order.iter().map(|cpu| Event::Step(*cpu)).collect(alloc)
 }
 
-/// Whether the source runs by these threads to its end.
+/// Returns whether the source runs by these threads to its end.
 fn ends_by<A: Allocator + Copy>(alloc: A, source: &Source<A>, order: &[Cpu]) -> bool
     ensures { IsTrue result → (end : State)
         × SourceRunsTo source.now.threads (map Step order.now) (initial_state (test_of_source source.now)) end }
@@ -34,7 +34,7 @@ fn ends_by<A: Allocator + Copy>(alloc: A, source: &Source<A>, order: &[Cpu]) -> 
     replay.done == order.len() && replay.end == End::Final
 }
 
-/// Whether a schedule spells these events.
+/// Returns whether a schedule spells these events.
 fn spells(alloc: Global, source: &Source, words: &str, events: &[Event]) -> bool {
     match read_schedule(alloc, words, &source.head.locs) {
         Ok(wanted) => wanted.as_slice() == events,
@@ -42,7 +42,8 @@ fn spells(alloc: Global, source: &Source, words: &str, events: &[Event]) -> bool
     }
 }
 
-/// Whether the source runs by these threads to its end, and that stands for this schedule of what it is compiled to.
+/// Returns whether the source runs by these threads to its end, and this schedule of the compiled program simulates
+/// the run.
 fn stands_for(
     alloc: Global,
     source: &Source,
@@ -61,7 +62,7 @@ fn stands_for(
     }
 }
 
-/// Whether the statements of the first thread start at these instructions.
+/// Returns whether the statements of the first thread start at these instructions.
 fn starts_at(compiled: &Compiled, starts: &[usize]) -> bool {
     match compiled.starts.as_slice() {
         [first, ..] => first.as_slice() == starts,
@@ -69,8 +70,8 @@ fn starts_at(compiled: &Compiled, starts: &[usize]) -> bool {
     }
 }
 
-/// Whether the statements of a source's first thread start at these instructions when it is compiled, and its run by these threads
-/// stands for this schedule.
+/// Returns whether the statements of the compiled source's first thread start at these instructions, and its run by
+/// these threads is simulated by this schedule.
 fn is_compiled_so(
     alloc: Global,
     source: &Source,
@@ -86,7 +87,7 @@ fn is_compiled_so(
     }
 }
 
-/// The same of the test that the text is.
+/// Returns whether this holds of the test of the text.
 fn holds(alloc: Global, text: &str, starts: &[usize], order: &[Cpu], words: &str) -> bool {
     match source_of(alloc, text) {
         Some(source) => is_compiled_so(alloc, &source, starts, order, words),
@@ -131,10 +132,10 @@ fn schedules_of_runs(rt: HostRuntime) {
 /// Store buffering.
 const STORE_BUFFERING: &str = "SRC SB {} P0|P1; x := 1 | y := 1; r0 := y | r0 := x; exists (true)";
 
-/// What it is compiled to.
+/// Compiles the test.
 struct Compilation;
 
-/// What becomes of what a source test is compiled to, which afterwards is compiled as ever.
+/// Compiles a source test while memory is refused, and compares it with a later compilation.
 fn compiled_by<A: Allocator + Copy>(ample: A, scarce: A, source: &Source<A>) -> Option<Made> {
     match (compile(scarce, source), compile(ample, source)) {
         (Ok(compiled), Ok(whole)) => (compiled.starts == whole.starts
@@ -153,10 +154,11 @@ impl MadeByAllocator for Compilation {
     }
 }
 
-/// The schedule that a run of it stands for.
+/// Makes the schedule that simulates a run of the test.
 struct Schedule;
 
-/// What becomes of the schedule that a run by these threads stands for, which afterwards stands for it as ever.
+/// Makes the schedule that simulates a run by these threads while memory is refused, and compares it with a later
+/// one.
 fn scheduled_by<A: Allocator + Copy>(
     ample: A,
     scarce: A,
@@ -175,7 +177,7 @@ fn scheduled_by<A: Allocator + Copy>(
     }
 }
 
-/// The same of a source test that is compiled where no memory is refused.
+/// Does the same for a source test that is compiled while no memory is refused.
 fn source_scheduled_by<A: Allocator + Copy>(
     ample: A,
     scarce: A,

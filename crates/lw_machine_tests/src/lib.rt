@@ -1,7 +1,7 @@
-//! Tests of memories and machines: flat memory, caches by both protocols, the x86-TSO machine over each of them, and the compiler.
-//!
-//! It names the memory systems, the machine, the compiler and what these stand on, and lw_test_reader. Pages of replays stand in the
-//! folder `tables`.
+//! Tests of memories and machines: flat memory, caches of both protocols, the x86-TSO machine over each of them, and
+//! the compiler.
+//! This crate depends on the memory systems, the machine and the compiler, and on the readers of tests in
+//! lw_test_reader.
 #![tactic(auto)]
 
 #[cfg(test)]

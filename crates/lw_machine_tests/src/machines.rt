@@ -9,7 +9,7 @@ use lw_test_reader::program_of;
 use lw_tso::Machine;
 use std::alloc::Global;
 
-/// Empty caches for a program, by a protocol, over its initial words.
+/// Creates empty caches for a program, of a protocol, over its initial words.
 pub(crate) fn caches_of<P: ProtocolType>(
     alloc: Global,
     program: &Program,
@@ -26,7 +26,7 @@ pub(crate) fn caches_of<P: ProtocolType>(
     }
 }
 
-/// A machine of a program, over caches.
+/// Creates a machine of a program, over caches.
 pub(crate) fn machine_of(alloc: Global, program: &Program) -> Option<Machine<'_, Mesi>>
     ensures { IfSome result (λ m. length m.state.processors ≡ program.now.head.threads) }
 {
@@ -34,11 +34,11 @@ pub(crate) fn machine_of(alloc: Global, program: &Program) -> Option<Machine<'_,
     Machine::new(alloc, program, caches).ok()
 }
 
-/// As many stores as a thread can have: of the numbers from 1 to 32 to the second location.
+/// The maximum number of stores of a thread: of the numbers from 1 to 32 to the second location.
 const STORES: &str =
     "X86 A {y=9} P0; MOV [x],$1; MOV [x],$2; MOV [x],$3; MOV [x],$4; MOV [x],$5; MOV [x],$6; MOV [x],$7; MOV [x],$8; MOV [x],$9; MOV [x],$10; MOV [x],$11; MOV [x],$12; MOV [x],$13; MOV [x],$14; MOV [x],$15; MOV [x],$16; MOV [x],$17; MOV [x],$18; MOV [x],$19; MOV [x],$20; MOV [x],$21; MOV [x],$22; MOV [x],$23; MOV [x],$24; MOV [x],$25; MOV [x],$26; MOV [x],$27; MOV [x],$28; MOV [x],$29; MOV [x],$30; MOV [x],$31; MOV [x],$32; exists (true)";
 
-/// Whether the stores fill the store buffer, with the last one as its newest entry.
+/// Returns whether the stores fill the store buffer, with the last one as its newest entry.
 fn are_stored(machine: &mut Machine<'_, Mesi>, cpu: Cpu) -> bool
     requires { cpu < length machine.old.state.processors }
     ensures { length machine.new.state.processors ≡ length machine.old.state.processors }
@@ -51,7 +51,7 @@ fn are_stored(machine: &mut Machine<'_, Mesi>, cpu: Cpu) -> bool
     replay.done == 32 && replay.end == End::NotFinal && loc.index() == 1 && word == 32
 }
 
-/// Whether as many drains end the run, with the last store in memory.
+/// Returns whether as many drains end the run, with the last store in memory.
 fn are_drained(machine: &mut Machine<'_, Mesi>, cpu: Cpu) -> bool {
     let replay = machine.run(&[Event::Drain(cpu); 32]);
     match machine.outcome() {
@@ -64,7 +64,7 @@ fn are_drained(machine: &mut Machine<'_, Mesi>, cpu: Cpu) -> bool {
     }
 }
 
-/// Whether a machine of the program does both. Neither its steps nor its drains are given an allocator.
+/// Returns whether a machine of the program does both. Neither its steps nor its drains get an allocator.
 fn are_stored_and_drained(alloc: Global, program: &Program) -> Option<bool> {
     let mut machine = machine_of(alloc, program)?;
     let [cpu, ..] = Cpu::all();
@@ -83,10 +83,11 @@ fn full_store_buffers(rt: HostRuntime) {
     assert!(rt; are_done == Some(true));
 }
 
-/// A test of two locations, whose second thread has nothing to do.
+/// A test of two locations, whose second thread is empty.
 const TWO_LOCATIONS: &str = "X86 A {x=5; y=7} P0|P1; MOV EAX,[x] |; MOV [x],$1 |; exists (true)";
 
-/// What is told of locations that there are not, unless there is no such processor, of one that isn't held, and at an end.
+/// Returns the results of events on locations that do not exist, of a processor that does not exist, of a location
+/// that is not held, and at the end.
 fn told_of_locations(alloc: Global, program: &Program) -> Option<[Result<(), Stop>; 6]> {
     let mut machine = machine_of(alloc, program)?;
     let [p0, p1, p2, _] = Cpu::all();
@@ -118,7 +119,7 @@ fn locations_that_there_are_not(rt: HostRuntime) {
     assert!(rt; told == Some(wanted));
 }
 
-/// Whether a load of the first thread has put a 5 into its first register, and nothing into the others.
+/// Returns whether a load of the first thread has put a 5 into its first register, and nothing into the others.
 fn has_loaded(alloc: Global, program: &Program) -> Option<bool> {
     let mut machine = machine_of(alloc, program)?;
     let ([p0, p1, ..], [eax, ebx, ..]) = (Cpu::all(), Reg::all());

@@ -1,4 +1,4 @@
-//! Machines over each memory system: a run, and the start to which the machine is put back.
+//! Machines over each memory system: a run, and a restart.
 ghost use Rattle.std.specs.Prelude.{◌≡◌, ◌≤◌, length};
 
 use crate::machines::caches_of;
@@ -10,11 +10,12 @@ use lw_test_reader::program_of;
 use lw_tso::{Machine, every_run_ends};
 use std::alloc::Global;
 
-/// The first thread jumps where the zero flag is set, and sets it. The second one exchanges, loads and stores.
+/// The first thread jumps if the zero flag is set, and sets it. The second one exchanges, loads and stores.
 const JUMP_AND_EXCHANGE: &str =
     "X86 A {x=5; y=7; 1:EBX=3} P0|P1; JE L | XCHG [y],EBX; MOV [x],$1 | MOV EAX,[x]; L: CMP EAX,$0 | MOV [x],$9; exists (true)";
 
-/// Each thread goes to its end. The first one's store is drained, and the second one's waits.
+/// Returns the events of a run in which each thread terminates. The first thread's store drains, and the second one's
+/// remains in the buffer.
 fn events() -> [Event; 7] {
     let [p0, p1, ..] = Cpu::all();
     [
@@ -28,14 +29,14 @@ fn events() -> [Event; 7] {
     ]
 }
 
-/// Whether the second thread's first registers and the words are these, and all other registers are 0.
+/// Returns whether the second thread's first registers and the words are these, and all other registers are 0.
 fn is_outcome(outcome: &Outcome, registers: [Word; 2], words: [Word; 2]) -> bool {
     let [eax, ebx] = registers;
     outcome.regs.as_slice() == [[0; 6], [eax, ebx, 0, 0, 0, 0]].as_slice()
         && outcome.words.as_slice() == words.as_slice()
 }
 
-/// Whether the events are carried out, and lead to where they must.
+/// Returns whether the events are carried out and reach the expected state.
 fn goes<M: MemorySystem>(machine: &mut Machine<'_, M>) -> bool {
     let replay = machine.run(&events());
     match machine.outcome() {
@@ -46,7 +47,7 @@ fn goes<M: MemorySystem>(machine: &mut Machine<'_, M>) -> bool {
     }
 }
 
-/// Whether the memory system of two processors is as it was made: a 5 and a 7, and no location is held.
+/// Returns whether the memory system of two processors is as it was created: a 5 and a 7, and no location is held.
 pub(crate) fn is_untouched<M: MemorySystem>(memory: &M) -> bool {
     if memory.cpu_count() != 2 || memory.location_count() != 2 {
         return false;
@@ -67,7 +68,7 @@ pub(crate) fn is_untouched<M: MemorySystem>(memory: &M) -> bool {
     words == [5, 7, 5, 7] && states == [LineState::I; 4]
 }
 
-/// Whether nothing waits in a store buffer, and the memory system, registers and words are those of the start.
+/// Returns whether all store buffers are empty, and the memory system, registers and words are the initial ones.
 fn is_at_start<M: MemorySystem>(machine: &mut Machine<'_, M>) -> bool {
     let [p0, p1, ..] = Cpu::all();
     let drained = (
@@ -84,7 +85,7 @@ fn is_at_start<M: MemorySystem>(machine: &mut Machine<'_, M>) -> bool {
     }
 }
 
-/// Whether a machine of a program over this memory system goes as it must, and again after a restart.
+/// Returns whether a machine of a program over this memory system runs as expected, and again after a restart.
 fn is_restarted<M: MemorySystem + Drop>(alloc: Global, program: &Program, memory: M) -> Option<bool>
     requires threads { length program.now.threads ≤ M.cpus memory }
     requires words { M.content memory ≡ program.now.head.init_words }
@@ -97,7 +98,7 @@ fn is_restarted<M: MemorySystem + Drop>(alloc: Global, program: &Program, memory
     Some(goes_first && is_at_start && goes(&mut machine))
 }
 
-/// Whether machines over each memory system go as they must.
+/// Returns whether machines over each memory system run as expected.
 fn are_restarted(alloc: Global, program: &Program) -> Option<bool> {
     let flat = FlatMemory::new(program.head.threads, program.head.init_words.as_slice());
     let over_flat = is_restarted(alloc, program, flat)?;

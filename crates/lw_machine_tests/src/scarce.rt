@@ -1,4 +1,4 @@
-//! Caches and a machine that are made where memory is refused, each growth in turn.
+//! Creating caches and a machine while memory is refused, each growth in turn.
 use crate::machines::caches_of;
 use crate::restarts::is_untouched;
 use lw_base::{Cpu, End, Event, Outcome};
@@ -13,20 +13,20 @@ use std::marker::PhantomData;
 const STORE_BUFFERING: &str =
     "X86 SB {x=5; y=7} P0|P1; MOV [x],$1 | MOV [y],$1; MOV EAX,[y] | MOV EAX,[x]; exists (true)";
 
-/// A machine of a program over caches, and the outcome of its run.
+/// Creates a machine of a program over caches, and makes the outcome of its run.
 #[derive(Clone, Copy)]
 struct RunOf<'p> {
     alloc: Global,
     program: &'p Program,
 }
 
-/// Whether this is the outcome of store buffering where both stores wait till both loads are done.
+/// Returns whether this is the outcome of store buffering in which both stores drain after both loads.
 fn is_end(outcome: &Outcome<&Refusing>) -> bool {
     outcome.regs.as_slice() == [[7, 0, 0, 0, 0, 0], [5, 0, 0, 0, 0, 0]].as_slice()
         && outcome.words.as_slice() == [1, 1].as_slice()
 }
 
-/// Whether store buffering runs to its end.
+/// Returns whether store buffering runs to its end.
 fn ends(machine: &mut Machine<'_, Mesi, &Refusing>) -> bool {
     let [p0, p1, ..] = Cpu::all();
     let replay = machine.run(&[
@@ -40,7 +40,7 @@ fn ends(machine: &mut Machine<'_, Mesi, &Refusing>) -> bool {
     replay.done == 6 && replay.end == End::Final
 }
 
-/// What becomes of the outcome, after a run that asks for no memory.
+/// Makes the outcome, after a run that does not allocate.
 fn ended(machine: &mut Machine<'_, Mesi, &Refusing>, scarce: &Refusing) -> Option<Made> {
     let asked = scarce.asked();
     if !ends(machine) || scarce.asked() != asked {
@@ -53,7 +53,7 @@ fn ended(machine: &mut Machine<'_, Mesi, &Refusing>, scarce: &Refusing) -> Optio
 }
 
 impl MadeByAllocator for RunOf<'_> {
-    /// A machine that is not made hands its memory system back as it was.
+    /// Creates the machine. If that fails, the memory system is returned unchanged.
     fn make<'a>(&self, _ample: &'a Refusing, scarce: &'a Refusing) -> Option<Made> {
         let caches = caches_of(self.alloc, self.program)?;
         match Machine::new(scarce, self.program, caches) {
@@ -81,7 +81,7 @@ fn machines_where_memory_is_refused(rt: HostRuntime) {
     );
 }
 
-/// Empty caches by a protocol.
+/// Creates empty caches of a protocol.
 #[derive(Drop)]
 struct CachesBy<P>(PhantomData<P>);
 

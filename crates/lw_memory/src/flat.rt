@@ -1,4 +1,4 @@
-//! A memory without caches.
+//! Flat memory: a memory without caches.
 ghost use Rattle.std.specs.Prelude.{◌≡◌, ◌≤◌, length};
 ghost use Rattle.lw_base.specs.Limits.{most_threads, most_locations};
 ghost use Rattle.lw_memory.specs.declared.system.LineState.TheVariants.{I};
@@ -9,7 +9,7 @@ use crate::system::{LineState, MemorySystem, NotHeld};
 use lw_base::{Change, Cpu, Loc, MAX_LOCATIONS, Word};
 use std::marker::Model;
 
-/// One word for each location, which all processors see at once. It takes no memory.
+/// One word for each location, which all processors see at once. Does not allocate.
 #[derive(Drop)]
 pub struct FlatMemory {
     cpus: usize,
@@ -30,7 +30,7 @@ impl Model for FlatMemory {
 }
 
 impl FlatMemory {
-    /// A memory of so many processors, with these words.
+    /// Creates a memory for `cpus` processors, with these words.
     pub fn new(cpus: usize, words: &[Word]) -> Self
         requires cpus { cpus ≤ most_threads }
         requires words { length words.now ≤ most_locations }
@@ -62,7 +62,7 @@ impl MemorySystem for FlatMemory {
 
     ghost serves = { FlatStep };
 
-    /// The location's word.
+    /// Returns the location's word.
     fn load(&mut self, _cpu: Cpu, loc: Loc) -> Word {
         self.words[loc.index()]
     }
@@ -72,44 +72,44 @@ impl MemorySystem for FlatMemory {
         self.words[loc.index()] = word;
     }
 
-    /// Changes the location's word, and answers the one from before.
+    /// Changes the location's word, and returns the word before the change.
     fn update(&mut self, _cpu: Cpu, loc: Loc, change: Change) -> Word {
         let old = self.words[loc.index()];
         self.words[loc.index()] = change.word_after(old);
         old
     }
 
-    /// Refused, since no cache holds a location.
+    /// Fails: no cache holds a location.
     fn evict(&mut self, _cpu: Cpu, _loc: Loc) -> Result<(), NotHeld> {
         Err(NotHeld)
     }
 
-    /// The location's word.
+    /// Returns the location's word.
     fn word_at_end(&self, loc: Loc) -> Word {
         self.words[loc.index()]
     }
 
-    /// The location's word, as memory has nothing but words.
+    /// Returns the location's word: all words are in memory.
     fn word_in_memory(&self, loc: Loc) -> Word {
         self.words[loc.index()]
     }
 
-    /// No location is held by a cache.
+    /// Returns `I`: no cache holds a location.
     fn state_of(&self, _cpu: Cpu, _loc: Loc) -> LineState {
         LineState::I
     }
 
-    /// The number of processors that it was made for.
+    /// Returns the number of processors, as passed to `new`.
     fn cpu_count(&self) -> usize {
         self.cpus
     }
 
-    /// The number of locations, each of which has a word.
+    /// Returns the number of locations.
     fn location_count(&self) -> usize {
         self.len
     }
 
-    /// Puts these words in place of those that it has.
+    /// Overwrites all words with these.
     fn restart(&mut self, words: &[Word]) {
         self.words[..self.len].copy_from_slice(words);
     }

@@ -1,6 +1,6 @@
-//! The memory under the store buffers: what every memory system promises, and one without caches.
-//!
-//! It names lw_base and std alone.
+//! The memory under the store buffers: the interface and the laws of a memory system, and flat memory, which has no
+//! caches.
+//! This crate depends only on lw_base and std.
 #![tactic(auto)]
 
 mod flat;

@@ -1,23 +1,23 @@
-//! What a processor asks of the memory system.
+//! Requests of processors to a memory system.
 
 use lw_base::{Change, Cpu, Loc, Word};
 
-/// What a processor asks of the memory system.
+/// A request of a processor to the memory system.
 #[derive(Clone, Copy)]
 pub enum Request {
-    /// Its cache is asked for the location's word, or to change it.
+    /// Accesses the location through the processor's cache.
     Ask(Cpu, Loc, Access),
-    /// Its cache is to let the location go.
+    /// Evicts the location from the processor's cache.
     Evict(Cpu, Loc),
 }
 
-/// What is asked about a location.
+/// An access to a location.
 #[derive(Clone, Copy)]
 pub enum Access {
-    /// Its word.
+    /// Loads its word.
     Load,
-    /// A new word for it.
+    /// Stores a new word.
     Store(Word),
-    /// At once, its word, and a change of that.
+    /// Atomically loads its word and changes it.
     Update(Change),
 }

@@ -1,4 +1,4 @@
--- When cache lines are coherent, and in the states of a protocol: what is true of the caches after any requests.
+-- Coherence of cache lines, and the states of a protocol: what is true of the caches after any requests.
 use Rattle.std.specs.Prelude.{◌≡◌, ◌≢◌, ℕ, ◌<◌, ◌≤◌, length, Some}
 use Rattle.lw_base.specs.Limits.{most_threads}
 use Rattle.lw_memory.specs.SystemLaws.{Invariant, invariant_of}
@@ -6,7 +6,7 @@ use Rattle.lw_mesi.specs.declared.protocol.Protocol.{Protocol}
 use Rattle.lw_mesi.specs.declared.protocol.Protocol.TheVariants.{Mesi, Moesi}
 use Rattle.lw_mesi.specs.CacheLines.{Copy, Modified, Owned, Exclusive, Shared, Invalid, CacheLine, Caches, copy_of, copy_word, cache_line_at, coherent_word}
 
--- A copy in M or E: beside it there may be no other.
+-- The copy is in M or E, so it must be the only one.
 abbrev pub IsOnlyCopy : Copy → Type 0
 IsOnlyCopy (Modified w) = Unit {0}
 IsOnlyCopy (Owned w) = ⊥
@@ -14,7 +14,7 @@ IsOnlyCopy (Exclusive w) = Unit {0}
 IsOnlyCopy (Shared w) = ⊥
 IsOnlyCopy Invalid = ⊥
 
--- A copy in M or O: memory may have another word.
+-- The copy is in M or O, so memory may differ.
 abbrev pub IsDirty : Copy → Type 0
 IsDirty (Modified w) = Unit {0}
 IsDirty (Owned w) = Unit {0}
@@ -22,22 +22,22 @@ IsDirty (Exclusive w) = ⊥
 IsDirty (Shared w) = ⊥
 IsDirty Invalid = ⊥
 
--- Single writer or many readers, and one word.
+-- The cache line is coherent: a single writer or many readers, and one word.
 pub record IsCoherentCacheLine (line : CacheLine) : Type 0 where
   pub as_many : length line.copies ≡ most_threads
-  -- beside an M or E copy there is no other copy
+  -- If a copy is in M or E, there is no other copy.
   pub alone : (t u : ℕ) → IsOnlyCopy (copy_of line t) → t ≢ u → copy_of line u ≡ Invalid
-  -- at most one copy is M or O
+  -- At most one copy is in M or O.
   pub one_dirty : (t u : ℕ) → IsDirty (copy_of line t) → IsDirty (copy_of line u) → t ≡ u
-  -- every copy holds the content
+  -- Every copy has the coherent word.
   pub same_word : (t w : ℕ) → copy_word (copy_of line t) ≡ Some w → w ≡ coherent_word line
 
--- Caches are coherent: the cache line of every location is.
+-- The caches are coherent: the cache line of every location is.
 pub record IsCoherent (m : Caches) : Type 0 where
   pub few : m.cpus ≤ most_threads
   pub cache_lines : (x : ℕ) → x < length m.cache_lines → IsCoherentCacheLine (cache_line_at m.cache_lines x)
 
--- A copy is in a state of the protocol: O is one of MOESI alone.
+-- The copy is in a state of the protocol. Only MOESI has O.
 abbrev pub IsProtocolState : Protocol → Copy → Type 0
 IsProtocolState Mesi (Owned w) = ⊥
 IsProtocolState Mesi c = Unit {0}
@@ -47,16 +47,16 @@ IsProtocolState Moesi c = Unit {0}
 abbrev pub HasProtocolStates : Protocol → CacheLine → Type 0
 HasProtocolStates p line = (t : ℕ) → IsProtocolState p (copy_of line t)
 
--- A cache line keeps a protocol: it is coherent, and its copies are in states of the protocol.
+-- The cache line satisfies a protocol: it is coherent, and its copies are in states of the protocol.
 pub record LineSatisfiesProtocol (p : Protocol) (line : CacheLine) : Type 0 where
   pub coherent : IsCoherentCacheLine line
   pub states : HasProtocolStates p line
 
--- Caches keep a protocol: each cache line is coherent and in its states. It is so after any requests.
+-- The caches satisfy a protocol: each cache line is coherent and in the protocol's states. This is true after any requests.
 pub record SatisfiesProtocol (p : Protocol) (m : Caches) : Type 0 where
   pub coherent : IsCoherent m
   pub states : (x : ℕ) → x < length m.cache_lines → HasProtocolStates p (cache_line_at m.cache_lines x)
 
--- What every request keeps of caches by a protocol: `SatisfiesProtocol`, as lw_memory's laws take it.
+-- The invariant of caches of a protocol, in the form of lw_memory's laws.
 abbrev pub caches_invariant : Protocol → Invariant Caches
 caches_invariant p = invariant_of (λ (m : Caches). m.cpus) (SatisfiesProtocol p)

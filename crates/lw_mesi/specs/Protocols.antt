@@ -1,5 +1,5 @@
--- The protocols by name: the column of each one's table that is its own, and the memory system that caches by it are.
--- The source is as in Snooping, and so is how a row is told.
+-- The protocols by name: the column of each one's table that differs, and the memory system of its caches. The source and the notation are
+-- those of Snooping.
 use Rattle.std.specs.Prelude.{codes}
 use Rattle.lw_base.specs.Types.{Bytes}
 use Rattle.lw_mesi.specs.declared.protocol.Protocol.{Protocol}
@@ -13,20 +13,23 @@ abbrev pub protocol_name : Protocol → Bytes
 protocol_name Mesi = codes "mesi"
 protocol_name Moesi = codes "moesi"
 
-abbrev pub mesi_on_other_get_s : Copy → Copy  -- MESI: what another cache's GetS makes of a copy.
+-- MESI: a copy after another cache's GetS.
+abbrev pub mesi_on_other_get_s : Copy → Copy
 mesi_on_other_get_s (Modified w) = Shared w  -- send data to requestor and memory / S
 mesi_on_other_get_s (Exclusive w) = Shared w  -- send data to requestor and memory / S (memory has this word already)
 mesi_on_other_get_s other = other  -- S, I: / the same
 
-abbrev pub moesi_on_other_get_s : Copy → Copy  -- MOESI: what another cache's GetS makes of a copy. Memory isn't written.
+-- MOESI: a copy after another cache's GetS. Memory is not written.
+abbrev pub moesi_on_other_get_s : Copy → Copy
 moesi_on_other_get_s (Modified w) = Owned w  -- send data to requestor / O
 moesi_on_other_get_s (Exclusive w) = Shared w  -- send data to requestor and memory / S (memory has this word already)
 moesi_on_other_get_s other = other  -- O: send data to requestor / O; S, I: / the same
 
--- The column of a protocol's table that is its own.
+-- The column of the protocol's table that differs.
 abbrev pub table_of : Protocol → ProtocolTable
 table_of Mesi = record { on_other_get_s = mesi_on_other_get_s; memory_after_get_s = coherent_word }
 table_of Moesi = record { on_other_get_s = moesi_on_other_get_s; memory_after_get_s = λ line. line.memory }
 
-abbrev pub caches_by : Protocol → Memory Caches  -- The memory system that caches by a protocol are.
+-- The memory system of caches of a protocol.
+abbrev pub caches_by : Protocol → Memory Caches
 caches_by p = memory_of coherent_words line_state (ProtocolTransition (table_of p))

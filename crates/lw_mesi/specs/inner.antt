@@ -1,3 +1,3 @@
--- What serves the code's own readers and writers of cache lines: no public call cites it.
+-- Definitions for the code of packed cache lines. No public call cites them.
 pub mod EachIndex
 pub mod Packed

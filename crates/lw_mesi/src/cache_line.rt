@@ -1,4 +1,4 @@
-//! One location's copies and memory's word, packed into one record.
+//! The cache line of one location: all its copies and memory's word, packed into one record.
 ghost use Rattle.std.specs.Prelude.{◌≡◌, ◌<◌, Some, is_ok, OnOk, OnErr};
 ghost use Rattle.lw_base.specs.Limits.{most_threads};
 ghost use Rattle.lw_memory.specs.Memory.{is_held};
@@ -14,18 +14,18 @@ use lw_base::{Cpu, Word};
 use lw_memory::{LineState, NotHeld};
 use std::marker::Model;
 
-/// The copies of one location. A clause sees each processor's copy, and memory's word.
+/// The copies of one location. A contract sees each processor's copy, and memory's word.
 #[derive(Drop)]
 pub(crate) struct PackedCacheLine {
-    /// Who holds the cache line in M, O or E.
+    /// The processor that holds the line in M, O or E.
     owner: Option<Cpu>,
     /// Whether the owner's copy is in M or O.
     is_dirty: bool,
     /// Whether a dirty owner's copy is in O.
     is_owned: bool,
-    /// Who holds it in S.
+    /// The processors that hold it in S.
     sharers: CpuSet,
-    /// The word of all copies; memory's where there are none.
+    /// The word of all copies; memory's word if there are no copies.
     word: Word,
     memory: Word,
 }
@@ -43,7 +43,7 @@ impl Model for PackedCacheLine {
 }
 
 impl PackedCacheLine {
-    /// No copies, and this word in memory.
+    /// Creates a line without copies, with this word in memory.
     pub(crate) fn new(word: Word) -> Self
         ensures { result ≡ unheld_cache_line word }
     {
@@ -57,7 +57,7 @@ impl PackedCacheLine {
         }
     }
 
-    /// How a processor holds the cache line.
+    /// Returns the state of a processor's copy.
     pub(crate) fn state_of(&self, cpu: Cpu) -> LineState
         requires { cpu < most_threads }
         ensures { result ≡ copy_state (copy_of self.now cpu) }
@@ -75,21 +75,21 @@ impl PackedCacheLine {
         }
     }
 
-    /// The word that the location ends with.
+    /// Returns the location's coherent word.
     pub(crate) fn word(&self) -> Word
         ensures { result ≡ coherent_word self.now }
     {
         self.word
     }
 
-    /// The word that the location has in memory.
+    /// Returns memory's word, which is stale while an owner's copy is dirty.
     pub(crate) fn word_in_memory(&self) -> Word
         ensures { result ≡ self.now.memory }
     {
         self.memory
     }
 
-    /// The word of a processor's copy, where it has one.
+    /// Returns the word of a processor's copy, or `None` if it has none.
     pub(crate) fn copy(&self, cpu: Cpu) -> Option<Word>
         requires { cpu < most_threads }
         ensures { result ≡ copy_word (copy_of self.now cpu) }
@@ -101,7 +101,7 @@ impl PackedCacheLine {
         }
     }
 
-    /// The word that a processor's load takes, under a protocol.
+    /// Loads the word for a processor, by a protocol. A bus transaction is needed if the processor has no copy.
     pub(crate) fn load(&mut self, protocol: Protocol, cpu: Cpu) -> Word
         requires cpu { cpu < most_threads }
         requires states { HasProtocolStates protocol self.old }
@@ -114,7 +114,7 @@ impl PackedCacheLine {
         }
     }
 
-    /// The bus transaction of a load without a copy, a GetS, and the word that it brings.
+    /// Performs a GetS, the bus transaction of a load without a copy, and returns the word that it brings.
     fn get_s(&mut self, protocol: Protocol, cpu: Cpu) -> Word
         requires cpu { cpu < most_threads }
         requires states { HasProtocolStates protocol self.old }
@@ -125,12 +125,12 @@ impl PackedCacheLine {
         let word = self.word;
         match self.owner {
             Some(owner) => match protocol {
-                // A dirty owner shares its word, which memory doesn't get.
+                // A dirty owner shares its word, and memory keeps the old one.
                 Protocol::Moesi if self.is_dirty => {
                     self.is_owned = true;
                     self.sharers.insert(cpu);
                 }
-                // Another owner becomes a sharer, and memory has its word.
+                // Any other owner becomes a sharer, and memory has its word.
                 _ => {
                     self.memory = word;
                     self.is_dirty = false;
@@ -145,7 +145,7 @@ impl PackedCacheLine {
         word
     }
 
-    /// Writes a word, and answers the one that it replaces. The writer becomes the only holder, in M.
+    /// Writes a word and returns the one that it replaces. The writer becomes the only holder, in M.
     pub(crate) fn write(&mut self, cpu: Cpu, word: Word) -> Word
         requires { cpu < most_threads }
         ensures word { Some result ≡ copy_word (copy_of (cache_line_to_write cpu self.old) cpu) }
@@ -160,7 +160,8 @@ impl PackedCacheLine {
         old
     }
 
-    /// Lets a processor's copy go, the word of one in M or O to memory.
+    /// Evicts a processor's copy. The word of a copy in M or O is written back to memory. Fails, and changes nothing,
+    /// if the processor has no copy.
     pub(crate) fn evict(&mut self, cpu: Cpu) -> Result<(), NotHeld>
         requires { cpu < most_threads }
         ensures held { is_ok result ≡ is_held (copy_state (copy_of self.old cpu)) }
@@ -182,7 +183,7 @@ impl PackedCacheLine {
     }
 }
 
-/// Whether the owner is this processor.
+/// Returns whether the owner is this processor.
 fn is_owner(owner: Option<Cpu>, cpu: Cpu) -> bool
     ensures { result ≡ is_owner owner cpu }
 {

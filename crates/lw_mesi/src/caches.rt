@@ -20,10 +20,9 @@ pub type Mesi<A = Global> = SnoopingCaches<MesiProtocol, A>;
 /// Caches by the MOESI protocol.
 pub type Moesi<A = Global> = SnoopingCaches<MoesiProtocol, A>;
 
-/// A cache for each processor, which snoop on one atomic bus, over one memory.
-///
-/// A clause sees for each location the copies in the caches, with memory's word. Every call of it tells that they
-/// are coherent (one writer or many readers, and one word in all copies) and in states of their protocol.
+/// A cache for each processor, snooping on one atomic bus, over one memory.
+/// A contract sees for each location the copies in the caches, and memory's word. Every call ensures that the caches
+/// are coherent (a single writer or many readers, and one word in all copies) and in states of their protocol.
 #[derive(Drop)]
 pub struct SnoopingCaches<P: ProtocolType, A: Allocator = Global> {
     cpus: usize,
@@ -46,8 +45,8 @@ impl<P: ProtocolType, A: Allocator> Model for SnoopingCaches<P, A> {
 }
 
 impl<P: ProtocolType, A: Allocator + Copy> SnoopingCaches<P, A> {
-    /// Empty caches of so many processors, over a memory with these words. An error is that memory ran out; no later
-    /// call takes any.
+    /// Creates empty caches for `cpus` processors over a memory with these words. Fails only if memory runs out;
+    /// later calls do not allocate.
     pub fn new(alloc: A, cpus: usize, words: &[Word]) -> Result<Self, AllocError>
         requires cpus { cpus ≤ most_threads }
         requires words { length words.now ≤ most_locations }
@@ -68,7 +67,7 @@ impl<P: ProtocolType, A: Allocator + Copy> SnoopingCaches<P, A> {
 }
 
 impl<P: ProtocolType, A: Allocator> SnoopingCaches<P, A> {
-    /// The word of a processor's copy of a location, where it has one.
+    /// Returns the word of a processor's copy of a location, or `None` if it has none.
     pub fn copy(&self, cpu: Cpu, loc: Loc) -> Option<Word>
         requires cpu { cpu < self.now.cpus }
         requires loc { loc < length self.now.cache_lines }
@@ -94,57 +93,57 @@ impl<P: ProtocolType, A: Allocator> MemorySystem for SnoopingCaches<P, A> {
 
     ghost serves = { ProtocolTransition (table_of P.protocol) };
 
-    /// The location's word, by a GetS where the processor has no copy.
+    /// Loads the location's word, by a GetS if the processor has no copy.
     fn load(&mut self, cpu: Cpu, loc: Loc) -> Word {
         let line = &mut self.cache_lines[loc.index()];
         line.load(P::protocol(), cpu)
     }
 
-    /// Writes a word, by a GetM where the processor has no copy in M or E.
+    /// Writes a word, by a GetM if the processor has no copy in M or E.
     fn store(&mut self, cpu: Cpu, loc: Loc, word: Word) {
         let line = &mut self.cache_lines[loc.index()];
         let _ = line.write(cpu, word);
     }
 
-    /// Changes the location's word as an update does, and answers the word before it.
+    /// Changes the location's word atomically, and returns the word before the change.
     fn update(&mut self, cpu: Cpu, loc: Loc, change: Change) -> Word {
         let line = &mut self.cache_lines[loc.index()];
         let word = change.word_after(line.word());
         line.write(cpu, word)
     }
 
-    /// Gives up a processor's copy; a dirty one's word goes to memory.
+    /// Evicts a processor's copy. A dirty copy's word is written back to memory.
     fn evict(&mut self, cpu: Cpu, loc: Loc) -> Result<(), NotHeld> {
         let line = &mut self.cache_lines[loc.index()];
         line.evict(cpu)
     }
 
-    /// The content of the location, in whichever copy it lies.
+    /// Returns the location's coherent word, from whichever copy has it.
     fn word_at_end(&self, loc: Loc) -> Word {
         self.cache_lines[loc.index()].word()
     }
 
-    /// Memory's word, which may be older than the owner's.
+    /// Returns memory's word, which may be older than the owner's.
     fn word_in_memory(&self, loc: Loc) -> Word {
         self.cache_lines[loc.index()].word_in_memory()
     }
 
-    /// In which state the processor's copy is.
+    /// Returns the state of the processor's copy.
     fn state_of(&self, cpu: Cpu, loc: Loc) -> LineState {
         self.cache_lines[loc.index()].state_of(cpu)
     }
 
-    /// The number of processors, each of which has a cache.
+    /// Returns the number of processors, each of which has a cache.
     fn cpu_count(&self) -> usize {
         self.cpus
     }
 
-    /// The number of locations, each of which has a cache line.
+    /// Returns the number of locations, each of which has a cache line.
     fn location_count(&self) -> usize {
         self.cache_lines.len()
     }
 
-    /// Empties the caches, and puts these words into memory.
+    /// Empties the caches, and writes these words to memory.
     fn restart(&mut self, words: &[Word]) {
         for (index, word) in words.iter().enumerate() {
             self.cache_lines[index] = PackedCacheLine::new(*word);

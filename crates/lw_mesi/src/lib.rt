@@ -1,6 +1,5 @@
 //! Caches that snoop on an atomic bus, over one memory: by the MESI protocol and by the MOESI protocol.
-//!
-//! It names lw_base, lw_memory and std alone.
+//! This crate depends only on lw_base, lw_memory and std.
 #![tactic(auto)]
 
 mod cache_line;

@@ -1,4 +1,4 @@
-//! The protocols that caches keep: by name, and as types.
+//! The coherence protocols: by name, and as types.
 ghost use Rattle.std.specs.Prelude.{◌≡◌, MatchOption};
 ghost use Rattle.lw_base.specs.NoParse.{HoldsOfNothing};
 ghost use Rattle.lw_mesi.specs.declared.protocol.Protocol.{Protocol};
@@ -10,12 +10,12 @@ ghost use Rattle.lw_mesi.specs.Protocols.{protocol_name};
 pub enum Protocol {
     /// A copy is modified, exclusive, shared or invalid.
     Mesi,
-    /// Or owned: dirty, and perhaps beside shared copies.
+    /// A copy may also be owned: dirty, and possibly shared.
     Moesi,
 }
 
 impl Protocol {
-    /// The protocol of this name, which is its own in small letters.
+    /// Returns the protocol with this name, in small letters, if there is one.
     pub fn from_name(name: &str) -> Option<Protocol>
         ensures { MatchOption result (HoldsOfNothing (λ p. protocol_name p ≡ name.now)) (λ p. protocol_name p ≡ name.now) }
     {
@@ -29,10 +29,10 @@ impl Protocol {
 
 /// A protocol as a type.
 pub trait ProtocolType {
-    /// Which protocol the type stands for.
+    /// The protocol that the type represents.
     ghost protocol: { Protocol };
 
-    /// Which protocol the type stands for.
+    /// Returns the protocol that the type represents.
     fn protocol() -> Protocol
         ensures { result ≡ protocol };
 }
@@ -44,7 +44,7 @@ pub struct MesiProtocol;
 impl ProtocolType for MesiProtocol {
     ghost protocol = { Mesi };
 
-    /// This type stands for MESI.
+    /// Returns MESI.
     fn protocol() -> Protocol {
         Protocol::Mesi
     }
@@ -57,7 +57,7 @@ pub struct MoesiProtocol;
 impl ProtocolType for MoesiProtocol {
     ghost protocol = { Moesi };
 
-    /// This type stands for MOESI.
+    /// Returns MOESI.
     fn protocol() -> Protocol {
         Protocol::Moesi
     }

@@ -1,7 +1,5 @@
-//! Tests of the orders of items: worked orders, the limits, the sequence of the orders beside that of a plain body, and orders where
-//! memory is refused.
-//!
-//! It names lw_orders, and lw_test_reader for an allocator that refuses.
+//! Tests of the orders of items: worked orders, the limits, the sequence of orders compared with a plain
+//! implementation, and orders while memory is refused.
 #![tactic(auto)]
 
 #[cfg(test)]

@@ -1,4 +1,4 @@
-//! Worked orders, the limits, and the sequence of the orders beside that of a plain body.
+//! Worked orders, the limits, and the sequence of orders compared with a plain implementation.
 ghost use Rattle.std.specs.Prelude.{◌≡◌, IfOk};
 ghost use Rattle.lw_orders.specs.Order.{IsWellFormed};
 
@@ -8,7 +8,7 @@ use lw_test_reader::{Made, MadeByAllocator, Refusing, refusals};
 use std::alloc::{AllocError, Global};
 use std::test::Fail;
 
-/// The items of these pairs.
+/// Creates the items of these pairs.
 fn items_of(
     alloc: Global,
     len: usize,
@@ -23,7 +23,7 @@ fn items_of(
     Ok(Items::new(len, fixed, conflicts))
 }
 
-/// All orders of the items in their sequence, one behind the other.
+/// Returns all orders of the items in sequence, concatenated.
 fn given_orders(alloc: Global, items: &Items) -> Result<Vec<u8>, AllocError> {
     let mut given = Vec::new(alloc);
     if let Some(orders) = Orders::new(alloc, items)? {
@@ -34,7 +34,7 @@ fn given_orders(alloc: Global, items: &Items) -> Result<Vec<u8>, AllocError> {
     Ok(given)
 }
 
-/// Whether the items have so many directions of open conflicts, and these orders.
+/// Returns whether the items have this number of orientations, and these orders.
 fn have_orders(
     alloc: Global,
     items: &Items,
@@ -69,7 +69,7 @@ fn a_fixed_pair_decides_its_conflict(rt: HostRuntime) -> Result<(), Fail> {
     Ok(())
 }
 
-/// How many directions are tried up to each order, and in all.
+/// Returns the number of orientations tried up to each order, and in total.
 fn tries_of(alloc: Global, items: &Items) -> Result<Vec<u64>, AllocError> {
     let mut tries = Vec::new(alloc);
     if let Some(mut orders) = Orders::new(alloc, items)? {
@@ -81,7 +81,7 @@ fn tries_of(alloc: Global, items: &Items) -> Result<Vec<u64>, AllocError> {
     Ok(tries)
 }
 
-/// Two threads of two items have three orders, and the fourth call gives none.
+/// Two threads of two items have three orders, and the fourth call returns none.
 #[test]
 fn each_direction_tried_is_counted(rt: HostRuntime) -> Result<(), Fail> {
     let items = items_of(rt.alloc(), 4, &[(0, 1), (2, 3)], &[(0, 3), (1, 2)])?;
@@ -183,7 +183,7 @@ fn twenty_one_open_conflicts_are_too_many(rt: HostRuntime) -> Result<(), Fail> {
     Ok(())
 }
 
-/// As many items as there may be, with one open conflict, have two orders.
+/// The maximum number of items, with one unordered conflict, has two orders.
 #[test]
 fn most_items(rt: HostRuntime) -> Result<(), Fail> {
     let items = items_of(rt.alloc(), 128, &[(126, 127)], &[(0, 127)])?;
@@ -193,7 +193,7 @@ fn most_items(rt: HostRuntime) -> Result<(), Fail> {
     Ok(())
 }
 
-/// How many items all orders have, one behind the other, where they are those of the plain body; else 0.
+/// Returns the total number of items in all orders if they are those of the plain implementation, and 0 otherwise.
 fn items_as_plain(
     alloc: Global,
     len: u8,
@@ -278,7 +278,7 @@ fn a_fence_jumped_over_is_as_the_plain_body_has_it(rt: HostRuntime) -> Result<()
     Ok(())
 }
 
-/// Twenty pairs of items, each in a conflict of its own.
+/// Twenty pairs of items, each with a conflict of its own.
 const APART: [(u8, u8); 20] = [
     (0, 1),
     (2, 3),
@@ -302,7 +302,7 @@ const APART: [(u8, u8); 20] = [
     (38, 39),
 ];
 
-/// How many orders are given, and how many directions are tried for them.
+/// Returns the number of orders, and the number of orientations that are tried for them.
 fn given_and_tried(alloc: Global, items: &Items) -> Result<(u32, u64), AllocError> {
     let Some(mut orders) = Orders::new(alloc, items)? else {
         return Ok((0, 0));
@@ -316,7 +316,7 @@ fn given_and_tried(alloc: Global, items: &Items) -> Result<(u32, u64), AllocErro
     Ok((given, orders.tries()))
 }
 
-/// The most orders that there can be are all given, with fewer than 2 to the 21 tries.
+/// The maximum number of orders is enumerated with fewer than 2^21 tries.
 #[test]
 fn the_most_orders_take_few_tries(rt: HostRuntime) -> Result<(), Fail> {
     let items = items_of(rt.alloc(), 40, &[], &APART)?;
@@ -325,13 +325,13 @@ fn the_most_orders_take_few_tries(rt: HostRuntime) -> Result<(), Fail> {
     Ok(())
 }
 
-/// The iterator over the orders of these items.
+/// Creates the iterator over the orders of these items.
 #[derive(Clone, Copy)]
 struct OrdersOf<'i> {
     items: &'i Items,
 }
 
-/// Whether the iterator gives the orders of store buffering as sources, and none after them.
+/// Returns whether the iterator returns the orders of store buffering as sources, and none after them.
 fn gives_all(orders: &mut Orders<&Refusing>) -> bool {
     for wanted in [[0, 1, 2, 3], [0, 2, 1, 3], [2, 3, 0, 1]] {
         match orders.next() {
@@ -351,7 +351,7 @@ impl MadeByAllocator for OrdersOf<'_> {
     }
 }
 
-/// Memory for the iterator is refused, each growth in turn. To give its orders it takes no more.
+/// Memory for the iterator is refused, each growth in turn. It allocates nothing to return its orders.
 #[test]
 fn orders_where_memory_is_refused(rt: HostRuntime) -> Result<(), Fail> {
     let items = items_of(rt.alloc(), 4, &[(0, 1), (2, 3)], &[(0, 3), (1, 2)])?;

@@ -1,8 +1,8 @@
-//! A plain body of the orders: the numbers upwards from 0, each open pair a bit, and the order of each number's graph, where it has
-//! no cycle.
+//! A plain implementation of the orders: it counts from 0, takes each bit as the orientation of a conflict, and
+//! returns the order of each number's graph, if that is acyclic.
 use std::alloc::{AllocError, Global};
 
-/// Whether a walk along the pairs leads from an item to another: each round follows each pair once.
+/// Returns whether a path along the pairs leads from an item to another. Each round follows each pair once.
 fn leads(alloc: Global, pairs: &[(u8, u8)], from: u8, to: u8) -> Result<bool, AllocError> {
     let mut reached = Vec::new(alloc);
     reached.push(from)?;
@@ -16,7 +16,7 @@ fn leads(alloc: Global, pairs: &[(u8, u8)], from: u8, to: u8) -> Result<bool, Al
     Ok(reached.contains(&to))
 }
 
-/// The conflicts between whose items the fixed pairs lead no walk.
+/// Returns the conflicts whose items no path of fixed pairs connects.
 fn left_open(
     alloc: Global,
     fixed: &[(u8, u8)],
@@ -31,7 +31,7 @@ fn left_open(
     Ok(open)
 }
 
-/// Adds the open pairs, turned round where their bit of the number is 1. The first has the highest bit.
+/// Appends the unordered pairs, reversed if their bit of the number is 1. The first pair has the highest bit.
 fn push_directed(
     pairs: &mut Vec<(u8, u8)>,
     open: &[(u8, u8)],
@@ -49,7 +49,7 @@ fn push_directed(
     Ok(())
 }
 
-/// The lowest item that is not taken, and all of whose predecessors are.
+/// Returns the lowest item that is not taken and whose predecessors all are.
 fn free_item(len: u8, pairs: &[(u8, u8)], taken: &[u8]) -> Option<u8> {
     (0..len).find(|item| {
         !taken.contains(item)
@@ -59,7 +59,7 @@ fn free_item(len: u8, pairs: &[(u8, u8)], taken: &[u8]) -> Option<u8> {
     })
 }
 
-/// The order that takes a free item at each turn; None on a cycle.
+/// Returns the order that takes a minimal item at each turn, or `None` on a cycle.
 fn plain_order(alloc: Global, len: u8, pairs: &[(u8, u8)]) -> Result<Option<Vec<u8>>, AllocError> {
     let mut taken = Vec::new(alloc);
     for _ in 0..len {
@@ -71,7 +71,7 @@ fn plain_order(alloc: Global, len: u8, pairs: &[(u8, u8)]) -> Result<Option<Vec<
     Ok(Some(taken))
 }
 
-/// The order of the fixed pairs, and of the open ones as the number directs them.
+/// Returns the order of the fixed pairs and of the unordered ones, oriented by the number.
 fn order_of_number(
     alloc: Global,
     len: u8,
@@ -84,7 +84,7 @@ fn order_of_number(
     plain_order(alloc, len, pairs.as_slice())
 }
 
-/// All orders in their sequence, one behind the other, of at most ten open pairs.
+/// Returns all orders in sequence, concatenated, of at most ten unordered pairs.
 pub(crate) fn plain_orders(
     alloc: Global,
     len: u8,

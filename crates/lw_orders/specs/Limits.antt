@@ -1,14 +1,14 @@
--- How many items and orders there can be. The code's constants are these numbers, as src/limits.rt proves.
+-- The maximum numbers of items and orders. The code's constants are these numbers, as src/limits.rt proves.
 use Rattle.std.specs.Prelude.{ℕ, ◌^◌}
 
--- the most items that are put in order
+-- The maximum number of items.
 abbrev pub most_items : ℕ
 most_items = 128
 
--- the most conflicts that may be left open
+-- The maximum number of unordered conflicts.
 abbrev pub most_open : ℕ
 most_open = 20
 
--- the orders that are given: each open conflict can be taken one way round or the other
+-- The maximum number of orders: each unordered conflict has two orientations.
 abbrev pub most_orders : ℕ
 most_orders = 2 ^ most_open

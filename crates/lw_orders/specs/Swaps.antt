@@ -1,12 +1,12 @@
--- Exchanges of neighbours that neither conflict nor are fixed.
+-- Swaps of adjacent items that neither conflict nor are preserved.
 use Rattle.std.specs.Prelude.{ℕ, suc, zero, ◌≡◌, Bool, List, ◌∷◌, ◌++◌, Contains, ◌⊎◌}
 use Rattle.lw_orders.specs.Order.{Constraints, IsLinearExtension}
 
--- two items are a fixed pair or a conflict, whichever is named first
+-- The two items are a preserved pair or a conflict, in either order.
 abbrev pub AreDependent : Constraints → ℕ → ℕ → Type 0
 AreDependent t i j = Contains (t.fixed ++ t.conflicts) (i, j) ⊎ Contains (t.fixed ++ t.conflicts) (j, i)
 
--- ys is xs with two neighbours, which aren't tied, in each other's place
+-- The list ys is xs with two adjacent items that are not dependent swapped.
 pub record IsAdjacentSwap (Tied : ℕ → ℕ → Type 0) (xs ys : List ℕ) : Type 0 where
   pub front : List ℕ
   pub x : ℕ
@@ -16,16 +16,16 @@ pub record IsAdjacentSwap (Tied : ℕ → ℕ → Type 0) (xs ys : List ℕ) : T
   pub new : ys ≡ front ++ y ∷ x ∷ rest
   pub free : ¬ Tied x y
 
--- n exchanges of neighbours that aren't tied lead from xs to ys, all along by orders that keep the fixed pairs
+-- The lists xs and ys are connected by n swaps of adjacent independent items, through orders that respect the preserved pairs.
 abbrev pub AreConnectedBySwaps : Constraints → ℕ → List ℕ → List ℕ → Type 0
 AreConnectedBySwaps t zero xs ys = xs ≡ ys
 AreConnectedBySwaps t (suc n) xs ys = (mid : List ℕ) × IsAdjacentSwap (AreDependent t) xs mid × IsLinearExtension t mid × AreConnectedBySwaps t n mid ys
 
--- xs and ys are joined: some number of such exchanges leads from the one to the other, as `AreConnectedBySwaps` says
+-- The lists xs and ys are connected by some number of such swaps.
 abbrev pub AreConnected : Constraints → List ℕ → List ℕ → Type 0
 AreConnected t xs ys = (n : ℕ) × AreConnectedBySwaps t n xs ys
 
--- a test says the same of orders that keep the fixed pairs and differ by one exchange of neighbours that aren't tied
+-- The test has the same value on linear extensions that differ by one swap of adjacent independent items.
 abbrev pub IsSwapInvariant : Constraints → (List ℕ → Bool) → Type 0
 IsSwapInvariant t test =
     (xs ys : List ℕ) → IsLinearExtension t xs → IsLinearExtension t ys → IsAdjacentSwap (AreDependent t) xs ys → test xs ≡ test ys

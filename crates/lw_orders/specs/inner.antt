@@ -1,4 +1,4 @@
--- What serves the code's own search: no public call cites it.
+-- Definitions for the code's own search. No public call cites them.
 pub mod Sets
 pub mod Search
 pub mod Closure

@@ -1,4 +1,4 @@
-//! For each item a set of items: its predecessors, its successors, its neighbours.
+//! Graphs of items as tables of sets: predecessors, successors, neighbours.
 
 ghost use Rattle.std.specs.Prelude.{◌≡◌, ℕ, ◌<◌, ◌≤◌, ◌==◌, ◌&&◌, ◌||◌, List, [], ◌++◌, length, slice_index, slice_index_or};
 ghost use Rattle.lw_orders.specs.Limits.{most_items};
@@ -11,13 +11,13 @@ use crate::limits::MAX_ITEMS;
 /// A set for each item.
 pub(crate) type SetOfEach = [ItemSet; MAX_ITEMS];
 
-/// For each item the set of those from which a pair leads to it.
+/// The predecessors of each item.
 pub(crate) type Predecessors = SetOfEach;
 
-/// For each item the set of those to which a pair leads from it.
+/// The successors of each item.
 pub(crate) type Successors = SetOfEach;
 
-/// The set of an item, read from a table with one of each.
+/// Returns the set of an item from such a table.
 pub(crate) fn set_of(sets: &SetOfEach, item: usize) -> ItemSet
     requires { item < most_items }
     ensures { result ≡ slice_index sets.now item }
@@ -25,7 +25,7 @@ pub(crate) fn set_of(sets: &SetOfEach, item: usize) -> ItemSet
     sets[item]
 }
 
-/// For each item the set of those from which a pair leads to it.
+/// Returns the predecessors of each item along the pairs.
 pub(crate) fn predecessors_of(pairs: &[(u8, u8)]) -> Predecessors
     requires { AreInRange most_items pairs.now }
     ensures { ArePredecessors most_items pairs.now result }
@@ -35,7 +35,7 @@ pub(crate) fn predecessors_of(pairs: &[(u8, u8)]) -> Predecessors
     sets
 }
 
-/// For each item the items to which a pair leads from it.
+/// Returns the successors of each item along the pairs.
 pub(crate) fn successors_of(pairs: &[(u8, u8)]) -> Successors
     requires { AreInRange most_items pairs.now }
     ensures { (i j : ℕ) → i < most_items → j < most_items → has (slice_index result i) j ≡ has_edge pairs.now i j }
@@ -45,7 +45,8 @@ pub(crate) fn successors_of(pairs: &[(u8, u8)]) -> Successors
     sets
 }
 
-/// For each item its neighbours: those to which a fixed pair leads from it, and those with which it stands in an undecided one.
+/// Returns the neighbours of each item: its successors along the preserved pairs, and the items with which it is in
+/// an undecided pair.
 pub(crate) fn neighbours_of(fixed: &[(u8, u8)], undecided: &[(u8, u8)]) -> SetOfEach
     requires fixed { AreInRange most_items fixed.now }
     requires undecided { AreInRange most_items undecided.now }
@@ -59,7 +60,7 @@ pub(crate) fn neighbours_of(fixed: &[(u8, u8)], undecided: &[(u8, u8)]) -> SetOf
     neighbours
 }
 
-/// Puts the first item of each pair into the set of its second.
+/// Inserts the first item of each pair into the set of its second.
 fn add_pairs(sets: &mut SetOfEach, pairs: &[(u8, u8)])
     requires { AreInRange most_items pairs.now }
     ensures { (i j : ℕ) → i < most_items → j < most_items →
@@ -70,7 +71,7 @@ fn add_pairs(sets: &mut SetOfEach, pairs: &[(u8, u8)])
     }
 }
 
-/// Puts the second item of each pair into the set of its first.
+/// Inserts the second item of each pair into the set of its first.
 fn add_reversed(sets: &mut SetOfEach, pairs: &[(u8, u8)])
     requires { AreInRange most_items pairs.now }
     ensures { (i j : ℕ) → i < most_items → j < most_items →
@@ -81,7 +82,7 @@ fn add_reversed(sets: &mut SetOfEach, pairs: &[(u8, u8)])
     }
 }
 
-/// Puts an item into the set of another.
+/// Inserts `item` into the set of `at`.
 fn insert_into(sets: &mut SetOfEach, at: usize, item: usize)
     requires at { at < most_items }
     requires item { item < most_items }
@@ -91,7 +92,8 @@ fn insert_into(sets: &mut SetOfEach, at: usize, item: usize)
     sets[at] = set_of(sets, at).with(item);
 }
 
-/// Of two tables, the first with the predecessors by the fixed pairs, writes the second: those by the fixed and the chosen pairs.
+/// Fills the second table with the predecessors along the preserved and the chosen pairs. The first table, which is
+/// unchanged, has those along the preserved pairs.
 pub(crate) fn fill_next_predecessors(len: usize, tables: &mut [Predecessors], chosen: &[(u8, u8)])
     requires few { len ≤ most_items }
     requires two { length tables.old ≡ 2 }
@@ -104,8 +106,8 @@ pub(crate) fn fill_next_predecessors(len: usize, tables: &mut [Predecessors], ch
     fill_predecessors(len, &before[0], &mut room[0], chosen);
 }
 
-/// Writes into `sets` the predecessors by the fixed and the chosen pairs, given those by the fixed ones, `before`. What stood in
-/// `sets` doesn't matter.
+/// Fills `sets` with each item's predecessors: those in `before`, and those along the chosen pairs. Overwrites what
+/// `sets` held.
 fn fill_predecessors(
     len: usize,
     before: &Predecessors,

@@ -1,4 +1,4 @@
-//! The public laws: what holds of all orders, whoever makes them.
+//! The public laws: what holds of all orders, whether or not this crate computes them.
 
 ghost use Rattle.std.specs.Prelude.{◌≡◌, ◌↔◌, ◌<◌, ◌++◌, [], ◌∷◌, ℕ, List, Bool, IsTrue, All, length};
 ghost use Rattle.lw_orders.specs.Order.{Constraints, IsWellFormed, IsLinearExtension, IsOrder, AreDistinct, index_in, AreTraceEquivalent, ExactlyOne};
@@ -7,50 +7,50 @@ ghost use Rattle.lw_orders.specs.Orientations.{unordered_conflicts, is_ordered, 
 ghost use Rattle.lw_orders.specs.Sequence.{indices, orders};
 ghost use Rattle.lw_orders.specs.Swaps.{AreConnected, IsSwapInvariant};
 
-/// A theorem for readers: alike orders that keep the fixed pairs are joined by exchanges of neighbours that neither
-/// conflict nor are fixed, each order on the way keeping the fixed pairs.
+/// States, for readers, that two trace-equivalent linear extensions are connected by swaps of adjacent items that
+/// neither conflict nor are preserved, through linear extensions only.
 pub fn alike_orders_are_joined()
     ensures { (t : Constraints) → IsWellFormed t
         → (xs ys : List ℕ) → IsLinearExtension t xs → IsLinearExtension t ys → AreTraceEquivalent t.conflicts xs ys
         → AreConnected t xs ys }
 {}
 
-/// A theorem for readers: a test of orders, such as whether the run of an order ends in a given way, says the same of two alike
-/// orders that keep the fixed pairs, if each exchange of neighbours keeps it that neither conflict nor are fixed.
+/// States, for readers, that a test of orders (such as whether the run of an order ends in a given way) has the same
+/// value on trace-equivalent linear extensions, if every swap of adjacent independent items preserves its value.
 pub fn alike_orders_agree()
     ensures { (t : Constraints) → IsWellFormed t → (test : List ℕ → Bool) → IsSwapInvariant t test
         → (xs ys : List ℕ) → IsLinearExtension t xs → IsLinearExtension t ys → AreTraceEquivalent t.conflicts xs ys
         → test xs ≡ test ys }
 {}
 
-/// A theorem for readers: a pair is decided exactly where a walk along the fixed pairs leads from its first item to its
-/// second.
+/// States, for readers, that a pair is ordered if and only if a path of preserved pairs leads from its first item to
+/// its second.
 pub fn decided_by_walks()
     ensures { (t : Constraints) → IsWellFormed t → (p : ℕ × ℕ) → IsTrue (is_ordered t.fixed p) ↔ IsOrderedByPath t.fixed p }
 {}
 
-/// A theorem for readers: the conflicts that are computed to be open are those that no walk decides, and the ways to take them are 2
-/// to their number, and no other number.
+/// States, for readers, that the computed unordered conflicts are those that no path orders, and that the number of
+/// their orientations is 2 to the power of their number, and no other.
 pub fn ways_are_computed()
     ensures pairs { (t : Constraints) → IsWellFormed t → AreUnorderedConflicts t (unordered_conflicts t) }
     ensures number { (t : Constraints) → IsWellFormed t → (n : ℕ) → HasOrientationCount t n ↔ (n ≡ orientation_count t) }
 {}
 
-/// Of any well-formed items: the orders that `Orders` gives keep the fixed pairs, and each order that keeps them is alike
-/// to exactly one that is given.
+/// States, of all well-formed items, that every order of `Orders` is a linear extension, and that each linear
+/// extension is trace-equivalent to exactly one of them.
 pub fn orders_are_complete()
     ensures each { (t : Constraints) → IsWellFormed t → All (IsLinearExtension t) (orders t) }
     ensures exactly_one { (t : Constraints) → IsWellFormed t
         → (o : List ℕ) → IsLinearExtension t o → ExactlyOne (AreTraceEquivalent t.conflicts o) (orders t) }
 {}
 
-/// Where the fixed pairs leave no conflict open, one order is given: the items going up.
+/// States that there is one order if no conflict is unordered: the items in ascending order.
 pub fn one_order_goes_up()
     ensures { (t : Constraints) → IsWellFormed t → unordered_conflicts t ≡ [] → orders t ≡ indices 0 t.len ∷ [] }
 {}
 
-/// A theorem for readers: in an order of n items nothing else stands, and each item at one index, where it is found.
-/// And a list of these items, in which each is found and none stands twice, is an order of them.
+/// States, for readers, that an order of n items has each item at exactly one index and nothing else, and that a list
+/// of these items in which each is found, without duplicates, is an order of them.
 pub fn items_stand_once()
     ensures within { (n : ℕ) (order : List ℕ) → IsOrder n order → All (λ i. i < n) order }
     ensures once { (n : ℕ) (order : List ℕ) → IsOrder n order → AreDistinct order }

@@ -1,27 +1,29 @@
-//! The orders of items, some pairs of which conflict: one order for each way round in which the conflicts can stand.
-//!
-//! There are up to `MAX_ITEMS` items, numbered from 0. Of a fixed pair the first always stands before the second; a conflicting
-//! pair may stand either way round, unless the fixed pairs decide it. Two orders are alike where each conflict stands the
-//! same way round in both. `Orders` gives, of all orders that keep the fixed pairs, exactly one of each kind: of the linear
-//! extensions of the fixed pairs one of each Mazurkiewicz trace, where what does not conflict is independent. To run those
-//! alone is partial-order reduction.
-//!
-//! How a caller covers all orders by a run of each that is given (`run_all` in the tests of orders is such a caller):
-//! 1. A loop over what `Orders::new(alloc, &items)?` gives, where there are not too many, runs each order. What the iterator
-//!    has still to give is its value's list `to_come`: `next` takes its head, so after the loop each order of the first list
-//!    was run.
-//! 2. Take any order that keeps the fixed pairs. By the clause `exactly_one` of `Orders::new` it is alike to one in that
-//!    list, which by the clause `each` is an order that keeps the fixed pairs too. (`orders_are_complete` says so of any
-//!    well-formed items, without a call.)
-//! 3. By the law `alike_orders_are_joined` exchanges lead from the one to the other, each of two neighbours that neither
-//!    conflict nor are fixed, all along by orders that keep the fixed pairs. Where each such exchange keeps the end of a
-//!    run, the two runs end alike. So the end of every order was found.
-//!
-//! A clause cannot speak of ends of any type: what a proof above cites for that stands in `proofs/api/`. `Kept` has what
-//! exchanges keep (`kept_along`: what each exchange keeps is kept from an order to each that it is joined with), `Indices` has
-//! where items stand. The law `alike_orders_agree` says it for a test of an order.
-//!
-//! It names std alone.
+//! The orders of items, some pairs of which conflict: one order for each orientation of the conflicts.
+//! There are up to `MAX_ITEMS` items, numbered from 0. A preserved pair has its first item before its second in every
+//! order. A conflict may have either orientation, unless the preserved pairs order it. Two orders are
+//! trace-equivalent if they agree on the orientation of every conflict. Of all linear extensions of the preserved
+//! pairs, `Orders` returns exactly one of each Mazurkiewicz trace, in which items that do not conflict are
+//! independent. Running only these orders is partial-order reduction.
+//! A caller covers all orders by a run of each returned order (`run_all` in the tests of orders is such a caller):
+//! 1. A loop over `Orders::new(alloc, &items)?` runs each order, unless there are too many. The orders that the
+//!    iterator
+//!    has yet to return are its value's list `to_come`. `next` takes the head of this list, so after the loop each
+//!    order of
+//!    the initial list has been run.
+//! 2. Take any linear extension of the preserved pairs. By the clause `exactly_one` of `Orders::new` it is
+//!    trace-equivalent
+//!    to one order in that list, which by the clause `each` is a linear extension too. (`orders_are_complete` states
+//!    this of
+//!    all well-formed items, without a call.)
+//! 3. By the law `alike_orders_are_joined` the two orders are connected by swaps of adjacent items that neither
+//!    conflict nor
+//!    are preserved, through linear extensions only. If each such swap preserves the outcome of a run, the two runs
+//!    have the
+//!    same outcome. So the outcome of every order was found.
+//! A contract cannot speak of outcomes of any type. Lemmas for that are in `proofs/api/`: `SwapInvariance` has
+//! `kept_along` (what each swap preserves is preserved between connected orders), and `Indices` has the indices of
+//! items. The law `alike_orders_agree` states it for a test of orders.
+//! This crate depends only on std.
 #![tactic(auto)]
 
 mod adjacency;

@@ -1,17 +1,17 @@
-//! How many items and orders there can be.
+//! The maximum numbers of items and orders.
 ghost use Rattle.std.specs.Prelude.{◌≡◌};
 ghost use Rattle.lw_orders.specs.Limits.{most_items, most_open, most_orders};
 
-/// The most items that are put in order.
+/// The maximum number of items.
 pub const MAX_ITEMS: usize = 128;
 
-/// The most conflicts that may be left open.
+/// The maximum number of unordered conflicts.
 pub const MAX_OPEN: usize = 20;
 
-/// The most orders that are given: each open conflict can be taken one way round or the other.
+/// The maximum number of orders: each unordered conflict has two orientations.
 pub const MAX_ORDERS: u64 = 1 << MAX_OPEN;
 
-/// A theorem for readers: each constant is the number that the definitions name.
+/// States, for readers, that each constant is the number that the definitions name.
 pub fn the_constants_are_the_limits()
     ensures items { MAX_ITEMS ≡ most_items }
     ensures open_conflicts { MAX_OPEN ≡ most_open }

@@ -4,7 +4,7 @@ use crate::item_bits::ItemBits;
 use crate::item_set::ItemSet;
 use std::marker::Model;
 
-/// A set of items below 64, each a bit of a number.
+/// A set of items below 64, as the bits of a number.
 #[derive(Clone, Copy)]
 pub(crate) struct SmallItemSet(u64);
 
@@ -27,7 +27,7 @@ impl ItemBits for SmallItemSet {
 
     const WIDTH: usize = 64;
 
-    /// The items below a number, all of them where it is the width.
+    /// Returns the set of all items below `len`.
     fn below(len: usize) -> Self {
         if len == Self::WIDTH {
             SmallItemSet(u64::MAX)
@@ -36,32 +36,32 @@ impl ItemBits for SmallItemSet {
         }
     }
 
-    /// The set of one item, its bit alone.
+    /// Returns the set of one item.
     fn only(item: usize) -> Self {
         SmallItemSet(1 << item)
     }
 
-    /// The lowest item, by the zeros below its bit.
+    /// Returns the lowest item, by counting the zeros below its bit.
     fn lowest(self) -> usize {
         self.0.trailing_zeros() as usize
     }
 
-    /// The set without an item, its bit cleared.
+    /// Returns the set without an item.
     fn without(self, item: usize) -> Self {
         SmallItemSet(self.0 & !(1 << item))
     }
 
-    /// The items of this set that are not among the other's low ones.
+    /// Returns the items of this set that are not among the other's items below 64.
     fn without_all(self, set: ItemSet) -> Self {
         SmallItemSet(self.0 & !set.low())
     }
 
-    /// The items of this set and of the other's low ones, as far as they are in a third.
+    /// Returns the items of `others` that are in this set or among those of `set` below 64.
     fn with_all_among(self, set: ItemSet, others: Self) -> Self {
         SmallItemSet((self.0 | set.low()) & others.0)
     }
 
-    /// Whether the other set's low items are none of its own.
+    /// Returns whether this set and the other's items below 64 are disjoint.
     fn is_disjoint(self, set: ItemSet) -> bool {
         set.low() & self.0 == 0
     }

@@ -1,4 +1,4 @@
--- Lists of outcomes, each with a schedule that leads to it.
+-- Lists of outcomes, each with a schedule that reaches it.
 use Rattle.std.specs.Prelude.{◌≡◌, List}
 use Rattle.std.specs.List.{AllPairs}
 use Rattle.std.specs.Map.{keys_of, values_of}
@@ -6,18 +6,18 @@ use Rattle.std.specs.declared.cmp.Ordering.TheVariants.{Less}
 use Rattle.lw_base.specs.Outcomes.{FinalState, final_state_cmp}
 use Rattle.lw_base.specs.declared.event.Event.{Event}
 
--- outcomes, each with a schedule that leads to it
+-- A list of outcomes, each with a schedule.
 abbrev pub OutcomeEntries : Type 0
 OutcomeEntries = List (FinalState × List Event)
 
--- the outcomes of a list, without their schedules
+-- The outcomes of a list, without their schedules.
 abbrev pub outcomes_of : OutcomeEntries → List FinalState
 outcomes_of entries = keys_of entries
 
--- the schedules of a list, without the outcomes
+-- The schedules of a list, without the outcomes.
 abbrev pub schedules_of : OutcomeEntries → List (List Event)
 schedules_of entries = values_of entries
 
--- Each outcome comes before all that stand after it. So none stands twice.
+-- The outcomes are strictly ascending, so there are no duplicates.
 abbrev pub IsStrictlySorted : OutcomeEntries → Type 0
 IsStrictlySorted entries = AllPairs (λ first later. final_state_cmp first later ≡ Less) (outcomes_of entries)

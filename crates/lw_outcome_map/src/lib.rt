@@ -1,7 +1,7 @@
-//! Lists of outcomes, each once with a schedule that leads to it: as they are found, and then sorted.
-//!
-//! It names lw_base, and indexmap for the look-up of an outcome. The promise that the crates above use: a `Listing` goes up
-//! strictly, whoever made it.
+//! Lists of outcomes without duplicates, each with a schedule that reaches it: first in the order of discovery, then
+//! sorted.
+//! This crate depends on lw_base, and on indexmap for the look-up of an outcome. Crates above rely on one promise:
+//! every `Listing` is strictly sorted.
 #![tactic(auto)]
 
 mod listing;

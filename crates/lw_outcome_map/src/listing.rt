@@ -1,4 +1,4 @@
-//! The outcomes that were found, each once, with the first schedule that was found to lead to it.
+//! The outcomes found, without duplicates, each with the first schedule found for it.
 ghost use Rattle.std.specs.Prelude.{◌≡◌, ◌↔◌, [], ◌∷◌, ◌++◌, ◌<◌, ◌==◌, ℕ, length, OnOk, OnErr, IfOk, IsTrue, MatchOption, Contains, Some, slice_get};
 ghost use Rattle.std.specs.Prelude.{IsPermutation};
 ghost use Rattle.lw_base.specs.Outcomes.{FinalState};
@@ -13,9 +13,8 @@ use std::marker::Model;
 /// A schedule for each outcome.
 type Schedules<A> = IndexMap<Outcome<A>, Sequence<Event, A>, BuildHasherDefault<FoldHasher>, A>;
 
-/// Outcomes with their schedules, in the sequence in which they were found.
-///
-/// A clause sees the list of the pairs.
+/// Outcomes with their schedules, in the order in which they were found.
+/// A contract sees the list of the pairs.
 #[derive(Drop)]
 pub struct OutcomeMap<A: Allocator = Global> {
     found: Schedules<A>,
@@ -30,7 +29,7 @@ impl<A: Allocator> Model for OutcomeMap<A> {
 }
 
 impl<A: Allocator + Copy> OutcomeMap<A> {
-    /// No outcome yet. It takes no memory.
+    /// Creates an empty map. Does not allocate.
     pub fn new(alloc: A) -> Self
         ensures { result ≡ [] }
     {
@@ -41,14 +40,14 @@ impl<A: Allocator + Copy> OutcomeMap<A> {
 }
 
 impl<A: Allocator> OutcomeMap<A> {
-    /// Whether an outcome was found. It takes no memory.
+    /// Returns whether the map has this outcome. Does not allocate.
     pub fn contains(&self, outcome: &Outcome<A>) -> bool
         ensures { IsTrue result ↔ Contains (outcomes_of self.now) outcome.now }
     {
         self.found.contains_key(outcome)
     }
 
-    /// Adds an outcome that was not found before, with its schedule, which it keeps.
+    /// Inserts an outcome that is not in the map, with its schedule. If memory runs out, the map is unchanged.
     pub fn insert_new(
         &mut self,
         outcome: Outcome<A>,
@@ -62,7 +61,7 @@ impl<A: Allocator> OutcomeMap<A> {
         Ok(())
     }
 
-    /// The same outcomes with the same schedules, sorted.
+    /// Sorts the outcomes, each with its schedule, into a listing. Fails only if memory runs out.
     pub fn into_listing(self) -> Result<Listing<A>, AllocError>
     where
         A: Copy,
@@ -75,9 +74,8 @@ impl<A: Allocator> OutcomeMap<A> {
     }
 }
 
-/// The outcomes that were found, each once with a schedule, sorted.
-///
-/// A clause sees the list of the pairs.
+/// The outcomes found, sorted, without duplicates, each with a schedule.
+/// A contract sees the list of the pairs.
 #[derive(Drop)]
 pub struct Listing<A: Allocator = Global> {
     found: Schedules<A>,
@@ -94,23 +92,23 @@ impl<A: Allocator> Model for Listing<A> {
 }
 
 impl<A: Allocator> Listing<A> {
-    /// The number of outcomes that were found.
+    /// Returns the number of outcomes.
     pub fn len(&self) -> usize
         ensures number { result ≡ length self.now }
-        // So it is of each listing.
+        // Every listing is strictly sorted.
         ensures sorted { IsStrictlySorted self.now }
     {
         self.found.len()
     }
 
-    /// Whether no outcome was found.
+    /// Returns whether the listing has no outcome.
     pub fn is_empty(&self) -> bool
         ensures { result ≡ (length self.now == 0) }
     {
         self.found.is_empty()
     }
 
-    /// The outcome at an index.
+    /// Returns the outcome at an index.
     pub fn outcome(&self, index: usize) -> &Outcome<A>
         requires { index < length self.now }
         ensures { slice_get (outcomes_of self.now) index ≡ Some result.now }
@@ -118,7 +116,7 @@ impl<A: Allocator> Listing<A> {
         self.found.get_index(index).unwrap().0
     }
 
-    /// The schedule of the outcome at an index.
+    /// Returns the schedule of the outcome at an index.
     pub fn schedule(&self, index: usize) -> &[Event]
         requires { index < length self.now }
         ensures { slice_get (schedules_of self.now) index ≡ Some result.now }
@@ -126,7 +124,7 @@ impl<A: Allocator> Listing<A> {
         self.found[index].as_slice()
     }
 
-    /// The index of an outcome, or None where it isn't listed.
+    /// Returns the index of an outcome, or `None` if it is not listed.
     pub fn find(&self, outcome: &Outcome<A>) -> Option<usize>
         ensures { MatchOption result
             (¬ Contains (outcomes_of self.now) outcome.now)
@@ -136,7 +134,7 @@ impl<A: Allocator> Listing<A> {
     }
 }
 
-/// In a listing an outcome stands at one index alone.
+/// States that an outcome of a listing is at one index only.
 pub fn outcomes_stand_once()
     ensures { (entries : OutcomeEntries) (i j : ℕ) (outcome : FinalState) → IsStrictlySorted entries
         → slice_get (outcomes_of entries) i ≡ Some outcome → slice_get (outcomes_of entries) j ≡ Some outcome → i ≡ j }

@@ -1,4 +1,4 @@
--- Choices of flow paths: one whole path for each thread, in either language.
+-- Path assignments: one whole flow path for each thread, in either language.
 use Rattle.std.specs.Prelude.{◌≡◌, ◌<◌, ◌≤◌, ℕ, Some, List, [], ◌∷◌, length, slice_get}
 use Rattle.std.specs.Option.{ForSome}
 use Rattle.lw_litmus.specs.Flow.{IsFlowPathFrom}
@@ -6,11 +6,11 @@ use Rattle.lw_litmus.specs.Languages.{Language}
 use Rattle.lw_litmus.specs.Operations.{branch_target}
 
 module _ {S : Type 0} (language : Language S) where
-  -- jumps lead forward, at most to the end
+  -- Every jump leads forward, at most to the end.
   abbrev pub JumpsForward : List S → Type 0
   JumpsForward code = (j : ℕ) (s : S) → slice_get code j ≡ Some s → ForSome (branch_target (language.operation_of s)) (λ to. (j < to) × (to ≤ length code))
 
-  -- the paths are a choice of the program: for each of its threads a whole path
+  -- The paths are a path assignment of the program: a whole flow path for each of its threads.
   abbrev pub IsPathAssignment : List (List S) → List (List ℕ) → Type 0
   IsPathAssignment [] [] = Unit {0}
   IsPathAssignment [] (path ∷ paths) = ⊥

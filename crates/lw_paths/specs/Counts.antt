@@ -1,4 +1,4 @@
--- How many orders a test may have, and the limits of lists.
+-- The number of orders of a test, and the limits of lists.
 use Rattle.std.specs.Prelude.{◌≡◌, ◌<◌, ◌≤◌, ◌+◌, ◌↔◌, ℕ, List, [], ◌∷◌, length, Contains}
 use Rattle.lw_base.specs.Lists.{IsDuplicateFree}
 use Rattle.lw_litmus.specs.Languages.{Language}
@@ -10,44 +10,44 @@ use Rattle.lw_paths.specs.declared.fault.ListFault.{ListFault}
 use Rattle.lw_paths.specs.declared.fault.ListFault.TheVariants.{TooManyItems, TooManyOrders, Memory}
 
 module _ {S : Type 0} (language : Language S) (program : List (List S)) where
-  -- the number of items of a choice
+  -- The number of items of a path assignment.
   abbrev pub items_at_choice : List (List ℕ) → ℕ
   items_at_choice paths = length (items_of language program paths)
 
-  -- a choice has so many orders: the ways in which the open conflicts of its items can each be taken one way round or the other
+  -- The path assignment has this number of orders: of orientations of the unordered conflicts of its items.
   abbrev pub HasOrderCount : List (List ℕ) → ℕ → Type 0
   HasOrderCount paths n = HasOrientationCount (constraints_of language program (items_of language program paths)) n
 
-  -- some choices have so many orders together
+  -- The path assignments have this number of orders together.
   abbrev pub HaveOrderCounts : List (List (List ℕ)) → ℕ → Type 0
   HaveOrderCounts [] n = n ≡ 0
   HaveOrderCounts (paths ∷ choices) n = (m : ℕ) × (k : ℕ) × HasOrderCount paths m × HaveOrderCounts choices k × (n ≡ m + k)
 
-  -- n is a total: all choices, each of them once, have so many orders together
+  -- The number n is the sum of the order counts of all path assignments, each counted once.
   pub record IsTotalOrderCount (n : ℕ) : Type 0 where
     pub choices : List (List (List ℕ))
     pub all : (paths : List (List ℕ)) → Contains choices paths ↔ IsPathAssignment language program paths
     pub once : IsDuplicateFree choices
     pub orders : HaveOrderCounts choices n
 
-  -- some choice has more items than a list takes
+  -- Some path assignment has more items than a list takes.
   abbrev pub HasTooManyItems : Type 0
   HasTooManyItems = (paths : List (List ℕ)) × IsPathAssignment language program paths × (most_items < items_at_choice paths)
 
-  -- all choices together have more orders than a list takes
+  -- All path assignments together have more orders than a list takes.
   abbrev pub HasTooManyOrders : Type 0
   HasTooManyOrders = (n : ℕ) × IsTotalOrderCount n × (most_orders < n)
 
-  -- all choices together have no more orders than a list takes
+  -- All path assignments together have no more orders than a list takes.
   abbrev pub IsWithinOrderLimit : Type 0
   IsWithinOrderLimit = (n : ℕ) × IsTotalOrderCount n × (n ≤ most_orders)
 
-  -- Why a list is refused: too many items, which is looked for first, or too many orders.
+  -- The reason for which there is no list is true: too many items, which is checked first, or too many orders.
   abbrev pub LimitFaultIsTrue : ListFault → Type 0
   LimitFaultIsTrue TooManyItems = HasTooManyItems
   LimitFaultIsTrue TooManyOrders = (HasTooManyItems → ⊥) × HasTooManyOrders
   LimitFaultIsTrue Memory = Unit {0}
 
-  -- no choice has too many items, and all choices together have no more orders than a list takes
+  -- No path assignment has too many items, and all together have no more orders than a list takes.
   abbrev pub IsWithinLimits : Type 0
   IsWithinLimits = (HasTooManyItems → ⊥) × IsWithinOrderLimit

@@ -1,12 +1,12 @@
--- The paths that the fixed room of a value holds.
+-- The paths in an array of fixed size.
 use Rattle.std.specs.Prelude.{ℕ, List, map, take}
 use Rattle.lw_paths.specs.declared.path.Path.{Path}
 use Rattle.lw_paths.specs.declared.path.PathAssignment.{PathAssignment}
 
--- the positions of a path
+-- The positions of a path.
 abbrev pub path_of : Path → List ℕ
 path_of p = take p.len p.positions
 
--- the paths of a choice, one for each thread
+-- The paths of a path assignment, one for each thread.
 abbrev pub choice_of : PathAssignment → List (List ℕ)
 choice_of c = map path_of (take c.len c.paths)

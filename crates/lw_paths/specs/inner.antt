@@ -1,4 +1,4 @@
--- What serves the code's own parts: no public call cites it.
+-- Definitions for the code's own parts. No public call cites them.
 pub mod Accesses
 pub mod Sizes
 pub mod Few

@@ -1,4 +1,4 @@
-//! The conflicts of the items of a choice: only items that access a location can conflict.
+//! The conflicts of the items of a path assignment. Only items that access a location can conflict.
 ghost use Rattle.std.specs.Prelude.{◌≡◌, ◌≤◌, ◌++◌, length, IfOk, OnOk};
 ghost use Rattle.lw_orders.specs.Limits.{most_items};
 ghost use Rattle.lw_paths.specs.inner.Accesses.{access_by, accesses_from, is_conflict, conflicts_with};
@@ -11,7 +11,7 @@ use lw_base::{Loc, Sequence};
 use lw_litmus::Statement;
 use std::alloc::{AllocError, Allocator};
 
-/// An item that accesses a location, by its number.
+/// The access of an item to a location, with the item's index.
 #[derive(Clone, Copy)]
 pub(crate) struct Access {
     pub(crate) index: u8,
@@ -20,14 +20,14 @@ pub(crate) struct Access {
 }
 
 impl Access {
-    /// Whether both are on one location, and at least one writes it.
+    /// Returns whether both accesses are to one location, and at least one writes it.
     fn is_conflict(&self, other: &Access) -> bool
         ensures { result ≡ is_conflict self.now other.now }
     {
         self.loc == other.loc && (self.writes || other.writes)
     }
 
-    /// The conflict of two accesses: the numbers of their items.
+    /// Returns the pair of the items' indices.
     fn pair(&self, other: &Access) -> (u8, u8)
         ensures { result ≡ (self.now.index, other.now.index) }
     {
@@ -35,7 +35,7 @@ impl Access {
     }
 }
 
-/// The access of an item, if it is one.
+/// Returns the access of an item, if it accesses a location.
 fn access_of<S: Statement, B: Allocator>(
     program: &[Sequence<S, B>],
     item: Item,
@@ -56,7 +56,7 @@ fn access_of<S: Statement, B: Allocator>(
     })
 }
 
-/// The items that access a location.
+/// Returns the accesses of the items, in their order.
 fn accesses_of<S: Statement, A: Allocator, B: Allocator>(
     alloc: A,
     program: &[Sequence<S, B>],
@@ -74,7 +74,7 @@ fn accesses_of<S: Statement, A: Allocator, B: Allocator>(
     Ok(accesses)
 }
 
-/// Pushes the conflicts of an access with later ones.
+/// Appends the conflicts of an access with later ones.
 fn push_conflicts<A: Allocator>(
     pairs: &mut Vec<(u8, u8), A>,
     first: &Access,
@@ -91,7 +91,7 @@ fn push_conflicts<A: Allocator>(
     Ok(())
 }
 
-/// The conflicts of items, sorted.
+/// Returns the conflicts of items, sorted.
 pub fn conflicts_of<S: Statement, A: Allocator + Copy, B: Allocator>(
     alloc: A,
     program: &[Sequence<S, B>],

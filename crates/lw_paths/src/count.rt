@@ -1,4 +1,4 @@
-//! How many orders there may be.
+//! Counting the orders of a program.
 ghost use Rattle.std.specs.Prelude.{◌≡◌, ◌+◌, ◌<◌, ◌≤◌, ℕ, List, length, take, IfOk, IfErr, OnOk, OnErr, MatchOption};
 ghost use Rattle.lw_orders.specs.Orientations.{orientation_count};
 ghost use Rattle.lw_orders.specs.Limits.{most_items, most_orders};
@@ -20,8 +20,8 @@ use lw_litmus::Statement;
 use lw_orders::{Items, MAX_ITEMS, MAX_ORDERS, count};
 use std::alloc::{AllocError, Allocator};
 
-/// Makes a list the items of a choice, where they aren't too many. Otherwise, and where there is no memory for all of them, it is
-/// left with the first of them.
+/// Fills a list with the items of a path assignment. Fails if there are more than a list takes, or if memory runs
+/// out; then the list has some of the first items.
 pub fn fill_few_items<S: Statement, A: Allocator, B: Allocator>(
     program: &[Sequence<S, B>],
     choice: &PathAssignment,
@@ -39,8 +39,8 @@ pub fn fill_few_items<S: Statement, A: Allocator, B: Allocator>(
     Ok(())
 }
 
-/// The items with the reduced ones of their fixed pairs, which come to the same as all, and with their conflicts, which are
-/// given.
+/// Returns the items with these conflicts and the transitive reduction of their preserved pairs, which is equivalent
+/// to all preserved pairs.
 pub fn reduced_constraints<S: Statement, A: Allocator, B: Allocator>(
     alloc: A,
     program: &[Sequence<S, B>],
@@ -55,8 +55,8 @@ pub fn reduced_constraints<S: Statement, A: Allocator, B: Allocator>(
     Ok(Items::new(items.len(), fixed, conflicts))
 }
 
-/// In how many ways the open conflicts of a choice's items can each be taken one way round or the other; None above the most
-/// orders. Where nothing conflicts, there is one, and no pairs are made.
+/// Returns the number of orders of a path assignment's items, or `None` above the limit. If nothing conflicts there
+/// is one, and no pairs are computed.
 fn count_orders<S: Statement, A: Allocator + Copy, B: Allocator>(
     alloc: A,
     program: &[Sequence<S, B>],
@@ -76,7 +76,7 @@ fn count_orders<S: Statement, A: Allocator + Copy, B: Allocator>(
     count(alloc, &constraints)
 }
 
-/// The orders of the choices visited so far, together.
+/// The visitor that adds up the orders of path assignments.
 #[derive(Drop)]
 pub(crate) struct Counter<'a, S: Statement, A: Allocator, B: Allocator> {
     pub(crate) alloc: A,
@@ -94,7 +94,7 @@ impl<'a, S: Statement, A: Allocator + Copy, B: Allocator> Visitor for Counter<'a
 
     ghost refuses = { λ v paths e. LimitFaultOfChoice S.language v.program.now v.total paths e };
 
-    /// Adds the number of one choice's orders to the total, and refuses too many items or orders.
+    /// Adds the number of one path assignment's orders to the total. Fails at too many items or orders.
     fn visit(&mut self, choice: &PathAssignment) -> Result<(), ListFault> {
         fill_few_items(self.program, choice, &mut self.items)?;
         let Some(orders) = count_orders(self.alloc, self.program, self.items.as_slice())? else {

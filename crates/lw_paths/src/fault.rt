@@ -1,24 +1,24 @@
-//! Why there is no list.
+//! Why a test has no list.
 ghost use Rattle.std.specs.Prelude.{◌≡◌};
 ghost use Rattle.lw_paths.specs.Faults.{list_fault_code, list_fault_name};
 ghost use Rattle.lw_paths.specs.declared.fault.ListFault.TheVariants.{Memory as OutOfMemory};
 
 use std::alloc::{AllocError, AllocFailed};
 
-/// Why a test has no list of its outcomes.
+/// Why the outcomes of a test are not listed.
 #[derive(Clone, Copy)]
 pub enum ListFault {
-    /// Some choice of paths has more than 128 items.
+    /// Some path assignment has more than 128 items.
     TooManyItems,
-    /// No choice has so many, and the ways in which the open conflicts of each choice can be taken one way round or the
-    /// other are, over all choices, more than `lw_orders::MAX_ORDERS`.
+    /// No path assignment has more than 128 items, and the orientations of the unordered conflicts of all path
+    /// assignments are, added up, more than `lw_orders::MAX_ORDERS`.
     TooManyOrders,
-    /// No memory was to be had.
+    /// Memory ran out.
     Memory,
 }
 
 impl ListFault {
-    /// The number under which people are told of it: 1 to 3.
+    /// Returns the printed code of the fault, 1 to 3.
     pub fn code(self) -> u8
         ensures { result ≡ list_fault_code self }
     {
@@ -29,7 +29,7 @@ impl ListFault {
         }
     }
 
-    /// The name under which people are told of it.
+    /// Returns the printed name of the fault.
     pub fn name(self) -> &'static str
         ensures { result.now ≡ list_fault_name self }
     {
@@ -44,7 +44,7 @@ impl ListFault {
 impl From<AllocError> for ListFault {
     ghost from_gives = { λ _ e. e ≡ OutOfMemory };
 
-    /// A growth of memory that was refused is out of memory.
+    /// Converts a refused allocation.
     fn from(_: AllocError) -> Self {
         ListFault::Memory
     }

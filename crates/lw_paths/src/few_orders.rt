@@ -1,4 +1,4 @@
-//! Programs whose orders are few whatever the paths, as is seen without a walk over all choices.
+//! A quick test for few orders, without a visit of all path assignments.
 ghost use Rattle.std.specs.Prelude.{◌≡◌, ◌≤◌, true, List, []};
 ghost use Rattle.std.specs.List.{sum_by};
 ghost use Rattle.lw_orders.specs.Limits.{most_open, most_orders};
@@ -13,10 +13,11 @@ use lw_litmus::Statement;
 use lw_orders::MAX_OPEN;
 use std::alloc::Allocator;
 
-/// The most branches of a program that is taken to have few choices: 2 to their number are as many as there may be orders.
+/// The maximum number of branches of a program that is known to have few path assignments: there are at most 2 to
+/// this power.
 const MAX_BRANCHES: usize = MAX_OPEN;
 
-/// The number of a thread's branches.
+/// Returns the number of branches of a thread.
 fn count_branches<S: Statement, A: Allocator>(code: &Sequence<S, A>) -> usize
     ensures { result ≡ branches S.language code.now }
 {
@@ -26,7 +27,7 @@ fn count_branches<S: Statement, A: Allocator>(code: &Sequence<S, A>) -> usize
         .count()
 }
 
-/// Whether no statement of a thread accesses a location.
+/// Returns whether no statement of a thread accesses a location.
 fn code_has_no_access<S: Statement, A: Allocator>(code: &Sequence<S, A>) -> bool
     ensures { result ≡ silent_code S.language code.now }
 {
@@ -35,21 +36,21 @@ fn code_has_no_access<S: Statement, A: Allocator>(code: &Sequence<S, A>) -> bool
         .all(|stmt| stmt.operation().location().is_none())
 }
 
-/// Whether no statement of a program accesses a location.
+/// Returns whether no statement of a program accesses a location.
 fn has_no_access<S: Statement, A: Allocator>(program: &[Sequence<S, A>]) -> bool
     ensures { result ≡ silent S.language program.now }
 {
     program.iter().all(|code| code_has_no_access(code))
 }
 
-/// Whether it is seen at once that no items of a program conflict, whatever the paths.
+/// Returns whether it is clear without a visit that no items of a program conflict, on any paths.
 pub fn has_no_conflicts<S: Statement, A: Allocator>(program: &[Sequence<S, A>]) -> bool
     ensures { result ≡ true → (items : List Item) → (constraints_of S.language program.now items).conflicts ≡ [] }
 {
     has_no_access(program)
 }
 
-/// Whether a program has so few branches that its choices are few.
+/// Returns whether a program has few enough branches to have few path assignments.
 fn has_few_branches<S: Statement, A: Allocator>(program: &[Sequence<S, A>]) -> bool
     ensures { result ≡ true → sum_by (branches S.language) program.now ≤ most_open }
 {
@@ -64,7 +65,8 @@ fn has_few_branches<S: Statement, A: Allocator>(program: &[Sequence<S, A>]) -> b
     true
 }
 
-/// Whether the orders are few whatever the paths: each choice has one, and there are few choices.
+/// Returns whether a program is known to be within the limit of orders: each path assignment has one order, and there
+/// are few path assignments.
 pub(crate) fn has_few_orders<S: Statement, A: Allocator>(program: &[Sequence<S, A>]) -> bool
     requires { IsVisitable S.language program.now }
     ensures { result ≡ true → total_of S.language program.now ≤ most_orders }

@@ -1,8 +1,8 @@
-//! What is put in order.
+//! Items: what the orders of a test are orders of.
 
 use lw_base::Cpu;
 
-/// A statement on a thread's path, or the drain of the entry that it made.
+/// A statement on a thread's path, or the drain of the entry that it enqueued.
 #[derive(Clone, Copy)]
 pub struct Item {
     pub thread: Cpu,
@@ -10,7 +10,7 @@ pub struct Item {
     pub is_drain: bool,
 }
 
-/// Of the items of a thread before some item: the last statement, and the last drain, by their numbers.
+/// The index of the last statement and of the last drain among the items of a thread before some item.
 #[derive(Clone, Copy)]
 pub(crate) struct LastItems {
     pub(crate) statement: Option<u8>,

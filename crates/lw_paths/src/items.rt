@@ -1,4 +1,4 @@
-//! The items of a choice.
+//! The items of a path assignment.
 ghost use Rattle.std.specs.Prelude.{◌≡◌, ◌++◌, ℕ, List, take, OnOk, OnErr, option_copied};
 ghost use Rattle.lw_paths.specs.Items as choice_items;
 ghost use Rattle.lw_paths.specs.Items.{items_at, path_items};
@@ -12,8 +12,8 @@ use lw_base::{Cpu, Sequence};
 use lw_litmus::Statement;
 use std::alloc::{AllocError, Allocator};
 
-/// Makes a list the items of a choice, thread by thread, each along its path. Where there is no memory for all of them, it is left
-/// with the first of them.
+/// Fills a list with the items of a path assignment, thread by thread, each along its path. If memory runs out, the
+/// list has some of the first items.
 pub(crate) fn fill_items<S: Statement, A: Allocator, B: Allocator>(
     program: &[Sequence<S, B>],
     choice: &PathAssignment,
@@ -33,7 +33,7 @@ pub(crate) fn fill_items<S: Statement, A: Allocator, B: Allocator>(
     Ok(())
 }
 
-/// Pushes the items of a thread, along its path. Where there is no memory for all of them, the rest is missing.
+/// Appends the items of a thread, along its path. If memory runs out, the list has some of the first items.
 fn push_path<S: Statement, A: Allocator, B: Allocator>(
     items: &mut Vec<Item, A>,
     thread: Cpu,
@@ -49,7 +49,7 @@ fn push_path<S: Statement, A: Allocator, B: Allocator>(
     Ok(())
 }
 
-/// Pushes a statement, and its drain if it has one. Where there is no memory for both, the rest is missing.
+/// Appends a statement, and its drain if it has one. If memory runs out, the list has some of them.
 fn push_statement<S: Statement, A: Allocator>(
     items: &mut Vec<Item, A>,
     thread: Cpu,

@@ -1,5 +1,5 @@
-//! Laws of choices of flow paths.
-//! A law is a function without a result, whose contract is the law; who needs it calls the function.
+//! Laws of path assignments. A law is a function without a result, whose contract states the law. A proof uses the
+//! law by calling the function.
 ghost use Rattle.std.specs.Prelude.{◌≡◌, ◌≢◌, ◌↔◌, ℕ, List, All, Contains};
 ghost use Rattle.lw_litmus.specs.Tests.{SourceTest};
 ghost use Rattle.lw_litmus.specs.Sources.{source_language};
@@ -18,16 +18,16 @@ ghost use Rattle.lw_orders.specs.Orientations.{orientation_count};
 
 use lw_litmus::Statement;
 
-/// The list of the choices of a program has each of them once, and nothing else: where jumps lead forward,
-/// at most to the end.
+/// States that the list of path assignments of a program has each of them once, and nothing else, if jumps lead
+/// forward, at most to the end.
 pub fn choices_are_complete<S: Statement>()
     ensures all { (program : List (List S)) (paths : List (List ℕ)) → All (JumpsForward S.language) program
         → Contains (path_assignments S.language program) paths ↔ IsPathAssignment S.language program paths }
     ensures once { (program : List (List S)) → All (JumpsForward S.language) program → IsDuplicateFree (path_assignments S.language program) }
 {}
 
-/// The orders of the items of a choice are made with a part of the fixed pairs, which comes to the same as all: the same orders keep
-/// it, it decides the same pairs, and it leaves as many ways to take the conflicts.
+/// States that the transitive reduction of the preserved pairs is equivalent to all of them: it has the same linear
+/// extensions, orders the same pairs, and leaves as many orientations of the conflicts.
 pub fn reduced_pairs_fix_the_same<S: Statement>()
     ensures orders { (program : List (List S)) (paths : List (List ℕ)) (order : List ℕ)
         → IsLinearExtension (transitive_reduction S.language program (items_of S.language program paths)) order
@@ -40,8 +40,8 @@ pub fn reduced_pairs_fix_the_same<S: Statement>()
         ≡ orientation_count (constraints_of S.language program (items_of S.language program paths)) }
 {}
 
-/// The orders of all choices of a program have one total, which the code counts, where jumps lead forward, at most to the end. So a
-/// program that is past a limit is not within the limits.
+/// States that the total number of orders of all path assignments is unique, and is the number that the code
+/// computes, if jumps lead forward, at most to the end. So a program that exceeds a limit is not within the limits.
 pub fn totals_are_counted<S: Statement>()
     ensures counted { (program : List (List S)) → All (JumpsForward S.language) program
         → IsTotalOrderCount S.language program (total_of S.language program) }
@@ -51,7 +51,7 @@ pub fn totals_are_counted<S: Statement>()
         → LimitFaultIsTrue S.language program f → IsWithinLimits S.language program → ⊥ }
 {}
 
-/// A source test never has too many items for a list.
+/// States that a source test never has too many items for a list.
 pub fn source_tests_have_few_items()
     ensures { (s : SourceTest) → IsWellFormedSource s → HasTooManyItems source_language s.threads → ⊥ }
 {}

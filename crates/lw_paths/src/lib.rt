@@ -1,16 +1,18 @@
-//! Choices of whole flow paths, one for each thread of a test, and the items that stand on them: of any language whose
-//! statements say what they do (`statement` says what that is to the lists).
-//!
-//! How the choices of a program are gone through, and where each part stands:
-//! 1. `visit`: each choice is visited once, with no list of them (`path`, `path_methods`).
-//! 2. `item`, `items`, `fixed`, `conflicts`: the statements on the paths, with the drains of their stores, are the items; some
-//!    pairs of them stand in a fixed order, and some conflict. lw_orders gives one order for each way round in which these can
-//!    stand.
-//! 3. `size`, `count`, `limits`: the most items of a choice are looked at first, then the ways of all choices are counted, up
-//!    to the limit, unless `few` sees at once that they are within it; `fault` has what is told where one is passed.
-//!
-//! It names lw_base; of lw_litmus what statements do; and lw_orders. Nothing here steps. The promise that the
-//! crates above use: `visit_choices` visits exactly the choices of a program, each once, which `laws` says of their list.
+//! Path assignments, which choose a whole flow path for each thread of a test, and their items. They are defined for
+//! any language whose statements have operations (`statement` says what these mean here).
+//! How the path assignments of a program are visited:
+//! 1. `visit`: each path assignment is visited once, without a list of them (`path`, `path_methods`).
+//! 2. `item`, `items`, `preserved_order`, `conflicts`: the statements on the paths, and the drains of their stores,
+//!    are the
+//!    items. The order of some pairs is preserved, and some pairs conflict. lw_orders enumerates one order for each
+//!    orientation of the conflicts.
+//! 3. `size`, `count`, `limits`: the maximum number of items is checked first. Then the orders of all path
+//!    assignments are
+//!    counted, up to the limit, unless `few_orders` shows without counting that they are within it. `fault` has the
+//!    causes.
+//! This crate depends on lw_base, on the operations of lw_litmus, and on lw_orders. It executes nothing. Crates above
+//! rely on one promise: `visit_choices` visits exactly the path assignments of a program, each once; `laws` says so
+//! of their list.
 #![tactic(auto)]
 
 mod conflicts;

@@ -1,4 +1,4 @@
-//! Whether a program is within the limits of a list.
+//! The limits of a list.
 ghost use Rattle.std.specs.Prelude.{◌≤◌, OnOk, IfErr};
 ghost use Rattle.lw_orders.specs.Limits.{most_orders};
 ghost use Rattle.lw_paths.specs.Counts.{HasTooManyItems, LimitFaultIsTrue, IsWithinLimits};
@@ -14,7 +14,7 @@ use lw_base::Sequence;
 use lw_litmus::Statement;
 use std::alloc::Allocator;
 
-/// Whether the orders of a program are not too many.
+/// Fails if a program has too many orders.
 fn check_orders<S: Statement, A: Allocator + Copy, B: Allocator>(
     alloc: A,
     program: &[Sequence<S, B>],
@@ -33,8 +33,8 @@ fn check_orders<S: Statement, A: Allocator + Copy, B: Allocator>(
     visit_choices(program, &mut counter)
 }
 
-/// Whether a program is within the limits of a list: its items are looked at first. Where it is seen without a walk over all choices
-/// that their orders are few, they are not counted.
+/// Checks that a program is within the limits of a list, items before orders. The orders are not counted if it is
+/// clear without a visit that they are few.
 pub fn check_limits<S: Statement, A: Allocator + Copy, B: Allocator>(
     alloc: A,
     program: &[Sequence<S, B>],

@@ -1,4 +1,4 @@
-//! Flow paths of threads, and choices of them. They take no memory beside themselves.
+//! Flow paths of threads, and path assignments. They do not allocate.
 ghost use Rattle.std.specs.Prelude.{◌≤◌};
 ghost use Rattle.lw_base.specs.Limits.{most_threads};
 ghost use Rattle.lw_litmus.specs.Limits.{most_instructions};
@@ -6,7 +6,7 @@ ghost use Rattle.lw_litmus.specs.Limits.{most_instructions};
 use lw_base::MAX_THREADS;
 use lw_litmus::MAX_INSTRUCTIONS;
 
-/// The statements that a thread passes, by their positions: at most as many as a thread can have.
+/// The positions of the statements that a thread passes. Its capacity is the maximum length of a thread.
 #[derive(Clone, Copy)]
 pub struct Path {
     pub(crate) positions: [u8; MAX_INSTRUCTIONS],
@@ -14,7 +14,7 @@ pub struct Path {
     ghost fits: { len ≤ most_instructions },
 }
 
-/// The paths of the first threads of a program, one for each: at most as many as a test can have.
+/// A path for each of the first threads of a program. Its capacity is the maximum number of threads.
 #[derive(Clone, Copy)]
 pub struct PathAssignment {
     pub(crate) paths: [Path; MAX_THREADS],

@@ -1,4 +1,4 @@
-//! How paths and choices grow, and how they are read.
+//! Extending and reading paths and path assignments.
 ghost use Rattle.std.specs.Prelude.{◌≡◌, ◌<◌, ◌≤◌, ◌++◌, [], ◌∷◌, length, map};
 ghost use Rattle.lw_base.specs.Limits.{most_threads};
 ghost use Rattle.lw_litmus.specs.Limits.{most_instructions};
@@ -9,7 +9,7 @@ use lw_base::MAX_THREADS;
 use lw_litmus::MAX_INSTRUCTIONS;
 
 impl Path {
-    /// A path without a statement.
+    /// Creates an empty path.
     pub(crate) fn new() -> Self
         ensures { path_of result ≡ [] }
     {
@@ -19,7 +19,7 @@ impl Path {
         }
     }
 
-    /// The path with one statement more.
+    /// Returns the path with one more statement.
     pub(crate) fn with(self, position: u8) -> Self
         requires { length (path_of self) < most_instructions }
         ensures { path_of result ≡ path_of self ++ position ∷ [] }
@@ -32,7 +32,7 @@ impl Path {
         }
     }
 
-    /// The positions of the statements, first to last.
+    /// Returns the positions of the statements, first to last.
     pub fn as_slice(&self) -> &[u8]
         ensures { result.now ≡ path_of self.now }
     {
@@ -41,7 +41,7 @@ impl Path {
 }
 
 impl PathAssignment {
-    /// A choice without a path.
+    /// Creates an empty path assignment.
     pub(crate) fn new() -> Self
         ensures { choice_of result ≡ [] }
     {
@@ -51,7 +51,7 @@ impl PathAssignment {
         }
     }
 
-    /// The choice with the path of one thread more.
+    /// Returns the path assignment with the path of one more thread.
     pub(crate) fn with(self, path: Path) -> Self
         requires { length (choice_of self) < most_threads }
         ensures { choice_of result ≡ choice_of self ++ path_of path ∷ [] }
@@ -64,14 +64,14 @@ impl PathAssignment {
         }
     }
 
-    /// The number of paths.
+    /// Returns the number of paths.
     pub fn len(&self) -> usize
         ensures { result ≡ length (choice_of self.now) }
     {
         self.len as usize
     }
 
-    /// The paths, the first thread's first.
+    /// Returns the paths, the first thread's first.
     pub fn as_slice(&self) -> &[Path]
         ensures { map path_of result.now ≡ choice_of self.now }
     {

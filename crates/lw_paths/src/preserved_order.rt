@@ -1,4 +1,5 @@
-//! The reduced pairs of the items of a choice: the fixed pairs but those that others decide; these are few, and come to the same.
+//! The preserved order of the items of a path assignment: the transitive reduction of its preserved pairs. They are
+//! few, and equivalent to all preserved pairs.
 ghost use Rattle.std.specs.Prelude.{◌≡◌, ◌≤◌, ◌++◌, ◌||◌, [], if◌then◌else◌, length, IfOk, OnOk, option_copied};
 ghost use Rattle.lw_orders.specs.Limits.{most_items};
 ghost use Rattle.lw_paths.specs.Items as choice_items;
@@ -12,7 +13,7 @@ use lw_litmus::Statement;
 use std::alloc::{AllocError, Allocator};
 
 impl LastItems {
-    /// The last items at a thread's first one: none.
+    /// Returns the last items before a thread's first item: none.
     fn none() -> Self
         ensures { result ≡ none_before }
     {
@@ -22,7 +23,8 @@ impl LastItems {
         }
     }
 
-    /// The last items for an item's thread: these if the item before is of it, else none.
+    /// Returns the last items before an item of `thread`: these if the item before is of the same thread, none
+    /// otherwise.
     fn of(self, thread: Cpu, before: Cpu) -> Self
         ensures { result ≡ last_of_thread before thread self }
     {
@@ -33,7 +35,7 @@ impl LastItems {
         }
     }
 
-    /// The last items after an item: it is the last statement, or the last drain.
+    /// Records an item as the last statement, or as the last drain.
     fn with(self, is_drain: bool, index: u8) -> Self
         ensures { result ≡ record_last is_drain self index }
     {
@@ -51,7 +53,7 @@ impl LastItems {
     }
 }
 
-/// The statement that an item is, or whose drain it is.
+/// Returns the statement that an item executes, or whose entry it drains.
 pub(crate) fn statement_of<S: Statement, B: Allocator>(
     program: &[Sequence<S, B>],
     item: Item,
@@ -63,7 +65,8 @@ pub(crate) fn statement_of<S: Statement, B: Allocator>(
         .get(usize::from(item.position))
 }
 
-/// Whether an item must stand behind the last drain of its thread: a drain, and what waits for drains.
+/// Returns whether an item must come after the last drain of its thread: a drain must, and a statement that needs an
+/// empty buffer.
 fn needs_earlier_drains<S: Statement, B: Allocator>(program: &[Sequence<S, B>], item: Item) -> bool
     ensures { result ≡ (item.is_drain || needs_earlier_drains S.language program.now item) }
 {
@@ -76,7 +79,7 @@ fn needs_earlier_drains<S: Statement, B: Allocator>(program: &[Sequence<S, B>], 
     }
 }
 
-/// Pushes the pair of an item with one before it, if there is one.
+/// Appends the pair of an item with one before it, if there is one.
 fn push_edge<A: Allocator>(
     pairs: &mut Vec<(u8, u8), A>,
     before: Option<u8>,
@@ -90,7 +93,8 @@ fn push_edge<A: Allocator>(
     Ok(())
 }
 
-/// Pushes the pairs of an item with the last statement before it and, where it is a drain or waits for drains, with the last drain.
+/// Appends the pairs of an item with the last statement before it, and with the last drain if `is_behind_drains` is
+/// set.
 fn push_preserved<A: Allocator>(
     pairs: &mut Vec<(u8, u8), A>,
     last: LastItems,
@@ -107,7 +111,7 @@ fn push_preserved<A: Allocator>(
     Ok(())
 }
 
-/// The reduced pairs of items: the fixed pairs but those that others decide.
+/// Returns the transitive reduction of the preserved pairs of the items.
 pub(crate) fn preserved_pairs<S: Statement, A: Allocator, B: Allocator>(
     alloc: A,
     program: &[Sequence<S, B>],

@@ -1,4 +1,4 @@
-//! How many items a choice of paths has at most, with no walk over all choices: the longest path of each thread, by items.
+//! The maximum number of items of a path assignment, without a visit: the longest path of each thread, by items.
 ghost use Rattle.std.specs.Prelude.{◌≡◌, ◌+◌, ◌*◌, ◌<◌, ◌≤◌, ℕ, Contains, length, OnOk, IfErr, slice_index, Some};
 ghost use Rattle.lw_litmus.specs.Limits.{most_instructions};
 ghost use Rattle.lw_litmus.specs.Flow.{IsFlowPathFrom};
@@ -17,10 +17,10 @@ use lw_litmus::{MAX_INSTRUCTIONS, Statement};
 use lw_orders::MAX_ITEMS;
 use std::alloc::Allocator;
 
-/// The positions of the longest thread: those of its statements, and its end.
+/// The number of positions of the longest thread: those of its statements, and its end.
 const POSITIONS: usize = MAX_INSTRUCTIONS + 1;
 
-/// The number of items of a statement: itself, and its drain if it has one.
+/// Returns the number of items of a statement: itself, and its drain if it has one.
 fn count_items<S: Statement>(stmt: &S) -> usize
     ensures { result ≡ statement_size S.language stmt.now }
 {
@@ -30,7 +30,7 @@ fn count_items<S: Statement>(stmt: &S) -> usize
     }
 }
 
-/// The most items of the paths behind a statement, given those of the paths from each position.
+/// Returns the maximum number of items on the paths after a statement, from a table of the maxima of later positions.
 fn max_items_from<S: Statement>(most: &[usize; POSITIONS], stmt: &S, at: usize) -> usize
     requires at { at < most_instructions }
     requires within { (k : ℕ) → Contains (successors S.language stmt.now at) k → k ≤ most_instructions }
@@ -48,7 +48,7 @@ fn max_items_from<S: Statement>(most: &[usize; POSITIONS], stmt: &S, at: usize) 
     most_first
 }
 
-/// The most items of the paths of a thread.
+/// Returns the maximum number of items on the paths of a thread.
 fn max_items_of_thread<S: Statement, A: Allocator>(code: &Sequence<S, A>) -> usize
     requires short { length code.now ≤ most_instructions }
     requires forward { JumpsForward S.language code.now }
@@ -65,7 +65,7 @@ fn max_items_of_thread<S: Statement, A: Allocator>(code: &Sequence<S, A>) -> usi
     most[0]
 }
 
-/// The most items of the choices of a program.
+/// Returns the maximum number of items of the path assignments of a program.
 fn max_items<S: Statement, A: Allocator>(program: &[Sequence<S, A>]) -> usize
     requires { IsVisitable S.language program.now }
     ensures most { IsMost (IsPathAssignment S.language program.now) (items_at_choice S.language program.now) result }
@@ -77,7 +77,7 @@ fn max_items<S: Statement, A: Allocator>(program: &[Sequence<S, A>]) -> usize
     }
 }
 
-/// Whether no choice of a program has more items than a list takes.
+/// Fails if some path assignment of a program has more items than a list takes.
 pub(crate) fn check_items<S: Statement, A: Allocator>(
     program: &[Sequence<S, A>],
 ) -> Result<(), ListFault>

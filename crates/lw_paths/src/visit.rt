@@ -1,4 +1,4 @@
-//! Visits of all choices of flow paths, one after another, with no list of them.
+//! Visiting all path assignments of a program, without a list of them.
 ghost use Rattle.std.specs.Prelude.{◌≡◌, ℕ, ◌<◌, ◌≤◌, List, [], ◌∷◌, length, All, OnOk, IfErr};
 ghost use Rattle.std.specs.Option.{option_to_list};
 ghost use Rattle.lw_base.specs.Threads.{thread_code};
@@ -13,24 +13,24 @@ use lw_base::Sequence;
 use lw_litmus::Statement;
 use std::alloc::Allocator;
 
-/// What is done for each choice.
+/// A visitor of path assignments.
 pub trait Visitor {
-    /// Why there is no further visit.
+    /// Why a visit fails, which ends all visits.
     type Fault;
 
-    /// What a visit of a choice makes of the visitor.
+    /// The relation between the visitor before a visit, the path assignment, and the visitor after it.
     ghost visits: { Self → List (List ℕ) → Self → Type 0 };
 
-    /// What a refusal of a choice tells.
+    /// What a failure means.
     ghost refuses: { Self → List (List ℕ) → Self.Fault → Type 0 };
 
-    /// Visits a choice.
+    /// Visits a path assignment.
     fn visit(&mut self, choice: &PathAssignment) -> Result<(), Self::Fault>
         ensures ok { OnOk result (visits self.old (choice_of choice.now) self.new) }
         ensures err { IfErr result (λ e. refuses self.old (choice_of choice.now) e) };
 }
 
-/// The positions that may follow a statement's: the first, and the second where there are two.
+/// Returns the successors of a statement: one position, and a second if there are two.
 pub(crate) fn successors<S: Statement>(stmt: &S, at: usize) -> (usize, Option<usize>)
     requires { at < most_instructions }
     ensures { (result.0 ∷ option_to_list result.1) ≡ successors S.language stmt.now at }
@@ -48,7 +48,8 @@ pub(crate) fn successors<S: Statement>(stmt: &S, at: usize) -> (usize, Option<us
     (next, Some(to))
 }
 
-/// Visits each choice that begins with these paths, whose next path has begun and goes on at a position.
+/// Visits each path assignment that begins with these paths, and whose next path begins with `path` and continues at
+/// a position.
 fn visit_from<S: Statement, A: Allocator, V: Visitor>(
     program: &[Sequence<S, A>],
     choice: PathAssignment,
@@ -76,7 +77,7 @@ fn visit_from<S: Statement, A: Allocator, V: Visitor>(
     }
 }
 
-/// Visits each choice of a program, the first thread's path changing slowest, until one is refused.
+/// Visits each path assignment of a program, the first thread's path changing slowest, until a visit fails.
 pub fn visit_choices<S: Statement, A: Allocator, V: Visitor>(
     program: &[Sequence<S, A>],
     visitor: &mut V,

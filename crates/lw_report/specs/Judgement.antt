@@ -1,4 +1,4 @@
--- What is told of a test's condition, by the numbers of the states that make its proposition true and that do not.
+-- The verdict on a test's condition, from the numbers of states in which its proposition is true and false.
 use Rattle.std.specs.Prelude.{◌≡◌, ◌↔◌, ℕ, true, false, not, ◌==◌, if◌then◌else◌, List, length, filter}
 use Rattle.lw_base.specs.declared.head.Quant.{Quant}
 use Rattle.lw_base.specs.declared.head.Quant.TheVariants.{Exists, NotExists, Forall}
@@ -13,14 +13,16 @@ use Rattle.lw_report.specs.declared.judgement.Verdict.TheVariants as verdict
 use Rattle.lw_report.specs.declared.judgement.Observation.{Observation}
 use Rattle.lw_report.specs.declared.judgement.Observation.TheVariants as seen
 
-abbrev pub positive : List ProjectedState → ℕ  -- the states that make the proposition true
+-- The number of states in which the proposition is true.
+abbrev pub positive : List ProjectedState → ℕ
 positive states = length (filter (λ (s : ProjectedState). s.holds) states)
 
-abbrev pub negative : List ProjectedState → ℕ  -- the states that do not make the proposition true
+-- The number of states in which the proposition is false.
+abbrev pub negative : List ProjectedState → ℕ
 negative states = length (filter (λ (s : ProjectedState). not s.holds) states)
 
--- Whether the condition is met. Where the states are all, one that makes the proposition true meets `exists` and breaks
--- `~exists`, and one that does not breaks `forall`. Where there may be others, only such a state decides.
+-- Whether the condition holds. If the states are all, a state that satisfies the proposition makes `exists` true and `~exists` false, and
+-- one that does not makes `forall` false. If there may be others, only such a state decides.
 abbrev pub verdict_of : Claim → Quant → ℕ → ℕ → Verdict
 verdict_of Exact Exists p q = if p == 0 then verdict.No else verdict.Ok
 verdict_of Exact NotExists p q = if p == 0 then verdict.Ok else verdict.No
@@ -29,12 +31,12 @@ verdict_of Listed Exists p q = if p == 0 then verdict.Unknown else verdict.Ok
 verdict_of Listed NotExists p q = if p == 0 then verdict.Unknown else verdict.No
 verdict_of Listed Forall p q = if q == 0 then verdict.Unknown else verdict.No
 
--- How often the proposition is true. Where there may be other states, only one of each kind decides.
+-- In how many states the proposition is true. If there may be other states, only one of each kind decides.
 abbrev pub observation_of : Claim → ℕ → ℕ → Observation
 observation_of Exact p q = if p == 0 then seen.Never else if q == 0 then seen.Always else seen.Sometimes
 observation_of Listed p q = if p == 0 then seen.Unknown else if q == 0 then seen.Unknown else seen.Sometimes
 
--- What an `Ok` says of all outcomes of a set, of whose states p make the proposition true and q do not.
+-- What `Ok` means for all outcomes of a set, with p states in which the proposition is true and q in which it is false.
 pub record OkMeans (head : TestHead) (Has : FinalState → Type 0) (p q : ℕ) : Type 0 where
   pub exists_some : verdict_of Exact Exists p q ≡ verdict.Ok ↔ ((o : FinalState) × Has o × (is_true head.condition o ≡ true))
   pub exists_none : verdict_of Exact NotExists p q ≡ verdict.Ok ↔ ((o : FinalState) → Has o → is_true head.condition o ≡ false)

@@ -1,5 +1,4 @@
--- The report of a test's states, and the list of their schedules.
--- The source is the format of the workbench, docs/FORMAT.md, which is close to what herd prints.
+-- The report of a test's states, and the list of their schedules, by docs/FORMAT.md, which is close to what herd prints.
 use Rattle.std.specs.Prelude.{◌≡◌, ℕ, List, [], ◌++◌, length, map, codes, zip, slice_index_or, All}
 use Rattle.std.specs.List.{flat_map}
 use Rattle.std.specs.Fmt.{decimal}
@@ -23,58 +22,69 @@ use Rattle.lw_report.specs.declared.judgement.Verdict.TheVariants as verdict
 use Rattle.lw_report.specs.declared.judgement.Observation.{Observation}
 use Rattle.lw_report.specs.declared.judgement.Observation.TheVariants as seen
 
--- ---- states
+-- ---- States.
 
-abbrev pub word_text : TestHead → (Seen × ℕ) → Bytes  -- `name=word;`
+-- The text `name=word;`.
+abbrev pub word_text : TestHead → (Seen × ℕ) → Bytes
 word_text head seen = assignment (site_text head.arch head.locs seen.0) seen.1 ++ codes ";"
 
-abbrev pub state_line : TestHead → List ℕ → Bytes  -- a state's line: the observed names with their words
+-- The line of a state: the observed names with their words.
+abbrev pub state_line : TestHead → List ℕ → Bytes
 state_line head words = joined (codes " ") (map (word_text head) (zip (observed head) words)) ++ codes "\n"
 
-abbrev pub count_line : ℕ → Bytes  -- how many states there are
+-- The line of the number of states.
+abbrev pub count_line : ℕ → Bytes
 count_line states = codes "States " ++ (decimal states ++ codes "\n")
 
--- ---- the report
+-- ---- The report.
 
-abbrev pub kind_text : Quant → Bytes  -- what the title says of the condition: `Allowed`, `Forbidden` or `Required`
+-- What the title says of the condition: `Allowed`, `Forbidden` or `Required`.
+abbrev pub kind_text : Quant → Bytes
 kind_text Exists = codes "Allowed"
 kind_text NotExists = codes "Forbidden"
 kind_text Forall = codes "Required"
 
-abbrev pub verdict_text : Verdict → Bytes  -- a verdict, as it is printed
+-- The printed word of a verdict.
+abbrev pub verdict_text : Verdict → Bytes
 verdict_text verdict.Ok = codes "Ok"
 verdict_text verdict.No = codes "No"
 verdict_text verdict.Unknown = codes "Unknown"
 
-abbrev pub observation_text : Observation → Bytes  -- how often the proposition is true, as it is printed
+-- The printed word of an observation.
+abbrev pub observation_text : Observation → Bytes
 observation_text seen.Never = codes "Never"
 observation_text seen.Sometimes = codes "Sometimes"
 observation_text seen.Always = codes "Always"
 observation_text seen.Unknown = codes "Unknown"
 
-abbrev pub title_line : TestHead → Bytes  -- `Test`, the name, and what the condition says of the states where its proposition is true
+-- The first line: `Test`, the name, and the kind of the condition.
+abbrev pub title_line : TestHead → Bytes
 title_line head = codes "Test " ++ (head.name ++ (codes " " ++ (kind_text head.quant ++ codes "\n")))
 
-abbrev pub verdict_line : Claim → Quant → ℕ → ℕ → Bytes  -- the line of the verdict
+-- The line of the verdict.
+abbrev pub verdict_line : Claim → Quant → ℕ → ℕ → Bytes
 verdict_line claim quant p q = verdict_text (verdict_of claim quant p q) ++ codes "\n"
 
-abbrev pub numbers_line : ℕ → ℕ → Bytes  -- how many states make the proposition true, and how many do not
+-- The line of the numbers of states in which the proposition is true and false.
+abbrev pub numbers_line : ℕ → ℕ → Bytes
 numbers_line p q = codes "Positive: " ++ (decimal p ++ (codes " Negative: " ++ (decimal q ++ codes "\n")))
 
-abbrev pub condition_line : TestHead → Bytes  -- the condition, as it is printed
+-- The line of the condition.
+abbrev pub condition_line : TestHead → Bytes
 condition_line head = codes "Condition " ++ (condition_text head ++ codes "\n")
 
--- how often the proposition is true, with the test's name and both numbers
+-- The line of the observation, with the test's name and both numbers.
 abbrev pub observation_line : TestHead → Claim → ℕ → ℕ → Bytes
 observation_line head claim p q =
     codes "Observation " ++ (head.name ++ (codes " " ++ (observation_text (observation_of claim p q)
     ++ (codes " " ++ (decimal p ++ (codes " " ++ (decimal q ++ codes "\n")))))))
 
-abbrev pub claim_line : Claim → Bytes  -- the line that says that the states may not be all; none where they are all
+-- The line that says that the states may not be all; empty if they are all.
+abbrev pub claim_line : Claim → Bytes
 claim_line Exact = []
 claim_line Listed = codes "Listed, not claimed complete\n"
 
--- what stands behind the states, of which p make the proposition true and q do not
+-- The lines after the states, of which p satisfy the proposition and q do not.
 abbrev pub judgement_lines : TestHead → Claim → ℕ → ℕ → Bytes
 judgement_lines head claim p q =
     verdict_line claim head.quant p q
@@ -82,33 +92,36 @@ judgement_lines head claim p q =
     ++ (condition_line head
     ++ (observation_line head claim p q ++ claim_line claim)))
 
-abbrev pub report_text : TestHead → Claim → List ProjectedState → Bytes  -- a whole report
+-- The whole report.
+abbrev pub report_text : TestHead → Claim → List ProjectedState → Bytes
 report_text head claim states =
     title_line head
     ++ (count_line (length states)
     ++ (flat_map (λ (s : ProjectedState). state_line head s.words) states
     ++ judgement_lines head claim (positive states) (negative states)))
 
-pub record IsReport (head : TestHead) (Has : FinalState → Type 0) (claim : Claim) (text : Bytes) : Type 0 where  -- The report of a set of outcomes.
+-- The text is the report of a set of outcomes.
+pub record IsReport (head : TestHead) (Has : FinalState → Type 0) (claim : Claim) (text : Bytes) : Type 0 where
   pub states : List ProjectedState
   pub are : AreStatesOf head Has states
   pub is : text ≡ report_text head claim states
 
--- ---- the list of schedules
+-- ---- The list of schedules.
 
-abbrev pub scheduled_lines : TestHead → (ProjectedState × List Event) → Bytes  -- a state's line, and behind a space its schedule
+-- The line of a state and, after a space, its schedule.
+abbrev pub scheduled_lines : TestHead → (ProjectedState × List Event) → Bytes
 scheduled_lines head s = state_line head s.0.words ++ (codes " " ++ (schedule_text head.locs s.1 ++ codes "\n"))
 
--- the whole list: the test's name, how many states there are, and the lines of each
+-- The whole list: the test's name, the number of states, and the lines of each.
 abbrev pub schedule_list_text : TestHead → List (ProjectedState × List Event) → Bytes
 schedule_list_text head states =
     codes "Test " ++ (head.name ++ (codes "\n" ++ (count_line (length states) ++ flat_map (scheduled_lines head) states)))
 
--- a listed state as it is shown, with the schedule at its index among those of all outcomes
+-- A listed state with the schedule of its entry.
 abbrev pub scheduled : List (List Event) → ListedState → ProjectedState × List Event
 scheduled schedules s = (projection_of s, slice_index_or schedules s.entry [])
 
--- The list of the states of a set of outcomes, each with a schedule that leads to the smallest outcome that shows it.
+-- The text is the list of the states of a set of outcomes, each with a schedule that reaches the smallest outcome with its words.
 pub record IsScheduleList
     (head : TestHead) (Has : FinalState → Type 0) (Leads : List Event → FinalState → Type 0) (text : Bytes) : Type 0 where
   pub states : List (ProjectedState × List Event)

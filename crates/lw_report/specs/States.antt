@@ -1,4 +1,4 @@
--- The states that a report shows of a set of outcomes. A set is a predicate.
+-- The states of a set of outcomes in a report. A set is a predicate.
 use Rattle.std.specs.Prelude.{◌≡◌, ◌≢◌, ◌⊎◌, ◌↔◌, ◌<◌, ℕ, Bool, List, Some, map, slice_get, All, Contains}
 use Rattle.std.specs.List.{AllPairs}
 use Rattle.std.specs.Cmp.Lexicographic.{slice_cmp}
@@ -9,46 +9,46 @@ use Rattle.lw_base.specs.Outcomes.{FinalState, final_state_cmp}
 use Rattle.lw_report.specs.Truth.{is_true}
 use Rattle.lw_report.specs.Observed.{observed_words}
 
--- what a report shows of an outcome: its words of the observed names, and whether the test's proposition is true in it
+-- The state of an outcome in a report: its words of the observed names, and whether the test's proposition is true in it.
 pub record ProjectedState : Type 0 where
   pub words : List ℕ
   pub holds : Bool
 
--- what a report shows of an outcome of the test
+-- The state of an outcome of the test.
 abbrev pub project_state : TestHead → FinalState → ProjectedState
 project_state head o = record { words = observed_words head o; holds = is_true head.condition o }
 
--- The states of a set of outcomes: what is shown of each, sorted by the words, and no words twice.
+-- The states of a set of outcomes: one for each list of observed words, sorted by the words.
 pub record AreStatesOf (head : TestHead) (Has : FinalState → Type 0) (states : List ProjectedState) : Type 0 where
   pub sorted : AllPairs (λ (first : ProjectedState) (later : ProjectedState). slice_cmp nat_cmp first.words later.words ≡ Less) states
   pub exactly : (s : ProjectedState) → Contains states s ↔ ((o : FinalState) × Has o × (project_state head o ≡ s))
 
--- Of the outcomes of a set that have these words, this is the smallest.
+-- This is the smallest outcome of a set with these words.
 pub record IsSmallestOf (head : TestHead) (Has : FinalState → Type 0) (words : List ℕ) (o : FinalState) : Type 0 where
   pub has : Has o
   pub shows : observed_words head o ≡ words
   pub least : (other : FinalState) → Has other → observed_words head other ≡ words → (o ≡ other) ⊎ (final_state_cmp o other ≡ Less)
 
--- ---- the states of a list of outcomes
+-- ---- The states of a list of outcomes.
 
--- a state, and the index of the first outcome that shows it, which is the smallest: the outcomes of a listing go up
+-- A state with the index of the first outcome with its words, which is the smallest, since a listing is ascending.
 pub record ListedState : Type 0 where
   pub words : List ℕ
   pub entry : ℕ
   pub holds : Bool
 
--- what a report shows of a state that is listed
+-- A listed state without its index.
 abbrev pub projection_of : ListedState → ProjectedState
 projection_of s = record { words = s.words; holds = s.holds }
 
--- The outcome at the state's index shows it, and none before that has its words.
+-- The outcome at the state's index has its words, and none before it has.
 pub record IsFirstWithWords (head : TestHead) (outcomes : List FinalState) (s : ListedState) : Type 0 where
   pub outcome : FinalState
   pub at : slice_get outcomes s.entry ≡ Some outcome
   pub shows : project_state head outcome ≡ projection_of s
   pub first : (i : ℕ) (o : FinalState) → i < s.entry → slice_get outcomes i ≡ Some o → observed_words head o ≢ s.words
 
--- The states of the outcomes that are listed, each with the index of the first that shows it.
+-- The states of the listed outcomes, each with the index of the first outcome with its words.
 pub record AreListedStates (head : TestHead) (outcomes : List FinalState) (states : List ListedState) : Type 0 where
   pub are : AreStatesOf head (Contains outcomes) (map projection_of states)
   pub entries : All (IsFirstWithWords head outcomes) states

@@ -1,15 +1,17 @@
--- What a proposition says of an outcome.
+-- The truth of a proposition in an outcome.
 use Rattle.std.specs.Prelude.{ℕ, Bool, true, false, not, ◌==◌, ◌&&◌, ◌||◌, slice_index, slice_index_or, []}
 use Rattle.lw_base.specs.Formula.{Formula, Yes, No, Reg_is, Word_is, Not, And, Or}
 use Rattle.lw_base.specs.Outcomes.{FinalState}
 use Rattle.lw_base.specs.declared.head.Seen.{Seen}
 use Rattle.lw_base.specs.declared.head.Seen.TheVariants.{Register, Location}
 
-abbrev pub final_word : FinalState → Seen → ℕ  -- the word with which a register or a location ends
+-- The final word of a register or a location.
+abbrev pub final_word : FinalState → Seen → ℕ
 final_word o (Register t r) = slice_index (slice_index_or o.regs t []) r
 final_word o (Location x) = slice_index o.words x
 
-abbrev pub is_true : Formula → FinalState → Bool  -- whether a proposition is true in an outcome
+-- Tests whether a proposition is true in an outcome.
+abbrev pub is_true : Formula → FinalState → Bool
 is_true Yes o = true
 is_true No o = false
 is_true (Reg_is t r n) o = final_word o (Register t r) == n

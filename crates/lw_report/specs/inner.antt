@@ -1,3 +1,3 @@
--- What serves the code's own writers of lines: no public call cites it.
+-- Definitions for the code's own writers of lines. No public call cites them.
 pub mod UnsortedStates
 pub mod Labels

@@ -1,31 +1,31 @@
-//! What is told of a test's condition.
+//! The verdict on a test's condition, and the observation.
 ghost use Rattle.std.specs.Prelude.{◌≡◌};
 ghost use Rattle.lw_report.specs.Judgement as told;
 ghost use Rattle.lw_report.specs.Reports.{kind_text, verdict_text, observation_text, claim_line};
 
 use lw_base::Quant;
 
-/// What is claimed of a list of states.
+/// Whether a list of states is complete.
 #[derive(Clone, Copy)]
 pub enum Claim {
-    /// They are all.
+    /// The states are all.
     Exact,
-    /// They are some; there may be others.
+    /// The states are reachable, and there may be others.
     Listed,
 }
 
-/// Whether a test's condition is met.
+/// Whether a test's condition holds.
 #[derive(Clone, Copy)]
 pub enum Verdict {
-    /// It is met.
+    /// It holds.
     Ok,
-    /// It is not met.
+    /// It does not hold.
     No,
-    /// The states that are listed do not decide it.
+    /// The listed states do not decide it.
     Unknown,
 }
 
-/// How often a test's proposition is true.
+/// In how many of the states a test's proposition is true.
 #[derive(Clone, Copy)]
 pub enum Observation {
     /// In no state.
@@ -34,18 +34,18 @@ pub enum Observation {
     Sometimes,
     /// In all states.
     Always,
-    /// The states that are listed do not decide it.
+    /// The listed states do not decide it.
     Unknown,
 }
 
-/// How many states make a test's proposition true, and how many do not.
+/// The numbers of states in which a test's proposition is true, and in which it is false.
 #[derive(Clone, Copy)]
 pub(crate) struct Counts {
     pub positive: usize,
     pub negative: usize,
 }
 
-/// Whether a condition is met, by what is claimed of the states that are counted.
+/// Returns the verdict, from the claim on the states that were counted.
 pub(crate) fn verdict_of(claim: Claim, quant: Quant, counts: Counts) -> Verdict
     ensures { result ≡ told.verdict_of claim quant counts.positive counts.negative }
 {
@@ -65,7 +65,7 @@ pub(crate) fn verdict_of(claim: Claim, quant: Quant, counts: Counts) -> Verdict
     }
 }
 
-/// How often the proposition is true, by what is claimed of the states that are counted.
+/// Returns the observation, from the claim on the states that were counted.
 pub(crate) fn observation_of(claim: Claim, counts: Counts) -> Observation
     ensures { result ≡ told.observation_of claim counts.positive counts.negative }
 {
@@ -80,7 +80,7 @@ pub(crate) fn observation_of(claim: Claim, counts: Counts) -> Observation
 }
 
 impl Claim {
-    /// The line of a claim: none where the states are all.
+    /// Returns the printed line of a claim, which is empty if the states are all.
     pub(crate) fn line(self) -> &'static str
         ensures { result.now ≡ claim_line self }
     {
@@ -92,7 +92,7 @@ impl Claim {
 }
 
 impl Verdict {
-    /// The verdict, as it is printed.
+    /// Returns the printed word of a verdict.
     pub(crate) fn word(self) -> &'static str
         ensures { result.now ≡ verdict_text self }
     {
@@ -105,7 +105,7 @@ impl Verdict {
 }
 
 impl Observation {
-    /// How often the proposition is true, as it is printed.
+    /// Returns the printed word of an observation.
     pub(crate) fn word(self) -> &'static str
         ensures { result.now ≡ observation_text self }
     {
@@ -118,7 +118,7 @@ impl Observation {
     }
 }
 
-/// What the title of a report says of the states where the proposition is true: `Allowed`, `Forbidden` or `Required`.
+/// Returns what the title of a report says of the condition: `Allowed`, `Forbidden` or `Required`.
 pub(crate) fn kind_text(quant: Quant) -> &'static str
     ensures { result.now ≡ kind_text quant }
 {

@@ -1,5 +1,5 @@
-//! Laws of reports: they are of sets of outcomes, and a set is any predicate.
-//! A law is a function without a result, whose contract is the law; who needs it calls the function.
+//! Laws of reports: a report is a function of the set of outcomes, which may be any predicate. A law is a function
+//! without a result, whose contract states the law. A proof uses the law by calling the function.
 ghost use Rattle.std.specs.Prelude.{◌≡◌, ◌↔◌, List, length};
 ghost use Rattle.lw_base.specs.Types.{Bytes};
 ghost use Rattle.lw_base.specs.Heads.{TestHead};
@@ -16,18 +16,18 @@ ghost use Rattle.lw_report.specs.declared.judgement.Claim.{Claim};
 pub trait OutcomeSet {
     ghost use Rattle.lw_base.specs.Outcomes.{FinalState};
 
-    /// Which outcomes it has.
+    /// The outcomes that it contains.
     ghost has: { FinalState → Type 0 };
 }
 
-/// Outcomes with the same words of the observed names agree on the test's proposition.
+/// States that outcomes with the same words of the observed names agree on the test's proposition.
 pub fn same_words_agree()
     ensures { (head : TestHead) (o p : FinalState) → MentionsOnly head.threads (length head.locs) head.condition
         → observed_words head o ≡ observed_words head p → is_true head.condition o ≡ is_true head.condition p }
 {}
 
-/// The states, and with them their numbers, the verdict and the report, depend on the set of outcomes alone: where two sets have
-/// the same outcomes, they have the same states and the same report.
+/// States that the states, and with them their numbers, the verdict and the report, depend only on the set of
+/// outcomes: if two sets have the same outcomes, they have the same states and the same report.
 pub fn a_set_has_one_report<S: OutcomeSet, T: OutcomeSet>()
     ensures states { (head : TestHead) (states others : List ProjectedState) → ((o : FinalState) → S.has o ↔ T.has o)
         → AreStatesOf head S.has states → AreStatesOf head T.has others → states ≡ others }
@@ -35,8 +35,8 @@ pub fn a_set_has_one_report<S: OutcomeSet, T: OutcomeSet>()
         → IsReport head S.has claim text → IsReport head T.has claim other → text ≡ other }
 {}
 
-/// Where states are those of all outcomes of a set, an `Ok` means for `exists` that some outcome makes the proposition true, for
-/// `~exists` that none does, and for `forall` that all do.
+/// States, of the states of all outcomes of a set, that `Ok` means that some outcome satisfies the proposition for
+/// `exists`, none for `~exists`, and all for `forall`.
 pub fn exact_verdicts_are_of_all_outcomes<S: OutcomeSet>()
     ensures { (head : TestHead) (states : List ProjectedState) → AreStatesOf head S.has states
         → OkMeans head S.has (positive states) (negative states) }

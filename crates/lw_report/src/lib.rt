@@ -1,8 +1,6 @@
-//! What is told of a test's outcomes: the truth of its proposition in each, the states that are shown of them, the verdict on
-//! its condition, the report, and the list of schedules. The texts are functions of the set of outcomes; `specs/Reports.antt`
-//! says which.
-//!
-//! It names lw_base, and lw_outcome_map for the list of outcomes.
+//! Reports on a test's outcomes: the truth of its proposition in each, their states, the verdict on its condition,
+//! the report, and the list of schedules. `specs/Reports.antt` defines the texts as functions of the set of outcomes.
+//! This crate depends on lw_base, and on lw_outcome_map for the list of outcomes.
 #![tactic(auto)]
 
 mod judgement;

@@ -1,4 +1,4 @@
-//! The line that is written of a test's state: its words behind their labels.
+//! The line of a state: its words, each after a label.
 ghost use Rattle.std.specs.Prelude.{◌≡◌, ◌≤◌, ◌++◌, length, codes, All, IfOk, OnOk};
 ghost use Rattle.std.specs.Fmt.{decimal};
 ghost use Rattle.std.specs.String.{string_bytes};
@@ -12,10 +12,10 @@ use crate::projection::observed;
 use lw_base::{Head, Seen, Sequence, Text, Word, reg_name};
 use std::alloc::{AllocError, Allocator};
 
-/// What stands before each word of a state's line.
+/// The text before each word of a state's line.
 pub(crate) type Labels<A> = Sequence<Text<A>, A>;
 
-/// The labels of the observed names, as `0:r0=`: what stands before the words in the line of a state.
+/// Returns the labels of the observed names, as in `0:r0=`.
 pub(crate) fn observed_labels<A: Allocator + Copy>(
     alloc: A,
     head: &Head<A>,
@@ -29,7 +29,7 @@ pub(crate) fn observed_labels<A: Allocator + Copy>(
     labels
 }
 
-/// The labels of some names. A space stands before each but the first.
+/// Returns the labels of names. All except the first begin with a space.
 fn labels_of<A: Allocator + Copy>(
     alloc: A,
     head: &Head<A>,
@@ -47,7 +47,7 @@ fn labels_of<A: Allocator + Copy>(
     Ok(texts)
 }
 
-/// The label of a name, behind some text.
+/// Returns the label of a name, after a prefix.
 fn label_of<A: Allocator>(
     alloc: A,
     head: &Head<A>,
@@ -62,7 +62,7 @@ fn label_of<A: Allocator>(
     Ok(Text::from(out))
 }
 
-/// A thread's register, as `0:r0`, or a location's name, behind some text and before `=`.
+/// Writes a prefix and the label of a name: a thread's register, as in `0:r0`, or a location, and `=`.
 fn write_label<A: Allocator>(
     out: &mut String<A>,
     head: &Head<A>,
@@ -81,7 +81,7 @@ fn write_label<A: Allocator>(
     }
 }
 
-/// The line of a state, which shows its words behind their labels.
+/// Writes the line of a state: its words after their labels.
 pub(crate) fn write_state<A: Allocator>(
     out: &mut String<A>,
     labels: &[Text<A>],
@@ -97,7 +97,7 @@ pub(crate) fn write_state<A: Allocator>(
     out.push_str("\n")
 }
 
-/// A word in decimal, and `;`. Most words of most tests are a digit.
+/// Writes a word in decimal, and `;`. Most words of most tests have one digit.
 fn write_word<A: Allocator>(out: &mut String<A>, word: Word) -> Result<(), AllocError>
     ensures { OnOk result (string_bytes out.new ≡ string_bytes out.old ++ (decimal word ++ codes ";")) }
 {

@@ -1,4 +1,4 @@
-//! The observed names of a test, and an outcome's words of them.
+//! The observed names of a test, and their words in an outcome.
 ghost use Rattle.std.specs.Prelude.{◌≡◌, ◌≤◌, ◌++◌, ◌∷◌, [], length, map, filter, All, IfOk, OnOk};
 ghost use Rattle.std.specs.List.{list_any};
 ghost use Rattle.lw_base.specs.Heads.{head_of};
@@ -14,8 +14,8 @@ ghost use Rattle.lw_report.specs.Truth.{final_word};
 use lw_base::{Cpu, Head, Loc, Outcome, Prop, Reg, Seen, Sequence, Word};
 use std::alloc::{AllocError, AllocFailed, Allocator};
 
-/// An outcome's words of the names that are observed: those in the condition and those that are listed, registers by thread and
-/// index, then locations by index.
+/// Returns an outcome's words of the observed names, which are those of the condition and of the list: registers by
+/// thread and index, then locations by index. Fails only if memory runs out.
 pub fn project<A: Allocator + Copy, B: Allocator, C: Allocator>(
     alloc: A,
     head: &Head<B>,
@@ -31,7 +31,7 @@ pub fn project<A: Allocator + Copy, B: Allocator, C: Allocator>(
     words
 }
 
-/// The observed names of a test: registers by thread and index, then locations.
+/// Returns the observed names of a test: registers by thread and index, then locations by index.
 pub(crate) fn observed<A: Allocator, B: Allocator>(
     alloc: A,
     head: &Head<B>,
@@ -48,7 +48,7 @@ pub(crate) fn observed<A: Allocator, B: Allocator>(
     Ok(names)
 }
 
-/// Puts those of a thread's registers at the end that are observed.
+/// Appends the observed registers of a thread.
 fn push_registers<A: Allocator, B: Allocator>(
     names: &mut Sequence<Seen, A>,
     head: &Head<B>,
@@ -62,7 +62,7 @@ fn push_registers<A: Allocator, B: Allocator>(
     Ok(())
 }
 
-/// Puts those locations at the end that are observed.
+/// Appends the observed locations.
 fn push_locations<A: Allocator, B: Allocator>(
     names: &mut Sequence<Seen, A>,
     head: &Head<B>,
@@ -76,7 +76,7 @@ fn push_locations<A: Allocator, B: Allocator>(
     Ok(())
 }
 
-/// Puts a register or a location at the end, if it is observed.
+/// Appends a register or a location if it is observed.
 fn push_observed<A: Allocator, B: Allocator>(
     names: &mut Sequence<Seen, A>,
     head: &Head<B>,
@@ -90,14 +90,14 @@ fn push_observed<A: Allocator, B: Allocator>(
     Ok(())
 }
 
-/// Whether a register or a location is in the condition, or is listed.
+/// Returns whether a register or a location is in the condition or in the list.
 fn is_observed<A: Allocator>(head: &Head<A>, name: &Seen) -> bool
     ensures { result ≡ specs.is_observed (head_of head.now) name.now }
 {
     is_named(&head.prop, name) || head.listed.as_slice().contains(name)
 }
 
-/// Whether a proposition names a register or a location.
+/// Returns whether a proposition names a register or a location.
 fn is_named<A: Allocator>(prop: &Prop<A>, name: &Seen) -> bool
     ensures { result ≡ specs.is_named (formula_of prop.now) name.now }
 {
@@ -111,7 +111,7 @@ fn is_named<A: Allocator>(prop: &Prop<A>, name: &Seen) -> bool
     }
 }
 
-/// An outcome's words of these names.
+/// Returns an outcome's words of these names.
 pub(crate) fn words_of<A: Allocator, B: Allocator>(
     alloc: A,
     names: &[Seen],
@@ -128,7 +128,7 @@ pub(crate) fn words_of<A: Allocator, B: Allocator>(
     Ok(Sequence::from(words))
 }
 
-/// The word with which a register or a location ends.
+/// Returns the final word of a register or a location.
 fn word_of<A: Allocator>(outcome: &Outcome<A>, name: Seen) -> Word
     requires name { IsSeenInRange (length outcome.now.regs) (length outcome.now.words) name }
     requires outcome { HasOutcomeShape (length outcome.now.regs) (length outcome.now.words) outcome.now }

@@ -18,14 +18,14 @@ use crate::states::{State, States};
 use lw_base::{Head, Text, write_condition};
 use std::alloc::{AllocError, Allocator};
 
-/// The verdict on a head's condition, where these states are all, or some. It takes no memory.
+/// Returns the verdict on a head's condition, for these states and the claim on them. Does not allocate.
 pub fn verdict<A: Allocator>(head: &Head<A>, states: &States<A>, claim: Claim) -> Verdict
     ensures { result ≡ told.verdict_of claim head.now.quant (positive (map projection_of states.now)) (negative (map projection_of states.now)) }
 {
     verdict_of(claim, head.quant, counts_of(states.as_slice()))
 }
 
-/// The report of these states of a test with this head.
+/// Renders the report of these states of a test with this head. Fails only if memory runs out.
 pub fn write_report<A: Allocator + Copy>(
     alloc: A,
     head: &Head<A>,
@@ -43,7 +43,7 @@ pub fn write_report<A: Allocator + Copy>(
     Ok(Text::from(out))
 }
 
-/// How many states make the proposition true, and how many do not.
+/// Counts the states in which the proposition is true, and those in which it is false.
 fn counts_of<A: Allocator>(states: &[State<A>]) -> Counts
     ensures positive { result.positive ≡ positive (map projection_of states.now) }
     ensures negative { result.negative ≡ negative (map projection_of states.now) }
@@ -58,7 +58,7 @@ fn counts_of<A: Allocator>(states: &[State<A>]) -> Counts
     }
 }
 
-/// The first lines: the test's name, what its condition says, and how many states there are.
+/// Writes the first lines: the test's name, the kind of its condition, and the number of states.
 fn write_title<A: Allocator>(
     out: &mut String<A>,
     head: &Head<A>,
@@ -75,7 +75,7 @@ fn write_title<A: Allocator>(
     )
 }
 
-/// The lines of the states.
+/// Writes the lines of the states.
 fn write_states<A: Allocator + Copy>(
     out: &mut String<A>,
     alloc: A,
@@ -93,7 +93,7 @@ fn write_states<A: Allocator + Copy>(
     Ok(())
 }
 
-/// Writes what stands behind the states: the verdict, the numbers of states, the condition and the observation.
+/// Writes what follows the states: the verdict, the numbers of states, the condition and the observation.
 fn write_judgement<A: Allocator>(
     out: &mut String<A>,
     alloc: A,
@@ -117,7 +117,7 @@ fn write_judgement<A: Allocator>(
     write_observation(out, head, claim, counts)
 }
 
-/// How often the proposition is true, and what is claimed of the states, where they may not be all.
+/// Writes the observation, and the line of the claim if the states may not be all.
 fn write_observation<A: Allocator>(
     out: &mut String<A>,
     head: &Head<A>,

@@ -1,4 +1,4 @@
-//! The list of a test's states, each with a schedule that leads to it.
+//! The list of a test's states, each with a schedule that reaches it.
 ghost use Rattle.std.specs.Prelude.{◌≡◌, ◌<◌, ◌≤◌, ◌++◌, length, map, codes, All, IfOk, OnOk};
 ghost use Rattle.std.specs.List.{flat_map, AllByRecursion};
 ghost use Rattle.std.specs.String.{string_bytes};
@@ -16,8 +16,8 @@ use lw_base::{Head, Text, write_schedule};
 use lw_outcome_map::Listing;
 use std::alloc::{AllocError, Allocator};
 
-/// The list of these states of a test with this head, each with the schedule of its entry in the listing. The schedules speak of
-/// the head's locations alone, and the states are those of the listing.
+/// Renders the list of these states of a test with this head, each with the schedule of its entry in the listing. The
+/// schedules name only the head's locations, and the states are those of the listing. Fails only if memory runs out.
 pub fn write_schedules<A: Allocator + Copy>(
     alloc: A,
     head: &Head<A>,
@@ -35,7 +35,7 @@ pub fn write_schedules<A: Allocator + Copy>(
     Ok(Text::from(out))
 }
 
-/// The lines of the states, each with its schedule.
+/// Writes the lines of the states, each with its schedule.
 fn write_scheduled_states<A: Allocator + Copy>(
     out: &mut String<A>,
     alloc: A,
@@ -56,7 +56,7 @@ fn write_scheduled_states<A: Allocator + Copy>(
     Ok(())
 }
 
-/// The line of a state, and behind a space that of its schedule.
+/// Writes the line of a state and, after a space, its schedule.
 fn write_scheduled_state<A: Allocator>(
     out: &mut String<A>,
     head: &Head<A>,

@@ -1,4 +1,4 @@
-//! The states that a report shows: what is shown of each outcome, sorted, each once.
+//! The states of a report: the observed words of each outcome, sorted, without duplicates.
 ghost use Rattle.std.specs.Prelude.{◌≡◌, ◌≤◌, length, All, IfOk};
 ghost use Rattle.std.specs.List.Sorted.{IsSorted};
 ghost use Rattle.lw_base.specs.Heads.{head_of};
@@ -18,13 +18,13 @@ use lw_outcome_map::Listing;
 use std::alloc::{AllocError, Allocator, Global};
 use std::marker::Model;
 
-/// What is shown of outcomes. States are ordered by their words, and then by their numbers.
+/// The state of an outcome in a report. States are ordered by their words, then by their entries.
 #[derive(Drop)]
 #[derive_where(PartialEq, Eq, PartialOrd, Ord)]
 pub struct State<A: Allocator = Global> {
     /// The words of the observed names.
     pub words: Sequence<Word, A>,
-    /// The number of the smallest outcome with these words, in the listing.
+    /// The index, in the listing, of the smallest outcome with these words.
     pub entry: usize,
     /// Whether the test's proposition is true in it.
     pub holds: bool,
@@ -40,12 +40,12 @@ impl<A: Allocator> Model for State<A> {
     ghost inverse = { λ s. record { words = s.words; entry = s.entry; holds = s.holds } };
 }
 
-/// The states of a test, sorted by their words, each once.
+/// The states of a test, sorted by their words, without duplicates.
 pub type States<A = Global> = Sequence<State<A>, A>;
 
-/// The states of the outcomes that are listed for a test with this head, each with the index of the smallest outcome that shows
-/// it and the truth of the test's proposition. The outcomes have the head's threads and locations, and its proposition names no
-/// others.
+/// Returns the states of the listed outcomes of a test with this head, each with the index of the smallest outcome
+/// with its words and the truth of the test's proposition. The outcomes have the head's threads and locations, and
+/// its proposition names no others.
 pub fn states_of<A: Allocator + Copy>(
     alloc: A,
     head: &Head<A>,
@@ -61,7 +61,7 @@ pub fn states_of<A: Allocator + Copy>(
     Ok(first_of_each(states))
 }
 
-/// The states of all outcomes of a listing, one for each outcome, not yet sorted.
+/// Returns the states of all outcomes of a listing, one for each outcome, not yet sorted.
 fn unsorted_states<A: Allocator + Copy>(
     alloc: A,
     head: &Head<A>,
@@ -78,7 +78,7 @@ fn unsorted_states<A: Allocator + Copy>(
     states
 }
 
-/// The states of all outcomes of a listing, one for each outcome, where `names` are the observed names.
+/// Returns the states of all outcomes of a listing, one for each outcome, for these observed names.
 fn project_outcomes<A: Allocator + Copy>(
     alloc: A,
     head: &Head<A>,
@@ -97,8 +97,8 @@ fn project_outcomes<A: Allocator + Copy>(
     Ok(states)
 }
 
-/// The state that an outcome shows: its words of the observed names, its index in the listing (`entry`), and whether the
-/// proposition is true in it.
+/// Returns the state of an outcome: its words of the observed names, its index in the listing (`entry`), and whether
+/// the proposition is true in it.
 fn state_of<A: Allocator + Copy>(
     alloc: A,
     head: &Head<A>,
@@ -118,7 +118,7 @@ fn state_of<A: Allocator + Copy>(
     })
 }
 
-/// Of states that are sorted, the first of those with the same words: each state once.
+/// Returns the first of each run of sorted states with the same words.
 fn first_of_each<A: Allocator>(sorted: Vec<State<A>, A>) -> States<A>
     requires { IsSorted state_cmp sorted.items }
     ensures { AreFirstStates sorted.items result }

@@ -8,9 +8,9 @@ ghost use Rattle.lw_report.specs.Truth.{is_true};
 use lw_base::{Outcome, Prop};
 use std::alloc::Allocator;
 
-/// Whether a proposition is true in an outcome. It takes no memory.
+/// Returns whether a proposition is true in an outcome. Does not allocate.
 pub fn holds<A: Allocator, B: Allocator>(prop: &Prop<A>, outcome: &Outcome<B>) -> bool
-    // The proposition names only threads and locations that the outcome has.
+    // The proposition names only threads and locations of the outcome.
     requires prop { MentionsOnly (length outcome.now.regs) (length outcome.now.words) (formula_of prop.now) }
     requires outcome { HasOutcomeShape (length outcome.now.regs) (length outcome.now.words) outcome.now }
     ensures { result ≡ is_true (formula_of prop.now) outcome.now }

@@ -8,7 +8,7 @@ use lw_text::{TextCause, TextFault};
 use std::alloc::Global;
 use std::test::Fail;
 
-/// Whether the fault's line and status are these.
+/// Returns whether the fault's line and status are these.
 fn is_told(alloc: Global, fault: BenchFault, line: &str, status: u8) -> bool {
     match fault_line(alloc, &fault) {
         Ok(told) => told.as_str() == line && status_of(&fault) == status,
@@ -64,7 +64,7 @@ fn statuses(rt: HostRuntime) {
     }
 }
 
-/// Lines of words, between which stand commas, that are no command.
+/// Lines of words, separated by commas, that are no command.
 const OTHER_WORDS: &str = "
 compile,P0
 compile,
@@ -81,7 +81,7 @@ replay,P0,--protocol=mesi
 replay,--protocol,moesi,P0
 replay,P0,--protocol,moesi,P0";
 
-/// Whether the words are a replay by this schedule, over this protocol.
+/// Returns whether the words are a replay by this schedule, over this protocol.
 fn is_replay(words: &[&str], by: &str, over: Protocol) -> bool {
     match command_of(words) {
         Some(Task::Replay(schedule, protocol)) => schedule == by && protocol == over,

@@ -1,7 +1,7 @@
-//! Readers and writers that give and take little at a time, and fail where they are told to or never end.
+//! Readers and writers that transfer little at a time, and that fail as told, or never end.
 use std::io::{self, ErrorKind, Read, Write};
 
-/// A reader of a text: one byte a call, and one of its calls fails.
+/// A reader of a text: one byte in each call, and one of its calls may fail.
 #[derive(Drop)]
 pub(crate) struct Tape<'a> {
     text: &'a [u8],
@@ -12,12 +12,12 @@ pub(crate) struct Tape<'a> {
 }
 
 impl<'a> Tape<'a> {
-    /// A reader that does not fail.
+    /// Creates a reader that does not fail.
     pub(crate) fn new(text: &'a [u8]) -> Self {
         Tape::failing(text, 0, ErrorKind::Other)
     }
 
-    /// A reader whose call of this number fails by this error; none where it is 0.
+    /// Creates a reader whose call with this number fails with this error, or none if it is 0.
     pub(crate) fn failing(text: &'a [u8], failing: usize, error: ErrorKind) -> Self {
         Tape {
             text,
@@ -46,7 +46,7 @@ impl Read for Tape<'_> {
     }
 }
 
-/// A reader that never ends: a byte 255 in each call, for ever.
+/// A reader that never ends: a byte 255 in each call.
 #[derive(Drop)]
 pub(crate) struct Endless {
     pub(crate) calls: usize,
@@ -65,7 +65,8 @@ impl Read for Endless {
     }
 }
 
-/// A writer to a sheet of fixed size: one byte a call, and one of its calls fails, by an error or by taking nothing.
+/// A writer to a sheet of fixed size: one byte in each call, and one of its calls may fail, with an error or by
+/// writing nothing.
 #[derive(Drop)]
 pub(crate) struct Sheet {
     bytes: [u8; 4096],
@@ -76,12 +77,12 @@ pub(crate) struct Sheet {
 }
 
 impl Sheet {
-    /// A writer that does not fail.
+    /// Creates a writer that does not fail.
     pub(crate) fn new() -> Self {
         Sheet::failing(0, None)
     }
 
-    /// A writer whose call of this number fails, by this error or by taking nothing; none where it is 0.
+    /// Creates a writer whose call with this number fails, with this error or by writing nothing, or none if it is 0.
     pub(crate) fn failing(failing: usize, error: Option<ErrorKind>) -> Self {
         Sheet {
             bytes: [0; 4096],
@@ -92,7 +93,7 @@ impl Sheet {
         }
     }
 
-    /// Whether this text is what stands on the sheet.
+    /// Returns whether the sheet has this text.
     pub(crate) fn is(&self, text: &str) -> bool {
         self.len == text.len()
             && text

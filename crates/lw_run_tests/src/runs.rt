@@ -15,7 +15,7 @@ use std::io::ErrorKind;
 const STORE_BUFFERING: &str =
     "SRC SB\n{}\n P0 | P1 ;\n x := 1 | y := 1 ;\n r0 := y | r0 := x ;\nexists (0:r0=0 /\\ 1:r0=0)\n";
 
-/// What `P0 P0 P1 P1` makes of it.
+/// The page of its replay by `P0 P0 P1 P1`.
 const STORE_BUFFERING_PAGE: &str =
     "Test SB\nSteps 4\nEnd Final\nP0 at 2 r0=0 r1=0 r2=0 r3=0 r4=0 r5=0\nP1 at 2 r0=1 r1=0 r2=0 r3=0 r4=0 r5=0\nMemory x=1 y=1\n";
 
@@ -39,15 +39,15 @@ const X86_STORE_BUFFERING_REPORT: &str =
 const X86_STORE_BUFFERING_SCHEDULES: &str =
     "Test SB\nStates 4\n0:EAX=0; 1:EAX=0;\n P0 P0 P1 D1 P1 D0\n0:EAX=0; 1:EAX=1;\n P0 D0 P0 P1 D1 P1\n0:EAX=1; 1:EAX=0;\n P0 P1 D1 P0 P1 D0\n0:EAX=1; 1:EAX=1;\n P0 D0 P1 D1 P0 P1\n";
 
-/// What store buffering is compiled to.
+/// The compiled program of store buffering.
 const STORE_BUFFERING_COMPILED: &str =
     "X86 SB\n{\n x=0;\n y=0;\n}\n P0 | P1 ;\n MOV [x],$1 | MOV [y],$1 ;\n MFENCE | MFENCE ;\n MOV EAX,[y] | MOV EAX,[x] ;\nexists (0:EAX=0 /\\ 1:EAX=0)\n";
 
-/// What `P0 P0 P1 P1 D0 D1` makes of the x86 test.
+/// The page of the x86 test's replay by `P0 P0 P1 P1 D0 D1`.
 const X86_STORE_BUFFERING_PAGE: &str =
     "Test SB\nSteps 6\nEnd Final\nP0 at 2 EAX=0 EBX=0 ECX=0 EDX=0 ESI=0 EDI=0\nP0 buffer\nP0 lines x=M y=I\nP1 at 2 EAX=0 EBX=0 ECX=0 EDX=0 ESI=0 EDI=0\nP1 buffer\nP1 lines x=I y=M\nMemory x=0 y=0\nContent x=1 y=1\n";
 
-/// Each task of store buffering, its text, and what is written.
+/// Each task of store buffering, its text, and its output.
 pub(crate) const RUNS: [(Task<'static>, &'static str, &'static str); 8] = [
     (Task::States, STORE_BUFFERING, STORE_BUFFERING_REPORT),
     (Task::Compile, STORE_BUFFERING, STORE_BUFFERING_COMPILED),
@@ -79,7 +79,7 @@ pub(crate) const RUNS: [(Task<'static>, &'static str, &'static str); 8] = [
     ),
 ];
 
-/// What a task answers, how often it has read, and what it has written.
+/// The answer of a task, the number of its reads, and what it has written.
 #[derive(Drop)]
 struct Ran {
     result: Result<u8, BenchFault>,
@@ -87,7 +87,7 @@ struct Ran {
     sheet: Sheet,
 }
 
-/// Carries out a task between a reader that gives one byte at a time and a writer that takes one.
+/// Carries out a task between a reader and a writer that transfer one byte at a time.
 fn run_between(alloc: Global, task: Task<'_>, tape: Tape<'_>, sheet: Sheet) -> Ran {
     let mut reader = FromRead::new(tape);
     let mut writer = ToWrite::new(sheet);
@@ -99,7 +99,7 @@ fn run_between(alloc: Global, task: Task<'_>, tape: Tape<'_>, sheet: Sheet) -> R
     }
 }
 
-/// All is written byte by byte. Once the reader has said that the input ends, it is not called again.
+/// Everything is written byte by byte. The reader is not called again after it has returned the end of the input.
 #[test]
 fn byte_by_byte(rt: HostRuntime) {
     for (task, text, written) in RUNS {
@@ -109,7 +109,7 @@ fn byte_by_byte(rt: HostRuntime) {
     }
 }
 
-/// Carries out a task by the call of its own. A replay is to end in a final state.
+/// Carries out a task by the call of its own. A replay must end in a final state.
 pub(crate) fn run_by_name<R: ByteReader, W: ByteWriter, A: Allocator + Copy>(
     alloc: A,
     task: Task<'_>,
@@ -143,7 +143,7 @@ fn runs_by_their_names(rt: HostRuntime) {
     }
 }
 
-/// Of bytes in memory each task makes what its run writes.
+/// On bytes in memory each task renders what its run writes.
 #[test]
 fn answers_in_memory(rt: HostRuntime) {
     for (task, text, written) in RUNS {
@@ -155,7 +155,8 @@ fn answers_in_memory(rt: HostRuntime) {
     }
 }
 
-/// Whichever read fails, by whatever error, that is told, nothing is written, and the reader isn't called again.
+/// Whichever read fails, with any error, the failure is reported, nothing is written, and the reader is not called
+/// again.
 #[test]
 fn each_read_fails(rt: HostRuntime) {
     for (task, text, _) in RUNS {
@@ -174,7 +175,8 @@ fn each_read_fails(rt: HostRuntime) {
     }
 }
 
-/// Whichever write fails, by an error or by taking none, that is told, and the writer isn't called again.
+/// Whichever write fails, with an error or by writing nothing, the failure is reported, and the writer is not called
+/// again.
 #[test]
 fn each_write_fails(rt: HostRuntime) {
     for (task, text, written) in RUNS {
@@ -193,7 +195,7 @@ fn each_write_fails(rt: HostRuntime) {
     }
 }
 
-/// What a task answers to an input that never ends, how often it has read, and how often it has written.
+/// Returns the answer of a task to an input that never ends, and the numbers of its reads and writes.
 fn run_endlessly(alloc: Global, task: Task<'_>) -> (Result<u8, BenchFault>, usize, usize) {
     let mut reader = FromRead::new(Endless { calls: 0 });
     let mut writer = ToWrite::new(Sheet::new());
@@ -201,7 +203,7 @@ fn run_endlessly(alloc: Global, task: Task<'_>) -> (Result<u8, BenchFault>, usiz
     (result, reader.reader.calls, writer.writer.calls)
 }
 
-/// Of an input that never ends, though its bytes are no UTF-8, each run reads 65,537 bytes, and no more, and writes nothing.
+/// Of an input that never ends, whose bytes are not UTF-8, each run reads exactly 65,537 bytes, and writes nothing.
 #[test]
 fn endless_input(rt: HostRuntime) {
     for (task, _, _) in RUNS {
@@ -217,14 +219,14 @@ fn endless_input(rt: HostRuntime) {
     }
 }
 
-/// What a replay by a schedule answers, and how often it has written.
+/// Returns the answer of a replay by a schedule, and the number of its writes.
 fn replayed(alloc: Global, text: &[u8], schedule: &str) -> (Result<u8, BenchFault>, usize) {
     let task = Task::Replay(schedule, Protocol::Mesi);
     let ran = run_between(alloc, task, Tape::new(text), Sheet::new());
     (ran.result, ran.sheet.calls)
 }
 
-/// A text cut off is refused as a text, at a place in it, unless only the last line end is gone.
+/// A text that is cut off is rejected as a text, at an offset in it, unless only the last line end is gone.
 #[test]
 fn prefixes(rt: HostRuntime) {
     let text = STORE_BUFFERING.as_bytes();

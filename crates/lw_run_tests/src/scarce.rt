@@ -1,10 +1,10 @@
-//! Runs where memory is refused, each growth in turn: then memory is told of, and nothing is written.
+//! Runs while memory is refused, each growth in turn: the fault is `Memory`, and nothing is written.
 use crate::devices::{Sheet, Tape};
 use crate::runs::{RUNS, run_by_name};
 use lw_bench::{BenchFault, FromRead, Task, ToWrite, answer, carry_out};
 use lw_test_reader::{Made, MadeByAllocator, Refusing, refusals};
 
-/// A task, its text, and what is written.
+/// A task, its text, and its output.
 #[derive(Clone, Copy)]
 struct Run {
     task: Task<'static>,
@@ -12,7 +12,7 @@ struct Run {
     written: &'static str,
 }
 
-/// What becomes of a run.
+/// Returns the result of a run.
 fn ran(outcome: Result<(), BenchFault>, sheet: &Sheet, written: &str) -> Option<Made> {
     match outcome {
         Ok(()) if sheet.is(written) => Some(Made::Whole),
@@ -21,7 +21,7 @@ fn ran(outcome: Result<(), BenchFault>, sheet: &Sheet, written: &str) -> Option<
     }
 }
 
-/// The run by the call that carries out each task.
+/// Runs by the call that carries out every task.
 #[derive(Clone, Copy)]
 struct CarriedOut(Run);
 
@@ -39,7 +39,7 @@ impl MadeByAllocator for CarriedOut {
     }
 }
 
-/// The run by its own call.
+/// Runs by the task's own call.
 #[derive(Clone, Copy)]
 struct ByName(Run);
 
@@ -57,7 +57,7 @@ impl MadeByAllocator for ByName {
     }
 }
 
-/// What is written, as a value.
+/// Renders the output as a value.
 #[derive(Clone, Copy)]
 struct Answered(Run);
 

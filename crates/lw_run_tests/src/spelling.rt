@@ -1,8 +1,8 @@
-//! How tables spell texts: `$` stands for a line end, `@` for the dollar sign, and `<3 ab>` for `ababab`.
+//! How tables spell texts: `$` is a line end, `@` the dollar sign, and `<3 ab>` is `ababab`.
 use lw_base::Word;
 use std::alloc::{AllocError, Global};
 
-/// The text that these words of a table stand for.
+/// Returns the text that these words of a table spell.
 pub(crate) fn spelled(alloc: Global, words: &str) -> Result<String, AllocError> {
     let mut text = String::new(alloc);
     push_spelled(&mut text, words)?;
@@ -10,7 +10,7 @@ pub(crate) fn spelled(alloc: Global, words: &str) -> Result<String, AllocError> 
     lines.as_str().replace(alloc, '@', "$")
 }
 
-/// Adds words of a table, with what is repeated in them written out.
+/// Appends words of a table, with their repetitions expanded.
 fn push_spelled(text: &mut String, words: &str) -> Result<(), AllocError> {
     let mut pieces = words.split('<');
     text.push_str(pieces.next().unwrap_or(""))?;
@@ -22,7 +22,7 @@ fn push_spelled(text: &mut String, words: &str) -> Result<(), AllocError> {
     Ok(())
 }
 
-/// Adds the words behind a number and a blank, so many times.
+/// Appends the words after a number and a blank, this number of times.
 fn push_repeated(text: &mut String, words: &str) -> Result<(), AllocError> {
     let (count, repeated) = words.split_once(' ').unwrap_or((words, ""));
     for _ in 0..count.parse::<Word>().unwrap_or(0) {

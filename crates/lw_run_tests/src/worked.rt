@@ -48,7 +48,7 @@ schedules => SRC FA { 0:r1=1; 1:r1=1; } P0|P1; r0 := fetchadd x r1 | r0 := fetch
 schedules => X86 SB${}$ P0 | P1 ;$ MOV [x],@1 | MOV [y],@1 ;$ MOV EAX,[y] | MOV EAX,[x] ;$exists (0:EAX=0 /\\ 1:EAX=0)$ => Test SB$States 4$0:EAX=0; 1:EAX=0;$ P0 P0 P1 D1 P1 D0$0:EAX=0; 1:EAX=1;$ P0 D0 P0 P1 D1 P1$0:EAX=1; 1:EAX=0;$ P0 P1 D1 P0 P1 D0$0:EAX=1; 1:EAX=1;$ P0 D0 P1 D1 P0 P1$
 ";
 
-/// What source tests are compiled to, and spellings of x86 tests.
+/// Compiled source tests, and spellings of x86 tests.
 const COMPILED_TEXTS: &str = "
 compile => SRC SB${}$ P0 | P1 ;$ x := 1 | y := 1 ;$ r0 := y | r0 := x ;$exists (0:r0=0 /\\ 1:r0=0)$ => X86 SB${$ x=0;$ y=0;$}$ P0 | P1 ;$ MOV [x],@1 | MOV [y],@1 ;$ MFENCE | MFENCE ;$ MOV EAX,[y] | MOV EAX,[x] ;$exists (0:EAX=0 /\\ 1:EAX=0)$
 compile => SRC MP {} P0|P1; x := 1 | r0 := y; y := 1 | r1 := x; ~exists (1:r0=1 /\\ 1:r1=0) => X86 MP${$ x=0;$ y=0;$}$ P0 | P1 ;$ MOV [x],@1 | MOV EAX,[y] ;$ MOV [y],@1 | MOV EBX,[x] ;$~exists (1:EAX=1 /\\ 1:EBX=0)$
@@ -66,7 +66,7 @@ compile => X86 B { 0:EAX=1; x=2 } P0; locations [x; 0:EAX] exists (true) => X86 
 compile => X86 Right {} P0; exists (not (<126 x=1 \\/ (>x=1 \\/ x=1<127 )>) => X86 Right${$ x=0;$}$ P0 ;$exists (~(<126 x=1 \\/ (>x=1 \\/ x=1<127 )>)$
 ";
 
-/// Replays of source tests, and schedules that are refused.
+/// Replays of source tests, and schedules that are rejected.
 const SOURCE_PAGES: &str = "
 P0 P0 P1 P1 => SRC SB${}$ P0 | P1 ;$ x := 1 | y := 1 ;$ r0 := y | r0 := x ;$exists (0:r0=0 /\\ 1:r0=0)$ => Test SB$Steps 4$End Final$P0 at 2 r0=0 r1=0 r2=0 r3=0 r4=0 r5=0$P1 at 2 r0=1 r1=0 r2=0 r3=0 r4=0 r5=0$Memory x=1 y=1$
 P0 P1 P0 => SRC SB${}$ P0 | P1 ;$ x := 1 | y := 1 ;$ r0 := y | r0 := x ;$exists (0:r0=0 /\\ 1:r0=0)$ => Test SB$Steps 3$End NotFinal$P0 at 2 r0=1 r1=0 r2=0 r3=0 r4=0 r5=0$P1 at 1 r0=0 r1=0 r2=0 r3=0 r4=0 r5=0$Memory x=1 y=1$
@@ -107,7 +107,7 @@ P0 P0 => X86 A${}$ P0 ;$ MOV [x],@1 ;$ LOCK XADD [y],EAX ;$exists (true)$ => Tes
 P0 P0 => X86 A${ x=4294967295; 0:EAX=1; }$ P0 ;$ LOCK XADD [x],EAX ;$ JE L ;$ MOV EBX,@1 ;$ L: ;$exists (true)$ => Test A$Steps 2$End Final$P0 at 3 EAX=4294967295 EBX=0 ECX=0 EDX=0 ESI=0 EDI=0$P0 buffer$P0 lines x=M$Memory x=4294967295$Content x=0$
 ";
 
-/// Texts and cells that are refused, and comments as deep as a text allows.
+/// Texts and cells that are rejected, and comments that are nested as deeply as a text allows.
 const REFUSED_TEXTS: &str = "
  =>  => lw: text 3 Unterminated at 0
  => X86_64 A$ => lw: text 4 Unexpected at 0
@@ -128,7 +128,7 @@ const REFUSED_TEXTS: &str = "
  => SRC A {} P0; exists (x=1)<65511 $>$ => lw: text 2 TooLong at 65536
 ";
 
-/// The task that the words of a line name.
+/// Returns the task that the words of a line name.
 fn task_of(words: &str) -> Task<'_> {
     match words {
         "states" => Task::States,
@@ -141,7 +141,7 @@ fn task_of(words: &str) -> Task<'_> {
     }
 }
 
-/// The exit status of a task that writes this: of a replay's page whether it tells of a final state.
+/// Returns the exit status of a task with this output: of a replay's page whether it ended in a final state.
 fn status_beside(written: &str) -> u8 {
     match written.lines().nth(2) {
         Some(line) if line.starts_with("End ") && line != "End Final" => 1,
@@ -149,7 +149,8 @@ fn status_beside(written: &str) -> u8 {
     }
 }
 
-/// Whether the task writes this of the text, with its exit status, or its fault is told so and nothing is written.
+/// Returns whether the task writes this for the text, with its exit status, or its fault is reported like this and
+/// nothing is written.
 fn writes(alloc: Global, task: Task<'_>, text: &[u8], told: &str) -> bool {
     let mut reader = FromRead::new(Tape::new(text));
     let mut writer = ToWrite::new(Sheet::new());
@@ -162,7 +163,7 @@ fn writes(alloc: Global, task: Task<'_>, text: &[u8], told: &str) -> bool {
     }
 }
 
-/// The same of the words of a line.
+/// Returns whether this holds of the words of a line.
 fn holds(alloc: Global, words: &str, text: &str, told: &str) -> bool {
     match (
         spelled(alloc, words),
@@ -181,7 +182,7 @@ fn holds(alloc: Global, words: &str, text: &str, told: &str) -> bool {
     }
 }
 
-/// Whether a line of a table holds.
+/// Returns whether a line of a table holds.
 fn is_right(alloc: Global, line: &str) -> bool {
     let Some((words, rest)) = line.split_once(" => ") else {
         return false;
@@ -192,7 +193,7 @@ fn is_right(alloc: Global, line: &str) -> bool {
     }
 }
 
-/// The first line of a table that doesn't hold.
+/// Returns the first line of a table that does not hold.
 fn first_wrong(alloc: Global, table: &str) -> Option<&str> {
     for line in table.split('\n') {
         if !line.is_empty() && !is_right(alloc, line) {

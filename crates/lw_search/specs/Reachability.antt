@@ -8,11 +8,11 @@ use Rattle.lw_memory.specs.Flat.{flat_memory}
 use Rattle.lw_tso.specs.Machines.{MachineState}
 use Rattle.lw_tso.specs.Runs.{MachineRunsTo, initial_machine_state, is_final}
 
--- A state is reachable if some list of events leads to it from the start of the test.
+-- The state is reachable: some list of events leads to it from the initial state of the test.
 abbrev pub IsReachable : X86Test → MachineState (List ℕ) → Type 0
 IsReachable test s = (events : List Event) × MachineRunsTo flat_memory test.threads events (initial_machine_state test test.head.init_words) s
 
--- The states of a list are different from each other, and each is reachable.
+-- The states of a list are pairwise different, and each is reachable.
 pub record AreReachable (test : X86Test) (states : List (MachineState (List ℕ))) : Type 0 where
   pub distinct : IsDuplicateFree states
   pub reachable : All (IsReachable test) states
@@ -30,7 +30,7 @@ pub record ExceedsBudget (test : X86Test) (budget : ℕ) : Type 0 where
   pub more : budget < length states
   pub reachable : AreReachable test states
 
--- A source test is compiled to a program of which P holds.
+-- The property P holds of the compiled program of a source test.
 pub record HoldsOfCompiled (test : SourceTest) (P : X86Test → Type 0) : Type 0 where
   pub program : X86Test
   pub starts : List (List ℕ)

@@ -1,4 +1,4 @@
--- What the code's own search needs: no public call cites it.
+-- Definitions for the code's own search. No public call cites them.
 pub mod ThreadStates
 pub mod InvisibleEvents
 pub mod StateKeys

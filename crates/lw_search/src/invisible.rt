@@ -21,7 +21,8 @@ use lw_base::{Cpu, Sequence, Word};
 use lw_litmus::{Instr, Operation, Program, Statement};
 use std::alloc::{AllocError, Allocator};
 
-/// The most invisible events of a thread that are taken in a row: no code has more instructions and drains of its stores together.
+/// The maximum number of invisible events of a thread that are taken in a row: no code has more instructions and
+/// drains of its stores together.
 const MOST_EVENTS: u32 = 64;
 
 /// Returns the location that an operation accesses in memory, and whether it writes it, or `None` if the operation accesses none.
@@ -231,7 +232,7 @@ fn take_event<A: Allocator>(
     Ok(None)
 }
 
-/// Returns whether an access, if there is one, conflicts with none of those of other threads.
+/// Returns whether an access, if there is one, conflicts with no access of the other threads.
 fn is_apart(access: Option<(u8, bool)>, others: Accesses) -> bool {
     match access {
         Some((loc, written)) => !others.conflict_with(loc, written),

@@ -1,5 +1,5 @@
-//! Laws of searches.
-//! A law is a function without a result whose contract is the law; a function that needs it calls it.
+//! Laws of searches. A law is a function without a result whose contract states the law. A proof uses the law by
+//! calling the function.
 ghost use Rattle.std.specs.Prelude.{◌≡◌, ◌<◌, ℕ, Ok, Some, List, length, slice_get, IsTrue};
 ghost use Rattle.lw_base.specs.declared.event.Event.{Event};
 ghost use Rattle.lw_litmus.specs.declared.instr.Instr.{Instr};

@@ -21,8 +21,8 @@ use lw_base::{Cpu, REGISTERS, Sequence, Word};
 use lw_litmus::{Instr, Program, Statement};
 use std::alloc::{AllocError, Allocator};
 
-/// A search: the program, the states that were found, and a working copy of one thread's state and of the memory, with
-/// the run that led there.
+/// A search: the program, the states that were found, and a working copy of one thread's state and of the memory,
+/// with the run that reached them.
 #[derive(Drop)]
 pub(crate) struct Search<'a, A: Allocator> {
     pub(crate) program: &'a Program<A>,
@@ -116,7 +116,8 @@ fn with_memory(key: &StateKey, memory: u32) -> StateKey
     next
 }
 
-/// The most rounds in which the threads of a state take invisible events: each but the last takes one.
+/// The maximum number of rounds in which the threads of a state take invisible events: each round except the last
+/// takes one.
 const MOST_ROUNDS: u32 = 256;
 
 impl<'a, A: Allocator + Copy> Search<'a, A> {

@@ -15,9 +15,9 @@ pub(crate) type StateKey = [u32; 5];
 /// How a state was reached.
 #[derive(Clone, Copy)]
 pub(crate) struct Origin {
-    /// The index of the state before; that of the start is its own.
+    /// The index of the state before. The initial state is its own parent.
     pub(crate) parent: u32,
-    /// The number of the run that led there from the state before.
+    /// The number of the run from the state before.
     pub(crate) run: u32,
 }
 

@@ -1,4 +1,4 @@
-//! The states of threads and the memories that a search has met, each with a number.
+//! The states of threads and the memories that a search has found, each with a number.
 ghost use Rattle.std.specs.Prelude.{◌≡◌, Some, slice_get, option_copied, [], IfOk, OnOk};
 ghost use Rattle.lw_search.specs.inner.StateKeys.{Extends};
 
@@ -12,8 +12,8 @@ use std::alloc::{AllocError, Allocator};
 use std::hash::{BuildHasherDefault, FoldHasher};
 use std::marker::Model;
 
-/// The states of threads and the memories that a search has met, each at the index that is its number; and what the codes of the
-/// threads may access.
+/// The states of threads and the memories that a search has found, each at the index that is its number; and what the
+/// codes of the threads may access.
 #[derive(Drop)]
 pub(crate) struct Tables<A: Allocator> {
     alloc: A,

@@ -17,7 +17,8 @@ use lw_litmus::Operation;
 use std::alloc::{AllocError, Allocator, Global};
 use std::marker::Model;
 
-/// The state of one thread: its position, registers, zero flag and store buffer. Clauses see it as a processor of the machine.
+/// The state of one thread: its position, registers, zero flag and store buffer. Contracts see it as a processor of
+/// the machine.
 #[derive(Drop)]
 #[derive_where(PartialEq, Eq, Hash)]
 pub(crate) struct ThreadState<A: Allocator = Global> {
@@ -149,7 +150,8 @@ impl<A: Allocator> ThreadState<A> {
         true
     }
 
-    /// Carries out an operation. Returns whether it did; if not, it waits for the store buffer, and nothing changes.
+    /// Carries out an operation. Returns whether it did. If not, the operation needs an empty store buffer, and
+    /// nothing changes.
     pub(crate) fn carry_out(
         &mut self,
         operation: Operation,
@@ -228,7 +230,8 @@ impl<A: Allocator> ThreadState<A> {
         self.advance_with(dst, word);
     }
 
-    /// Exchanges a location's word for a register's, and advances, if the store buffer is empty. Returns whether it is.
+    /// Exchanges a location's word for a register's and advances, if the store buffer is empty. Returns whether it
+    /// is.
     fn swap(&mut self, dst: Reg, loc: Loc, src: Reg, words: &mut Sequence<Word, A>) -> bool
         requires { self.old.position + 1 < 2 ^ 64 }
         ensures { ActResult (operation_effect (Operation.Swap dst loc src) self.old) self.old words.old result self.new words.new }
@@ -290,7 +293,7 @@ impl<A: Allocator> ThreadState<A> {
         self.position += 1;
     }
 
-    /// Goes to the target if the guard holds, and advances otherwise.
+    /// Jumps to the target if the guard holds, and advances otherwise.
     fn jump(&mut self, holds: bool, to: usize)
         requires { self.old.position + 1 < 2 ^ 64 }
         ensures { self.new ≡ jump_or_advance_processor self.old holds to }

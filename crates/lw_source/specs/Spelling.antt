@@ -1,5 +1,4 @@
--- How the statements of a source test are spelled.
--- The source is the format of the workbench, docs/FORMAT.md.
+-- The spelling of the statements of a source test, by docs/FORMAT.md.
 use Rattle.std.specs.Prelude.{ℕ, List, [], ◌∷◌, codes}
 use Rattle.lw_base.specs.Types.{Bytes}
 use Rattle.lw_litmus.specs.declared.stmt.Stmt.{Stmt}
@@ -13,7 +12,7 @@ use Rattle.lw_source.specs.declared.language.SourceKeyword.TheVariants as keywor
 use Rattle.lw_source.specs.declared.language.SourceForm.{SourceForm}
 use Rattle.lw_source.specs.declared.language.SourceForm.TheVariants.{Store, Load, Swap, FetchAdd, Set, Sum, IfEqual, IfNotEqual, Goto}
 
--- a keyword of the source language, as it is spelled
+-- The text of a keyword of the source language.
 abbrev pub source_keyword_text : SourceKeyword → Bytes
 source_keyword_text keyword.Assign = codes ":="
 source_keyword_text keyword.Swap = codes "swap"
@@ -24,12 +23,12 @@ source_keyword_text keyword.Equals = codes "="
 source_keyword_text keyword.Differs = codes "!="
 source_keyword_text keyword.Goto = codes "goto"
 
--- all forms of the source language's statements
+-- All forms of source statements.
 abbrev pub source_forms : List SourceForm
 source_forms = Store ∷ Load ∷ Swap ∷ FetchAdd ∷ Set ∷ Sum ∷ IfEqual ∷ IfNotEqual ∷ Goto ∷ []
 
--- A slot for each token: `x := v`, `d := x`, `d := swap x a`, `d := fetchadd x a`, `d := v`, `d := a + v`,
--- `if a = n goto L`, `if a != n goto L`, `goto L`.
+-- The slots of a form, one for each token: `x := v`, `d := x`, `d := swap x a`, `d := fetchadd x a`, `d := v`, `d := a + v`, `if a = n goto
+-- L`, `if a != n goto L`, `goto L`.
 abbrev pub source_slots : SourceForm → List (Slot SourceKeyword)
 source_slots Store = Location ∷ Keyword keyword.Assign ∷ Value ∷ []
 source_slots Load = Register ∷ Keyword keyword.Assign ∷ Location ∷ []
@@ -41,8 +40,8 @@ source_slots IfEqual = Keyword keyword.If ∷ Register ∷ Keyword keyword.Equal
 source_slots IfNotEqual = Keyword keyword.If ∷ Register ∷ Keyword keyword.Differs ∷ Number ∷ Keyword keyword.Goto ∷ Label ∷ []
 source_slots Goto = Keyword keyword.Goto ∷ Label ∷ []
 
--- The statement of a form, of what its tokens give: the index of its location first, then that of its label's statement. A slot
--- is named as above, by the letter that stands there, by its keyword, which gives nothing, or as a location or a label.
+-- The statement of a form, from the index of its location, the index of its label's statement, and the values of its slots. Slots are named
+-- by the letter of the form, by the keyword, which has no value, or as a location or a label.
 abbrev pub statement : ℕ → ℕ → (form : SourceForm) → Filling (source_slots form) → Stmt
 statement x target Store (location, (assign, (v, end))) = stmt.Store x v
 statement x target Load (d, (assign, (location, end))) = stmt.Load d x
@@ -54,7 +53,7 @@ statement x target IfEqual (if_word, (a, (equals, (n, (goto, (label, end)))))) =
 statement x target IfNotEqual (if_word, (a, (differs, (n, (goto, (label, end)))))) = stmt.IfNe a n target
 statement x target Goto (goto, (label, end)) = stmt.Goto target
 
--- the spelling of the source language: its keywords, forms, slots and statements
+-- The spelling of the source language: its keywords, forms, slots and statements.
 abbrev pub source_spelling : Spelling SourceKeyword SourceForm Stmt
 source_spelling = record {
   language = source_language;

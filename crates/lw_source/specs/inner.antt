@@ -1,2 +1,2 @@
--- What serves the reader of this crate; no public call speaks of it.
+-- Definitions for the reader of this crate. No public call cites them.
 pub mod Operands

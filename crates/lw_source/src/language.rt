@@ -1,4 +1,4 @@
-//! How the statements of a source test are spelled.
+//! The spelling of the statements of a source test.
 ghost use Rattle.lw_source.specs.Spelling.{source_spelling};
 ghost use Rattle.lw_source.specs.inner.Operands.{statement_of_operands};
 
@@ -9,7 +9,7 @@ use lw_statements::{Operands, Slot, StatementReader};
 /// The source language.
 pub(crate) enum SourceLanguage {}
 
-/// A keyword: a word or a sign that statements are written with.
+/// A keyword: a word or a sign of statements.
 #[derive(Clone, Copy)]
 pub(crate) enum SourceKeyword {
     Assign,
@@ -25,23 +25,23 @@ pub(crate) enum SourceKeyword {
 /// A form of statements.
 #[derive(Clone, Copy)]
 pub(crate) enum SourceForm {
-    /// `x := n`, `x := a`
+    /// `x := n`, `x := a`.
     Store,
-    /// `d := x`
+    /// `d := x`.
     Load,
-    /// `d := swap x a`
+    /// `d := swap x a`.
     Swap,
-    /// `d := fetchadd x a`
+    /// `d := fetchadd x a`.
     FetchAdd,
-    /// `d := n`, `d := a`
+    /// `d := n`, `d := a`.
     Set,
-    /// `d := a + b`, `d := a + n`
+    /// `d := a + b`, `d := a + n`.
     Sum,
-    /// `if a = n goto L`
+    /// `if a = n goto L`.
     IfEqual,
-    /// `if a != n goto L`
+    /// `if a != n goto L`.
     IfNotEqual,
-    /// `goto L`
+    /// `goto L`.
     Goto,
 }
 
@@ -56,17 +56,17 @@ impl StatementReader for SourceLanguage {
 
     ghost made = { statement_of_operands };
 
-    /// The language is the source language.
+    /// Returns the source language.
     fn arch() -> Arch {
         Arch::Source
     }
 
-    /// The most statements of a thread.
+    /// Returns the maximum number of statements of a thread.
     fn most() -> usize {
         MAX_STATEMENTS
     }
 
-    /// A keyword, as it is spelled.
+    /// Returns the text of a keyword.
     fn text(keyword: SourceKeyword) -> &'static str {
         match keyword {
             SourceKeyword::Assign => ":=",
@@ -80,7 +80,7 @@ impl StatementReader for SourceLanguage {
         }
     }
 
-    /// All forms of statements.
+    /// Returns all forms of statements.
     fn forms() -> &'static [SourceForm] {
         &[
             SourceForm::Store,
@@ -95,7 +95,7 @@ impl StatementReader for SourceLanguage {
         ]
     }
 
-    /// The slots of a form, token by token.
+    /// Returns the slots of a form, one for each token.
     fn slots(form: SourceForm) -> &'static [Slot<SourceKeyword>] {
         use Slot::{Label, Location, Number, Register, Value, Keyword};
         use SourceKeyword::{Assign, Differs, Equals, FetchAdd, Goto, If, Plus, Swap};
@@ -132,7 +132,7 @@ impl StatementReader for SourceLanguage {
         }
     }
 
-    /// The statement of a form, or `None` where an operand that it needs is missing.
+    /// Returns the statement of a form, or `None` if an operand that it needs is missing.
     fn statement(form: SourceForm, operands: &Operands) -> Option<Stmt> {
         let Operands {
             reg,

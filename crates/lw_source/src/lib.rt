@@ -1,8 +1,7 @@
-//! The source language: the reading of a source test from its frame.
-//!
-//! It names lw_base, of lw_litmus the test, of lw_text the frame, and the rule of lw_statements. What it reads is said by
-//! docs/FORMAT.md. It passes on the test and its statements of lw_litmus, and its runs of lw_interleaving. The promise that
-//! the crates above use: a `Source` that is read is the test of its frame.
+//! The source language: reading a source test from its frame.
+//! This crate depends on lw_base, on the tests of lw_litmus, on the frames of lw_text, and on the reader of
+//! lw_statements. docs/FORMAT.md defines what is read. It re-exports the test and its statements from lw_litmus, and
+//! its runs from lw_interleaving. Crates above rely on one promise: a `Source` that is read is the test of its frame.
 #![tactic(auto)]
 
 mod language;

@@ -1,4 +1,4 @@
-//! Reads a source test from its frame.
+//! Reading a source test from its frame.
 ghost use Rattle.std.specs.Prelude.{◌≡◌, ◌≤◌, IfOk, IfErr};
 ghost use Rattle.lw_base.specs.NoParse.{HoldsOfNothingOrOutOfMemory};
 ghost use Rattle.lw_base.specs.declared.head.Arch.TheVariants as arch;
@@ -18,20 +18,19 @@ use lw_statements::read_test;
 use lw_text::Frame;
 use std::alloc::Allocator;
 
-/// Reads the source test of a frame whose language is the source language. The test takes the frame's head over.
-///
-/// The threads are read one after another, each from top to bottom, and the first fault is told.
+/// Reads the source test of a frame whose language is the source language, and takes over the frame's head.
+/// Reads the threads in order, each from top to bottom, and fails at the first fault.
 pub fn read_source<A: Allocator + Copy>(
     alloc: A,
     frame: Frame<'_, A>,
 ) -> Result<Source<A>, CellFault>
     requires { frame.head.arch ≡ arch.Source }
-    // What is answered is the frame's test, and where it is refused it has none, unless memory ran out.
+    // The result is the frame's test. If reading fails, the frame has no test, or memory ran out.
     ensures found { IfOk result (λ s. HasSource (frame_of frame.entry) (source_of s)) }
     ensures fault { IfErr result (λ f. HoldsOfNothingOrOutOfMemory Memory f.cause (HasSource (frame_of frame.entry))) }
     ensures place { IfErr result (λ f. f.at ≤ frame.entry.len) }
     ensures memory { IfErr result (λ f. f.cause ≡ Memory → f.at ≡ 0) }
-    // What the cause says of the place is so.
+    // What the cause says of the place is true.
     ensures cause { IfErr result (CellFaultIsTrue source_grammar frame.entry.head.locs (placed_cells frame.entry.cells)) }
 {
     let parts = read_test::<SourceLanguage, A>(alloc, frame)?;
@@ -41,7 +40,7 @@ pub fn read_source<A: Allocator + Copy>(
     })
 }
 
-/// A frame has at most one source test.
+/// States that a frame has at most one source test.
 pub fn a_frame_has_one_source()
     ensures { (frame : TestFrame) (s t : SourceTest) → HasSource frame s → HasSource frame t → s ≡ t }
 {}

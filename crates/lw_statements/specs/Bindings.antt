@@ -1,4 +1,4 @@
--- What is read of a statement's tokens, and the statement that is made of it.
+-- The bindings of a statement's tokens, and the statement that they determine.
 use Rattle.std.specs.Prelude.{◌≡◌, MatchOption, IfSome, ◌<◌, ◌≤◌, ◌+◌, ◌&&◌, ◌||◌, ℕ, zero, suc, Bool, true, false, not, Option, Some, None, List, [], ◌∷◌}
 use Rattle.std.specs.Prelude.{◌^◌, length, codes, slice_get, Contains}
 use Rattle.std.specs.List.{AllByRecursion, list_any, list_all}
@@ -23,7 +23,7 @@ use Rattle.lw_statements.specs.declared.slot.Slot.TheVariants.{Keyword, Register
 use Rattle.lw_statements.specs.Spellings.{Spelling, SlotValue, Filling, ParsesStatement, name_in, label_in, Fills}
 use Rattle.lw_statements.specs.inner.Tokens.{NameRead, NameRefused}
 
--- what is found in no tokens: no operand, no name and no label
+-- The bindings of no tokens: no operand, no name and no label.
 abbrev pub no_bindings : SlotBindings
 no_bindings = record {
   operands = record { reg = None; other = None; val = None; num = None; loc = None; to = None };
@@ -31,27 +31,27 @@ no_bindings = record {
   label = None;
 }
 
--- what was found behind a token, with the register that the token gives as the first
+-- The bindings, with this register as the first.
 abbrev pub with_register : ℕ → SlotBindings → SlotBindings
 with_register r o = record o { operands = record o.operands { reg = Some r; other = o.operands.reg } }
 
--- what was found behind a token, with the operand that the token gives
+-- The bindings, with this operand.
 abbrev pub with_value : Operand → SlotBindings → SlotBindings
 with_value v o = record o { operands = record o.operands { val = Some v } }
 
--- what was found behind a token, with the number that the token gives
+-- The bindings, with this number.
 abbrev pub with_number : ℕ → SlotBindings → SlotBindings
 with_number n o = record o { operands = record o.operands { num = Some n } }
 
--- what was found behind a token, with this token's index as that of the location's name
+-- The bindings, with this token's index as that of the location's name.
 abbrev pub with_name_at : ℕ → SlotBindings → SlotBindings
 with_name_at k o = record o { name = Some k }
 
--- what was found behind a token, with this token's index as that of the label
+-- The bindings, with this token's index as that of the label.
 abbrev pub with_label_at : ℕ → SlotBindings → SlotBindings
 with_label_at k o = record o { label = Some k }
 
--- what was found behind a token, with what the token, of this index, gives at its slot
+-- The bindings, with the value of the token at this index in its slot.
 abbrev pub bind_slot : {W : Type 0} → ℕ → (slot : Slot W) → SlotValue slot → SlotBindings → SlotBindings
 bind_slot k (Keyword w) g o = o
 bind_slot k Register r o = with_register r o
@@ -60,77 +60,76 @@ bind_slot k Value v o = with_value v o
 bind_slot k Number n o = with_number n o
 bind_slot k Label l o = with_label_at k o
 
--- what is found in tokens, by what they give at slots; the first token has this index
+-- The bindings of tokens with these values in their slots. The first token has this index.
 abbrev pub bindings_of : {W : Type 0} → ℕ → (slots : List (Slot W)) → Filling slots → SlotBindings
 bindings_of k [] f = no_bindings
 bindings_of k (slot ∷ slots) (g, f) = bind_slot k slot g (bindings_of (k + 1) slots f)
 
--- these registers, and in front of them the one that is given at a slot, if one is
+-- The registers, after the one in a slot if it has one.
 abbrev pub registers_with : {W : Type 0} (slot : Slot W) → SlotValue slot → List ℕ → List ℕ
 registers_with Register r rs = r ∷ rs
 registers_with Value (operand.Register r) rs = r ∷ rs
 registers_with slot g rs = rs
 
--- these numbers, and in front of them the one that is given at a slot, if one is
+-- The numbers, after the one in a slot if it has one.
 abbrev pub numbers_with : {W : Type 0} (slot : Slot W) → SlotValue slot → List ℕ → List ℕ
 numbers_with Value (operand.Number n) ns = n ∷ ns
 numbers_with Number n ns = n ∷ ns
 numbers_with slot g ns = ns
 
--- the registers that the tokens at all slots give
+-- The registers in all slots.
 abbrev pub registers_in : {W : Type 0} (slots : List (Slot W)) → Filling slots → List ℕ
 registers_in [] f = []
 registers_in (slot ∷ slots) (g, f) = registers_with slot g (registers_in slots f)
 
--- the numbers that the tokens at all slots give
+-- The numbers in all slots.
 abbrev pub numbers_in : {W : Type 0} (slots : List (Slot W)) → Filling slots → List ℕ
 numbers_in [] f = []
 numbers_in (slot ∷ slots) (g, f) = numbers_with slot g (numbers_in slots f)
 
--- the operands, with this as the index of the statement that they lead to, if there is one
+-- The operands, with this target, if there is one.
 abbrev pub with_target : Option ℕ → Operands → Operands
 with_target to o = record o { to = to }
 
--- the operands that were found, with the index of their location, if a name was found, and of the statement that they lead to
+-- The operands of the bindings, with the index of their location, if there is a name, and this target.
 abbrev pub operands_of : ℕ → Option ℕ → SlotBindings → Operands
 operands_of x to o = record o.operands { loc = option_map (λ (k : ℕ). x) o.name; to = to }
 
--- what is made of an operand, if it is there
+-- The function of an operand, if it is given.
 abbrev pub map_some : {A C : Type 0} → (A → C) → Option A → Option C
 map_some make None = None
 map_some make (Some a) = Some (make a)
 
--- what is made of two operands, if both are there
+-- The function of two operands, if both are given.
 abbrev pub map_some2 : {A B C : Type 0} → (A → B → C) → Option A → Option B → Option C
 map_some2 make None b = None
 map_some2 make (Some a) b = map_some (make a) b
 
--- what is made of three operands, if all are there
+-- The function of three operands, if all are given.
 abbrev pub map_some3 : {A B D C : Type 0} → (A → B → D → C) → Option A → Option B → Option D → Option C
 map_some3 make None b d = None
 map_some3 make (Some a) b d = map_some2 (make a) b d
 
--- the draft of a statement: its form, its location, if it has one, and what was found in its tokens
+-- The draft of a statement: its form, its location, if it has one, and its bindings.
 abbrev pub draft_on : {Form : Type 0} → Form → Option ℕ → SlotBindings → Draft Form
 draft_on form loc o = record { form = form; operands = record o.operands { loc = loc; to = None }; label = o.label }
 
--- the draft of a statement: its form, this index as its location's, if a name was found, and what else was
+-- The draft of a statement: its form, this index as its location's, if there is a name, and its bindings.
 abbrev pub drafted : {Form : Type 0} → Form → ℕ → SlotBindings → Draft Form
 drafted form x o = draft_on form (option_map (λ (k : ℕ). x) o.name) o
 
--- The name that was found, if there is one, is that of a location, and stands among the tokens.
+-- The name of the bindings, if there is one, is that of a location, and its token is in range.
 abbrev pub IsNameAmong : SlotBindings → List Token → Type 0
 IsNameAmong o tokens = IfSome o.name (λ k. (k < length tokens) × ((t : Token) → slice_get tokens k ≡ Some t → IsLocationName t.text.now))
 
--- The draft of a form is made of what was found in some tokens. The table after is the one before with the location's name, if
--- there is one.
+-- The draft of a form results from the bindings of tokens. The table after it is the one before with the location's name, if there is one.
 abbrev pub IsDrafted : {Form : Type 0} → Form → SlotBindings → List Token → NameTable → Draft Form → NameTable → Type 0
 IsDrafted form o tokens before draft after =
     MatchOption o.name ((after ≡ before) × (draft ≡ draft_on form None o))
     (λ k.
     (t : Token) × (loc : ℕ) × (slice_get tokens k ≡ Some t) × NameRead before t loc after × (draft ≡ draft_on form (Some loc) o))
 
--- No draft is made of what was found, since the table has no room for its location; the fault says so.
+-- The bindings have no draft, since the table has no room for the location. The fault says so.
 pub record IsNotDrafted (o : SlotBindings) (tokens : List Token) (before : NameTable) (fault : CellFault) : Type 0 where
   pub index : ℕ
   pub name : o.name ≡ Some index
@@ -138,7 +137,7 @@ pub record IsNotDrafted (o : SlotBindings) (tokens : List Token) (before : NameT
   pub is : slice_get tokens index ≡ Some token
   pub refused : NameRefused before token fault
 
--- A location is wanted at this index, which is below front, and the token there is not in the table, which is full.
+-- The slot at this index, which is below `front`, takes a location, and the token there is not in the table, which is full.
 pub record IsOverflowSlot {W : Type 0} (slots : List (Slot W)) (tokens : List Token) (front : ℕ) (names : NameTable) (index : ℕ) : Type 0 where
   pub before : index < front
   pub slot : slice_get slots index ≡ Some Location
@@ -148,45 +147,45 @@ pub record IsOverflowSlot {W : Type 0} (slots : List (Slot W)) (tokens : List To
   pub new : Contains names token.text.now → ⊥
 
 module _ {W Form Stmt : Type 0} (spelling : Spelling W Form Stmt) where
-  -- the tokens can stand at these slots, one at each
+  -- The tokens fit these slots, one in each.
   abbrev pub CanStand : TokenList → List (Slot W) → Type 0
   CanStand ts slots = (f : Filling slots) × Fills spelling ts slots f
 
-  -- The slots begin with one at which the token can stand.
+  -- There is a first slot, and the token fits it.
   abbrev pub BeginsWith : List (Slot W) → Bytes → Type 0
   BeginsWith slots t =
       (slot : Slot W) × (rest : List (Slot W)) × (slots ≡ slot ∷ rest) × CanStand (t ∷ []) (slot ∷ [])
 
-  -- what is found in a statement's tokens, by what they say
+  -- The bindings of a parsed statement's tokens.
   abbrev pub found_in : ParsesStatement spelling → SlotBindings
   found_in s = bindings_of 0 (spelling.slots_of s.form) s.filling
 
-  -- the draft of a statement that tokens say, where its location has this index
+  -- The draft of a parsed statement, if its location has this index.
   abbrev pub draft_of : ℕ → ParsesStatement spelling → Draft Form
   draft_of x s = drafted s.form x (found_in s)
 
-  -- So many tokens in front can stand at the slots; the next cannot, or there is none, or no slot.
+  -- Exactly this number of tokens fit the slots: the next does not, or there is no further token or slot.
   abbrev pub IsReach : TokenList → List (Slot W) → ℕ → Type 0
   IsReach ts [] k = k ≡ 0
   IsReach [] (slot ∷ slots) k = k ≡ 0
   IsReach (t ∷ ts) (slot ∷ slots) zero = CanStand (t ∷ []) (slot ∷ []) → ⊥
   IsReach (t ∷ ts) (slot ∷ slots) (suc k) = CanStand (t ∷ []) (slot ∷ []) × IsReach ts slots k
 
-  -- At the slots of no form more tokens in front can stand than so many.
+  -- At most this number of tokens fit the slots of any form.
   abbrev pub AreFront : TokenList → ℕ → Type 0
   AreFront ts k =
       (form : Form) → Contains spelling.forms form
       → (n : ℕ) → IsReach ts (spelling.slots_of form) n → n ≤ k
 
-  -- ---- forms that exclude each other
+  -- ---- Disjoint forms.
 
-  -- whether a text is the name of a register of the language
+  -- Tests whether a text is the name of a register of the language.
   abbrev pub names_register : Bytes → Bool
   names_register w =
       list_any (λ r. bytes_eq (lowercase_if_x86 spelling.language.arch (register_name spelling.language.arch r)) (lowercase_if_x86 spelling.language.arch w))
       (0 ∷ 1 ∷ 2 ∷ 3 ∷ 4 ∷ 5 ∷ [])
 
-  -- whether no token can stand at both slots
+  -- Tests whether no token fits both slots.
   abbrev pub tokens_differ : Slot W → Slot W → Bool
   tokens_differ (Keyword v) (Keyword w) =
       not (bytes_eq (lowercase_if_x86 spelling.language.arch (spelling.text_of v)) (lowercase_if_x86 spelling.language.arch (spelling.text_of w)))
@@ -198,54 +197,54 @@ module _ {W Form Stmt : Type 0} (spelling : Spelling W Form Stmt) where
   tokens_differ Value Location = true
   tokens_differ a b = false
 
-  -- whether no tokens fill both lists of slots
+  -- Tests whether no tokens fill both lists of slots.
   abbrev pub are_disjoint_forms : List (Slot W) → List (Slot W) → Bool
   are_disjoint_forms [] [] = false
   are_disjoint_forms [] (b ∷ second) = true
   are_disjoint_forms (a ∷ first) [] = true
   are_disjoint_forms (a ∷ first) (b ∷ second) = tokens_differ a b || are_disjoint_forms first second
 
-  -- whether no tokens fill two of the forms
+  -- Tests whether no tokens fill two of the forms.
   abbrev pub all_apart : List Form → Bool
   all_apart [] = true
   all_apart (form ∷ forms) =
       list_all (λ other. are_disjoint_forms (spelling.slots_of form) (spelling.slots_of other)) forms && all_apart forms
 
-  -- whether the first of these slots, if there is one, is no `:`
+  -- Tests whether the first of these slots, if there is one, is not a `:`.
   abbrev pub is_no_colon : List (Slot W) → Bool
   is_no_colon [] = true
   is_no_colon (Keyword w ∷ slots) =
       not (bytes_eq (lowercase_if_x86 spelling.language.arch (spelling.text_of w)) (codes ":"))
   is_no_colon (slot ∷ slots) = true
 
-  -- whether the slots have a first, as a statement's must, and their second is no `:`, which would make a label of that
+  -- Tests whether there is a first slot, as in every statement, and the second is not a `:`, which would make the first token a label.
   abbrev pub is_statement : List (Slot W) → Bool
   is_statement [] = false
   is_statement (slot ∷ slots) = is_no_colon slots
 
-  -- whether a label's slot, if there is one, is the last
+  -- Tests whether a label's slot, if there is one, is the last.
   abbrev pub is_label_last : List (Slot W) → Bool
   is_label_last [] = true
   is_label_last (Label ∷ []) = true
   is_label_last (Label ∷ slot ∷ slots) = false
   is_label_last (slot ∷ slots) = is_label_last slots
 
-  -- whether no slot is a location's
+  -- Tests whether no slot is a location's.
   abbrev pub names_none : List (Slot W) → Bool
   names_none [] = true
   names_none (Location ∷ slots) = false
   names_none (slot ∷ slots) = names_none slots
 
-  -- whether at most one slot is a location's
+  -- Tests whether at most one slot is a location's.
   abbrev pub names_one : List (Slot W) → Bool
   names_one [] = true
   names_one (Location ∷ slots) = names_none slots
   names_one (slot ∷ slots) = names_one slots
 
-  -- ---- what the rule of cells rests on
+  -- ---- What the rule of cells requires.
 
-  -- The statement of a form is made of the operands that its tokens give; it stands on the location of its name, leads to
-  -- where its label does, and its registers and numbers are those that its tokens give.
+  -- The statement of a form results from the operands of its tokens; it accesses the location of its name, jumps to where its label does,
+  -- and has the registers and numbers of its tokens.
   pub record IsMade (made : Form → Operands → Option Stmt) (x to : ℕ) (form : Form) (f : Filling (spelling.slots_of form)) : Type 0 where
     pub is : made form (operands_of x (option_map (λ l. to) (label_in (spelling.slots_of form) f)) (bindings_of 0 (spelling.slots_of form) f)) ≡ Some
         (spelling.statement x to form f)
@@ -257,7 +256,7 @@ module _ {W Form Stmt : Type 0} (spelling : Spelling W Form Stmt) where
         → AllByRecursion IsRegisterIndex (registers_of (spelling.language.operation_of (spelling.statement x to form f)))
         × AllByRecursion IsWordNumber (numbers_of (spelling.language.operation_of (spelling.statement x to form f)))
 
-  -- What the rule of cells rests on: a language's forms are told apart, and each begins, names and jumps as that rule wants it.
+  -- What the rule of cells requires: a language's forms are disjoint, and each begins, names and jumps as the rule demands.
   pub record IsSpelling (made : Form → Operands → Option Stmt) : Type 0 where
     pub countable : spelling.language.most < 2 ^ 64
     pub apart : all_apart spelling.forms ≡ true

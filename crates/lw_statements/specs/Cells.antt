@@ -1,5 +1,4 @@
--- What the cells of a test say: its labels and statements.
--- The source is the format of the workbench, docs/FORMAT.md.
+-- The labels and statements of a test's cells, by docs/FORMAT.md.
 use Rattle.std.specs.Prelude.{◌≡◌, ◌<◌, ◌≤◌, ◌+◌, ℕ, if◌then◌else◌, Option, Some, None, List, [], ◌∷◌, length, map, codes, slice_get, Contains}
 use Rattle.std.specs.List.{flat_map, filter_map, AllZip}
 use Rattle.std.specs.Option.{ForSome}
@@ -13,58 +12,57 @@ use Rattle.lw_text.specs.Frames.{TestFrame}
 use Rattle.lw_statements.specs.Grammars.{Grammar}
 use Rattle.lw_litmus.specs.Tests.{Test}
 
--- what a cell says: labels, and at most one statement
+-- The content of a cell: labels, and at most one statement.
 pub record CellSyntax (Syntax : Type 0) : Type 0 where
   pub labels : List Bytes
   pub stmt : Option Syntax
 
--- The tokens are labels, each with a `:` behind it, and then rest. A label is a name that is not reserved, as a location is.
+-- The tokens are labels, each followed by a `:`, and then rest. A label is a name that is not reserved, as for a location.
 abbrev pub Labels : TokenList → List Bytes → TokenList → Type 0
 Labels ts [] rest = ts ≡ rest
 Labels ts (l ∷ ls) rest = (mid : TokenList) × (ts ≡ l ∷ codes ":" ∷ mid) × IsLocationName l × Labels mid ls rest
 
--- the statements of some cells, from top to bottom
+-- The statements of cells, from top to bottom.
 abbrev pub statements : {Syntax : Type 0} → List (CellSyntax Syntax) → List Syntax
 statements {Syntax} syntaxes = filter_map (λ (syntax : CellSyntax Syntax). syntax.stmt) syntaxes
 
--- the labels of some cells, from top to bottom
+-- The labels of cells, from top to bottom.
 abbrev pub labels_of : {Syntax : Type 0} → List (CellSyntax Syntax) → List Bytes
 labels_of {Syntax} syntaxes = flat_map (λ (syntax : CellSyntax Syntax). syntax.labels) syntaxes
 
--- The index of the statement that a label leads to: the first in the label's cell or behind it.
+-- The index of the statement that a label targets: the first in the label's cell or after it.
 abbrev pub target_in : {Syntax : Type 0} → List (CellSyntax Syntax) → Bytes → ℕ
 target_in [] l = 0
 target_in (syntax ∷ syntaxes) l =
     if contains_name syntax.labels l then 0 else length (statements (syntax ∷ [])) + target_in syntaxes l
 
--- the index of a location in a table; 0 where there is no name
+-- The index of a location in a table; 0 if no name is given.
 abbrev pub location_index : NameTable → Option Bytes → ℕ
 location_index names None = 0
 location_index names (Some x) = position_of_name names x
 
--- the index of the statement that a label leads to; 0 where there is no label
+-- The index of the statement that a label targets; 0 if no label is given.
 abbrev pub resolved_target : {Syntax : Type 0} → List (CellSyntax Syntax) → Option Bytes → ℕ
 resolved_target syntaxes None = 0
 resolved_target syntaxes (Some l) = target_in syntaxes l
 
 module _ {Syntax Stmt : Type 0} (grammar : Grammar Syntax Stmt) where
-  -- what the tokens behind a cell's labels say: no statement, where there are none, or this one
+  -- The tokens after a cell's labels are empty, or this statement.
   abbrev pub MaybeStatement : TokenList → Option Syntax → Type 0
   MaybeStatement ts None = ts ≡ []
   MaybeStatement ts (Some s) = grammar.says ts s
 
-  -- The cell's tokens are labels, and then nothing or a statement.
+  -- The cell's tokens are labels, followed by nothing or a statement.
   abbrev pub ParsesCell : TokenList → CellSyntax Syntax → Type 0
   ParsesCell cell syntax = (mid : TokenList) × Labels cell syntax.labels mid × MaybeStatement mid syntax.stmt
 
-  -- The label that the statement at this index jumps to, if it jumps, is one of the thread's, and leads to a statement
-  -- behind it or to the thread's end.
+  -- If the statement at this index jumps, its label is one of the thread's, and targets a later statement or the thread's end.
   abbrev pub LabelsLeadForward : List (CellSyntax Syntax) → ℕ → Syntax → Type 0
   LabelsLeadForward syntaxes k s =
       ForSome (grammar.label_of s) (λ l. Contains (labels_of syntaxes) l × (k < target_in syntaxes l))
 
-  -- The cells of a thread say these, from top to bottom: no more statements than the language allows, each label
-  -- once, and jumps forward.
+  -- The cells of a thread have this content, from top to bottom: at most as many statements as the language allows, labels without
+  -- duplicates, and jumps forward.
   pub record Column (cells : Cells) (syntaxes : List (CellSyntax Syntax)) : Type 0 where
     pub says : AllZip ParsesCell cells syntaxes
     pub few : length (statements syntaxes) ≤ grammar.language.most
@@ -72,29 +70,29 @@ module _ {Syntax Stmt : Type 0} (grammar : Grammar Syntax Stmt) where
     pub forward :
         (k : ℕ) (s : Syntax) → slice_get (statements syntaxes) k ≡ Some s → LabelsLeadForward syntaxes k s
 
-  -- the names of the locations in a thread's statements, from top to bottom
+  -- The names of the locations in a thread's statements, from top to bottom.
   abbrev pub names_in : List (CellSyntax Syntax) → List Bytes
   names_in syntaxes = filter_map grammar.name_of (statements syntaxes)
 
-  -- the names of the locations in the statements of all threads, thread by thread
+  -- The names of the locations in the statements of all threads, thread by thread.
   abbrev pub names_of : List (List (CellSyntax Syntax)) → List Bytes
   names_of threads = flat_map names_in threads
 
-  -- a statement, resolved: with its location's index in a table, and the index of the statement that its label leads to
+  -- The resolved statement, with its location's index in a table, and the index of the statement that its label targets.
   abbrev pub resolved_statement : NameTable → List (CellSyntax Syntax) → Syntax → Stmt
   resolved_statement names syntaxes s =
       grammar.made (location_index names (grammar.name_of s)) (resolved_target syntaxes (grammar.label_of s)) s
 
-  -- a thread's code: the statements that its cells say, resolved
+  -- A thread's code: the statements of its cells, resolved.
   abbrev pub code_in : NameTable → List (CellSyntax Syntax) → List Stmt
   code_in names syntaxes = map (resolved_statement names syntaxes) (statements syntaxes)
 
-  -- the test of a head and of what its threads' cells say, on this table
+  -- The test of a head and of the content of its threads' cells, with this table.
   abbrev pub resolve_test : TestHead → NameTable → List (List (CellSyntax Syntax)) → Test Stmt
   resolve_test head names threads =
       record { head = set_location_names head names; threads = map (code_in names) threads }
 
-  -- The frame is of the language, and its cells say the statements of the test, on at most eight locations.
+  -- The frame is of the language, and its cells are the statements of the test, on at most eight locations.
   pub record FrameHasTest (frame : TestFrame) (test : Test Stmt) : Type 0 where
     pub arch : frame.head.arch ≡ grammar.language.arch
     pub threads : List (List (CellSyntax Syntax))

@@ -1,5 +1,5 @@
--- What the grammar of a language of litmus tests is: what the tokens of a statement say, and which statement that is.
--- An x86 instruction is a statement of its language.
+-- The grammar of a language of litmus tests: which tokens are a statement, and which statement they are. An x86 instruction is a statement
+-- of its language.
 use Rattle.std.specs.Prelude.{◌≡◌, ◌<◌, ◌^◌, ℕ, Option, Some, [], ◌∷◌, ◌++◌, codes, slice_get, All}
 use Rattle.std.specs.Option.{option_map}
 use Rattle.lw_base.specs.WellFormed.{IsRegisterIndex, IsWordNumber}
@@ -10,24 +10,24 @@ use Rattle.lw_litmus.specs.Languages.{Language}
 use Rattle.lw_litmus.specs.Operations.{location_of, branch_target}
 use Rattle.lw_litmus.specs.Operations.{registers_of, numbers_of}
 
--- What is said by a statement's tokens is of the type Syntax; a statement itself is of the type Stmt.
+-- A grammar. The syntax of a statement's tokens is of type Syntax; a statement itself is of type Stmt.
 pub record Grammar (Syntax Stmt : Type 0) : Type 1 where
-  -- the language whose statements these are
+  -- The language of the statements.
   pub language : Language Stmt
-  -- the tokens say this
+  -- The tokens have this syntax.
   pub says : TokenList → Syntax → Type 0
-  -- the name of the location, and the label that is jumped to
+  -- The name of the location, and the label of the jump.
   pub name_of : Syntax → Option Bytes
   pub label_of : Syntax → Option Bytes
-  -- the statement, on the location of a number, with a target
+  -- The statement, from the index of its location and its target.
   pub made : ℕ → ℕ → Syntax → Stmt
 
 module _ {Syntax Stmt : Type 0} (grammar : Grammar Syntax Stmt) where
-  -- the language of a grammar's tests
+  -- The language of a grammar's tests.
   abbrev pub arch_of : Arch
   arch_of = grammar.language.arch
 
-  -- the most statements of a thread
+  -- The maximum number of statements of a thread.
   abbrev pub statement_limit : ℕ
   statement_limit = grammar.language.most
 
@@ -35,23 +35,23 @@ module _ {Syntax Stmt : Type 0} (grammar : Grammar Syntax Stmt) where
   abbrev pub CanBegin : Bytes → Type 0
   CanBegin t = (rest : TokenList) × (s : Syntax) × grammar.says (t ∷ rest) s
 
-  -- A location may stand behind the tokens: any is that of some statement which goes on so.
+  -- A location may follow the tokens: any is that of some statement that begins so.
   abbrev pub BeforeLocation : TokenList → Type 0
   BeforeLocation ts = (x : Bytes) → IsLocationName x → (rest : TokenList) × (s : Syntax) × grammar.says (ts ++ x ∷ rest) s × (grammar.name_of s ≡ Some x)
 
-  -- What the rule of cells rests on.
+  -- What the rule of cells requires.
   pub record IsGrammar : Type 0 where
-    -- numbers of statements can be counted
+    -- The number of statements of a thread is below 2^64.
     pub countable : grammar.language.most < 2 ^ 64
-    -- a row of tokens says one statement at most
+    -- Tokens have at most one syntax.
     pub one : (ts : TokenList) (s t : Syntax) → grammar.says ts s → grammar.says ts t → s ≡ t
-    -- a statement has a token, and no `:` behind its first
+    -- A statement has a token, and no `:` after its first.
     pub some : (ts : TokenList) (s : Syntax) → grammar.says ts s → ts ≡ [] → ⊥
     pub no_label : (ts : TokenList) (s : Syntax) → grammar.says ts s → slice_get ts 1 ≡ Some (codes ":") → ⊥
-    -- a statement stands on the location of its name, and leads to where its label does
+    -- A statement accesses the location of its name, and jumps to where its label does.
     pub located : (x to : ℕ) (s : Syntax) → location_of (grammar.language.operation_of (grammar.made x to s)) ≡ option_map (λ n. x) (grammar.name_of s)
     pub led : (x to : ℕ) (s : Syntax) → branch_target (grammar.language.operation_of (grammar.made x to s)) ≡ option_map (λ l. to) (grammar.label_of s)
-    -- its registers are registers, and its numbers are words
+    -- Its registers are registers of a thread, and its numbers are words.
     pub registers : (ts : TokenList) (x to : ℕ) (s : Syntax) → grammar.says ts s
         → All IsRegisterIndex (registers_of (grammar.language.operation_of (grammar.made x to s)))
     pub numbers : (ts : TokenList) (x to : ℕ) (s : Syntax) → grammar.says ts s

@@ -1,5 +1,4 @@
--- How the statements of a language are spelled: in forms, each with a slot for each of its tokens.
--- The source is the format of the workbench, docs/FORMAT.md.
+-- The spelling of a language's statements: forms, each with a slot for each of its tokens. docs/FORMAT.md has them.
 use Rattle.std.specs.Prelude.{◌≡◌, ℕ, Option, Some, None, List, [], ◌∷◌, Contains}
 use Rattle.std.specs.Option.{option_or}
 use Rattle.lw_base.specs.Types.{Bytes, TokenList}
@@ -13,7 +12,7 @@ use Rattle.lw_statements.specs.Grammars.{Grammar}
 use Rattle.lw_statements.specs.declared.slot.Slot.{Slot}
 use Rattle.lw_statements.specs.declared.slot.Slot.TheVariants.{Keyword, Register, Location, Value, Number, Label}
 
--- what a token gives at a slot: a keyword gives nothing
+-- The value of a token in a slot. A keyword has none.
 abbrev pub SlotValue : {W : Type 0} → Slot W → Type 0
 SlotValue (Keyword w) = Unit {0}
 SlotValue Register = ℕ
@@ -22,33 +21,33 @@ SlotValue Value = Operand
 SlotValue Number = ℕ
 SlotValue Label = Bytes
 
--- what a statement's tokens give, slot by slot
+-- The values of a statement's tokens, slot by slot.
 abbrev pub Filling : {W : Type 0} → List (Slot W) → Type 0
 Filling [] = Unit {0}
 Filling (slot ∷ slots) = SlotValue slot × Filling slots
 
--- the name of the location that is given at the slot, if it is a location's
+-- The name of the location in the slot, if it is a location's.
 abbrev pub name_at : {W : Type 0} (slot : Slot W) → SlotValue slot → Option Bytes
 name_at Location x = Some x
 name_at slot g = None
 
--- the label that is given at the slot, if it is a label's
+-- The label in the slot, if it is a label's.
 abbrev pub label_at : {W : Type 0} (slot : Slot W) → SlotValue slot → Option Bytes
 label_at Label l = Some l
 label_at slot g = None
 
--- the name of the location that is given at some slot
+-- The name of the location in some slot.
 abbrev pub name_in : {W : Type 0} (slots : List (Slot W)) → Filling slots → Option Bytes
 name_in [] f = None
 name_in (slot ∷ slots) (g, f) = option_or (name_at slot g) (name_in slots f)
 
--- the label that is given at some slot
+-- The label in some slot.
 abbrev pub label_in : {W : Type 0} (slots : List (Slot W)) → Filling slots → Option Bytes
 label_in [] f = None
 label_in (slot ∷ slots) (g, f) = option_or (label_at slot g) (label_in slots f)
 
--- A language's keywords, its forms, the slots of each, and the statement that it makes of what they give, on the
--- location of a number, with a target.
+-- A language's keywords, its forms, the slots of each, and the statement of a form, from its slots' values, the index of its location, and
+-- its target.
 pub record Spelling (W Form Stmt : Type 0) : Type 1 where
   pub language : Language Stmt
   pub text_of : W → Bytes
@@ -57,7 +56,7 @@ pub record Spelling (W Form Stmt : Type 0) : Type 1 where
   pub statement : ℕ → ℕ → (form : Form) → Filling (slots_of form) → Stmt
 
 module _ {W Form Stmt : Type 0} (spelling : Spelling W Form Stmt) where
-  -- The token can stand at the slot, and gives this. Keywords of x86 are read in any case.
+  -- The token fits the slot, with this value. Keywords of x86 are read in any case.
   abbrev pub Gives : Bytes → (slot : Slot W) → SlotValue slot → Type 0
   Gives t (Keyword w) g = lowercase_if_x86 spelling.language.arch (spelling.text_of w) ≡ lowercase_if_x86 spelling.language.arch t
   Gives t Register r = IsRegisterName spelling.language.arch t r
@@ -66,19 +65,19 @@ module _ {W Form Stmt : Type 0} (spelling : Spelling W Form Stmt) where
   Gives t Number n = IsNumber t n
   Gives t Label l = (t ≡ l) × IsLocationName l
 
-  -- The tokens stand at the slots, one at each.
+  -- The tokens fit the slots, one in each, with these values.
   abbrev pub Fills : TokenList → (slots : List (Slot W)) → Filling slots → Type 0
   Fills [] [] f = Unit {0}
   Fills [] (slot ∷ slots) f = ⊥
   Fills (t ∷ ts) [] f = ⊥
   Fills (t ∷ ts) (slot ∷ slots) (g, f) = Gives t slot g × Fills ts slots f
 
-  -- what a statement's tokens say: its form, and what they give at its slots
+  -- A parsed statement: its form, and the values of its slots.
   pub record ParsesStatement : Type 0 where
     pub form : Form
     pub filling : Filling (spelling.slots_of form)
 
-  -- the grammar of the language that is spelled so
+  -- The grammar of a language with this spelling.
   abbrev pub grammar_of : Grammar ParsesStatement Stmt
   grammar_of = record {
     language = spelling.language;

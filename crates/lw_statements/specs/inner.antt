@@ -1,4 +1,4 @@
--- What serves the code's own readers of cells: no other crate names it.
+-- Definitions for the code's own readers of cells. No other crate names them.
 pub mod Tokens
 pub mod Drafts
 pub mod Reading

@@ -1,4 +1,4 @@
-//! Reads the cells of a thread, from top to bottom, and then resolves its jumps.
+//! Reading the cells of a thread, from top to bottom, and then resolving its jumps.
 ghost use Rattle.std.specs.Prelude.{◌≡◌, ◌⊎◌, ◌<◌, ◌≤◌, [], ◌∷◌, ◌++◌, Some, length, drop, MatchResult, IfSome, IfOk, IfErr};
 ghost use Rattle.std.specs.Option.{option_len};
 ghost use Rattle.lw_base.specs.Types.{NameTable};
@@ -24,8 +24,8 @@ use lw_text::{Cell, Token};
 use std::alloc::{Allocator, Global};
 use std::collections::BTreeMap;
 
-/// What is read of a thread before its jumps are resolved: a draft of each cell, its labels, each
-/// with the index of the statement that it leads to, and how many statements there are.
+/// What is read of a thread before its jumps are resolved: a draft of each cell, its labels, each with the index of
+/// its target, and the number of statements.
 #[derive(Drop)]
 struct DraftColumn<'a, D, A: Allocator = Global> {
     cells: Sequence<DraftCell<D>, A>,
@@ -34,7 +34,7 @@ struct DraftColumn<'a, D, A: Allocator = Global> {
 }
 
 impl<'a, D: Drop, A: Allocator + Copy> DraftColumn<'a, D, A> {
-    /// A column of which no cell has been read.
+    /// Creates a column of no cells.
     fn new(alloc: A) -> Self
         ensures { IsFresh result }
     {
@@ -46,7 +46,7 @@ impl<'a, D: Drop, A: Allocator + Copy> DraftColumn<'a, D, A> {
     }
 }
 
-/// Reads the statements of a thread. The names of their locations go into the table.
+/// Reads the statements of a thread. Inserts the names of their locations into the table.
 pub(crate) fn read_column<L: StatementReader, A: Allocator + Copy>(
     alloc: A,
     cells: &[Cell<'_, A>],
@@ -99,7 +99,7 @@ fn read_cell<'a, L: StatementReader, A: Allocator + Copy>(
     push(&mut column.cells, DraftCell { start, stmt })
 }
 
-/// Puts an item at the end, where memory is ample.
+/// Appends an item. Memory that runs out becomes a fault.
 pub(crate) fn push<T: Drop, A: Allocator>(
     items: &mut Sequence<T, A>,
     item: T,
@@ -109,7 +109,7 @@ pub(crate) fn push<T: Drop, A: Allocator>(
     Ok(items.push(item)?)
 }
 
-/// How many statements a cell has, by its draft: one, or none.
+/// Returns the number of statements of a cell's draft, 0 or 1.
 fn statement_count<F>(stmt: &Option<Draft<F>>) -> usize
     ensures { result ≡ option_len stmt.now }
 {
@@ -119,7 +119,8 @@ fn statement_count<F>(stmt: &Option<Draft<F>>) -> usize
     }
 }
 
-/// The draft of the statement behind a cell's labels, where there is one. As many statements as `above` stand above it.
+/// Returns the draft of the statement after a cell's labels, if there is one. The cells above have `above`
+/// statements.
 fn maybe_statement<L: StatementReader, A: Allocator + Copy>(
     phrase: &Phrase<'_, '_>,
     above: usize,
@@ -139,8 +140,8 @@ fn maybe_statement<L: StatementReader, A: Allocator + Copy>(
     Ok(Some(read_statement::<L, A>(phrase, locs)?))
 }
 
-/// The fault of a statement that would be one too many: told at its first token, unless no statement
-/// begins with that one.
+/// Returns the fault of a statement beyond the limit. It is at its first token, unless no statement begins with that
+/// token.
 fn too_many_statements<L: StatementReader>(first: &Token<'_>) -> CellFault
     ensures place { result.at ≡ first.now.at }
     ensures cause { (IsMisfit result.cause × (CanBegin (grammar_of L.spelling) first.now.text.now → ⊥))
@@ -155,7 +156,7 @@ fn too_many_statements<L: StatementReader>(first: &Token<'_>) -> CellFault
     misfit(first)
 }
 
-/// The statements of a thread, resolved from its drafts by its labels.
+/// Resolves a thread's drafts by its labels.
 fn resolve<L: StatementReader, A: Allocator + Copy>(
     alloc: A,
     cells: &[Cell<'_, A>],
@@ -178,7 +179,7 @@ fn resolve<L: StatementReader, A: Allocator + Copy>(
     Ok(code)
 }
 
-/// Puts a cell's statement, if it has one, behind those of the cells above, resolved by the labels of its thread.
+/// Appends a cell's statement, if it has one, resolved by the labels of its thread.
 fn resolve_cell<L: StatementReader, A: Allocator + Copy>(
     cell: &Cell<'_, A>,
     draft: DraftCell<Draft<L::Form>>,
@@ -199,7 +200,8 @@ fn resolve_cell<L: StatementReader, A: Allocator + Copy>(
     push(code, stmt)
 }
 
-/// The statement of a draft, resolved by its thread's labels. `number` is its index there, and the tokens are its own.
+/// Resolves a draft by its thread's labels. `number` is the statement's index in its thread, and the tokens are its
+/// own.
 fn resolve_draft<L: StatementReader, A: Allocator>(
     draft: Draft<L::Form>,
     tokens: &[Token<'_>],
@@ -217,8 +219,8 @@ fn resolve_draft<L: StatementReader, A: Allocator>(
     Ok(L::statement(draft.form, &operands).unwrap())
 }
 
-/// The index of the statement that a statement's label leads to, if it has one. `label` is the label's index among the
-/// tokens of the statement, and `number` the statement's own in its thread.
+/// Returns the target of a statement's jump, if it is one. `label` is the label's index among the statement's tokens,
+/// and `number` the statement's index in its thread.
 fn jump_target<A: Allocator>(
     label: Option<usize>,
     tokens: &[Token<'_>],
@@ -234,7 +236,7 @@ fn jump_target<A: Allocator>(
     }
 }
 
-/// The index of the statement that a jump's label leads to. The jump has the index `number`, which must be less.
+/// Returns the index of the statement that a label targets, which must be greater than the jump's own, `number`.
 fn target<A: Allocator>(
     label: &Token<'_>,
     number: usize,

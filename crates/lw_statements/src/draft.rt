@@ -1,20 +1,20 @@
 //! Drafts of statements, as they are read, before their jumps are resolved.
 use lw_base::{Loc, Operand, Reg, Word};
 
-/// What the tokens of a statement give.
+/// The operands of a statement, as far as its tokens have them.
 #[derive(Clone, Copy, Default)]
 pub struct Operands {
     /// Its register, or the first of two.
     pub reg: Option<Reg>,
     /// The second of two registers.
     pub other: Option<Reg>,
-    /// The register or number that stands where either may.
+    /// The register or number of a slot that takes either.
     pub val: Option<Operand>,
     /// Its number.
     pub num: Option<Word>,
     /// Its location.
     pub loc: Option<Loc>,
-    /// The index of the statement that it leads to.
+    /// The target of its jump.
     pub to: Option<usize>,
 }
 
@@ -22,13 +22,13 @@ pub struct Operands {
 #[derive(Clone, Copy)]
 pub(crate) struct Draft<F> {
     pub(crate) form: F,
-    /// All but where it leads.
+    /// Its operands, without the target.
     pub(crate) operands: Operands,
     /// The index of its label among its tokens.
     pub(crate) label: Option<usize>,
 }
 
-/// What is read of a cell: so many tokens are its labels, and then come a statement's, or none.
+/// What is read of a cell: the number of tokens of its labels, and the statement that follows, if there is one.
 #[derive(Clone, Copy)]
 pub(crate) struct DraftCell<D> {
     pub(crate) start: usize,

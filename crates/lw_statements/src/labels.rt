@@ -1,4 +1,4 @@
-//! Reads the labels of a cell.
+//! Reading the labels of a cell.
 ghost use Rattle.std.specs.Prelude.{MatchResult};
 ghost use Rattle.lw_statements.specs.inner.Reading.{LabelsTaken, LabelsRefused};
 
@@ -8,8 +8,8 @@ use lw_text::Token;
 use std::alloc::Allocator;
 use std::collections::BTreeMap;
 
-/// Reads the labels at the front of a cell, which lead to the statement of this index, beside those
-/// that the thread has already. The answer is how many tokens they take.
+/// Reads the labels at the start of a cell and adds them to those of the thread, with the statement of this index as
+/// their target. Returns the number of tokens that they take.
 pub(crate) fn read_labels<'a, A: Allocator + Copy>(
     tokens: &[Token<'a>],
     to: usize,

@@ -1,9 +1,10 @@
 //! The cells of a test, in either language: a thread's labels, its statements, and its jumps.
-//!
-//! A language says how its statements are spelled, by the trait `StatementReader`: in forms, each with a slot for each token.
-//! One reader reads them; the rule of labels, of the table of locations that grows while cells are read, and of jumps stands here
-//! once. It names lw_base, of lw_litmus what a test is, and of lw_text the frame. What is read is said by docs/FORMAT.md. The
-//! promise that the languages use: `read_test` answers a frame's test exactly where the frame has one.
+//! A language describes the spelling of its statements by the trait `StatementReader`: in forms, each with a slot for
+//! each token. One reader parses them all. The rules of labels, of the table of locations, which grows while cells
+//! are read, and of jumps are stated here once.
+//! This crate depends on lw_base, on the tests of lw_litmus, and on the frames of lw_text. docs/FORMAT.md defines
+//! what is read. The languages rely on one promise: `read_test` returns a frame's test if and only if the frame has
+//! one.
 #![tactic(auto)]
 
 mod column;

@@ -1,4 +1,4 @@
-//! What a test is made of.
+//! The parts of a test.
 use lw_base::{Head, Sequence};
 use std::alloc::{Allocator, Global};
 

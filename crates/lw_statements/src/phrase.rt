@@ -1,4 +1,4 @@
-//! The tokens of a cell that stand behind its labels.
+//! The tokens of a cell after its labels.
 ghost use Rattle.std.specs.Prelude.{◌≡◌, ℕ, ◌≤◌, length, drop};
 ghost use Rattle.lw_text.specs.Places.{EndsBefore};
 ghost use Rattle.lw_statements.specs.inner.Tokens.{AllEndBefore};
@@ -6,7 +6,7 @@ ghost use Rattle.lw_statements.specs.inner.Tokens.{AllEndBefore};
 use lw_text::{Cell, Token};
 use std::alloc::Allocator;
 
-/// The tokens of a statement, and the place of the `|` or `;` that ends the cell.
+/// The tokens of a statement, and the offset of the `|` or `;` that ends the cell.
 #[derive(Clone, Copy)]
 pub(crate) struct Phrase<'t, 'a> {
     pub(crate) tokens: &'t [Token<'a>],
@@ -14,7 +14,7 @@ pub(crate) struct Phrase<'t, 'a> {
 }
 
 impl<'t, 'a> Phrase<'t, 'a> {
-    /// What stands in a cell behind so many tokens, which are its labels.
+    /// Returns what follows the first `start` tokens of a cell, which are its labels.
     pub(crate) fn behind<A: Allocator>(cell: &'t Cell<'a, A>, start: usize) -> Phrase<'t, 'a>
         requires { start ≤ length cell.now.tokens }
         ensures tokens { result.tokens.now ≡ drop start cell.now.tokens }

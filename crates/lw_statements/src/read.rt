@@ -1,4 +1,4 @@
-//! Reads a test of either language from its frame.
+//! Reading a test of either language from its frame.
 ghost use Rattle.std.specs.Prelude.{◌≡◌, ◌⊎◌, ◌≤◌, ◌-◌, ◌++◌, length, replicate, Ok, Err, MatchResult, IfOk, IfErr};
 ghost use Rattle.lw_base.specs.NoParse.{HoldsOfNothingOrOutOfMemory};
 ghost use Rattle.lw_base.specs.declared.fault.CellCause.TheVariants.{Memory};
@@ -21,22 +21,21 @@ use lw_base::{CellFault, Head, LocNames, Sequence, Word};
 use lw_text::{Cell, Frame};
 use std::alloc::{AllocFailed, Allocator};
 
-/// Reads the test of a frame of the language. The test takes the frame's head over.
-///
-/// The threads are read one after another, each from top to bottom, and the first fault is told.
+/// Reads the test of a frame of the language, and takes over the frame's head.
+/// Reads the threads in order, each from top to bottom, and fails at the first fault.
 pub fn read_test<L: StatementReader, A: Allocator + Copy>(
     alloc: A,
     frame: Frame<'_, A>,
 ) -> Result<TestParts<L::Stmt, A>, CellFault>
     requires arch { frame.head.arch ≡ arch_of (grammar_of L.spelling) }
     requires lawful { IsSpelling L.spelling L.made }
-    // What is answered is the frame's test, and where it is refused it has none, unless memory ran out.
+    // The result is the frame's test. If reading fails, the frame has no test, or memory ran out.
     ensures found { IfOk result (λ parts. FrameHasTest (grammar_of L.spelling) (frame_of frame.entry) (test_of parts.head parts.threads)) }
     ensures well_formed { IfOk result (λ parts. IsWellFormed (grammar_of L.spelling).language (test_of parts.head parts.threads)) }
     ensures fault { IfErr result (λ f. HoldsOfNothingOrOutOfMemory Memory f.cause (FrameHasTest (grammar_of L.spelling) (frame_of frame.entry))) }
     ensures place { IfErr result (λ f. f.at ≤ frame.entry.len) }
     ensures memory { IfErr result (λ f. f.cause ≡ Memory → f.at ≡ 0) }
-    // What the cause says of the place is so.
+    // What the cause says of the place is true.
     ensures cause { IfErr result (CellFaultIsTrue (grammar_of L.spelling) frame.entry.head.locs (placed_cells frame.entry.cells)) }
 {
     let Frame {
@@ -50,7 +49,7 @@ pub fn read_test<L: StatementReader, A: Allocator + Copy>(
     parts_of(head, threads)
 }
 
-/// The parts of a test: its head, and its threads where these were read. Where they were refused, so is the test.
+/// Returns the head and the threads of a test. Fails if the threads could not be read.
 fn parts_of<S: Drop, A: Allocator>(
     head: Head<A>,
     threads: Result<Sequence<Sequence<S, A>, A>, CellFault>,
@@ -66,7 +65,7 @@ fn parts_of<S: Drop, A: Allocator>(
     }
 }
 
-/// Puts a 0 behind the initial words for each location that has none, where the threads are read.
+/// Appends a 0 to the initial words for each location that has none, if the threads were read.
 fn with_zeros<T: Drop, A: Allocator>(
     head: &mut Head<A>,
     threads: Result<T, CellFault>,
@@ -82,7 +81,7 @@ fn with_zeros<T: Drop, A: Allocator>(
     Ok(threads)
 }
 
-/// Reads the statements of each thread. The names of their locations go into the table.
+/// Reads the statements of each thread. Inserts the names of their locations into the table.
 fn read_columns<L: StatementReader, A: Allocator + Copy>(
     alloc: A,
     columns: &[Sequence<Cell<'_, A>, A>],
@@ -101,7 +100,7 @@ fn read_columns<L: StatementReader, A: Allocator + Copy>(
     Ok(threads)
 }
 
-/// Puts zeros behind words, up to a length.
+/// Appends zeros to words, up to a length.
 fn fill<A: Allocator>(words: &mut Sequence<Word, A>, len: usize) -> Result<(), AllocFailed<Word>>
     ensures { IfOk result (λ _. words.new ≡ words.old ++ replicate (len - length words.old) 0) }
 {

@@ -1,6 +1,6 @@
-//! What may stand at one token's place in a statement.
+//! What a token of a statement may be.
 
-/// What one token of a statement is.
+/// What one token of a statement must be.
 #[derive(Clone, Copy)]
 pub enum Slot<W> {
     /// This keyword or sign of the language.

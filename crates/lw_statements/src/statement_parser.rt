@@ -1,4 +1,4 @@
-//! Reads a statement by the forms of its language.
+//! Parsing a statement by the forms of its language.
 ghost use Rattle.std.specs.Prelude.{◌≡◌, ◌≢◌, ◌↔◌, ℕ, suc, ◌+◌, ◌<◌, ◌≤◌, ◌^◌, List, [], ◌∷◌, ◌++◌, length, take, true};
 ghost use Rattle.std.specs.Prelude.{MatchBool, MatchOption, MatchResult, IfSome, slice_get, IsTrue, Contains};
 ghost use Rattle.std.specs.Str.{bytes_eq};
@@ -31,7 +31,7 @@ use lw_base::{
 use lw_text::Token;
 use std::alloc::Allocator;
 
-/// What the tokens of a statement give, and the indices of its location and its label among them.
+/// What the tokens of a statement bind: its operands, and the indices of its location's and its label's tokens.
 #[derive(Clone, Copy)]
 pub(crate) struct SlotBindings {
     pub(crate) operands: Operands,
@@ -39,7 +39,7 @@ pub(crate) struct SlotBindings {
     pub(crate) label: Option<usize>,
 }
 
-/// What is found in no tokens: no operand, no name and no label.
+/// Returns the bindings of no tokens: no operand, no name and no label.
 fn no_bindings() -> SlotBindings
     ensures { result ≡ drafts.no_bindings }
 {
@@ -57,7 +57,7 @@ fn no_bindings() -> SlotBindings
     }
 }
 
-/// What was found behind a token, with the register that the token is in front; `None` where it is none.
+/// Binds a token as the first register. Returns `None` if the token is no register.
 fn with_register(found: SlotBindings, arch: Arch, token: &Token<'_>) -> Option<SlotBindings>
     ensures { MatchOption result ((r : ℕ) → IsRegisterName arch token.now.text.now r → ⊥)
         (λ all. (r : ℕ) × IsRegisterName arch token.now.text.now r × (all ≡ drafts.with_register r found)) }
@@ -71,7 +71,7 @@ fn with_register(found: SlotBindings, arch: Arch, token: &Token<'_>) -> Option<S
     Some(SlotBindings { operands, ..found })
 }
 
-/// What was found behind a token, with the register or number that the token is; `None` where it is neither.
+/// Binds a token as a register or number. Returns `None` if the token is neither.
 fn with_value(found: SlotBindings, arch: Arch, token: &Token<'_>) -> Option<SlotBindings>
     ensures { MatchOption result ((v : Operand) → IsOperand arch token.now.text.now v → ⊥)
         (λ all. (v : Operand) × IsOperand arch token.now.text.now v × (all ≡ drafts.with_value v found)) }
@@ -84,7 +84,7 @@ fn with_value(found: SlotBindings, arch: Arch, token: &Token<'_>) -> Option<Slot
     Some(SlotBindings { operands, ..found })
 }
 
-/// What was found behind a token, with the number that the token is; `None` where it is none.
+/// Binds a token as a number. Returns `None` if the token is none.
 fn with_number(found: SlotBindings, token: &Token<'_>) -> Option<SlotBindings>
     ensures { MatchOption result ((n : ℕ) → IsNumber token.now.text.now n → ⊥)
         (λ all. (n : ℕ) × IsNumber token.now.text.now n × (all ≡ drafts.with_number n found)) }
@@ -97,7 +97,7 @@ fn with_number(found: SlotBindings, token: &Token<'_>) -> Option<SlotBindings>
     Some(SlotBindings { operands, ..found })
 }
 
-/// What was found behind a token, with what the token gives, which has this index; `None` where it cannot stand at the slot.
+/// Binds the token at this index as its slot demands. Returns `None` if it does not fit the slot.
 fn with_token<L: StatementReader>(
     found: SlotBindings,
     slot: Slot<L::Keyword>,
@@ -118,7 +118,7 @@ fn with_token<L: StatementReader>(
     }
 }
 
-/// What was found behind a token, with this token's index as that of the location; `None` where it can name none.
+/// Records this token's index as that of the location. Returns `None` if the token cannot name one.
 fn with_name(found: SlotBindings, token: &Token<'_>, index: usize) -> Option<SlotBindings>
     ensures { MatchOption result (IsLocationName token.now.text.now → ⊥)
         (λ all. IsLocationName token.now.text.now × (all ≡ drafts.with_name_at index found)) }
@@ -132,7 +132,7 @@ fn with_name(found: SlotBindings, token: &Token<'_>, index: usize) -> Option<Slo
     })
 }
 
-/// What was found behind a token, with this token's index as that of the label; `None` where it can be none.
+/// Records this token's index as that of the label. Returns `None` if the token cannot name one.
 fn with_label(found: SlotBindings, token: &Token<'_>, index: usize) -> Option<SlotBindings>
     ensures { MatchOption result (IsLocationName token.now.text.now → ⊥)
         (λ all. IsLocationName token.now.text.now × (all ≡ drafts.with_label_at index found)) }
@@ -146,7 +146,7 @@ fn with_label(found: SlotBindings, token: &Token<'_>, index: usize) -> Option<Sl
     })
 }
 
-/// Whether the token is this keyword, which x86 takes in any case.
+/// Returns whether the token is this keyword. The case of letters is ignored in x86.
 fn is_keyword_of<L: StatementReader>(keyword: L::Keyword, token: &Token<'_>) -> bool
     ensures { result ≡ bytes_eq
         (lowercase_if_x86 L.spelling.language.arch (L.spelling.text_of keyword))
@@ -159,7 +159,7 @@ fn is_keyword_of<L: StatementReader>(keyword: L::Keyword, token: &Token<'_>) -> 
     }
 }
 
-/// The register or the number that the token is.
+/// Returns the register or the number that the token is, if it is one.
 fn operand(arch: Arch, token: &Token<'_>) -> Option<Operand>
     ensures { MatchOption result ((v : Operand) → IsOperand arch token.now.text.now v → ⊥) (IsOperand arch token.now.text.now) }
 {
@@ -172,7 +172,7 @@ fn operand(arch: Arch, token: &Token<'_>) -> Option<Operand>
     }
 }
 
-/// Adds what a token gives, which has this index, to what was found behind it; false where it cannot stand at the slot.
+/// Binds the token at this index, and returns whether it fits the slot.
 fn add_token<L: StatementReader>(
     found: &mut SlotBindings,
     slot: Slot<L::Keyword>,
@@ -192,9 +192,9 @@ fn add_token<L: StatementReader>(
     }
 }
 
-/// Finds what the tokens give at these slots, the first of which has this index; false where they do not stand one at each.
-///
-/// A keyword is compared before all that stands behind it is read, since most forms differ from the tokens in one.
+/// Binds the tokens to these slots, the first of which has this index. Returns whether there is one fitting token for
+/// each slot.
+/// A keyword is compared before the tokens after it are read, since most forms differ from the tokens in a keyword.
 fn read_slots<L: StatementReader>(
     slots: &[Slot<L::Keyword>],
     tokens: &[Token<'_>],
@@ -225,8 +225,8 @@ fn read_slots<L: StatementReader>(
     add_token::<L>(found, *slot, token, index)
 }
 
-/// What the tokens give at all slots of a form; `None` where they do not stand one at each. Most forms have more slots
-/// or fewer.
+/// Binds the tokens to all slots of a form. Returns `None` unless there is one fitting token for each slot. Most
+/// forms have more slots or fewer.
 fn read_as<L: StatementReader>(
     slots: &[Slot<L::Keyword>],
     tokens: &[Token<'_>],
@@ -246,14 +246,14 @@ fn read_as<L: StatementReader>(
     Some(found)
 }
 
-/// A form whose slots some tokens fill, and what they give.
+/// A form whose slots some tokens fill, and their bindings.
 #[derive(Clone, Copy)]
 struct Filled<F> {
     form: F,
     found: SlotBindings,
 }
 
-/// The form whose slots are filled by the tokens, and what they give there; `None` where they fill those of no form.
+/// Returns the form whose slots the tokens fill, and their bindings. Returns `None` if there is no such form.
 fn read_form<L: StatementReader>(tokens: &[Token<'_>]) -> Option<Filled<L::Form>>
     ensures { MatchOption result
         ((form : L.Form) (f : Filling (L.spelling.slots_of form)) → Contains L.spelling.forms form
@@ -270,7 +270,7 @@ fn read_form<L: StatementReader>(tokens: &[Token<'_>]) -> Option<Filled<L::Form>
     None
 }
 
-/// Reads a statement that is not empty. The name of its location goes into the table.
+/// Parses a statement that is not empty. Inserts the name of its location into the table.
 pub(crate) fn read_statement<L: StatementReader, A: Allocator + Copy>(
     phrase: &Phrase<'_, '_>,
     locs: &mut LocNames<A>,
@@ -286,7 +286,7 @@ pub(crate) fn read_statement<L: StatementReader, A: Allocator + Copy>(
     }
 }
 
-/// The draft of a statement of this form. The name of its location goes into the table.
+/// Returns the draft of a statement of this form. Inserts the name of its location into the table.
 fn draft<F: Copy + Drop, A: Allocator + Copy>(
     form: F,
     found: SlotBindings,
@@ -303,7 +303,7 @@ fn draft<F: Copy + Drop, A: Allocator + Copy>(
     Ok(draft_on(form, found, Some(loc)))
 }
 
-/// The draft of a statement of this form, on this location, if it has one.
+/// Returns the draft of a statement of this form, on this location, if it has one.
 fn draft_on<F>(form: F, found: SlotBindings, loc: Option<Loc>) -> Draft<F>
     ensures { result ≡ drafts.draft_on form loc found }
 {
@@ -318,8 +318,8 @@ fn draft_on<F>(form: F, found: SlotBindings, loc: Option<Loc>) -> Draft<F>
     }
 }
 
-/// Why tokens that are no statement are refused: the first ninth location where one may stand, or else the first token
-/// with which no statement goes on.
+/// Returns why tokens that are no statement are rejected: the first token that names a ninth location where one may
+/// appear, or otherwise the first token after which no statement is possible.
 fn refusal<L: StatementReader, A: Allocator>(
     phrase: &Phrase<'_, '_>,
     locs: &LocNames<A>,
@@ -341,7 +341,8 @@ fn refusal<L: StatementReader, A: Allocator>(
     first_rejected::<L>(phrase)
 }
 
-/// The index of the first token that is a ninth location, of the first `prefix_of_kind` tokens, which can stand at these slots.
+/// Returns the index of the first token that names a ninth location, among the first `front` tokens, which fit these
+/// slots.
 fn overflow_token<W: Copy + Drop, A: Allocator>(
     slots: &[Slot<W>],
     tokens: &[Token<'_>],
@@ -361,21 +362,21 @@ fn overflow_token<W: Copy + Drop, A: Allocator>(
     None
 }
 
-/// Whether the token names a location that the table lacks and has no room for.
+/// Returns whether the token names a location that the table does not have and has no room for.
 fn is_ninth<A: Allocator>(token: &Token<'_>, locs: &LocNames<A>) -> bool
     ensures { result ≡ true → (length locs.now ≡ most_locations) × (Contains locs.now token.now.text.now → ⊥) }
 {
     locs.len() == MAX_LOCATIONS && locs.find(token.text).is_none()
 }
 
-/// Whether the token can stand at the slot.
+/// Returns whether the token fits the slot.
 fn can_stand<L: StatementReader>(slot: Slot<L::Keyword>, token: &Token<'_>) -> bool
     ensures { IsTrue result ↔ CanStand L.spelling (token.now.text.now ∷ []) (slot ∷ []) }
 {
     with_token::<L>(no_bindings(), slot, token, 0).is_some()
 }
 
-/// How many tokens in front can stand at these slots: those before the first that cannot.
+/// Returns the number of tokens that fit these slots, before the first that does not.
 fn accepted_prefix_len<L: StatementReader>(
     slots: &[Slot<L::Keyword>],
     tokens: &[Token<'_>],
@@ -395,7 +396,7 @@ fn accepted_prefix_len<L: StatementReader>(
     1 + accepted_prefix_len::<L>(slots, tokens)
 }
 
-/// How many tokens in front can begin a statement, of whichever form.
+/// Returns the length of the longest prefix of the tokens that can begin a statement of some form.
 fn longest_accepted_prefix<L: StatementReader>(tokens: &[Token<'_>]) -> usize
     ensures front { AreFront L.spelling (token_texts tokens.now) result }
     ensures within { result ≤ length tokens.now }
@@ -407,7 +408,7 @@ fn longest_accepted_prefix<L: StatementReader>(tokens: &[Token<'_>]) -> usize
     longest
 }
 
-/// The fault of the first token with which no statement goes on, or of the end.
+/// Returns the fault of the first token after which no statement is possible, or of the cell's end.
 fn first_rejected<L: StatementReader>(phrase: &Phrase<'_, '_>) -> CellFault
     ensures { IsMisfit result.cause × ((len : ℕ) → AllEndBefore len phrase.now → result.at ≤ len) }
 {
@@ -424,7 +425,7 @@ fn first_rejected<L: StatementReader>(phrase: &Phrase<'_, '_>) -> CellFault
     misfit(token)
 }
 
-/// Whether a register may stand behind so many tokens, and no location.
+/// Returns whether a register may follow the first `front` tokens, and no location may.
 fn wants_register<L: StatementReader>(tokens: &[Token<'_>], front: usize) -> bool {
     let mut wants = false;
     for form in L::forms() {
@@ -440,7 +441,7 @@ fn wants_register<L: StatementReader>(tokens: &[Token<'_>], front: usize) -> boo
     wants
 }
 
-/// Whether a statement can begin with the token.
+/// Returns whether a statement can begin with the token.
 pub(crate) fn can_begin<L: StatementReader>(token: &Token<'_>) -> bool
     ensures { IsTrue result ↔ CanBegin (grammar_of L.spelling) token.now.text.now }
 {
@@ -452,7 +453,7 @@ pub(crate) fn can_begin<L: StatementReader>(token: &Token<'_>) -> bool
     false
 }
 
-/// Whether the token can stand at the first of these slots.
+/// Returns whether the token fits the first of these slots.
 fn begins_with<L: StatementReader>(slots: &[Slot<L::Keyword>], token: &Token<'_>) -> bool
     ensures { IsTrue result ↔ BeginsWith L.spelling slots.now token.now.text.now }
 {

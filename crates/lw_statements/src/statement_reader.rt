@@ -1,4 +1,4 @@
-//! What a language gives to the rule of cells.
+//! The trait by which a language describes the spelling of its statements.
 ghost use Rattle.std.specs.Prelude.{◌≡◌, Option, Contains};
 ghost use Rattle.lw_statements.specs.declared.draft.Operands.{Operands};
 ghost use Rattle.lw_statements.specs.Spellings.{Spelling};
@@ -18,33 +18,33 @@ pub trait StatementReader {
     /// A statement.
     type Stmt: Copy + Drop;
 
-    /// How its statements are spelled.
+    /// The spelling of its statements.
     ghost spelling: { Spelling Self.Keyword Self.Form Self.Stmt };
 
     /// The statement of a form with these operands.
     ghost made: { Self.Form → Operands → Option Self.Stmt };
 
-    /// The language whose statements are read.
+    /// Returns the language whose statements are read.
     fn arch() -> Arch
         ensures { result ≡ spelling.language.arch };
 
-    /// How many statements a thread may have.
+    /// Returns the maximum number of statements of a thread.
     fn most() -> usize
         ensures { result ≡ spelling.language.most };
 
-    /// The text of a keyword or a sign.
+    /// Returns the text of a keyword or a sign.
     fn text(keyword: Self::Keyword) -> &'static str
         ensures { result.now ≡ spelling.text_of keyword };
 
-    /// All forms of the language's statements.
+    /// Returns all forms of the language's statements.
     fn forms() -> &'static [Self::Form]
         ensures { result.now ≡ spelling.forms };
 
-    /// A slot for each token of a form.
+    /// Returns the slots of a form, one for each token.
     fn slots(form: Self::Form) -> &'static [Slot<Self::Keyword>]
         ensures { result.now ≡ spelling.slots_of form };
 
-    /// The statement of a form with these operands, which are those that it has slots for.
+    /// Returns the statement of a form with the operands for which it has slots.
     fn statement(form: Self::Form, operands: &Operands) -> Option<Self::Stmt>
         ensures { result ≡ made form operands.now };
 }

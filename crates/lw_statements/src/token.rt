@@ -1,4 +1,4 @@
-//! What one token of a cell is, a location or a label, and why it is refused.
+//! Resolving one token of a cell as a location, and the faults of tokens.
 ghost use Rattle.std.specs.Prelude.{◌≡◌, ◌↔◌, Some, slice_get, IsTrue, MatchResult};
 ghost use Rattle.lw_base.specs.Names.{IsLocationName};
 ghost use Rattle.lw_text.specs.Spans.{token_texts};
@@ -8,7 +8,7 @@ use lw_base::{Arch, CellCause, CellFault, Loc, LocNames, is_numbered, reg_from_n
 use lw_text::{Token, TokenKind};
 use std::alloc::Allocator;
 
-/// The location that the token names. A new name goes into the table.
+/// Returns the location that the token names, and inserts a new name into the table.
 pub(crate) fn location<A: Allocator + Copy>(
     token: &Token<'_>,
     locs: &mut LocNames<A>,
@@ -26,7 +26,7 @@ pub(crate) fn location<A: Allocator + Copy>(
     }
 }
 
-/// The fault of a token that fits no statement where it stands.
+/// Returns the fault of a token that fits no statement at its position.
 pub(crate) fn misfit(token: &Token<'_>) -> CellFault
     ensures place { result.at ≡ token.now.at }
     ensures cause { IsMisfit result.cause }
@@ -43,7 +43,7 @@ pub(crate) fn misfit(token: &Token<'_>) -> CellFault
     }
 }
 
-/// The fault of a token where a register may stand, and no location may.
+/// Returns the fault of a token at a position where a register may appear, and no location may.
 pub(crate) fn no_register(token: &Token<'_>) -> CellFault
     ensures place { result.at ≡ token.now.at }
     ensures cause { IsMisfit result.cause }
@@ -57,7 +57,7 @@ pub(crate) fn no_register(token: &Token<'_>) -> CellFault
     misfit(token)
 }
 
-/// Whether the token at an index is this symbol or keyword.
+/// Returns whether the token at an index is this symbol or keyword.
 pub(crate) fn stands_at(tokens: &[Token<'_>], index: usize, sign: &str) -> bool
     ensures { IsTrue result ↔ slice_get (token_texts tokens.now) index ≡ Some sign.now }
 {

@@ -1,23 +1,20 @@
-//! An allocator of the tests' own, which refuses growths: it counts what is asked of another allocator, and refuses one growth
-//! alone, or that one and all later ones. A growth is a new block, or a larger one in place of a block.
-//!
-//! The bodies of `allocate`, `deallocate` and `shrink` are proved by hand: it is an allocator, whichever growths are refused.
-//! Nothing is proved of the count, since no clause can say what a cell holds.
+//! An allocator for tests that refuses growths: it counts the requests to another allocator, and refuses one growth,
+//! or that one and all later ones.
 use std::alloc::{AllocError, Allocator, Global};
 use std::cell::Cell;
 
-/// The growths that are refused, by their number, from 1 on.
+/// The growths that are refused, by their number, which starts at 1.
 #[derive(Clone, Copy)]
 pub enum Refusal {
-    /// None is.
+    /// No growth is refused.
     Never,
-    /// One is, alone.
+    /// Only this growth is refused.
     Alone(u64),
-    /// One is, and all later ones.
+    /// This growth and all later ones are refused.
     Onwards(u64),
 }
 
-/// The growths that were asked for, and which of them are refused.
+/// The number of requested growths, and which of them are refused.
 #[derive(Drop)]
 struct Growths {
     refusal: Refusal,
@@ -25,7 +22,7 @@ struct Growths {
 }
 
 impl Growths {
-    /// Whether the growth that is asked for now is refused. It is counted.
+    /// Counts a requested growth, and returns whether it is refused.
     fn refuse_next(&self) -> bool {
         let asked = self.asked.get().saturating_add(1);
         self.asked.set(asked);
@@ -37,7 +34,7 @@ impl Growths {
     }
 }
 
-/// Another allocator, some of whose growths are refused.
+/// Wraps another allocator, some of whose growths are refused.
 #[derive(Drop)]
 pub struct Refusing<B: Allocator = Global> {
     inner: B,
@@ -45,7 +42,7 @@ pub struct Refusing<B: Allocator = Global> {
 }
 
 impl<B: Allocator> Refusing<B> {
-    /// It refuses these growths, and none was asked for yet.
+    /// Wraps an allocator. No growth has been requested yet.
     pub fn new(inner: B, refusal: Refusal) -> Refusing<B> {
         let asked = Cell::new(0);
         Refusing {
@@ -54,13 +51,14 @@ impl<B: Allocator> Refusing<B> {
         }
     }
 
-    /// How many growths were asked for, refused ones too.
+    /// Returns the number of requested growths, including refused ones.
     pub fn asked(&self) -> u64 {
         self.growths.asked.get()
     }
 }
 
-// Where a block grows, the trait's own body asks for a new block, copies, and gives the old one back: it counts as one growth.
+// If a block grows, the trait's default body requests a new block, copies, and frees the old one: this counts as one
+// growth.
 unsafe impl<B: Allocator> Allocator for Refusing<B> {
     ghost dealloc_token = { λ a ty ptr. B.dealloc_token a.inner ty ptr };
 

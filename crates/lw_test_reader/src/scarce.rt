@@ -1,24 +1,24 @@
-//! What is made where memory is refused, each growth in turn, alone and with all later ones.
+//! Making a value while memory is refused: each growth in turn, only that one and with all later ones.
 use crate::refusing::{Refusal, Refusing};
 use std::alloc::Global;
 
-/// What becomes of it.
+/// The result of making a value.
 #[derive(Clone, Copy)]
 pub enum Made {
-    /// It is refused, for want of memory.
+    /// It failed because memory was refused.
     Refused,
-    /// It is there whole.
+    /// It was made as a whole.
     Whole,
 }
 
-/// Something that is made by an allocator, which may refuse.
+/// A value that is made with an allocator that may refuse.
 pub trait MadeByAllocator {
-    /// What becomes of it where it is made by `scarce`, and what it is made of by `ample`, which refuses nothing. None where it
-    /// is refused for anything but memory, or is another than it must be.
+    /// Makes the value with `scarce`, from parts made with `ample`, which refuses nothing. Returns `None` if it fails
+    /// for any other reason than refused memory.
     fn make<'a>(&self, ample: &'a Refusing, scarce: &'a Refusing) -> Option<Made>;
 }
 
-/// What becomes of it where these growths are refused, and how many are asked for.
+/// Makes the value while these growths are refused. Returns the result and the number of requested growths.
 fn made_by<T: MadeByAllocator>(alloc: Global, made: &T, refusal: Refusal) -> Option<(Made, u64)> {
     let ample = Refusing::new(alloc, Refusal::Never);
     let scarce = Refusing::new(alloc, refusal);
@@ -26,9 +26,8 @@ fn made_by<T: MadeByAllocator>(alloc: Global, made: &T, refusal: Refusal) -> Opt
     Some((made, scarce.asked()))
 }
 
-/// The number of its growths, where it is refused for each of them: for the first, the second, and so on, alone and with all later
-/// ones, up to the number that none has. There it is whole, and has asked for as many growths as were refused, so that none was
-/// passed over. None where something is not so.
+/// Returns the number of growths of the value, if it fails for each refused growth: the first, the second, and so on,
+/// only that one and with all later ones, up to the number.
 pub fn refusals<T: MadeByAllocator>(alloc: Global, made: &T) -> Option<u64> {
     let mut refused = 0u64;
     for growth in 1..4096u64 {

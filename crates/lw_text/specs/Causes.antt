@@ -1,10 +1,10 @@
--- How people are told why a text is refused: a number and a name; and which causes a reader meets.
+-- The printed codes and names of the causes for which a text is rejected, and the causes that the parser reports.
 use Rattle.std.specs.Prelude.{◌≢◌, ℕ, codes}
 use Rattle.lw_base.specs.Types.{Bytes}
 use Rattle.lw_text.specs.declared.fault.TextCause.{TextCause}
 use Rattle.lw_text.specs.declared.fault.TextCause.TheVariants as text
 
--- the number under which people are told of a cause
+-- The printed code of a cause.
 abbrev pub text_cause_code : TextCause → ℕ
 text_cause_code text.NotUtf8 = 1
 text_cause_code text.TooLong = 2
@@ -19,7 +19,7 @@ text_cause_code text.TooManyLocations = 10
 text_cause_code text.Condition = 11
 text_cause_code text.Memory = 12
 
--- the name under which people are told of a cause
+-- The printed name of a cause.
 abbrev pub text_cause_name : TextCause → Bytes
 text_cause_name text.NotUtf8 = codes "NotUtf8"
 text_cause_name text.TooLong = codes "TooLong"
@@ -34,6 +34,6 @@ text_cause_name text.TooManyLocations = codes "TooManyLocations"
 text_cause_name text.Condition = codes "Condition"
 text_cause_name text.Memory = codes "Memory"
 
--- the causes that a reader of a text may tell: not its length and not its UTF-8, which are looked at before
+-- The cause is one of the parser's, which does not check the length and the encoding.
 abbrev pub IsOfReader : TextCause → Type 0
 IsOfReader cause = (cause ≢ text.TooLong) × (cause ≢ text.NotUtf8)

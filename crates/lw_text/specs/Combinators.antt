@@ -1,13 +1,12 @@
--- Lists that are written out, for tokens of any kind T and elements of any kind X. `P ts x rest`: ts is an x, and then rest.
+-- Parser combinators, for tokens of any type T and elements of any type X. `P ts x rest` means: ts is an x, followed by rest.
 use Rattle.std.specs.Prelude.{◌≡◌, ◌⊎◌, Bool, true, false, List, [], ◌∷◌}
 
--- Any number of xs stand one behind another on ts, as P says of each, and then rest.
+-- `ts` parses as the sequence `xs`, each element by `P`, and leaves `rest`.
 abbrev pub ParsesMany : {T X : Type 0} → (List T → X → List T → Type 0) → List T → List X → List T → Type 0
 ParsesMany P ts [] rest = ts ≡ rest
 ParsesMany {T} P ts (x ∷ xs) rest = (mid : List T) × P ts x mid × ParsesMany P mid xs rest
 
--- One or more xs stand one behind another, with sep between them and close behind the last, and
--- then rest.
+-- `ts` parses as one or more elements, each by `P`, separated by `sep` and closed by `close`, and leaves `rest`.
 abbrev pub ParsesSepBy : {T X : Type 0} → (List T → X → List T → Type 0) → T → T → List T → List X
     → List T → Type 0
 ParsesSepBy P sep close ts [] rest = ⊥
@@ -15,15 +14,15 @@ ParsesSepBy P sep close ts (x ∷ []) rest = P ts x (close ∷ rest)
 ParsesSepBy {T} P sep close ts (x ∷ y ∷ xs) rest =
     (mid : List T) × P ts x (sep ∷ mid) × ParsesSepBy P sep close mid (y ∷ xs) rest
 
--- Any number of xs stand one behind another, none of them where `stop` says to stop, and then rest, where it does.
+-- `ts` parses as the sequence `xs`, each element by `P` and none where `stop` is true, and leaves `rest`, where it is true.
 abbrev pub ParsesManyTill : {T X : Type 0} → (List T → Bool) → (List T → X → List T → Type 0) → List T
     → List X → List T → Type 0
 ParsesManyTill stop P ts [] rest = (ts ≡ rest) × (stop ts ≡ true)
 ParsesManyTill {T} stop P ts (x ∷ xs) rest =
     (stop ts ≡ false) × ((mid : List T) × P ts x mid × ParsesManyTill stop P mid xs rest)
 
--- Any number of xs stand one behind another, each with sep behind it, which the last may lack, and
--- then close, and then rest.
+-- `ts` parses as the sequence `xs`, each element by `P` and followed by `sep`, which is optional after the last, then `close`, and leaves
+-- `rest`.
 abbrev pub ParsesSepEndBy : {T X : Type 0} → (List T → X → List T → Type 0) → T → T → List T → List X
     → List T → Type 0
 ParsesSepEndBy P sep close ts [] rest = ts ≡ close ∷ rest

@@ -1,4 +1,4 @@
--- A text's frame: all of a test but what its cells say.
+-- The frame of a text: a test whose cells are not parsed.
 use Rattle.std.specs.Prelude.{◌≡◌, ℕ, ◌≤◌, if◌then◌else◌, List, [], ◌∷◌, ◌++◌, length, map, filter, fold, codes}
 use Rattle.std.specs.List.{list_any, range_with_len, AllByRecursion}
 use Rattle.std.specs.Str.{IsUtf8}
@@ -19,28 +19,28 @@ use Rattle.lw_text.specs.Sites.{SiteSyntax, IsSite, ThreadExists, Value, site_na
 use Rattle.lw_text.specs.Propositions.{Terminal, HasFewNodes, IsProposition}
 use Rattle.lw_text.specs.Conditions.{AtomSyntax, Condition, sites_in, resolved}
 
--- an initializer of the initial block: a site, and the word that it begins with
+-- The syntax of an initializer: a site, and its initial word.
 pub record InitializerSyntax : Type 0 where
   pub site : SiteSyntax
   pub word : ℕ
 
--- an initializer: `x = n`, `[x] = n` or `t : r = n`
+-- An initializer: `x = n`, `[x] = n` or `t : r = n`.
 abbrev pub IsInitializer : Arch → TokenList → InitializerSyntax → TokenList → Type 0
 IsInitializer arch ts e rest = (mid : TokenList) × IsSite arch ts e.site mid × Value mid e.word rest
 
--- initializers, each with a `;` behind it, which the last may lack, and `}`
+-- Initializers, each followed by a `;`, which is optional after the last, and `}`.
 abbrev pub Initializers : Arch → TokenList → List InitializerSyntax → TokenList → Type 0
 Initializers arch ts initializers rest = ParsesSepEndBy (IsInitializer arch) (codes ";") (codes "}") ts initializers rest
 
--- the sites of initializers
+-- The sites of initializers.
 abbrev pub sites_of : List InitializerSyntax → List SiteSyntax
 sites_of initializers = map (λ e. e.site) initializers
 
--- the initial block: `{`, initializers, `}`
+-- The initial block: `{`, initializers, `}`.
 abbrev pub Block : Arch → TokenList → List InitializerSyntax → TokenList → Type 0
 Block arch ts initializers rest = (l : TokenList) × (ts ≡ codes "{" ∷ l) × Initializers arch l initializers rest
 
--- what the tokens of a test say, before names are resolved
+-- The syntax of a test's tokens, before names are resolved.
 pub record TestSyntax : Type 0 where
   pub initializers : List InitializerSyntax
   pub threads : ℕ
@@ -49,13 +49,13 @@ pub record TestSyntax : Type 0 where
   pub quant : Quant
   pub terminals : List (Terminal AtomSyntax)
 
--- the names of the locations, each once, in the order of first appearance
+-- The names of the locations, without duplicates, in the order of first appearance.
 abbrev pub location_table : TestSyntax → NameTable
 location_table s =
     insert_names [] (site_names (map (λ e. e.site) s.initializers ++ s.listed ++ sites_in s.terminals))
 
--- The initial block, whose threads exist, the header, the rows and the condition, with the registers of the language, and
--- with no more locations and nodes than a test may have.
+-- The initial block, the header, the rows and the condition, on existing threads and with registers of the language, and with at most as
+-- many locations and nodes as a test may have.
 pub record ParsesTest (arch : Arch) (ts : TokenList) (s : TestSyntax) : Type 0 where
   pub behind_block : TokenList
   pub behind_header : TokenList
@@ -68,28 +68,28 @@ pub record ParsesTest (arch : Arch) (ts : TokenList) (s : TestSyntax) : Type 0 w
   pub few_names : length (location_table s) ≤ most_locations
   pub few_nodes : HasFewNodes s.terminals
 
--- The tokens are no test's of the language.
+-- The tokens are not those of a test of the language.
 abbrev pub ParsesNoTest : Arch → TokenList → Type 0
 ParsesNoTest arch ts =
     (s : TestSyntax) (p : Formula) → ParsesTest arch ts s
     → IsProposition (map (resolved (location_table s)) s.terminals) p → ⊥
 
--- What a test says: its head, and for each thread and each row the tokens of the cell.
+-- A frame: the head of a test, and for each thread and each row the tokens of the cell.
 pub record TestFrame : Type 0 where
   pub head : TestHead
   pub cells : CellGrid
 
--- the word of a register or location at the start: that of the last initializer for it, or 0
+-- The initial word of a register or location: that of its last initializer, or 0.
 abbrev pub initial_word_of : NameTable → List InitializerSyntax → Seen → ℕ
 initial_word_of names initializers s =
     fold (λ w e. if seen_eq (seen_in names e.site) s then e.word else w) 0 initializers
 
--- what is listed, each once: registers by thread and index, then locations by index
+-- The listed names, without duplicates: registers by thread and index, then locations by index.
 abbrev pub listed_in : ℕ → NameTable → List SiteSyntax → List Seen
 listed_in threads names sites =
     filter (λ s. list_any (λ site. seen_eq (seen_in names site) s) sites) (all_registers threads ++ locations (length names))
 
--- the head of a test of this language and this name, which its syntax says, and whose proposition says the formula
+-- The head of a test with this language, name, syntax and condition.
 abbrev pub head_of_syntax : Arch → Bytes → TestSyntax → Formula → TestHead
 head_of_syntax arch name s condition =
     record {
@@ -105,12 +105,12 @@ head_of_syntax arch name s condition =
       condition = condition;
     }
 
--- the frame of a test of this language and this name, which its syntax says: its head, and its cells by columns
+-- The frame of a test with this language, name, syntax and condition: its head, and its cells by columns.
 abbrev pub frame_of_syntax : Arch → Bytes → TestSyntax → Formula → TestFrame
 frame_of_syntax arch name s condition =
     record { head = head_of_syntax arch name s condition; cells = columns s.threads s.rows }
 
--- The text, UTF-8 and not too long, is a preamble and a list of tokens, and this is what they say.
+-- The text, UTF-8 and not too long, is a preamble and a list of tokens with the syntax of this frame.
 pub record HasFrame (text : Bytes) (frame : TestFrame) : Type 0 where
   pub short : length text ≤ most_text_bytes
   pub utf8 : IsUtf8 text

@@ -1,4 +1,4 @@
--- The cells of a text with the places of their tokens: they are cut from its token stream.
+-- The cells of a text with the offsets of their tokens, as its token stream has them.
 use Rattle.std.specs.Prelude.{◌≡◌, ℕ, true, List, [], ◌∷◌, ◌++◌, length, map}
 use Rattle.lw_base.specs.Types.{Bytes, TokenList, Cells, CellGrid}
 use Rattle.lw_base.specs.declared.head.Arch.{Arch}
@@ -8,31 +8,31 @@ use Rattle.lw_text.specs.Rows.{Header, Rows, ends_cell, columns}
 use Rattle.lw_text.specs.Frames.{InitializerSyntax, Block}
 use Rattle.lw_text.specs.PlacedTokens.{PlacedToken, texts_of_tokens, PlacedTokens}
 
--- a cell: its tokens, and the place of the `|` or `;` that ends it
+-- A cell: its tokens, and the offset of the `|` or `;` that ends it.
 pub record PlacedCell : Type 0 where
   pub tokens : List PlacedToken
   pub end : ℕ
 
--- some cells, without the places of their tokens
+-- The cells, without the offsets of their tokens.
 abbrev pub texts_of_cells : List PlacedCell → Cells
 texts_of_cells cells = map (λ cell. texts_of_tokens cell.tokens) cells
 
--- rows or columns of cells, without places
+-- Rows or columns of cells, without offsets.
 abbrev pub texts_of_grid : List (List PlacedCell) → CellGrid
 texts_of_grid rows = map texts_of_cells rows
 
--- The tokens are those of the cells, each with a mark behind it at its end, and then rest.
+-- The tokens are those of the cells, each followed by a mark at its end, and then rest.
 abbrev pub CellsFrom : List PlacedToken → List PlacedCell → List PlacedToken → Type 0
 CellsFrom ts [] rest = ts ≡ rest
 CellsFrom ts (cell ∷ cells) rest =
     (mark : PlacedToken) × (after : List PlacedToken) × (ts ≡ cell.tokens ++ mark ∷ after)
     × (ends_cell mark.text ≡ true) × (mark.at ≡ cell.end) × CellsFrom after cells rest
 
--- The tokens are those of the rows' cells, and then rest.
+-- The tokens are those of the rows' cells, followed by rest.
 abbrev pub RowsFrom : List PlacedToken → List (List PlacedCell) → List PlacedToken → Type 0
 RowsFrom ts rows rest = ParsesMany CellsFrom ts rows rest
 
--- The tokens are a block, the header of so many threads, and behind it these rows, whose cells are cut from them.
+-- The tokens are a block, the header of this number of threads, and these rows.
 pub record HasRows (arch : Arch) (tokens : List PlacedToken) (threads : ℕ) (rows : List (List PlacedCell)) : Type 0 where
   pub initializers : List InitializerSyntax
   pub behind_block : TokenList
@@ -45,7 +45,7 @@ pub record HasRows (arch : Arch) (tokens : List PlacedToken) (threads : ℕ) (ro
   pub says : Rows threads (texts_of_tokens behind_header) (texts_of_grid rows) (texts_of_tokens behind_rows)
   pub cut : RowsFrom behind_header rows behind_rows
 
--- The cells of a text's frame, for each thread from top to bottom: the columns of the rows that its token stream has.
+-- The cells of a text's frame, for each thread from top to bottom: the columns of the rows of its token stream.
 pub record HasCells (text : Bytes) (cells : List (List PlacedCell)) : Type 0 where
   pub arch : Arch
   pub name : Bytes

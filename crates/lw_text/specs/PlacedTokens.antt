@@ -1,19 +1,18 @@
--- The token stream of a text with the places of its tokens: a plain list that knows no memory.
+-- The token stream of a text with the offsets of its tokens, as a plain list.
 use Rattle.std.specs.Prelude.{◌≡◌, ℕ, ◌+◌, List, [], ◌∷◌, length, map}
 use Rattle.lw_base.specs.Types.{Bytes, TokenList}
 use Rattle.lw_text.specs.Tokens.{Trivia, IsFirstToken}
 
--- a token: the place of its first byte in the text, and its bytes
+-- A token: the offset of its first byte in the text, and its bytes.
 pub record PlacedToken : Type 0 where
   pub at : ℕ
   pub text : Bytes
 
--- the tokens without their places
+-- The tokens without their offsets.
 abbrev pub texts_of_tokens : List PlacedToken → TokenList
 texts_of_tokens ts = map (λ t. t.text) ts
 
--- What is left of a text of this length is these tokens, each at its place, with blanks and comments between and
--- around them.
+-- The rest of a text of length `len` is these tokens, each at its offset, with blanks and comments between and around them.
 abbrev pub PlacedTokens : ℕ → Bytes → List PlacedToken → Type 0
 PlacedTokens len text [] = Trivia text []
 PlacedTokens len text (t ∷ ts) =

@@ -1,4 +1,4 @@
--- What stands before a test's `{`: its language, its name, and notes on it.
+-- The text before a test's `{`: its language, its name, and notes.
 use Rattle.std.specs.Prelude.{◌≡◌, ◌<◌, ◌⊎◌, ◌==◌, not, true, false, ◌∷◌, ◌++◌, length}
 use Rattle.std.specs.List.{AllByRecursion}
 use Rattle.lw_base.specs.Types.{Bytes}
@@ -8,7 +8,7 @@ use Rattle.lw_base.specs.Characters.{byte, is_blank, is_key_byte, is_space, firs
 use Rattle.lw_base.specs.Names.{IsTestName}
 use Rattle.lw_text.specs.Tokens.{Trivia, IsFirstToken}
 
--- One or more blanks, the name, and then rest, which is empty or begins with a blank.
+-- One or more blanks, the name, and rest, which is empty or begins with a blank.
 pub record ParsesTestName (text name rest : Bytes) : Type 0 where
   pub blanks : Bytes
   pub parts : text ≡ blanks ++ (name ++ rest)
@@ -17,14 +17,13 @@ pub record ParsesTestName (text name rest : Bytes) : Type 0 where
   pub is_name : IsTestName name
   pub longest : first_byte_is (λ b. not (is_blank b)) rest ≡ false
 
--- A quote, any bytes but quotes, a quote, and then rest.
+-- A quote, any bytes except quotes, a quote, and rest.
 pub record Quoted (text rest : Bytes) : Type 0 where
   pub inside : Bytes
   pub parts : text ≡ byte "\"" ∷ inside ++ byte "\"" ∷ rest
   pub plain : AllByRecursion (λ b. (b == byte "\"") ≡ false) inside
 
--- A key, spaces and tabs, `=`, the rest of the line as it is, and then rest, which is empty or
--- begins with the line's end.
+-- A key, spaces and tabs, `=`, the rest of the line, and rest, which is empty or begins with the line's end.
 pub record KeyLine (text rest : Bytes) : Type 0 where
   pub key : Bytes
   pub spaces : Bytes
@@ -36,7 +35,7 @@ pub record KeyLine (text rest : Bytes) : Type 0 where
   pub one_line : AllByRecursion (λ b. (b == byte "\n") ≡ false) value
   pub longest : first_byte_is (λ b. not (b == byte "\n")) rest ≡ false
 
--- a quoted text or a `Key=value` line, and then rest
+-- A quoted text or a `Key=value` line, and rest.
 abbrev pub Note : Bytes → Bytes → Type 0
 Note text rest = Quoted text rest ⊎ KeyLine text rest
 
@@ -47,7 +46,7 @@ pub data Notes : Bytes → Bytes → Type 0 where
   note : {text mid after rest : Bytes} → Trivia text mid → Note mid after → Notes after rest
       → Notes text rest
 
--- The text is the keyword of a language, blanks and the name, notes, and then rest.
+-- The text is the keyword of a language, blanks and the name, notes, and rest.
 abbrev pub Preamble : Bytes → Arch → Bytes → Bytes → Type 0
 Preamble text arch name rest =
     (mid after : Bytes) × IsFirstToken text (arch_keyword arch) mid × ParsesTestName mid name after × Notes after rest

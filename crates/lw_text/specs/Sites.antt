@@ -1,4 +1,4 @@
--- The sites that a test speaks of, on its tokens: locations, and registers of threads.
+-- Sites on a test's tokens: locations, and registers of threads.
 use Rattle.std.specs.Prelude.{◌≡◌, ℕ, ◌<◌, ◌≤◌, ◌⊎◌, length, Option, Some, None, List, ◌∷◌, codes}
 use Rattle.std.specs.List.{filter_map}
 use Rattle.lw_base.specs.Types.{NameTable, Bytes, TokenList}
@@ -11,54 +11,54 @@ use Rattle.lw_base.specs.Tables.{insert_name, insert_names, position_of_name}
 use Rattle.lw_base.specs.Registers.{IsRegisterName}
 use Rattle.lw_text.specs.Tokens.{IsNumber}
 
--- a site as it is written: a location by its name, or a register of a thread, by its index
+-- The syntax of a site: a location by its name, or a register of a thread, by its index.
 pub data SiteSyntax : Type 0 where
   InMemory : (name : Bytes) → SiteSyntax
   InThread : (thread reg : ℕ) → SiteSyntax
 
--- `x` or `[x]`; `t : r`, where r names a register of the language
+-- `x` or `[x]`; or `t : r`, where r names a register of the language.
 abbrev pub IsSite : Arch → TokenList → SiteSyntax → TokenList → Type 0
 IsSite arch ts (InMemory x) rest =
     IsLocationName x × ((ts ≡ x ∷ rest) ⊎ (ts ≡ codes "[" ∷ x ∷ codes "]" ∷ rest))
 IsSite arch ts (InThread t r) rest =
     (p q : Bytes) × (ts ≡ p ∷ codes ":" ∷ q ∷ rest) × IsNumber p t × IsRegisterName arch q r
 
--- the site's thread is one of so many
+-- The site's thread is below `threads`.
 abbrev pub ThreadExists : ℕ → SiteSyntax → Type 0
 ThreadExists threads (InMemory x) = Unit {0}
 ThreadExists threads (InThread t r) = t < threads
 
--- the site's thread is one of so many, where it is known how many there are
+-- The site's thread is below `threads`, if their number is known.
 abbrev pub ThreadAllowed : Option ℕ → SiteSyntax → Type 0
 ThreadAllowed None site = Unit {0}
 ThreadAllowed (Some threads) site = ThreadExists threads site
 
--- the tokens are `=` and a number
+-- The tokens are `=` and a number.
 abbrev pub Value : TokenList → ℕ → TokenList → Type 0
 Value ts n rest = (w : Bytes) × (ts ≡ codes "=" ∷ w ∷ rest) × IsNumber w n
 
--- the name of a site that is a location
+-- The name of a site that is a location.
 abbrev pub site_name : SiteSyntax → Option (Bytes)
 site_name (InMemory x) = Some x
 site_name (InThread t r) = None
 
--- the names of those sites that are locations
+-- The names of those sites that are locations.
 abbrev pub site_names : List SiteSyntax → List Bytes
 site_names sites = filter_map site_name sites
 
--- the table, after the names of these sites appeared
+-- The table after the names of these sites appear.
 abbrev pub with_sites : NameTable → List SiteSyntax → NameTable
 with_sites names sites = insert_names names (site_names sites)
 
--- the table has room for the names of these sites
+-- The table has room for the names of these sites.
 abbrev pub HasRoomFor : NameTable → List SiteSyntax → Type 0
 HasRoomFor names sites = length (with_sites names sites) ≤ most_locations
 
--- the table has room for this name
+-- The table has room for this name.
 abbrev pub HasRoomForName : NameTable → Bytes → Type 0
 HasRoomForName names x = length (insert_name names x) ≤ most_locations
 
--- the register or location that a site is, a location by its index in the table
+-- The register or location of a site, with a location by its index in the table.
 abbrev pub seen_in : NameTable → SiteSyntax → Seen
 seen_in names (InMemory x) = Location (position_of_name names x)
 seen_in names (InThread t r) = Register t r

@@ -1,18 +1,18 @@
--- Tokens in memory without their places, and where tokens lie in their text.
+-- Tokens in memory without their offsets, and the spans of tokens in their text.
 use Rattle.std.specs.Prelude.{◌≡◌, ℕ, ◌+◌, ◌≤◌, List, [], ◌∷◌, ◌++◌, length, take, drop, map}
 use Rattle.lw_base.specs.Types.{Bytes, TokenList}
 use Rattle.lw_text.specs.declared.token.Token.{Token}
 use Rattle.lw_text.specs.PlacedTokens.{PlacedToken}
 
--- the tokens without their places
+-- The tokens without their offsets.
 abbrev pub token_texts : List Token → TokenList
 token_texts ts = map (λ t. t.text.now) ts
 
--- The second list is what is left of the first behind some of its elements.
+-- The second list is a suffix of the first.
 abbrev pub IsSuffix : {X : Type 0} → List X → List X → Type 0
 IsSuffix {X} before after = (front : List X) × (before ≡ front ++ after)
 
--- Each token is the slice of its span, and the spans lie one behind another between two places.
+-- Each token is the slice of its span, and the spans are in order, without overlap, between two offsets.
 abbrev pub Spans : Bytes → ℕ → List PlacedToken → ℕ → Type 0
 Spans text from [] to = from ≤ to
 Spans text from (t ∷ ts) to =

@@ -1,7 +1,6 @@
 -- The tokens of a text. A token is its bytes.
---
--- The form is the same throughout: `R text x rest` says that the text is an x, and then rest.
--- The source is the format of the workbench, docs/FORMAT.md, which is close to herd's litmus tests.
+-- All relations have the same form: `R text x rest` means that the text is an x, followed by rest. docs/FORMAT.md defines the format, which
+-- is close to herd's litmus tests.
 use Rattle.std.specs.Prelude.{◌≡◌, ℕ, ◌+◌, ◌*◌, ◌<◌, ◌^◌, ◌⊎◌, ◌==◌, ◌&&◌, ◌||◌, Bool, true, false, [], ◌∷◌, ◌++◌, length, codes}
 use Rattle.std.specs.List.{list_any, AllByRecursion}
 use Rattle.std.specs.Str.{bytes_eq}
@@ -10,21 +9,20 @@ use Rattle.lw_base.specs.Types.{Bytes, TokenList}
 use Rattle.lw_base.specs.Characters.{byte, is_blank, is_name_byte, first_byte_is}
 use Rattle.lw_base.specs.Names.{IsName}
 
--- whether these two bytes stand at the front
+-- Tests whether the text begins with these two bytes.
 abbrev pub begins_pair : ℕ → ℕ → Bytes → Bool
 begins_pair a b [] = false
 begins_pair a b (c ∷ text) = c == a && first_byte_is (λ d. d == b) text
 
--- whether a `(*` stands at the front
+-- Tests whether the text begins with a `(*`.
 abbrev pub opens_comment : Bytes → Bool
 opens_comment text = begins_pair (byte "(") (byte "*") text
 
--- whether a `(*` or a `*)` stands at the front
+-- Tests whether the text begins with a `(*` or a `*)`.
 abbrev pub begins_mark : Bytes → Bool
 begins_mark text = opens_comment text || begins_pair (byte "*") (byte ")") text
 
--- Behind a `(*`: the text goes on to the `*)` that closes it, with whole comments between, and then
--- rest.
+-- The text after a `(*` continues to the `*)` that closes it, with whole comments between, followed by rest.
 pub data Comment : Bytes → Bytes → Type 0 where
   closed : {rest : Bytes} → Comment (byte "*" ∷ byte ")" ∷ rest) rest
   nested : {text inner rest : Bytes} → Comment text inner → Comment inner rest
@@ -32,7 +30,7 @@ pub data Comment : Bytes → Bytes → Type 0 where
   other : {b : ℕ} {text rest : Bytes} → begins_mark (b ∷ text) ≡ false → Comment text rest
       → Comment (b ∷ text) rest
 
--- The text is what may stand between tokens, and then rest: blanks and comments.
+-- The text is trivia, which may lie between tokens, followed by rest: blanks and comments.
 pub data Trivia : Bytes → Bytes → Type 0 where
   none : {rest : Bytes} → Trivia rest rest
   blank : {b : ℕ} {text rest : Bytes} → is_blank b ≡ true → Trivia text rest
@@ -40,44 +38,44 @@ pub data Trivia : Bytes → Bytes → Type 0 where
   comment : {text after rest : Bytes} → Comment text after → Trivia after rest
       → Trivia (byte "(" ∷ byte "*" ∷ text) rest
 
--- whether something begins here that may stand between tokens
+-- Tests whether the text begins with trivia.
 abbrev pub begins_trivia : Bytes → Bool
 begins_trivia text = first_byte_is is_blank text || opens_comment text
 
--- digits of this base, behind a front that stands for n, stand for v
+-- Digits of this base, after a prefix with the value n, have the value v.
 abbrev pub Digits : ℕ → ℕ → Bytes → ℕ → Type 0
 Digits base n [] v = n ≡ v
 Digits base n (d ∷ ds) v = (digit_value d < base) × Digits base (base * n + digit_value d) ds v
 
--- decimal digits, or `0x` and hexadecimal digits of either case, for a number below 2 ^ 32
+-- The text is a number below 2^32: decimal digits, or `0x` and hexadecimal digits of either case.
 abbrev pub IsNumber : Bytes → ℕ → Type 0
 IsNumber w n =
     (n < 2 ^ 32) × (((0 < length w) × Digits 10 0 w n)
     ⊎ ((ds : Bytes) × (w ≡ codes "0x" ++ ds) × (0 < length ds) × Digits 16 0 ds n))
 
--- the bytes of a name run are a name, or a number
+-- The bytes of a run are a name or a number.
 abbrev pub IsNameOrNumber : Bytes → Type 0
 IsNameOrNumber w = IsName w ⊎ ((n : ℕ) × IsNumber w n)
 
--- A name run is all letters, digits and `_` that stand side by side, and it is a name or a number.
+-- A run is a longest sequence of letters, digits and `_`, and it is a name or a number.
 pub record IsNameRun (w rest : Bytes) : Type 0 where
   pub all : AllByRecursion (λ b. is_name_byte b ≡ true) w
   pub longest : first_byte_is is_name_byte rest ≡ false
   pub kind : IsNameOrNumber w
 
--- the symbols of two bytes
+-- The symbols of two bytes.
 abbrev pub two_byte_symbols : TokenList
 two_byte_symbols = codes ":=" ∷ codes "!=" ∷ codes "/\\" ∷ codes "\\/" ∷ []
 
--- whether two bytes are a symbol
+-- Tests whether two bytes are a symbol.
 abbrev pub is_two_byte_symbol : ℕ → ℕ → Bool
 is_two_byte_symbol b c = list_any (λ s. bytes_eq s (b ∷ c ∷ [])) two_byte_symbols
 
--- the symbols of one byte
+-- The symbols of one byte.
 abbrev pub one_byte_symbols : Bytes
 one_byte_symbols = codes "{}[]()|;:,$=+~"
 
--- whether a byte is a symbol
+-- Tests whether a byte is a symbol.
 abbrev pub is_one_byte_symbol : ℕ → Bool
 is_one_byte_symbol b = list_any (λ s. s == b) one_byte_symbols
 
@@ -89,11 +87,11 @@ IsSymbol (b ∷ []) rest =
 IsSymbol (b ∷ c ∷ []) rest = is_two_byte_symbol b c ≡ true
 IsSymbol (b ∷ c ∷ d ∷ more) rest = ⊥
 
--- t is a token before rest
+-- The text t is a token if rest follows it.
 abbrev pub IsToken : Bytes → Bytes → Type 0
 IsToken t rest = IsNameRun t rest ⊎ IsSymbol t rest
 
--- The text is a trivia, the token t, and then rest.
+-- The text is trivia, the token t, and rest.
 abbrev pub IsFirstToken : Bytes → Bytes → Bytes → Type 0
 IsFirstToken text t rest = Trivia text (t ++ rest) × IsToken t rest
 

@@ -1,4 +1,4 @@
--- What a reader of tokens has before it, and what it made, without places.
+-- The input of the parser, and its result, without offsets.
 use Rattle.std.specs.Prelude.{List, drop}
 use Rattle.lw_base.specs.Types.{TokenList}
 use Rattle.lw_base.specs.Heads.{head_of}
@@ -9,18 +9,18 @@ use Rattle.lw_text.specs.Frames.{TestFrame}
 use Rattle.lw_text.specs.Spans.{token_texts, IsSuffix}
 use Rattle.lw_text.specs.Places.{all_texts}
 
--- the tokens that are still to be read
+-- The tokens that are not parsed yet.
 abbrev pub remaining : Cursor → List Token
 remaining c = drop c.next c.tokens.now
 
--- the tokens that are still to be read, without their places
+-- The tokens that are not parsed yet, without their offsets.
 abbrev pub remaining_texts : Cursor → TokenList
 remaining_texts c = token_texts (remaining c)
 
--- what is left for the second cursor is what is left for the first behind some of its tokens
+-- The remaining tokens of the second cursor are a suffix of those of the first.
 abbrev pub AdvancesTo : Cursor → Cursor → Type 0
 AdvancesTo before after = IsSuffix (remaining before) (remaining after)
 
--- the frame that a `Frame` in memory is
+-- The frame of a `Frame` in memory.
 abbrev pub frame_of : {A : Type 0} → Frame A → TestFrame
 frame_of f = record { head = head_of f.head; cells = all_texts f.cells }

@@ -1,4 +1,4 @@
--- What only the readers within the crate speak of: no public call cites it.
+-- Definitions for the parser within the crate. No public call cites them.
 pub mod Terminals
 pub mod ReaderStates
 pub mod Resolved

@@ -1,4 +1,4 @@
-//! The initial block of a test: its initializers, each a site and the word that it begins with.
+//! The initial block of a test: its initializers.
 ghost use Rattle.std.specs.Prelude.{◌≡◌, true, false, MatchResult, OnOk, OnErr};
 ghost use Rattle.std.specs.List.{list_all};
 ghost use Rattle.lw_base.specs.NoParse.{ParsesNothingWithOrOutOfMemory};
@@ -14,7 +14,7 @@ use crate::site::Site;
 use lw_base::{Arch, LocNames, Sequence, Word};
 use std::alloc::Allocator;
 
-/// An initializer of the block: the number of its first token, a site, and the word that it begins with.
+/// An initializer of the block: the index of its first token, a site, and the site's initial word.
 #[derive(Clone, Copy)]
 pub(crate) struct Initializer {
     pub(crate) token: usize,
@@ -25,8 +25,8 @@ pub(crate) struct Initializer {
 impl<'t, 'a> Cursor<'t, 'a> {
     ghost use Rattle.lw_text.specs.Views.{remaining_texts};
 
-    /// Takes the block. The names of its locations go into the table. The threads of its initializers are looked at
-    /// behind the header, which says how many there are.
+    /// Parses the block. Inserts the names of its locations into the table. The threads of its initializers are
+    /// checked after the header, which determines their number.
     pub(crate) fn parse_block<A: Allocator + Copy>(
         &mut self,
         alloc: A,
@@ -53,7 +53,7 @@ impl<'t, 'a> Cursor<'t, 'a> {
     }
 }
 
-/// Refuses initializers one of which has a thread that is not one of so many.
+/// Fails at the first initializer whose thread is not below `threads`.
 pub(crate) fn check_threads(initializers: &[Initializer], threads: usize) -> Result<(), Refusal>
     ensures ok { OnOk result (list_all (λ e. thread_exists threads e.site) initializers.now ≡ true) }
     ensures err { OnErr result (list_all (λ e. thread_exists threads e.site) initializers.now ≡ false) }

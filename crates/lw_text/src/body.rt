@@ -1,4 +1,4 @@
-//! The reader of all that stands behind a test's preamble.
+//! Parsing what follows a test's preamble.
 ghost use Rattle.std.specs.Prelude.{◌≡◌, ◌≢◌, ◌≤◌, All, MatchResult, IfSome, IfNone, None};
 ghost use Rattle.lw_text.specs.Frames.{ParsesNoTest};
 ghost use Rattle.lw_text.specs.declared.fault.TextCause.TheVariants.{Memory};
@@ -18,7 +18,7 @@ use std::alloc::Allocator;
 impl<'t, 'a> Cursor<'t, 'a> {
     ghost use Rattle.lw_text.specs.Views.{remaining, remaining_texts};
 
-    /// Takes all tokens of a test of the language, behind its preamble.
+    /// Parses all tokens of a test after its preamble.
     pub(crate) fn parse_body<A: Allocator + Copy>(
         &mut self,
         alloc: A,
@@ -52,8 +52,8 @@ impl<'t, 'a> Cursor<'t, 'a> {
 }
 
 impl<'a, A: Allocator + Copy> TokenStream<'a, A> {
-    /// What the tokens say, in a text of the language and of this length. Where a fault ends them they
-    /// say nothing.
+    /// Parses these tokens, which are those of a text of length `len`. Fails at the lexical fault that ends them, if
+    /// there is one and parsing reaches it.
     pub(crate) fn body(&self, alloc: A, arch: Arch, len: usize) -> Result<ParsedBody<'a, A>, Fault>
         requires places { All (λ t. t.at ≤ len) self.now.tokens }
         requires fault { IfSome self.now.fault (λ f. f.at ≤ len) }

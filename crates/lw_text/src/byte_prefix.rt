@@ -1,9 +1,9 @@
-//! The bytes that a text begins with, one or two of them.
+//! Stripping one or two bytes from the start of a text.
 ghost use Rattle.std.specs.Prelude.{◌≡◌, ◌==◌, [], ◌∷◌, MatchOption, false};
 ghost use Rattle.lw_base.specs.Characters.{first_byte_is};
 ghost use Rattle.lw_text.specs.Tokens.{begins_pair};
 
-/// The first byte, and what stands behind it.
+/// Splits a text after its first byte. Returns `None` if it is empty.
 pub(crate) fn split(bytes: &[u8]) -> Option<(u8, &[u8])>
     ensures { MatchOption result (bytes.now ≡ []) (λ p. bytes.now ≡ p.0 ∷ p.1.now) }
 {
@@ -13,7 +13,7 @@ pub(crate) fn split(bytes: &[u8]) -> Option<(u8, &[u8])>
     }
 }
 
-/// What stands behind this byte, or `None` where another stands at the front.
+/// Returns the text after this byte, or `None` if it begins with another.
 pub(crate) fn strip_byte(bytes: &[u8], byte: u8) -> Option<&[u8]>
     ensures { MatchOption result (first_byte_is (λ b. b == byte) bytes.now ≡ false)
         (λ rest. bytes.now ≡ byte ∷ rest.now) }
@@ -24,7 +24,7 @@ pub(crate) fn strip_byte(bytes: &[u8], byte: u8) -> Option<&[u8]>
     }
 }
 
-/// What stands behind these two bytes, or `None` where others stand at the front.
+/// Returns the text after these two bytes, or `None` if it begins with others.
 pub(crate) fn strip_two_bytes(bytes: &[u8], first: u8, second: u8) -> Option<&[u8]>
     ensures { MatchOption result (begins_pair first second bytes.now ≡ false)
         (λ rest. bytes.now ≡ first ∷ second ∷ rest.now) }

@@ -7,7 +7,7 @@ use crate::rows::CellSequence;
 use lw_base::Sequence;
 use std::alloc::{AllocError, AllocFailed, Allocator};
 
-/// So many columns of the rows, whose cells move into them: what stands in each row at the same index.
+/// Transposes rows of `threads` cells into columns. The cells are moved.
 pub(crate) fn columns<'a, A: Allocator + Copy>(
     alloc: A,
     threads: usize,
@@ -23,7 +23,7 @@ pub(crate) fn columns<'a, A: Allocator + Copy>(
     Ok(Sequence::from(columns))
 }
 
-/// So many columns of no rows.
+/// Returns empty columns, one for each thread.
 fn empty_columns<'a, A: Allocator + Copy>(
     alloc: A,
     threads: usize,
@@ -37,7 +37,7 @@ fn empty_columns<'a, A: Allocator + Copy>(
     Ok(columns)
 }
 
-/// Puts each cell of a row at the end of its column.
+/// Appends each cell of a row to its column.
 fn add_row<'a, A: Allocator>(
     columns: &mut Vec<CellSequence<'a, A>, A>,
     row: CellSequence<'a, A>,

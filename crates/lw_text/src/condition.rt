@@ -19,8 +19,8 @@ use std::alloc::Allocator;
 impl<'t, 'a> Cursor<'t, 'a> {
     ghost use Rattle.lw_text.specs.Views.{remaining_texts};
 
-    /// Takes the list of names, the quantifier and the proposition, which ends the text. The names of
-    /// their locations go into the table.
+    /// Parses the list of names, the quantifier and the proposition, which ends the text. Inserts the names of their
+    /// locations into the table.
     pub(crate) fn parse_condition<A: Allocator + Copy>(
         &mut self,
         alloc: A,
@@ -42,7 +42,7 @@ impl<'t, 'a> Cursor<'t, 'a> {
         }
     }
 
-    /// Takes the quantifier.
+    /// Parses the quantifier.
     fn parse_quantifier(&mut self) -> Result<Quant, Refusal>
         ensures { MatchResult result (λ q. Quantified (remaining_texts self.old) q (remaining_texts self.new))
             (λ _. ParsesNothing (Quantified (remaining_texts self.old))) }

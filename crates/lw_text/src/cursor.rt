@@ -1,4 +1,4 @@
-//! The cursor over the tokens that are still to be read.
+//! The cursor of the parser.
 ghost use Rattle.std.specs.Prelude.{◌≡◌, ◌≤◌, ◌<◌, ◌+◌, true, false, if◌then◌else◌, [], ◌∷◌, length, drop, MatchOption, MatchResult, OnOk, OnErr, IfOk};
 ghost use Rattle.lw_base.specs.Types.{TokenList};
 ghost use Rattle.lw_text.specs.Causes.{IsOfReader};
@@ -8,7 +8,7 @@ ghost use Rattle.lw_text.specs.Spans.{token_texts};
 use crate::fault::{Refusal, TextCause};
 use crate::token::Token;
 
-/// A list of tokens, of which those before `next` have been read.
+/// A list of tokens, of which those before `next` have been parsed.
 #[derive(Drop)]
 pub(crate) struct Cursor<'t, 'a> {
     pub(crate) tokens: &'t [Token<'a>],
@@ -19,14 +19,14 @@ pub(crate) struct Cursor<'t, 'a> {
 impl<'t, 'a> Cursor<'t, 'a> {
     ghost use Rattle.lw_text.specs.Views.{remaining, remaining_texts, AdvancesTo};
 
-    /// A cursor before all of these tokens.
+    /// Creates a cursor before all of these tokens.
     pub(crate) fn new(tokens: &'t [Token<'a>]) -> Cursor<'t, 'a>
         ensures { remaining result ≡ tokens.now }
     {
         Cursor { tokens, next: 0 }
     }
 
-    /// The refusal of the next token.
+    /// Returns the refusal of the next token.
     pub(crate) fn refusal(&self, cause: TextCause) -> Refusal
         requires { IsOfReader cause }
     {
@@ -36,7 +36,7 @@ impl<'t, 'a> Cursor<'t, 'a> {
         }
     }
 
-    /// The next token.
+    /// Returns the next token without advancing, or `None` at the end.
     pub(crate) fn peek(&self) -> Option<Token<'a>>
         ensures { MatchOption result (remaining_texts self.now ≡ []) (λ t. (self.now.next < length self.now.tokens.now)
             × (remaining self.now ≡ t ∷ drop (self.now.next + 1) self.now.tokens.now)
@@ -48,7 +48,7 @@ impl<'t, 'a> Cursor<'t, 'a> {
         }
     }
 
-    /// Takes the next token.
+    /// Advances past the next token and returns it. Fails at the end.
     pub(crate) fn take(&mut self) -> Result<Token<'a>, Refusal>
         ensures token { IfOk result (λ t. remaining self.old ≡ t ∷ remaining self.new) }
         ensures ok { IfOk result (λ t. remaining_texts self.old ≡ t.text.now ∷ remaining_texts self.new) }
@@ -63,7 +63,7 @@ impl<'t, 'a> Cursor<'t, 'a> {
         }
     }
 
-    /// Takes the next token, which is to be this text. Another is refused with the cause.
+    /// Advances past the next token, which must be this text. Otherwise it fails with the cause.
     pub(crate) fn expect(&mut self, text: &str, cause: TextCause) -> Result<(), Refusal>
         requires { IsOfReader cause }
         ensures ok { OnOk result (remaining_texts self.old ≡ text.now ∷ remaining_texts self.new) }
@@ -76,7 +76,7 @@ impl<'t, 'a> Cursor<'t, 'a> {
         Err(self.refusal(cause))
     }
 
-    /// Whether this text is next.
+    /// Returns whether this text is next.
     pub(crate) fn is_next(&self, text: &str) -> bool
         ensures { result ≡ begins_token text.now (remaining_texts self.now) }
     {
@@ -86,7 +86,7 @@ impl<'t, 'a> Cursor<'t, 'a> {
         }
     }
 
-    /// Takes this text, if it is next, and says whether it was.
+    /// Advances past this text if it is next, and returns whether it was.
     pub(crate) fn accept(&mut self, text: &str) -> bool
         ensures taken { result ≡ true → remaining_texts self.old ≡ text.now ∷ remaining_texts self.new }
         ensures other { result ≡ false → begins_token text.now (remaining_texts self.old) ≡ false }
@@ -100,8 +100,7 @@ impl<'t, 'a> Cursor<'t, 'a> {
         false
     }
 
-    /// Takes the one text or the other, and says whether it is the first. Another token is refused with
-    /// the cause.
+    /// Advances past one of two texts, and returns whether it was the first. Otherwise it fails with the cause.
     pub(crate) fn expect_either(
         &mut self,
         first: &str,

@@ -1,25 +1,25 @@
-//! The causes for which a text is refused, and the place of a fault.
+//! Why a text is rejected, and where.
 ghost use Rattle.std.specs.Prelude.{◌≡◌};
 ghost use Rattle.lw_text.specs.Causes.{text_cause_code, text_cause_name, IsOfReader};
 ghost use Rattle.lw_text.specs.declared.fault.TextCause.TheVariants as text;
 
 use std::alloc::{AllocError, AllocFailed};
 
-/// What is wrong with a text.
+/// Why a text is rejected.
 #[derive(Clone, Copy, PartialEq, Eq)]
 pub enum TextCause {
-    /// It is not UTF-8, from that place on.
+    /// It is not UTF-8 from this offset on.
     NotUtf8,
     /// It has more than 65,536 bytes.
     TooLong,
     /// It ends where more is needed.
     Unterminated,
-    /// A byte that begins no token, or a token that fits nothing there.
+    /// A byte that begins no token, or a token that fits nothing at its position.
     Unexpected,
     /// A number above 4294967295, one followed at once by a letter or `_`, or `0x` without digits.
     Number,
-    /// A name of more than 32 bytes, a test name of more than 128 or with other than printing ASCII
-    /// bytes, a token that names no location or register, or a thread that there isn't.
+    /// A name longer than 32 bytes, a test name that is longer than 128 bytes or has other than printable ASCII
+    /// bytes, a token that names no location or register, or a thread that does not exist.
     Name,
     /// A row with too few or too many cells.
     Ragged,
@@ -29,14 +29,14 @@ pub enum TextCause {
     TooManyRows,
     /// A ninth location.
     TooManyLocations,
-    /// A token that fits nothing in the condition or behind it, or the condition's 257th node.
+    /// A token that fits nothing in the condition or after it, or the 257th node of the condition.
     Condition,
-    /// There was no memory.
+    /// Memory ran out.
     Memory,
 }
 
 impl TextCause {
-    /// The number under which people are told of the cause: 1 to 12.
+    /// Returns the printed code of the cause, 1 to 12.
     pub fn code(self) -> u8
         ensures { result ≡ text_cause_code self }
     {
@@ -56,7 +56,7 @@ impl TextCause {
         }
     }
 
-    /// The name under which people are told of the cause.
+    /// Returns the printed name of the cause.
     pub fn name(self) -> &'static str
         ensures { result.now ≡ text_cause_name self }
     {
@@ -77,15 +77,15 @@ impl TextCause {
     }
 }
 
-/// A refused text: the cause, and the byte at which it stands. Where memory ran out the place is 0,
-/// and says nothing.
+/// A rejected text: the cause, and the offset of the byte at which it was found. If memory ran out, the offset is 0
+/// and means nothing.
 #[derive(Clone, Copy)]
 pub struct TextFault {
     pub at: usize,
     pub cause: TextCause,
 }
 
-/// A fault that a reader meets, and the place of its byte.
+/// A fault found by the lexer or the parser, with its offset.
 #[derive(Clone, Copy)]
 pub(crate) struct Fault {
     pub(crate) at: usize,
@@ -97,7 +97,7 @@ pub(crate) struct Fault {
 impl From<AllocError> for Fault {
     ghost from_gives = { λ _ f. (f.at ≡ 0) × (f.cause ≡ text.Memory) };
 
-    /// A growth of memory that was refused, as a fault at the front of the text.
+    /// Converts a refused allocation, with offset 0.
     fn from(_error: AllocError) -> Fault {
         Fault {
             at: 0,
@@ -106,8 +106,8 @@ impl From<AllocError> for Fault {
     }
 }
 
-/// What a reader of tokens refuses: a token, by its number among them, and why. Where they run out it is
-/// their end that is refused, and the cause says nothing.
+/// The token that the parser rejects, by its index, and why. If the tokens ended too early, the index is past the
+/// last one, and the cause means nothing.
 #[derive(Clone, Copy)]
 pub(crate) struct Refusal {
     pub(crate) token: usize,
@@ -118,7 +118,7 @@ pub(crate) struct Refusal {
 impl From<AllocError> for Refusal {
     ghost from_gives = { λ _ r. (r.token ≡ 0) × (r.cause ≡ text.Memory) };
 
-    /// A growth of memory that was refused, as a refusal of the first token.
+    /// Converts a refused allocation to a refusal of the first token.
     fn from(_error: AllocError) -> Refusal {
         Refusal {
             token: 0,
@@ -130,7 +130,7 @@ impl From<AllocError> for Refusal {
 impl<T: Drop> From<AllocFailed<T>> for Refusal {
     ghost from_gives = { λ _ r. (r.token ≡ 0) × (r.cause ≡ text.Memory) };
 
-    /// A value that could not be put into memory, as a refusal of the first token.
+    /// Converts a value that could not be moved into memory to a refusal of the first token.
     fn from(_error: AllocFailed<T>) -> Refusal {
         Refusal {
             token: 0,
@@ -142,7 +142,7 @@ impl<T: Drop> From<AllocFailed<T>> for Refusal {
 impl From<Fault> for TextFault {
     ghost from_gives = { λ f t. (t.at ≡ f.at) × (t.cause ≡ f.cause) × IsOfReader f.cause };
 
-    /// A reader's fault, as one of the whole text.
+    /// Converts a fault of the lexer or the parser to one of the text.
     fn from(fault: Fault) -> TextFault {
         TextFault {
             at: fault.at,

@@ -1,4 +1,4 @@
-//! The head and the frame of a test, made of what its tokens say.
+//! Assembling the head and the frame of a test from its parsed parts.
 ghost use Rattle.std.specs.Prelude.{◌≡◌, ◌++◌, length, map, filter, IfOk, All};
 ghost use Rattle.std.specs.List.{range_with_len};
 ghost use Rattle.lw_base.specs.Heads.{head_of};
@@ -18,7 +18,7 @@ use crate::seen::restrict_seen;
 use lw_base::{Head, Seen, Sequence, Text, Word};
 use std::alloc::{AllocError, Allocator, Global};
 
-/// What of a head is made, and not taken over.
+/// The parts of a head that are computed, and not moved into it.
 #[derive(Drop)]
 struct OwnParts<A: Allocator = Global> {
     name: Text<A>,
@@ -28,7 +28,7 @@ struct OwnParts<A: Allocator = Global> {
 }
 
 impl<A: Allocator + Copy> ParsedHead<A> {
-    /// The head of a test of this preamble.
+    /// Assembles the head of a test with this preamble.
     pub(crate) fn head(self, alloc: A, preamble: Preamble<'_>) -> Result<Head<A>, AllocError>
         ensures { IfOk result (λ h. head_of h
             ≡ resolved_head preamble.entry.arch preamble.entry.name.now self) }
@@ -52,7 +52,7 @@ impl<A: Allocator + Copy> ParsedHead<A> {
         }
     }
 
-    /// The parts of the head that are made, and not moved into it: the name, the words at the start, and what is listed.
+    /// Computes the parts of the head that are not moved into it: the name, the initial words, and the listed names.
     fn own_parts(&self, alloc: A, name: &str) -> Result<OwnParts<A>, AllocError>
         ensures { IfOk result (λ m. (m.name ≡ name.now)
             × (m.init_regs ≡ map (λ t. map (word_at self.now.initializers) (thread_registers t))
@@ -79,7 +79,7 @@ impl<A: Allocator + Copy> ParsedHead<A> {
 }
 
 impl<'a, A: Allocator + Copy> ParsedBody<'a, A> {
-    /// The frame, in a text of this preamble and this length.
+    /// Assembles the frame of a text with this preamble and this length.
     pub(crate) fn finish(
         self,
         alloc: A,

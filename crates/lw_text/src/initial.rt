@@ -1,4 +1,4 @@
-//! The words that a test's registers and locations begin with.
+//! The initial words of a test's registers and locations.
 ghost use Rattle.std.specs.Prelude.{◌≡◌, ◌≤◌, map, IfOk};
 ghost use Rattle.std.specs.List.{range_with_len};
 ghost use Rattle.lw_base.specs.SeenLists.{thread_registers, locations};
@@ -9,7 +9,7 @@ use crate::site::Site;
 use lw_base::{Cpu, Loc, MAX_LOCATIONS, MAX_THREADS, Reg, Sequence, Word};
 use std::alloc::{AllocError, Allocator};
 
-/// The words of the registers of so many threads.
+/// Returns the initial words of the registers of `threads` threads.
 pub(crate) fn initial_registers<A: Allocator>(
     alloc: A,
     initializers: &[Initializer],
@@ -27,7 +27,7 @@ pub(crate) fn initial_registers<A: Allocator>(
     Ok(rows)
 }
 
-/// The words of a thread's registers.
+/// Returns the initial words of a thread's registers.
 fn words_of_thread(initializers: &[Initializer], cpu: Cpu) -> [Word; 6]
     ensures { result ≡ map (word_at initializers.now) (thread_registers cpu) }
 {
@@ -43,7 +43,7 @@ fn words_of_thread(initializers: &[Initializer], cpu: Cpu) -> [Word; 6]
     ]
 }
 
-/// The words of so many locations.
+/// Returns the initial words of `len` locations.
 pub(crate) fn initial_words<A: Allocator>(
     alloc: A,
     initializers: &[Initializer],
@@ -59,7 +59,7 @@ pub(crate) fn initial_words<A: Allocator>(
     Ok(words)
 }
 
-/// The word of the last initializer for a site, or 0.
+/// Returns the word of the last initializer of a site, or 0.
 fn word_of(initializers: &[Initializer], site: Site) -> Word
     ensures { result ≡ word_at initializers.now (seen_of site) }
 {

@@ -1,4 +1,4 @@
-//! The tokens that a text can begin with: names, numbers and symbols.
+//! The tokens: names, numbers and symbols.
 ghost use Rattle.std.specs.Prelude.{◌≡◌, ◌≢◌, ℕ, ◌<◌, ◌≤◌, ◌^◌, [], ◌∷◌, ◌++◌, IfSome, IfNone, IfOk, IfErr, OnErr, MatchOption, true, false, IsTrue, ◌↔◌};
 ghost use Rattle.std.specs.List.{AllByRecursion};
 ghost use Rattle.lw_base.specs.Characters.{is_name_byte};
@@ -15,7 +15,7 @@ use crate::fault::TextCause;
 use crate::token_kind::TokenKind;
 use lw_base::{ByteKind, MAX_NAME_BYTES, Word, ascii_text, is_name_byte, prefix_of_kind};
 
-/// The number that the digits stand for, where it is a word.
+/// Returns the value of digits in a base, or `None` if it is no word.
 fn digits(base: u32, digits: &[u8]) -> Option<Word>
     requires low { 2 ≤ base }
     requires high { base ≤ 16 }
@@ -35,7 +35,7 @@ fn digits(base: u32, digits: &[u8]) -> Option<Word>
     Some(n as Word)
 }
 
-/// The number that the token stands for, where it is one: decimal, or hexadecimal behind `0x`.
+/// Returns the value of a token that is a number, decimal or hexadecimal after `0x`.
 fn number(text: &str) -> Option<Word>
     ensures { MatchOption result (HoldsOfNothing (IsNumber text.now)) (IsNumber text.now) }
 {
@@ -50,7 +50,7 @@ fn number(text: &str) -> Option<Word>
     }
 }
 
-/// Whether two bytes are a symbol.
+/// Returns whether two bytes are a symbol.
 fn is_pair(first: u8, second: u8) -> bool
     ensures { result ≡ symbols.is_two_byte_symbol first second }
 {
@@ -60,14 +60,14 @@ fn is_pair(first: u8, second: u8) -> bool
     )
 }
 
-/// Whether a byte is a symbol.
+/// Returns whether a byte is a symbol.
 fn is_single(byte: u8) -> bool
     ensures { result ≡ symbols.is_one_byte_symbol byte }
 {
     b"{}[]()|;:,$=+~".contains(&byte)
 }
 
-/// Whether the two bytes at the front are a symbol.
+/// Returns whether the text begins with a symbol of two bytes.
 fn begins_long(bytes: &[u8]) -> bool
     ensures { IsTrue result ↔ ((b c : ℕ) × (rest : Bytes) × (bytes.now ≡ b ∷ c ∷ rest)
         × (symbols.is_two_byte_symbol b c ≡ true)) }
@@ -78,7 +78,7 @@ fn begins_long(bytes: &[u8]) -> bool
     }
 }
 
-/// Whether the first byte is a symbol, where no longer one begins.
+/// Returns whether the first byte is a symbol, if the text begins with no longer one.
 fn begins_short(bytes: &[u8], first: u8) -> bool
     ensures { IsTrue result ↔ ((symbols.is_one_byte_symbol first ≡ true)
         × (opens_comment bytes.now ≡ false)) }
@@ -86,7 +86,7 @@ fn begins_short(bytes: &[u8], first: u8) -> bool
     is_single(first) && strip_two_bytes(bytes, b'(', b'*').is_none()
 }
 
-/// What the name run is, all of whose bytes are letters, digits and `_`: a name or a number, or neither.
+/// Returns the kind of a run of letters, digits and `_`: a name or a number. Returns `None` if it is neither.
 fn kind_of_run(run: &str) -> Option<TokenKind>
     requires { AllByRecursion (λ b. is_name_byte b ≡ true) run.now }
     ensures { MatchOption result (IsNameOrNumber run.now → ⊥) (λ kind. IsNameOrNumber run.now × IsOfKind kind run.now) }
@@ -106,7 +106,7 @@ fn kind_of_run(run: &str) -> Option<TokenKind>
     None
 }
 
-/// The fault of a name run that is neither a name nor a number.
+/// Returns the cause of a run that is neither a name nor a number.
 fn fault_of_run(first: u8) -> TextCause
     ensures { (result ≢ Memory) × IsOfReader result }
 {
@@ -117,14 +117,14 @@ fn fault_of_run(first: u8) -> TextCause
     }
 }
 
-/// A token at the front of a text, what it is, and what stands behind it.
+/// The first token of a text, its kind, and the rest of the text.
 pub(crate) struct Lexeme<'a> {
     pub(crate) text: &'a str,
     pub(crate) kind: TokenKind,
     pub(crate) rest: &'a [u8],
 }
 
-/// The token at the front.
+/// Scans the first token.
 pub(crate) fn token(bytes: &[u8]) -> Result<Lexeme<'_>, TextCause>
     ensures found { IfOk result (λ x. (bytes.now ≡ x.text.now ++ x.rest.now) × IsToken x.text.now x.rest.now
         × IsOfKind x.kind x.text.now) }

@@ -1,4 +1,4 @@
-//! The lexer: the tokens of a text, one after another.
+//! The lexer, which splits a text into tokens.
 ghost use Rattle.std.specs.Prelude.{◌≡◌, ◌+◌, ◌≤◌, [], length, MatchResult, MatchOption};
 ghost use Rattle.lw_base.specs.Types.{Bytes};
 
@@ -7,7 +7,7 @@ use crate::lexeme::{Lexeme, token};
 use crate::token::Token;
 use crate::trivia::after_trivia;
 
-/// Reads a text from left to right.
+/// A lexer, which scans a text from left to right.
 #[derive(Drop)]
 pub(crate) struct Lexer<'a> {
     pub(crate) text: &'a [u8],
@@ -18,7 +18,7 @@ pub(crate) struct Lexer<'a> {
 impl<'a> Lexer<'a> {
     ghost use Rattle.lw_text.specs.Tokens.{Trivia, IsFirstToken};
 
-    /// A lexer before all of this text.
+    /// Creates a lexer at the start of a text.
     pub(crate) fn new(text: &'a [u8]) -> Lexer<'a>
         ensures text { result.text.now ≡ text.now }
         ensures rest { result.rest.now ≡ text.now }
@@ -26,7 +26,7 @@ impl<'a> Lexer<'a> {
         Lexer { text, rest: text }
     }
 
-    /// The next token, or `None` where only blanks and comments are left.
+    /// Returns the next token, or `None` if only blanks and comments are left.
     pub(crate) fn next(&mut self) -> Result<Option<Token<'a>>, Fault>
         ensures reads { MatchResult result
             (λ o. MatchOption o (Trivia self.old.rest.now []) (λ t. IsFirstToken self.old.rest.now t.text.now self.new.rest.now

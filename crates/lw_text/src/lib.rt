@@ -1,7 +1,6 @@
-//! Reads the bytes of a litmus test into tokens and a frame: the head of the test, and for each
-//! thread and row the tokens of the cell. What a cell says is read by the crates of the languages.
-//!
-//! It names lw_base. The format is that of docs/FORMAT.md.
+//! Reading the bytes of a litmus test into tokens and a frame: the head of the test, and for each thread and row the
+//! tokens of the cell. The crates of the languages parse the cells.
+//! This crate depends on lw_base. docs/FORMAT.md defines the format.
 #![tactic(auto)]
 
 mod block;

@@ -1,4 +1,4 @@
-//! The list of names in a test's condition, which a report shows.
+//! The list of names before a test's condition, which a report shows.
 ghost use Rattle.std.specs.Prelude.{◌≢◌, List, MatchResult};
 ghost use Rattle.std.specs.List.{AllByRecursion};
 ghost use Rattle.lw_base.specs.Types.{TokenList};
@@ -16,7 +16,7 @@ use std::alloc::Allocator;
 impl<'t, 'a> Cursor<'t, 'a> {
     ghost use Rattle.lw_text.specs.Views.{remaining_texts};
 
-    /// Takes the list of names, where one stands. The names of its locations go into the table.
+    /// Parses the list of names, if there is one. Inserts the names of its locations into the table.
     pub(crate) fn parse_listed<A: Allocator + Copy>(
         &mut self,
         alloc: A,

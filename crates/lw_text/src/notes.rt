@@ -1,8 +1,7 @@
-//! The notes on a test, which stand between its name and its `{`, and are passed over.
-//! They are quoted texts, and lines `Key=value`.
-//!
-//! A reader of a part answers what stands behind it, or else what stands from the fault on, which is
-//! empty where the text ends too early.
+//! The notes on a test, which lie between its name and its `{` and are skipped. They are quoted texts, and lines
+//! `Key=value`.
+//! Each function returns the rest after what it skips, or, as an error, the rest from the fault on, which is empty if
+//! the text ends too early.
 ghost use Rattle.std.specs.Prelude.{◌≡◌, ◌≢◌, ◌≤◌, length, MatchResult};
 ghost use Rattle.lw_base.specs.NoParse.{HoldsOfNothing};
 ghost use Rattle.lw_text.specs.declared.fault.TextCause.TheVariants.{Memory};
@@ -15,7 +14,7 @@ use crate::lexer::Lexer;
 use crate::trivia::after_trivia;
 use lw_base::{ByteKind, prefix_of_kind};
 
-/// What stands behind the line `Key=value` at the front.
+/// Skips a line `Key=value`.
 fn after_key_line(bytes: &[u8]) -> Result<&[u8], &[u8]>
     ensures { MatchResult result (λ rest. KeyLine bytes.now rest.now)
         (λ left. HoldsOfNothing (KeyLine bytes.now) × (length left.now ≤ length bytes.now)) }
@@ -31,7 +30,7 @@ fn after_key_line(bytes: &[u8]) -> Result<&[u8], &[u8]>
     }
 }
 
-/// What stands behind the note at the front.
+/// Skips a note.
 fn after_note(bytes: &[u8]) -> Result<&[u8], &[u8]>
     ensures { MatchResult result (λ rest. Note bytes.now rest.now)
         (λ left. HoldsOfNothing (Note bytes.now) × (length left.now ≤ length bytes.now)) }
@@ -46,7 +45,7 @@ fn after_note(bytes: &[u8]) -> Result<&[u8], &[u8]>
     }
 }
 
-/// What stands behind the notes, from the `{` on.
+/// Skips the notes, up to the `{`.
 fn after_notes(bytes: &[u8]) -> Result<&[u8], &[u8]>
     ensures { MatchResult result (λ rest. Notes bytes.now rest.now)
         (λ left. HoldsOfNothing (Notes bytes.now) × (length left.now ≤ length bytes.now)) }
@@ -64,7 +63,7 @@ fn after_notes(bytes: &[u8]) -> Result<&[u8], &[u8]>
 }
 
 impl<'a> Lexer<'a> {
-    /// Passes the notes, up to a `{`.
+    /// Skips the notes, up to the `{`.
     pub(crate) fn skip_notes(&mut self) -> Result<(), Fault>
         ensures reads { MatchResult result (λ _. Notes self.old.rest.now self.new.rest.now)
             (λ f. HoldsOfNothing (Notes self.old.rest.now) × (f.at ≤ length self.old.text.now)) }
@@ -83,7 +82,7 @@ impl<'a> Lexer<'a> {
     }
 }
 
-/// The cause of a fault in the notes, by what stands from the fault on: nothing, or what should not stand there.
+/// Returns the cause of a fault in the notes, from the rest of the text at the fault.
 fn note_cause(left: &[u8]) -> TextCause
     ensures { (result ≢ Memory) × IsOfReader result }
 {

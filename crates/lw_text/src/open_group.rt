@@ -1,4 +1,4 @@
-//! The part of a proposition that stands open inside one pair of parentheses.
+//! The open part of a proposition inside one pair of parentheses.
 ghost use Rattle.std.specs.Prelude.{◌≡◌, option_map, IfOk, OnOk};
 ghost use Rattle.lw_base.specs.Propositions.{formula_of};
 ghost use Rattle.lw_text.specs.inner.ReaderStates.{group_of, opened, with_not, with_and, with_or, ors_of, after_and, negations};
@@ -7,8 +7,7 @@ use lw_base::Prop;
 use std::alloc::{AllocError, Allocator, Global};
 use std::mem;
 
-/// What stands before a `\/`, what stands before a `/\`, and how many `~` stand before the part that
-/// comes.
+/// The left operand of a `\/`, the left operand of a `/\`, and the number of `~` before the part that follows.
 #[derive(Drop)]
 pub(crate) struct OpenGroup<A: Allocator = Global> {
     either: Option<Prop<A>>,
@@ -17,7 +16,7 @@ pub(crate) struct OpenGroup<A: Allocator = Global> {
 }
 
 impl<A: Allocator> OpenGroup<A> {
-    /// What stands open behind a `(`.
+    /// Creates the group that a `(` opens.
     pub(crate) fn new() -> Self
         ensures { group_of result ≡ opened }
     {
@@ -28,8 +27,7 @@ impl<A: Allocator> OpenGroup<A> {
         }
     }
 
-    /// Takes one more `~` before the part that comes. Memory can't hold the part behind more of them
-    /// than can be counted.
+    /// Adds a `~` before the part that follows. Fails only if the count would overflow, before which memory runs out.
     pub(crate) fn negate(&mut self) -> Result<(), AllocError>
         ensures { OnOk result (group_of self.new ≡ with_not (group_of self.old)) }
     {
@@ -42,7 +40,7 @@ impl<A: Allocator> OpenGroup<A> {
 }
 
 impl<A: Allocator + Copy> OpenGroup<A> {
-    /// Takes a part and a `/\`.
+    /// Adds a part and a `/\`.
     pub(crate) fn conjoin(&mut self, alloc: A, part: Prop<A>) -> Result<(), AllocError>
         ensures { OnOk result (group_of self.new ≡ with_and (group_of self.old) (formula_of part)) }
     {
@@ -52,7 +50,7 @@ impl<A: Allocator + Copy> OpenGroup<A> {
         Ok(())
     }
 
-    /// Takes a part and a `\/`.
+    /// Adds a part and a `\/`.
     pub(crate) fn disjoin(&mut self, alloc: A, part: Prop<A>) -> Result<(), AllocError>
         ensures { OnOk result (group_of self.new ≡ with_or (group_of self.old) (formula_of part)) }
     {
@@ -62,7 +60,7 @@ impl<A: Allocator + Copy> OpenGroup<A> {
         Ok(())
     }
 
-    /// What the group says with this part as its last.
+    /// Returns the proposition of the group, with this part as its last.
     pub(crate) fn close(self, alloc: A, part: Prop<A>) -> Result<Prop<A>, AllocError>
         ensures { IfOk result (λ p. formula_of p ≡ ors_of (group_of self) (formula_of part)) }
     {
@@ -83,7 +81,7 @@ impl<A: Allocator + Copy> OpenGroup<A> {
     }
 }
 
-/// The part behind so many `~`, joined to what stands before a `/\`.
+/// Negates the part `nots` times, and joins it to the left operand of a `/\`, if there is one.
 fn conjoined<A: Allocator + Copy>(
     alloc: A,
     before: Option<Prop<A>>,
@@ -112,7 +110,7 @@ fn conjoined<A: Allocator + Copy>(
     }
 }
 
-/// Two propositions, in boxes.
+/// Moves two propositions into boxes.
 fn boxed<A: Allocator + Copy>(
     alloc: A,
     left: Prop<A>,

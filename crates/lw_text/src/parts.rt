@@ -1,4 +1,4 @@
-//! The parts of a test behind its preamble, with locations resolved to their numbers.
+//! The parsed parts of a test, with locations resolved to their indices.
 ghost use Rattle.std.specs.Prelude.{◌≡◌, ◌≤◌, length, All};
 ghost use Rattle.lw_base.specs.Limits.{most_rows, most_threads};
 
@@ -8,7 +8,7 @@ use crate::site::Site;
 use lw_base::{LocNames, Prop, Quant, Sequence};
 use std::alloc::{Allocator, Global};
 
-/// All but the cells.
+/// Everything except the cells.
 #[derive(Drop)]
 pub(crate) struct ParsedHead<A: Allocator = Global> {
     pub(crate) initializers: Sequence<Initializer, A>,
@@ -20,7 +20,7 @@ pub(crate) struct ParsedHead<A: Allocator = Global> {
     ghost few: { threads ≤ most_threads },
 }
 
-/// All, with the rows' cells.
+/// The head, and the cells of the rows.
 #[derive(Drop)]
 pub(crate) struct ParsedBody<'a, A: Allocator = Global> {
     pub(crate) parts: ParsedHead<A>,

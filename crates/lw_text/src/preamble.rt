@@ -10,7 +10,7 @@ use crate::fault::{Fault, TextCause};
 use crate::lexer::Lexer;
 use lw_base::{Arch, ByteKind, MAX_TEST_NAME_BYTES, ascii_text, prefix_of_kind};
 
-/// What a preamble says of its test, besides the notes.
+/// The keyword and the name of a preamble.
 #[derive(Clone, Copy)]
 pub(crate) struct Preamble<'a> {
     pub(crate) arch: Arch,
@@ -18,7 +18,7 @@ pub(crate) struct Preamble<'a> {
 }
 
 impl<'a> Lexer<'a> {
-    /// Takes the keyword of a language, the blanks behind it, the test's name, and the notes up to a `{`.
+    /// Parses the keyword of a language, the blanks after it, the test's name, and the notes up to a `{`.
     pub(crate) fn parse_preamble(&mut self) -> Result<Preamble<'a>, Fault>
         ensures reads { MatchResult result (λ h. wanted.Preamble self.old.rest.now h.arch h.name.now self.new.rest.now)
             (λ f. ((arch : Arch) → ParsesNothing (wanted.Preamble self.old.rest.now arch)) × (f.at ≤ length self.old.text.now)) }
@@ -43,7 +43,7 @@ impl<'a> Lexer<'a> {
         }
     }
 
-    /// Takes the blanks behind the keyword, and the test's name.
+    /// Parses the blanks after the keyword, and the test's name.
     fn parse_test_name(&mut self) -> Result<&'a str, Fault>
         ensures reads { MatchResult result (λ name. ParsesTestName self.old.rest.now name.now self.new.rest.now)
             (λ f. ParsesNothing (ParsesTestName self.old.rest.now) × (f.at ≤ length self.old.text.now)) }
@@ -75,7 +75,7 @@ impl<'a> Lexer<'a> {
     }
 }
 
-/// The language of this keyword.
+/// Returns the language with this keyword, if there is one.
 fn arch_from_keyword(keyword: &str) -> Option<Arch>
     ensures { MatchOption result (HoldsOfNothing (λ arch. arch_keyword arch ≡ keyword.now))
         (λ arch. arch_keyword arch ≡ keyword.now) }
@@ -87,7 +87,7 @@ fn arch_from_keyword(keyword: &str) -> Option<Arch>
     }
 }
 
-/// Whether the bytes can name a test.
+/// Returns whether the bytes can name a test.
 fn is_test_name(name: &[u8]) -> bool
     ensures { IsTrue result ↔ IsTestName name.now }
 {

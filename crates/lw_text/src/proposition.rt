@@ -1,4 +1,4 @@
-//! The proposition of a condition, taken terminal by terminal up to the end of the text.
+//! Parsing the proposition of a condition, terminal by terminal up to the end of the text.
 ghost use Rattle.std.specs.Prelude.{◌≡◌, ◌≢◌, ◌+◌, ◌≤◌, ◌==◌, ◌||◌, not, true, codes, List, [], ◌∷◌, length, map, filter, Some, None, MatchResult};
 ghost use Rattle.lw_base.specs.Types.{TokenList};
 ghost use Rattle.lw_base.specs.Formula.{Formula};
@@ -21,7 +21,7 @@ use std::alloc::Allocator;
 impl<'t, 'a> Cursor<'t, 'a> {
     ghost use Rattle.lw_text.specs.Views.{remaining_texts};
 
-    /// Takes the proposition, which ends the text. The names of its locations go into the table.
+    /// Parses the proposition, which ends the text. Inserts the names of its locations into the table.
     pub(crate) fn parse_proposition<A: Allocator + Copy>(
         &mut self,
         alloc: A,
@@ -52,8 +52,8 @@ impl<'t, 'a> Cursor<'t, 'a> {
         }
     }
 
-    /// Takes a terminal that may come next behind so many nodes, and gives it to the reader. The names
-    /// of its locations go into the table.
+    /// Parses the next terminal, after `nodes` nodes, and passes it to the reader. Inserts the name of its location
+    /// into the table.
     fn parse_next_terminal<A: Allocator + Copy>(
         &mut self,
         arch: Arch,
@@ -86,7 +86,7 @@ impl<'t, 'a> Cursor<'t, 'a> {
         Ok(terminal)
     }
 
-    /// Whether a terminal may come next behind so many nodes: a parenthesis makes none.
+    /// Returns whether the next terminal may follow `nodes` nodes. Parentheses make no nodes.
     fn has_room(&self, nodes: usize) -> bool
         ensures { result ≡ (not (nodes == MAX_NODES) ||
             (begins_token (codes "(") (remaining_texts self.now) || begins_token (codes ")") (remaining_texts self.now))) }

@@ -1,4 +1,4 @@
-//! The reader of a proposition, which keeps a list of what stands open in place of recursion.
+//! The operator-precedence parser of propositions, with an explicit stack in place of recursion.
 ghost use Rattle.std.specs.Prelude.{◌≡◌, ◌≢◌, not, [], map, reverse, is_some, Some, None, IfOk, MatchResult, if◌then◌else◌};
 ghost use Rattle.lw_base.specs.Propositions.{formula_of};
 ghost use Rattle.lw_text.specs.declared.fault.TextCause.TheVariants.{Memory};
@@ -12,7 +12,7 @@ use lw_base::Prop;
 use std::alloc::{AllocError, Allocator, Global};
 use std::mem;
 
-/// What the terminals so far leave open. A clause sees it as a `ReaderState`, and says by `state_result` which proposition the
+/// The state of the parser. A contract sees it as a `ReaderState`, and states by `state_result` which proposition the
 /// terminals so far are.
 #[derive(Drop)]
 pub(crate) struct PropositionReader<A: Allocator + Copy = Global> {
@@ -23,7 +23,7 @@ pub(crate) struct PropositionReader<A: Allocator + Copy = Global> {
 }
 
 impl<A: Allocator + Copy> PropositionReader<A> {
-    /// A reader that has taken no terminal. It takes no memory.
+    /// Creates a parser of no terminals. Does not allocate.
     pub(crate) fn new(alloc: A) -> Self
         ensures { state_of result ≡ initial_reader_state }
     {
@@ -35,15 +35,15 @@ impl<A: Allocator + Copy> PropositionReader<A> {
         }
     }
 
-    /// Whether an atom, a `(` or a `~` has to come next. Otherwise none of them can.
+    /// Returns whether the next terminal must be an atom, a `(` or a `~`. If not, it can be none of them.
     pub(crate) fn wants_part(&self) -> bool
         ensures { is_some self.now.part ≡ not result }
     {
         self.part.is_none()
     }
 
-    /// Takes the next terminal, or answers that it can't come next. In that case, and where there is no
-    /// memory, the reader is of no more use.
+    /// Shifts the next terminal, and returns whether it is possible. If it is not, or if memory runs out, the parser
+    /// must not be used again.
     pub(crate) fn take(&mut self, terminal: Terminal) -> Result<bool, AllocError>
         ensures { IfOk result (λ b. next_state (state_of self.old) (terminal_of terminal)
             ≡ (if b then Some (state_of self.new) else None)) }
@@ -54,7 +54,7 @@ impl<A: Allocator + Copy> PropositionReader<A> {
         }
     }
 
-    /// Takes a terminal where a part has to come.
+    /// Shifts a terminal where a part must begin.
     fn before_part(&mut self, terminal: Terminal) -> Result<bool, AllocError>
         requires { self.old.part ≡ None }
         ensures { IfOk result (λ b. next_state (reader_state_in None (group_of self.old.group)
@@ -79,7 +79,7 @@ impl<A: Allocator + Copy> PropositionReader<A> {
         }
     }
 
-    /// Takes a terminal behind a part, which was taken out.
+    /// Shifts a terminal after a part, which was taken out.
     fn behind_part(&mut self, part: Prop<A>, terminal: Terminal) -> Result<bool, AllocError>
         requires { self.old.part ≡ None }
         ensures { IfOk result (λ b. next_state (reader_state_in (Some (formula_of part)) (group_of self.old.group)
@@ -112,8 +112,8 @@ impl<A: Allocator + Copy> PropositionReader<A> {
         }
     }
 
-    /// The proposition, where the terminals so far are one. Otherwise it answers this refusal. The reader is of
-    /// no more use then.
+    /// Returns the proposition, if the terminals so far are one, and this refusal otherwise. The parser must not be
+    /// used again.
     pub(crate) fn finish(&mut self, open: Refusal) -> Result<Prop<A>, Refusal>
         ensures { MatchResult result (λ prop. state_result (state_of self.old) ≡ Some (formula_of prop))
             (λ f. f.cause ≢ Memory → state_result (state_of self.old) ≡ None) }

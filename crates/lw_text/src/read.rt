@@ -1,4 +1,4 @@
-//! Reads a text's frame, and the laws on frames.
+//! Reading a text's frame, and the laws of frames.
 ghost use Rattle.std.specs.Prelude.{◌≡◌, ◌<◌, ◌≤◌, List, length, Err, MatchResult, IfOk, IfErr};
 ghost use Rattle.std.specs.Str.{IsUtf8, IsValidUpTo};
 ghost use Rattle.std.specs.Str.Lossy.{utf8_valid_len};
@@ -20,25 +20,24 @@ use lw_base::MAX_TEXT_BYTES;
 use std::alloc::Allocator;
 use std::str;
 
-/// Reads a text's frame.
+/// Reads the frame of a text.
 pub fn read_frame<'a, A: Allocator + Copy>(
     alloc: A,
     text: &'a [u8],
 ) -> Result<Frame<'a, A>, TextFault>
-    // What is answered is the text's frame, and where it is refused it has none, unless memory ran out.
+    // The result is the text's frame. If reading fails, the text has no frame, or memory ran out.
     ensures found { IfOk result (λ f. HasFrame text.now (frame_of f)) }
     ensures fault { IfErr result (λ f. HoldsOfNothingOrOutOfMemory TextCause.Memory f.cause (HasFrame text.now)) }
 
-    // Its cells are cut from the text's token stream, each token at its place, and a fault's place lies in the text.
+    // The cells consist of the text's tokens, each with its offset, and a fault's offset is within the text.
     ensures cells { IfOk result (λ f. HasCells text.now (placed_cells f.cells)) }
     ensures len { IfOk result (λ f. f.len ≡ length text.now) }
     ensures place { IfErr result (λ f. f.at ≤ length text.now) }
 
-    // Where memory ran out the place is 0.
+    // If memory ran out, the offset is 0.
     ensures memory { IfErr result (λ f. f.cause ≡ TextCause.Memory → f.at ≡ 0) }
 
-    // A text that is too long is told as that, and one that isn't UTF-8 behind its longest front that
-    // is.
+    // A text that is too long is rejected as such, and one that is not UTF-8 after its longest valid prefix.
     ensures too_long { most_text_bytes < length text.now → result
         ≡ Err (record { at = most_text_bytes; cause = TextCause.TooLong }) }
     ensures only_too_long { IfErr result (λ f. f.cause ≡ TextCause.TooLong
@@ -66,28 +65,28 @@ pub fn read_frame<'a, A: Allocator + Copy>(
     }
 }
 
-/// A text has at most one frame.
+/// States that a text has at most one frame.
 pub fn a_text_has_one_frame()
     ensures { (text : Bytes) (f g : TestFrame) → HasFrame text f → HasFrame text g → f ≡ g }
 {}
 
-/// A text has at most one list of cells with places.
+/// States that a text has at most one list of cells with offsets.
 pub fn a_text_has_its_cells_once()
     ensures { (text : Bytes) (c d : List (List PlacedCell)) → HasCells text c → HasCells text d → c ≡ d }
 {}
 
-/// The tokens from which a text's cells are cut are the slices of their spans, which lie one behind another.
+/// States that the tokens of a text's cells are the slices of their spans, which are in order and do not overlap.
 pub fn tokens_are_slices()
     ensures { (text : Bytes) (cells : List (List PlacedCell)) (has : HasCells text cells)
         → Spans text 0 has.tokens (length text) }
 {}
 
-/// The head of a text's frame is well-formed.
+/// States that the head of a text's frame is well-formed.
 pub fn what_a_frame_keeps()
     ensures { (text : Bytes) (f : TestFrame) → HasFrame text f → IsWellFormedHead f.head }
 {}
 
-/// Reads the frame of a text that is short enough, and UTF-8.
+/// Reads the frame of a text that is short enough and UTF-8.
 fn read_text<'a, A: Allocator + Copy>(alloc: A, text: &'a [u8]) -> Result<Frame<'a, A>, Fault>
     requires short { length text.now ≤ most_text_bytes }
     requires utf8 { IsUtf8 text.now }

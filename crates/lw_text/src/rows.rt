@@ -22,7 +22,7 @@ pub(crate) type CellSequence<'a, A> = Sequence<Cell<'a, A>, A>;
 impl<'t, 'a> Cursor<'t, 'a> {
     ghost use Rattle.lw_text.specs.Views.{remaining, remaining_texts, AdvancesTo};
 
-    /// Takes the header, and counts the threads.
+    /// Parses the header, and returns the number of threads.
     pub(crate) fn parse_header(&mut self) -> Result<usize, Refusal>
         ensures { MatchResult result (λ n. Header (remaining_texts self.old) n (remaining_texts self.new) × AdvancesTo self.old self.new)
             (λ _. ParsesNothing (Header (remaining_texts self.old))) }
@@ -39,7 +39,7 @@ impl<'t, 'a> Cursor<'t, 'a> {
         Err(self.refusal(TextCause::Unexpected))
     }
 
-    /// Takes the rows up to a token that ends them, which stays.
+    /// Parses rows, up to a token that ends them, which is not consumed.
     pub(crate) fn parse_rows<A: Allocator + Copy>(
         &mut self,
         alloc: A,
@@ -61,7 +61,7 @@ impl<'t, 'a> Cursor<'t, 'a> {
         }
     }
 
-    /// Whether the next token is one that ends the rows.
+    /// Returns whether the next token ends the rows.
     fn at_stop(&self) -> bool
         ensures { result ≡ begins_stop (remaining_texts self.now) }
     {
@@ -71,7 +71,7 @@ impl<'t, 'a> Cursor<'t, 'a> {
         }
     }
 
-    /// Takes a row of so many cells, and the `;` behind it.
+    /// Parses a row of `threads` cells, and the `;` after it.
     fn parse_row<A: Allocator + Copy>(
         &mut self,
         alloc: A,
@@ -101,8 +101,7 @@ impl<'t, 'a> Cursor<'t, 'a> {
         }
     }
 
-    /// Takes tokens into a cell that has none yet, up to a `|` or `;`, and answers that mark with its
-    /// index among the tokens.
+    /// Appends tokens to an empty cell, up to a `|` or `;`, and returns that token and its index.
     fn parse_cell<A: Allocator>(
         &mut self,
         cell: &mut Sequence<Token<'a>, A>,
@@ -122,7 +121,7 @@ impl<'t, 'a> Cursor<'t, 'a> {
     }
 }
 
-/// The name of the thread at an index below ten, as `P0`.
+/// Returns the name of the thread at an index below ten, as in `P0`.
 fn thread_name(thread: usize) -> &'static str
     requires { thread < 10 }
     ensures { result.now ≡ thread_name thread }
@@ -141,14 +140,14 @@ fn thread_name(thread: usize) -> &'static str
     }
 }
 
-/// Whether a token ends a cell: a `|` or a `;`.
+/// Returns whether a token ends a cell: a `|` or a `;`.
 fn ends_cell(token: &Token) -> bool
     ensures { result ≡ words.ends_cell token.now.text.now }
 {
     matches!(token.text, "|" | ";")
 }
 
-/// Whether a token ends the rows: it begins the list of names or the condition.
+/// Returns whether a token ends the rows: it begins the list of names or the condition.
 fn is_stop(token: &Token) -> bool
     ensures { result ≡ words.is_stop token.now.text.now }
 {

@@ -1,4 +1,4 @@
-//! What a report shows: the registers and locations that a test's list of names has, each once.
+//! The registers and locations in a test's list of names, without duplicates.
 ghost use Rattle.std.specs.Prelude.{◌≡◌, ◌≤◌, ◌<◌, ◌∷◌, [], ◌++◌, filter, IfOk, OnOk};
 ghost use Rattle.lw_base.specs.SeenLists.{all_registers, thread_registers, locations};
 ghost use Rattle.lw_text.specs.inner.Resolved.{seen_of, is_listed};
@@ -7,7 +7,7 @@ use crate::site::Site;
 use lw_base::{Cpu, Loc, MAX_LOCATIONS, MAX_THREADS, Reg, Seen, Sequence, Word};
 use std::alloc::{AllocError, AllocFailed, Allocator};
 
-/// Which of the registers of so many threads and of so many locations are among the sites.
+/// Returns those of the registers of `threads` threads and of `len` locations that are among the sites.
 pub(crate) fn restrict_seen<A: Allocator>(
     alloc: A,
     sites: &[Site],
@@ -27,7 +27,7 @@ pub(crate) fn restrict_seen<A: Allocator>(
     Ok(seen)
 }
 
-/// Puts those of a thread's registers at the end that are among the sites.
+/// Appends those of a thread's registers that are among the sites.
 fn see_registers<A: Allocator>(
     seen: &mut Sequence<Seen, A>,
     sites: &[Site],
@@ -42,7 +42,7 @@ fn see_registers<A: Allocator>(
     Ok(())
 }
 
-/// Puts those of so many locations at the end that are among the sites.
+/// Appends those of `len` locations that are among the sites.
 fn see_locations<A: Allocator>(
     seen: &mut Sequence<Seen, A>,
     sites: &[Site],
@@ -57,7 +57,7 @@ fn see_locations<A: Allocator>(
     Ok(())
 }
 
-/// Puts a register or a location at the end, if its site is among the sites.
+/// Appends a register or a location if its site is among the sites.
 fn see<A: Allocator>(
     seen: &mut Sequence<Seen, A>,
     sites: &[Site],

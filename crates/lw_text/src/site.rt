@@ -1,4 +1,4 @@
-//! A site: a location or a register of a thread, as the block, the list of names and atoms speak of.
+//! Sites: the locations and registers that the block, the list of names and atoms name.
 ghost use Rattle.std.specs.Prelude.{◌≡◌, ◌≢◌, ℕ, [], ◌∷◌, codes, nat_lt, Some, slice_get, MatchResult};
 ghost use Rattle.lw_base.specs.NoParse.{ParsesNothing};
 ghost use Rattle.lw_base.specs.Types.{Bytes, TokenList};
@@ -19,7 +19,7 @@ use crate::fault::{Refusal, TextCause};
 use lw_base::{Arch, Loc, LocNames, Reg, Word, is_location, is_name, reg_from_name};
 use std::alloc::Allocator;
 
-/// A location, by its number, or a register of a thread, which the test may lack.
+/// A location, by its index, or a register of a thread, which the test may not have.
 #[derive(Clone, Copy)]
 pub(crate) enum Site {
     Location(Loc),
@@ -27,7 +27,7 @@ pub(crate) enum Site {
 }
 
 impl Site {
-    /// Whether two sites are the same register or location.
+    /// Returns whether two sites are the same register or location.
     pub(crate) fn is_same(&self, other: &Site) -> bool
         ensures { result ≡ seen_eq (seen_of self.now) (seen_of other.now) }
     {
@@ -45,7 +45,7 @@ impl Site {
         }
     }
 
-    /// Whether a site's thread is one of so many. A location has none.
+    /// Returns whether a site's thread is below `threads`. A location has no thread, and passes.
     pub(crate) fn thread_exists(&self, threads: usize) -> bool
         ensures { result ≡ resolved.thread_exists threads self.now }
     {
@@ -59,9 +59,8 @@ impl Site {
 impl<'t, 'a> Cursor<'t, 'a> {
     ghost use Rattle.lw_text.specs.Views.{remaining_texts, AdvancesTo};
 
-    /// Takes a site: a location, whose name goes into the table, or a register, by its name in the
-    /// language, of one of so many threads, or of any where their number is not known yet. Tokens that
-    /// don't fit are told with the cause.
+    /// Parses a site: a location, whose name is inserted into the table, or a register of the language, whose thread
+    /// must be below `threads`, if their number is known yet. Tokens that do not fit are rejected with the cause.
     pub(crate) fn parse_site<A: Allocator + Copy>(
         &mut self,
         arch: Arch,
@@ -95,7 +94,7 @@ impl<'t, 'a> Cursor<'t, 'a> {
         }
     }
 
-    /// Takes the name of a location, which goes into the table, and a `]`.
+    /// Parses the name of a location, which is inserted into the table, and a `]`.
     fn parse_bracketed<A: Allocator + Copy>(
         &mut self,
         locs: &mut LocNames<A>,
@@ -116,7 +115,7 @@ impl<'t, 'a> Cursor<'t, 'a> {
         Ok(loc)
     }
 
-    /// Takes a `:` and the name of a register of the thread, in the language.
+    /// Parses a `:` and the name of a register of the thread.
     fn parse_register(
         &mut self,
         arch: Arch,
@@ -139,7 +138,7 @@ impl<'t, 'a> Cursor<'t, 'a> {
         }
     }
 
-    /// Takes a `=` and a number.
+    /// Parses a `=` and a number.
     pub(crate) fn parse_value(&mut self, cause: TextCause) -> Result<Word, Refusal>
         requires { IsOfReader cause }
         ensures { MatchResult result (λ v. Value (remaining_texts self.old) v (remaining_texts self.new) × AdvancesTo self.old self.new)
@@ -155,14 +154,14 @@ impl<'t, 'a> Cursor<'t, 'a> {
     }
 }
 
-/// Whether a number is that of one of so many threads.
+/// Returns whether a number is the index of a thread below `threads`.
 fn is_thread(number: Word, threads: usize) -> bool
     ensures { result ≡ nat_lt number threads }
 {
     (number as usize) < threads
 }
 
-/// Whether a number is that of a thread, or any, where it is not known yet how many there are.
+/// Returns whether a number is the index of a thread. Any number passes if the number of threads is not known yet.
 fn is_allowed(number: Word, threads: Option<usize>) -> bool
     ensures { result ≡ resolved.is_allowed threads number }
 {
@@ -172,8 +171,8 @@ fn is_allowed(number: Word, threads: Option<usize>) -> bool
     }
 }
 
-/// The index of the location of this name. It is put into the table where it isn't there yet. Another
-/// token is refused as a misfit.
+/// Returns the index of the location with this name, and inserts the name if the table does not have it. A token that
+/// is no name is rejected as a misfit.
 fn enter<A: Allocator + Copy>(
     name: &str,
     locs: &mut LocNames<A>,
@@ -195,8 +194,8 @@ fn enter<A: Allocator + Copy>(
     }
 }
 
-/// The refusal of a token that stands where a location's name should, and is none: a reserved name has
-/// a cause of its own, another token is refused as a misfit.
+/// Returns the refusal of a token in place of a location's name. A reserved name has a cause of its own; any other
+/// token is a misfit.
 fn no_name(text: &str, misfit: Refusal) -> Refusal {
     if is_name(text) {
         return Refusal {

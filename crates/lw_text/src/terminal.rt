@@ -18,8 +18,7 @@ use crate::site::Site;
 use lw_base::{Arch, Cpu, Loc, LocNames, MAX_THREADS, Prop, Reg, Word};
 use std::alloc::Allocator;
 
-/// What an atom says: a location, by its number, or a thread's register ends with the
-/// word; or what is true in every state, or in none.
+/// An atom: a location, by its index, or a thread's register has this word; or true, or false.
 #[derive(Clone, Copy)]
 pub(crate) enum Atom {
     Always,
@@ -29,7 +28,7 @@ pub(crate) enum Atom {
 }
 
 impl Atom {
-    /// The proposition that an atom is.
+    /// Returns the atom as a proposition.
     pub(crate) fn prop<A: Allocator>(self) -> Prop<A>
         ensures { formula_of result ≡ atom_formula self }
     {
@@ -54,7 +53,7 @@ pub(crate) enum Terminal {
 }
 
 impl Terminal {
-    /// How many nodes of a proposition a terminal makes. A parenthesis makes none.
+    /// Returns the number of nodes that a terminal makes, which is 0 for a parenthesis and 1 otherwise.
     pub(crate) fn nodes(&self) -> usize
         ensures { result ≡ (if is_node (terminal_of self.now) then 1 else 0) }
     {
@@ -68,8 +67,8 @@ impl Terminal {
 impl<'t, 'a> Cursor<'t, 'a> {
     ghost use Rattle.lw_text.specs.Views.{remaining_texts};
 
-    /// Takes a terminal: where `part` is true one with which a part begins, else one of the others. The names
-    /// of its locations go into the table.
+    /// Parses a terminal: one that begins a part if `part` is set, and one of the others otherwise. Inserts the name
+    /// of its location into the table.
     pub(crate) fn parse_terminal<A: Allocator + Copy>(
         &mut self,
         arch: Arch,
@@ -91,7 +90,7 @@ impl<'t, 'a> Cursor<'t, 'a> {
         }
     }
 
-    /// Takes a terminal with which a part begins.
+    /// Parses a terminal that begins a part.
     fn parse_opening<A: Allocator + Copy>(
         &mut self,
         arch: Arch,
@@ -113,7 +112,7 @@ impl<'t, 'a> Cursor<'t, 'a> {
         Ok(Terminal::Atom(atom_at(site, word)))
     }
 
-    /// Takes a keyword or a sign with which a part begins, if one is next.
+    /// Parses a keyword or a sign that begins a part, if one is next.
     fn parse_opening_keyword(&mut self) -> Option<Terminal>
         ensures found { IfSome result (λ s. (arch : Arch) (threads : ℕ) (names : NameTable)
             → ParsedTerminal arch threads self.old self.new names names s) }
@@ -140,7 +139,7 @@ impl<'t, 'a> Cursor<'t, 'a> {
         None
     }
 
-    /// Takes a `)`, a `/\` or a `\/`.
+    /// Parses a `)`, a `/\` or a `\/`.
     fn parse_joint(&mut self) -> Result<Terminal, Refusal>
         ensures { MatchResult result (λ s. (arch : Arch) (threads : ℕ) (names : NameTable)
             → ParsedTerminal arch threads self.old self.new names names s)
@@ -160,7 +159,7 @@ impl<'t, 'a> Cursor<'t, 'a> {
     }
 }
 
-/// The atom that says of a register or a location that it ends with this word.
+/// Returns the atom that a register or a location has this word.
 fn atom_at(site: Site, word: Word) -> Atom
     requires { resolved_of.thread_exists MAX_THREADS site ≡ true }
     ensures syntax { (names : NameTable) → named_atom names result ≡ Holds (site_by_name names site) word }

@@ -1,4 +1,4 @@
-//! A token of a text: its place, its bytes, and what it is.
+//! Tokens: their offset, their bytes and their kind.
 ghost use Rattle.std.specs.Prelude.{MatchOption};
 ghost use Rattle.lw_base.specs.NoParse.{HoldsOfNothing};
 ghost use Rattle.lw_text.specs.Tokens.{IsNumber};
@@ -8,7 +8,7 @@ ghost use Rattle.lw_text.specs.laws.TokenKindProps.{IsOfKind-prop};
 use crate::token_kind::TokenKind;
 use lw_base::Word;
 
-/// A token: the place of its first byte in the text, its bytes, and what they are.
+/// A token: the offset of its first byte in the text, its bytes, and its kind.
 #[derive(Clone, Copy)]
 pub struct Token<'a> {
     pub at: usize,
@@ -18,7 +18,7 @@ pub struct Token<'a> {
 }
 
 impl<'a> Token<'a> {
-    /// The number that the token stands for, where it is one: decimal, or hexadecimal behind `0x`.
+    /// Returns the value of a token that is a number, decimal or hexadecimal after `0x`.
     pub fn number(&self) -> Option<Word>
         ensures { MatchOption result (HoldsOfNothing (IsNumber self.now.text.now)) (IsNumber self.now.text.now) }
     {

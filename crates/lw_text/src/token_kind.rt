@@ -1,8 +1,8 @@
-//! What a token is.
+//! The kinds of tokens.
 
 use lw_base::Word;
 
-/// What a token is: a name, the number that it stands for, or a symbol.
+/// The kind of a token: a name, a number with its value, or a symbol.
 #[derive(Clone, Copy)]
 pub enum TokenKind {
     Name,

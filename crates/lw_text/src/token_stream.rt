@@ -1,4 +1,4 @@
-//! The token stream of a text: all tokens behind its preamble, up to the first lexical fault.
+//! The token stream of a text: all tokens after its preamble, up to the first lexical fault.
 ghost use Rattle.std.specs.Prelude.{◌≡◌, ◌≤◌, length, None, All, IfOk, IfSome, MatchOption};
 ghost use Rattle.lw_base.specs.NoParse.{HoldsOfNothing};
 ghost use Rattle.lw_text.specs.Tokens.{Tokens};
@@ -12,7 +12,7 @@ use crate::token::Token;
 use lw_base::Sequence;
 use std::alloc::{AllocError, Allocator, Global};
 
-/// The tokens up to the first that is faulty, and its fault.
+/// The tokens before the first lexical fault, and that fault.
 #[derive(Drop)]
 pub(crate) struct TokenStream<'a, A: Allocator = Global> {
     pub(crate) tokens: Sequence<Token<'a>, A>,
@@ -20,8 +20,8 @@ pub(crate) struct TokenStream<'a, A: Allocator = Global> {
 }
 
 impl<'a, A: Allocator> TokenStream<'a, A> {
-    /// The fault that a refusal by a reader of the tokens is, in a text of this length. Where they run
-    /// out it is the fault that ends them, or the text's end.
+    /// Returns the fault that a refusal of the parser means, in a text of length `len`. If the tokens ended too
+    /// early, it is the lexical fault that ends them, or the text's end.
     pub(crate) fn fault_of(&self, refusal: Refusal, len: usize) -> Fault
         requires places { All (λ t. t.at ≤ len) self.now.tokens }
         requires fault { IfSome self.now.fault (λ f. f.at ≤ len) }
@@ -46,7 +46,7 @@ impl<'a, A: Allocator> TokenStream<'a, A> {
         }
     }
 
-    /// The tokens of what the lexer has still to read.
+    /// Scans the rest of a text.
     pub(crate) fn read(alloc: A, mut lexer: Lexer<'a>) -> Result<Self, AllocError>
         ensures { IfOk result (λ r. MatchOption r.fault
             (PlacedTokens (length lexer.entry.text.now) lexer.entry.rest.now (with_spans r.tokens))

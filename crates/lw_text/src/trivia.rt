@@ -7,7 +7,7 @@ ghost use Rattle.lw_text.specs.Tokens.{Comment, Trivia, begins_trivia};
 use crate::byte_prefix::{split, strip_two_bytes};
 use lw_base::{ByteKind, prefix_of_kind};
 
-/// What stands behind the comment whose `(*` came before, or `None` where it isn't closed.
+/// Skips a comment whose `(*` was skipped before. Returns the rest, or `None` if the comment is not closed.
 fn after_comment(bytes: &[u8]) -> Option<&[u8]>
     ensures found { IfSome result (λ rest. Comment bytes.now rest.now) }
     ensures none { IfNone result (HoldsOfNothing (Comment bytes.now)) }
@@ -31,7 +31,7 @@ fn after_comment(bytes: &[u8]) -> Option<&[u8]>
     None
 }
 
-/// What stands behind the blanks and comments at the front, or `None` where a comment isn't closed.
+/// Skips the blanks and comments at the start. Returns the rest, or `None` if a comment is not closed.
 pub(crate) fn after_trivia(bytes: &[u8]) -> Option<&[u8]>
     ensures found { IfSome result (λ rest. Trivia bytes.now rest.now) }
     ensures stops { IfSome result (λ rest. begins_trivia rest.now ≡ false) }

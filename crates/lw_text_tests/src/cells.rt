@@ -1,17 +1,17 @@
-//! The cells of a frame, with the places of their tokens and of their ends.
+//! The cells of a frame, with the offsets of their tokens and of their ends.
 use lw_base::Cpu;
 use lw_text::{Cell, Frame, Token, read_frame};
 
 /// Two threads of two rows. One cell of each thread is empty.
 const TWO_ROWS: &str = "SRC A {} P0|P1; L: x := 1 | ; | r0 := y; exists (true)";
 
-/// Whether a token is what stands before the `@`, at the place behind it.
+/// Returns whether a token has the text before the `@`, and the offset after it.
 fn is_token(token: &Token<'_>, spelled: &str) -> Option<bool> {
     let (text, place) = spelled.split_once('@')?;
     Some(token.text == text && token.at == place.parse::<usize>().ok()?)
 }
 
-/// Whether a cell has these tokens, between which stand blanks.
+/// Returns whether a cell has these tokens, which are separated by blanks.
 fn has_tokens(cell: &Cell<'_>, spelled: &str) -> bool {
     let tokens = cell.tokens.as_slice();
     for (token, word) in tokens.iter().zip(spelled.split(' ')) {
@@ -22,7 +22,7 @@ fn has_tokens(cell: &Cell<'_>, spelled: &str) -> bool {
     tokens.len() == spelled.split(' ').count()
 }
 
-/// Whether a thread has two cells: one of these tokens, which ends there, and an empty one, which ends there.
+/// Returns whether a thread has two cells: one with these tokens, and an empty one, with these ends.
 fn are_cells(
     filled: Option<&Cell<'_>>,
     empty: Option<&Cell<'_>>,
@@ -39,7 +39,7 @@ fn are_cells(
     }
 }
 
-/// Whether these are the cells of the text.
+/// Returns whether these are the cells of the text.
 fn has_two_rows(frame: &Frame<'_>) -> bool {
     let [p0, p1, ..] = Cpu::all();
     if frame.head().threads != 2 {

@@ -1,4 +1,4 @@
-//! The texts of three examples, which read as the values that lw_bench's theorems of classic tests speak of, in
+//! The texts of three examples, which are read as the values of lw_bench's theorems of classic tests, in
 //! lw_bench/specs/Classics.antt.
 use lw_base::{Arch, Cpu, Head, Loc, Operand, Prop, Quant, Reg, Word};
 use lw_source::{Source, Stmt};
@@ -47,7 +47,7 @@ const MESSAGE_PASSING_IN_X86: &str = "X86 MP-x86
 /// A register of a thread, with a word.
 type Atom = (Cpu, Reg, Word);
 
-/// Whether a head has this name and language, two threads, the locations x and y, all 0, and lists nothing.
+/// Returns whether a head has this name and language, two threads, the locations x and y, all 0, and lists nothing.
 fn has_begin(head: &Head, name: &str, arch: Arch) -> bool {
     let [x, y, ..] = Loc::all();
     let is_named = head.name.as_str() == name && head.arch == arch && head.threads == 2;
@@ -59,7 +59,7 @@ fn has_begin(head: &Head, name: &str, arch: Arch) -> bool {
     is_named && has_names && is_zero && head.listed.is_empty()
 }
 
-/// Whether a proposition is an atom.
+/// Returns whether a proposition is an atom.
 fn is_atom(prop: &Prop, atom: Atom) -> bool {
     match prop {
         Prop::RegIs(cpu, reg, word) => (*cpu, *reg, *word) == atom,
@@ -67,7 +67,7 @@ fn is_atom(prop: &Prop, atom: Atom) -> bool {
     }
 }
 
-/// Whether a head asks for both atoms, by this quantifier.
+/// Returns whether a head's condition has both atoms and this quantifier.
 fn asks(head: &Head, quant: Quant, first: Atom, second: Atom) -> bool {
     match &head.prop {
         Prop::Both(left, right) => {
@@ -77,7 +77,7 @@ fn asks(head: &Head, quant: Quant, first: Atom, second: Atom) -> bool {
     }
 }
 
-/// Whether a source test has these two threads.
+/// Returns whether a source test has these two threads.
 fn has_statements(source: &Source, first: &[Stmt], second: &[Stmt]) -> bool {
     match source.threads.as_slice() {
         [p0, p1] => p0.as_slice() == first && p1.as_slice() == second,
@@ -85,7 +85,7 @@ fn has_statements(source: &Source, first: &[Stmt], second: &[Stmt]) -> bool {
     }
 }
 
-/// Whether an x86 test has these two threads.
+/// Returns whether an x86 test has these two threads.
 fn has_instructions(program: &Program, first: &[Instr], second: &[Instr]) -> bool {
     match program.threads.as_slice() {
         [p0, p1] => p0.as_slice() == first && p1.as_slice() == second,
@@ -93,7 +93,7 @@ fn has_instructions(program: &Program, first: &[Instr], second: &[Instr]) -> boo
     }
 }
 
-/// A store of 1, and a load, as statements.
+/// Returns a store of 1, as a statement.
 fn stored(loc: Loc) -> Stmt {
     let val = Operand::Number(1);
     Stmt::Store { loc, val }
@@ -103,7 +103,7 @@ fn loaded(dst: Reg, loc: Loc) -> Stmt {
     Stmt::Load { dst, loc }
 }
 
-/// The same as instructions.
+/// Returns a store of 1, as an instruction.
 fn store(loc: Loc) -> Instr {
     let val = Operand::Number(1);
     Instr::Store { loc, val }
@@ -113,7 +113,7 @@ fn load(reg: Reg, loc: Loc) -> Instr {
     Instr::Load { reg, loc }
 }
 
-/// Whether it is store buffering.
+/// Returns whether it is store buffering.
 fn is_store_buffering(source: &Source) -> bool {
     let ([p0, p1, ..], [r0, ..], [x, y, ..]) = (Cpu::all(), Reg::all(), Loc::all());
     let first = [stored(x), loaded(r0, y)];
@@ -123,7 +123,7 @@ fn is_store_buffering(source: &Source) -> bool {
         && has_statements(source, &first, &second)
 }
 
-/// Whether it is store buffering in x86.
+/// Returns whether it is store buffering in x86.
 fn is_store_buffering_in_x86(program: &Program) -> bool {
     let ([p0, p1, ..], [eax, ..], [x, y, ..]) = (Cpu::all(), Reg::all(), Loc::all());
     let first = [store(x), load(eax, y)];
@@ -133,7 +133,7 @@ fn is_store_buffering_in_x86(program: &Program) -> bool {
         && has_instructions(program, &first, &second)
 }
 
-/// Whether it is message passing in x86.
+/// Returns whether it is message passing in x86.
 fn is_message_passing_in_x86(program: &Program) -> bool {
     let ([_, p1, ..], [eax, ebx, ..], [x, y, ..]) = (Cpu::all(), Reg::all(), Loc::all());
     let first = [store(x), store(y)];
@@ -143,7 +143,7 @@ fn is_message_passing_in_x86(program: &Program) -> bool {
         && has_instructions(program, &first, &second)
 }
 
-/// Whether a text is a source test that is so.
+/// Returns whether a text is the source test of store buffering.
 fn is_source(alloc: Global, text: &str) -> bool {
     match source_of(alloc, text) {
         Some(source) => is_store_buffering(&source),
@@ -151,7 +151,7 @@ fn is_source(alloc: Global, text: &str) -> bool {
     }
 }
 
-/// Whether these texts are x86 tests that are so.
+/// Returns whether the texts of x86 tests are those tests.
 fn are_programs(alloc: Global) -> bool {
     let is_buffering = match program_of(alloc, STORE_BUFFERING_IN_X86) {
         Some(program) => is_store_buffering_in_x86(&program),

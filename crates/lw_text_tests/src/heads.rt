@@ -1,9 +1,9 @@
-//! What is read of a test's head: its condition, as it is printed.
+//! The condition of a test, as it is parsed and printed.
 use lw_base::write_condition;
 use lw_text::{Frame, read_frame};
 use std::alloc::Global;
 
-/// Tests, and how their conditions are printed: parentheses stand only where the reading needs them.
+/// Tests, and the printed form of their conditions: parentheses appear only where they are needed.
 const CONDITIONS: &str = "
 SRC A {} P0|P1; exists ((x=1 \\/ y=1) /\\ not (z=1 /\\ x=2)) => exists ((x=1 \\/ y=1) /\\ ~(z=1 /\\ x=2))
 SRC A {} P0|P1; forall ((x=1 \\/ y=1) \\/ z=1) => forall (x=1 \\/ y=1 \\/ z=1)
@@ -31,7 +31,7 @@ SRC A {} P0|P1; exists (x=1 \\/ y=2 \\/ z=3) => exists (x=1 \\/ y=2 \\/ z=3)
 SRC A {} P0|P1; exists (~true /\\ not false \\/ not (true /\\ false)) => exists (~true /\\ ~false \\/ ~(true /\\ false))
 ";
 
-/// Whether the condition of a test is printed so.
+/// Returns whether the condition of a frame is printed like this.
 fn is_printed(alloc: Global, frame: &Frame<'_>, printed: &str) -> bool {
     match write_condition(alloc, frame.head()) {
         Ok(text) => text.as_str() == printed,
@@ -39,7 +39,7 @@ fn is_printed(alloc: Global, frame: &Frame<'_>, printed: &str) -> bool {
     }
 }
 
-/// Whether the condition of the test that the text is, is printed so.
+/// Returns whether the condition of the test of the text is printed like this.
 fn has_condition(alloc: Global, text: &str, printed: &str) -> bool {
     match read_frame(alloc, text.as_bytes()) {
         Ok(frame) => is_printed(alloc, &frame, printed),

@@ -1,8 +1,5 @@
-//! Tests of values and texts: outcomes, names and registers, what is read of a head, of cells and of three classic tests, and a
-//! run of a source test.
-//!
-//! It names lw_base, the readers and the printer of texts, and the runs of source tests. Texts that are refused, and all that
-//! the program writes, stand in the folder `tables`.
+//! Tests of values and texts: outcomes, names and registers, the reading of a head, of cells and of three classic
+//! tests, and a run of a source test.
 #![tactic(auto)]
 
 #[cfg(test)]

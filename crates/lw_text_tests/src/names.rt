@@ -15,7 +15,7 @@ const RESERVED: &str =
 /// Texts that are no names, the empty one among them.
 const NO_NAMES: &str = "1x,,9,x-y,x y,x:,[x],\u{e9},a23456789012345678901234567890123";
 
-/// The first word for which it isn't so that it is a name, and one of a location.
+/// Returns the first word for which it is wrong that it is a name, or that it is a name of a location, as stated.
 fn first_other(words: &str, is_of_a_name: bool, is_of_a_location: bool) -> Option<&str> {
     words.split(',').find(|word| {
         is_name(word) != is_of_a_name || is_location(word) != is_of_a_location
@@ -32,7 +32,7 @@ fn names_of_locations(rt: HostRuntime) {
     assert!(rt; matches!(others, (None, None, None)), "{others:?}");
 }
 
-/// Adds the names of a text to a table, and tells how many there are then.
+/// Inserts the names of a text into a table, and returns their number.
 fn grow<A: Allocator + Copy>(names: &mut LocNames<A>, words: &str) -> Result<usize, AllocError> {
     for word in words.split(' ') {
         if is_location(word) {
@@ -42,7 +42,7 @@ fn grow<A: Allocator + Copy>(names: &mut LocNames<A>, words: &str) -> Result<usi
     Ok(names.len())
 }
 
-/// Whether these are the names of the table, in their order.
+/// Returns whether these are the names of the table, in their order.
 fn are_named<A: Allocator>(names: &LocNames<A>, words: &str) -> bool {
     for (place, word) in words.split(' ').enumerate() {
         if !matches!(names.find(word), Some(loc) if loc.index() == place) {
@@ -52,7 +52,7 @@ fn are_named<A: Allocator>(names: &LocNames<A>, words: &str) -> bool {
     true
 }
 
-/// Whether an empty table takes a name as its first.
+/// Returns whether an empty table accepts a name as its first.
 fn takes_first<A: Allocator + Copy>(names: &mut LocNames<A>) -> bool
     requires { names.old ≡ [] }
 {
@@ -73,7 +73,7 @@ fn table_of_locations(rt: HostRuntime) {
     assert!(rt; are_named(&names, "x y a b c d e f") && names.find("g").is_none());
 }
 
-/// The names of an architecture's registers, in the order of their numbers.
+/// Returns whether these are the names of a language's registers, in the order of their indices.
 fn are_registers(arch: Arch, names: &str) -> bool {
     for (number, name) in names.split(' ').enumerate() {
         if !matches!(reg_from_name(arch, name), Some(reg) if reg.index() == number) {
@@ -83,7 +83,7 @@ fn are_registers(arch: Arch, names: &str) -> bool {
     true
 }
 
-/// Whether a register has this name in the source language, and that in x86.
+/// Returns whether a register has this name in the source language, and that in x86.
 fn has_names(reg: Reg, source: &str, x86: &str) -> bool {
     reg_name(Arch::Source, reg) == source && reg_name(Arch::X86, reg) == x86
 }
@@ -96,7 +96,7 @@ fn names_of_registers(rt: HostRuntime) {
     assert!(rt; matches!(Reg::new(5), Some(last) if has_names(last, "r5", "EDI")));
 }
 
-/// The first of these words, between which stand commas, that names a register.
+/// Returns the first of these words, separated by commas, that names a register.
 fn first_register(arch: Arch, words: &str) -> Option<&str> {
     words
         .split(',')

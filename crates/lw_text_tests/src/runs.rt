@@ -1,4 +1,4 @@
-//! The state that a run leaves: as an outcome, and word by word.
+//! The final state of a run: as an outcome, and word by word.
 ghost use Rattle.std.specs.Prelude.{◌≡◌, length};
 
 use lw_base::{Cpu, End, Event, Loc, Reg};
@@ -10,7 +10,8 @@ use std::alloc::Global;
 const STORE_BUFFERING: &str =
     "SRC SB {} P0|P1; x := 1 | y := 1; r0 := y | r0 := x; exists (0:r0=0 /\\ 1:r0=0)";
 
-/// Whether a run has left a 1 in each location, and in the first thread's first register alone.
+/// Returns whether a run has left a 1 in each location and in the first thread's first register, and 0 in all other
+/// registers.
 fn has_left(run: &SourceRun<'_>) -> bool {
     match run.outcome() {
         Ok(outcome) => {
@@ -21,8 +22,8 @@ fn has_left(run: &SourceRun<'_>) -> bool {
     }
 }
 
-/// Whether the run of two threads on two locations has a 1 in each location, and in the first register of the first thread, but not in
-/// its second register, nor in the first one of the second thread.
+/// Returns whether the run of two threads on two locations has a 1 in each location and in the first register of the
+/// first thread, but not in its second register, as its methods for words see it.
 fn has_words(run: &SourceRun<'_>) -> bool
     requires threads { length run.now.state.threads ≡ 2 }
     requires words { length run.now.state.words ≡ 2 }
@@ -32,7 +33,7 @@ fn has_words(run: &SourceRun<'_>) -> bool
     registers == [1, 0, 0] && [run.word(x), run.word(y)] == [1, 1]
 }
 
-/// Whether these steps are all carried out, don't end the run, and leave that.
+/// Returns whether these steps are all carried out, do not end the run, and leave that state.
 fn leave(alloc: Global, source: &Source, steps: [Cpu; 3]) -> bool {
     match SourceRun::new(alloc, source) {
         Ok(mut run) => {

@@ -1,4 +1,4 @@
-//! Frames and tests that are read where memory is refused, each growth in turn.
+//! Reading frames and tests while memory is refused, each growth in turn.
 use lw_base::{Arch, CellCause, CellFault};
 use lw_source::read_source;
 use lw_test_reader::{Made, MadeByAllocator, Refusing, refusals};
@@ -14,15 +14,15 @@ const STORE_BUFFERING: &str =
 const X86_STORE_BUFFERING: &str =
     "X86 SB {x=5; 0:EBX=7} P0|P1; MOV [x],1 | MOV [y],1; JMP E | L: MOV EAX,[x]; E: MOV EAX,[y] |; locations [z] exists (0:EAX=0)";
 
-/// The frame of the first.
+/// Reads the frame of the first.
 struct ReadFrame;
 
-/// Whether a frame has two threads and two locations.
+/// Returns whether a frame has two threads and two locations.
 fn is_whole<A: Allocator>(frame: &Frame<A>) -> bool {
     frame.head.threads == 2 && frame.head.locs.len() == 2
 }
 
-/// What becomes of a text that is refused.
+/// Returns the result of a text that is rejected.
 fn refused_text(fault: TextFault) -> Option<Made> {
     if fault.cause == TextCause::Memory && fault.at == 0 {
         return Some(Made::Refused);
@@ -39,7 +39,7 @@ impl MadeByAllocator for ReadFrame {
     }
 }
 
-/// What becomes of the cells of a test that are refused.
+/// Returns the result of a test whose cells are rejected.
 fn refused(fault: CellFault) -> Option<Made> {
     if fault.cause == CellCause::Memory && fault.at == 0 {
         return Some(Made::Refused);
@@ -47,7 +47,7 @@ fn refused(fault: CellFault) -> Option<Made> {
     None
 }
 
-/// What becomes of the source test of a frame: the test of an equal one, or a refusal.
+/// Reads the source test of a frame, and compares it with the test of an equal frame.
 fn source_by<A: Allocator + Copy>(
     ample: A,
     scarce: A,
@@ -66,7 +66,7 @@ fn source_by<A: Allocator + Copy>(
     }
 }
 
-/// The test that its cells are.
+/// Reads the source test of the first.
 struct ReadSource;
 
 impl MadeByAllocator for ReadSource {
@@ -79,7 +79,7 @@ impl MadeByAllocator for ReadSource {
     }
 }
 
-/// The same of an x86 test.
+/// Reads the x86 test of a frame, and compares it with the test of an equal frame.
 fn program_by<A: Allocator + Copy>(
     ample: A,
     scarce: A,
@@ -100,7 +100,7 @@ fn program_by<A: Allocator + Copy>(
     }
 }
 
-/// The test that the cells of the second are.
+/// Reads the x86 test of the second.
 struct ReadProgram;
 
 impl MadeByAllocator for ReadProgram {

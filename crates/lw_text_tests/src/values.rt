@@ -4,7 +4,7 @@ use std::alloc::{AllocError, Global};
 use std::collections::HashSet;
 use std::test::Fail;
 
-/// The registers of a thread, by their digits.
+/// Returns the registers of a thread from their digits.
 fn regs_of(digits: &str) -> [Word; 6] {
     let mut regs = [0; 6];
     for (reg, digit) in regs.iter_mut().zip(digits.as_bytes()) {
@@ -13,7 +13,7 @@ fn regs_of(digits: &str) -> [Word; 6] {
     regs
 }
 
-/// The outcome that a text spells: six digits for each thread, `/`, and the words of memory.
+/// Returns the outcome that a text spells: six digits for each thread, `/`, and the words of memory.
 fn outcome_of(alloc: Global, spelled: &str) -> Result<Outcome, AllocError> {
     let (threads, memory) = spelled.split_once('/').unwrap_or((spelled, ""));
     let mut regs = Sequence::new(alloc);
@@ -31,8 +31,8 @@ fn outcome_of(alloc: Global, spelled: &str) -> Result<Outcome, AllocError> {
     Ok(Outcome { regs, words })
 }
 
-/// Outcomes, each below the next: a shorter list of registers, the first thread before the second, registers before words,
-/// words in order.
+/// Pairs of outcomes, the first of which is less: a shorter list of registers, the first thread before the second,
+/// registers before words, words in order.
 const UPWARDS: &str = "
 /9 < 000000/9 9
 000000/9 9 < 000000 000000/
@@ -45,7 +45,7 @@ const UPWARDS: &str = "
 000001 000000/0 < 100000 000000/0
 ";
 
-/// Whether the line's first outcome is below its second.
+/// Returns whether the line's first outcome is less than its second.
 fn holds(alloc: Global, line: &str) -> Result<bool, AllocError> {
     let (low, high) = line.split_once(" < ").unwrap_or((line, ""));
     let (low, high) = (outcome_of(alloc, low)?, outcome_of(alloc, high)?);
@@ -71,7 +71,7 @@ fn equal_outcomes_are_one_key(rt: HostRuntime) -> Result<(), Fail> {
     Ok(())
 }
 
-/// A list and a text are made of a `Vec` and a `String`, and give them back.
+/// Converts a `Vec` and a `String` into a list and a text, and back.
 #[test]
 fn lists_and_texts_give_their_memory_back(rt: HostRuntime) -> Result<(), Fail> {
     let items = Vec::from_slice(rt.alloc(), &[3, 1, 2])?;

@@ -1,4 +1,4 @@
--- Runs that can be brought to their end.
+-- Runs that can be extended to an end.
 use Rattle.std.specs.Prelude.{◌≡◌, ℕ, ◌*◌, ◌≤◌, ◌==◌, List, IsTrue}
 use Rattle.std.specs.List.{count_by}
 use Rattle.lw_base.specs.declared.event.Event.{Event}
@@ -10,12 +10,12 @@ use Rattle.lw_tso.specs.Machines.{MachineState}
 use Rattle.lw_tso.specs.Runs.{MachineRunsTo, is_final}
 use Rattle.lw_tso.specs.Evictions.{without_evictions}
 
--- how many of the events are the processor's
+-- The number of events of the processor.
 abbrev pub events_of : ℕ → List Event → ℕ
 events_of t events = count_by (λ e. cpu_of e == t) events
 
--- From this state some further events lead, each possible in turn, to a final state: for each thread at most a step and
--- a drain for each of the instructions that it can have, and none of them an eviction.
+-- Further events lead from this state to a final one, each being enabled in its turn: for each thread at most a step and a drain for each
+-- of its possible instructions, and no eviction.
 pub record CanTerminate {M : Type 0} (mem : Memory M) (program : List (List Instr)) (s : MachineState M) : Type 0 where
   pub more : List Event
   pub end : MachineState M

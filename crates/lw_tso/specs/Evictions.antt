@@ -1,4 +1,4 @@
--- Events with their evictions left out.
+-- Removing evictions from a list of events.
 use Rattle.std.specs.Prelude.{List, [], ◌∷◌}
 use Rattle.lw_base.specs.declared.event.Event.{Event}
 use Rattle.lw_base.specs.declared.event.Event.TheVariants.{Step, Drain, Evict}

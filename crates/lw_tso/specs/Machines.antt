@@ -1,5 +1,5 @@
--- The machine: processors over a memory, and what an event does to it.
--- An act is done over the memory's own relation: one definition for every memory system.
+-- The machine: processors over a memory, and the transition relation of its events. An effect uses the memory's own relation, so there is
+-- one definition for every memory system.
 use Rattle.std.specs.Prelude.{◌≡◌, ℕ, Bool, true, false, Option, Some, None, Result, Ok, Err, List, [], length, map, slice_get, slice_set, slice_index_or, unwrap_or}
 use Rattle.lw_base.specs.declared.event.Event.{Event}
 use Rattle.lw_base.specs.declared.stop.Stop.{Stop}
@@ -15,25 +15,29 @@ pub record MachineState (M : Type 0) : Type 0 where
   pub processors : List Processor
   pub memory : M
 
-abbrev pub buffer_of : {M : Type 0} → MachineState M → ℕ → List (ℕ × ℕ)  -- the entries of a processor's store buffer, the oldest first
+-- The entries of a processor's store buffer, the oldest first.
+abbrev pub buffer_of : {M : Type 0} → MachineState M → ℕ → List (ℕ × ℕ)
 buffer_of s t = slice_index_or (map (λ p. p.buffer) s.processors) t []
 
-abbrev pub position_of : {M : Type 0} → MachineState M → ℕ → Option ℕ  -- the position of a processor
+-- The position of a processor, if it exists.
+abbrev pub position_of : {M : Type 0} → MachineState M → ℕ → Option ℕ
 position_of s t = slice_get (map (λ p. p.position) s.processors) t
 
-abbrev pub EventResult : Type 0  -- what is answered: nothing, or why the event is refused
+-- The result of an event: nothing, or why it is rejected.
+abbrev pub EventResult : Type 0
 EventResult = Result (Unit {0}) Stop
 
 module _ {M : Type 0} (mem : Memory M) where
-  abbrev pub over_flat_memory : MachineState M → MachineState (List ℕ)  -- the same processors over the memory's content
+  -- The same processors over the memory's content.
+  abbrev pub over_flat_memory : MachineState M → MachineState (List ℕ)
   over_flat_memory s = record { processors = s.processors; memory = mem.content s.memory }
 
-  -- What an eviction answers and leaves: it is refused where the processor doesn't hold the line, as the first argument tells.
+  -- The result and the effect of an eviction. It is rejected if the processor does not hold the line (the first argument is false).
   abbrev pub EvictionTransition : Bool → ℕ → ℕ → Processor → M → EventResult → Processor → M → Type 0
   EvictionTransition false t x p m answer q n = (answer ≡ Err NotHeld) × (q ≡ p) × (n ≡ m)
   EvictionTransition true t x p m answer q n = (answer ≡ Ok tt) × (q ≡ p) × mem.serves m (Evict t x) None n
 
-  -- An act of processor t, which is p, over the memory m: what is answered, and what they are after it.
+  -- The result of an effect of processor t, which is p, over the memory m, and the two after it.
   abbrev pub EffectTransition : ℕ → EventEffect → Processor → M → EventResult → Processor → M → Type 0
   EffectTransition t (Refused stop) p m answer q n = (answer ≡ Err stop) × (q ≡ p) × (n ≡ m)
   EffectTransition t (LocalStep next) p m answer q n = (answer ≡ Ok tt) × (q ≡ next) × (n ≡ m)
@@ -41,7 +45,7 @@ module _ {M : Type 0} (mem : Memory M) where
       (a : Option ℕ) × (answer ≡ Ok tt) × (q ≡ next (unwrap_or a 0)) × mem.serves m (Ask t x access) a n
   EffectTransition t (Eviction x) p m answer q n = EvictionTransition (is_held (mem.state m t x)) t x p m answer q n
 
-  -- What an event answers and leaves, where this is its processor; it is refused where it has none.
+  -- The result of an event, given its processor, and the state after it. It is rejected if there is no such processor.
   abbrev pub ProcessorTransition : Option Processor → List (List Instr) → Event → MachineState M → EventResult → MachineState M → Type 0
   ProcessorTransition None program e s answer after = (answer ≡ Err NoCpu) × (after ≡ s)
   ProcessorTransition (Some p) program e s answer after =
@@ -49,6 +53,6 @@ module _ {M : Type 0} (mem : Memory M) where
       × EffectTransition (cpu_of e) (event_effect program (length (mem.content s.memory)) e p) p s.memory answer q n
       × (after ≡ record { processors = slice_set s.processors (cpu_of e) q; memory = n })
 
-  -- An event, from a state: what is answered, and the state after it.
+  -- The transition relation: an event, the state before, its result, and the state after.
   abbrev pub MachineTransition : List (List Instr) → Event → MachineState M → EventResult → MachineState M → Type 0
   MachineTransition program e s answer after = ProcessorTransition (slice_get s.processors (cpu_of e)) program e s answer after

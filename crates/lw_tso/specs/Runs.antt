@@ -11,44 +11,50 @@ use Rattle.lw_tso.specs.Processors.{Processor, initial_processor}
 use Rattle.lw_tso.specs.Machines.{MachineState, MachineTransition}
 use Rattle.lw_base.specs.Replays as replays
 
-abbrev pub has_terminated : List Instr → Processor → Bool  -- past its last instruction, with an empty buffer
+-- Tests whether a processor is past its last instruction, with an empty buffer.
+abbrev pub has_terminated : List Instr → Processor → Bool
 has_terminated code p = nat_le (length code) p.position && (length p.buffer == 0)
 
 module _ {M : Type 0} where
-  -- all processors at their first instructions with a test's initial registers, over this memory
+  -- The initial state of a test over a memory: all processors at their first instructions with the initial registers.
   abbrev pub initial_machine_state : X86Test → M → MachineState M
   initial_machine_state test m = record { processors = map initial_processor test.head.init_regs; memory = m }
 
-  abbrev pub is_final : List (List Instr) → MachineState M → Bool  -- all threads are at their ends, and all buffers are empty
+  -- Tests whether all threads have terminated and all buffers are empty.
+  abbrev pub is_final : List (List Instr) → MachineState M → Bool
   is_final program s = list_all (λ p. has_terminated p.0 p.1) (zip program s.processors)
 
 module _ {M : Type 0} (mem : Memory M) where
-  abbrev pub machine_outcome : MachineState M → FinalState  -- the registers of a state, and the memory's content
+  -- The registers of a state, and the memory's content.
+  abbrev pub machine_outcome : MachineState M → FinalState
   machine_outcome s = record { regs = map (λ p. p.regs) s.processors; words = mem.content s.memory }
 
-  -- The events lead, each possible in turn, from a state to another.
+  -- The events lead from one state to another, each being enabled in its turn.
   abbrev pub MachineRunsTo : List (List Instr) → List Event → MachineState M → MachineState M → Type 0
   MachineRunsTo program = replays.RunsTo (MachineTransition mem program)
 
-  -- A replay carries out the events before the first that is refused, or all.
+  -- A replay carries out the events before the first that is rejected, or all.
   abbrev pub IsMachineReplay : List (List Instr) → List Event → MachineState M → Replay → MachineState M → Type 0
   IsMachineReplay program = replays.IsReplayOf (MachineTransition mem program) (is_final program)
 
-  -- These events lead, each possible in turn, from the start over the memory m to a final state with this outcome.
+  -- These events lead from the initial state over the memory m to a final state with this outcome, each being enabled in its turn.
   pub record ReplaysTo (test : X86Test) (m : M) (events : List Event) (o : FinalState) : Type 0 where
     pub end : MachineState M
     pub ran : MachineRunsTo test.threads events (initial_machine_state test m) end
     pub final : IsTrue (is_final test.threads end)
     pub is : o ≡ machine_outcome end
 
-  abbrev pub IsMachineOutcome : X86Test → M → FinalState → Type 0  -- Some list of events leads from the start to the outcome.
+  -- Some list of events leads from the initial state to the outcome.
+  abbrev pub IsMachineOutcome : X86Test → M → FinalState → Type 0
   IsMachineOutcome test m o = (events : List Event) × ReplaysTo test m events o
 
-pub record InitialWords : Type 0 where  -- the registers of each thread and the words of the locations with which a test starts
+-- The initial registers of each thread and the initial words of the locations.
+pub record InitialWords : Type 0 where
   pub regs : List (List ℕ)
   pub words : List ℕ
 
-pub record MachineRun (M : Type 0) : Type 0 where  -- What a `Machine` is: a program, with what its test starts with, and the state that it is in.
+-- What a contract sees of a `Machine`: the program, its initial words, and the current state.
+pub record MachineRun (M : Type 0) : Type 0 where
   pub program : List (List Instr)
   pub initial : InitialWords
   pub state : MachineState M

@@ -1,4 +1,4 @@
--- What serves the code's own processors and store buffers: no public call cites it.
+-- Definitions for the code's own processors and store buffers. No public call cites them.
 pub mod Buffers
 pub mod Views
 pub mod BufferCapacity

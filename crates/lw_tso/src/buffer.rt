@@ -1,4 +1,4 @@
-//! A store buffer: the words that a processor has stored and that are not in memory yet.
+//! Store buffers: the words that a processor has stored and that are not in memory yet.
 ghost use Rattle.std.specs.Prelude.{◌≡◌, ◌<◌, ◌≤◌, ◌==◌, [], ◌∷◌, ◌++◌, length, drop, slice_get, Some, None, IfOk};
 ghost use Rattle.lw_tso.specs.Processors as table;
 
@@ -7,8 +7,7 @@ use lw_base::{Loc, Word};
 use std::alloc::{AllocError, Allocator, Global};
 use std::marker::Model;
 
-/// The entries of a store buffer, the oldest first, in a ring that was made for so many. No call after `with_room` takes
-/// memory.
+/// The entries of a store buffer, the oldest first, in a ring of fixed capacity. No call after `with_room` allocates.
 #[derive(Drop)]
 pub(crate) struct StoreBuffer<A: Allocator = Global> {
     ring: HeapCircularBuffer<(Loc, Word), A>,
@@ -26,7 +25,7 @@ impl<A: Allocator> Model for StoreBuffer<A> {
 }
 
 impl<A: Allocator> StoreBuffer<A> {
-    /// An empty buffer with room for so many entries.
+    /// Creates an empty buffer of capacity `room`. Fails only if memory runs out.
     pub(crate) fn with_room(alloc: A, room: usize) -> Result<Self, AllocError>
         ensures { IfOk result (λ b. b ≡ record { entries = []; room = room }) }
     {
@@ -34,21 +33,21 @@ impl<A: Allocator> StoreBuffer<A> {
         Ok(StoreBuffer { ring })
     }
 
-    /// The number of entries.
+    /// Returns the number of entries.
     pub(crate) fn len(&self) -> usize
         ensures { result ≡ length self.now.entries }
     {
         self.ring.len()
     }
 
-    /// Whether it has no entry.
+    /// Returns whether the buffer is empty.
     pub(crate) fn is_empty(&self) -> bool
         ensures { result ≡ (length self.now.entries == 0) }
     {
         self.ring.is_empty()
     }
 
-    /// Adds an entry behind all others.
+    /// Enqueues an entry.
     pub(crate) fn push(&mut self, loc: Loc, word: Word)
         requires { length self.old.entries < self.old.room }
         ensures entries { self.new.entries ≡ self.old.entries ++ (loc, word) ∷ [] }
@@ -58,7 +57,7 @@ impl<A: Allocator> StoreBuffer<A> {
         prove!(overwritten.is_none());
     }
 
-    /// Takes the oldest entry out, if there is one, and answers it.
+    /// Dequeues and returns the oldest entry. Returns `None` if the buffer is empty.
     pub(crate) fn pop(&mut self) -> Option<(Loc, Word)>
         ensures oldest { result ≡ slice_get self.old.entries 0 }
         ensures entries { self.new.entries ≡ drop 1 self.old.entries }
@@ -67,14 +66,14 @@ impl<A: Allocator> StoreBuffer<A> {
         self.ring.pop_front()
     }
 
-    /// Takes all entries out.
+    /// Removes all entries.
     pub(crate) fn clear(&mut self)
         ensures { self.new ≡ record { entries = []; room = self.old.room } }
     {
         self.ring.clear();
     }
 
-    /// The entry at an index, counted from the oldest.
+    /// Returns the entry at an index, counted from the oldest.
     pub(crate) fn entry(&self, index: usize) -> (Loc, Word)
         requires { index < length self.now.entries }
         ensures { slice_get self.now.entries index ≡ Some result }
@@ -82,7 +81,7 @@ impl<A: Allocator> StoreBuffer<A> {
         *self.ring.get(index).unwrap()
     }
 
-    /// The newest word that it has for a location, if it has one.
+    /// Returns the newest buffered word for a location, if there is one.
     pub(crate) fn newest(&self, loc: Loc) -> Option<Word>
         ensures { result ≡ table.newest_buffered self.now.entries loc }
     {
@@ -90,7 +89,7 @@ impl<A: Allocator> StoreBuffer<A> {
     }
 }
 
-/// The newest word that a ring of entries has for a location, looked for from the newest entry on.
+/// Returns the newest word for a location in a ring of entries, searching from the newest entry.
 fn newest_in<A: Allocator>(ring: &HeapCircularBuffer<(Loc, Word), A>, loc: Loc) -> Option<Word>
     ensures { result ≡ table.newest_buffered ring.now.items loc }
 {

@@ -1,5 +1,5 @@
-//! Laws of runs and of their events, over every memory system that keeps its laws.
-//! A law is a function without a result, whose contract is the law; who needs it calls the function.
+//! Laws of runs and of their events, over every lawful memory system. A law is a function without a result, whose
+//! contract states the law. A proof uses the law by calling the function.
 ghost use Rattle.std.specs.Prelude.{◌≡◌, ◌↔◌, ℕ, Bool, List, [], ◌∷◌, length};
 ghost use Rattle.std.specs.List.{AllByRecursion};
 ghost use Rattle.lw_base.specs.Names.{IsTestName};
@@ -22,23 +22,23 @@ ghost use Rattle.lw_tso.specs.Starts.{IsInitialMemory};
 
 use lw_memory::MemorySystem;
 
-/// A theorem for readers: the outcomes of a program are the same over every memory system: those over the flat one.
+/// States, for readers, that a program has the same outcomes over every memory system: those over flat memory.
 pub fn outcomes_are_flat<M: MemorySystem>()
     ensures { (test : X86Test) (m : M) (o : FinalState) → IsWellFormedProgram test
         → IsInitialMemory (memory_of M.content M.state M.serves) (invariant_of M.cpus M.sound) test m
         → IsMachineOutcome (memory_of M.content M.state M.serves) test m o ↔ IsMachineOutcome flat_memory test test.head.init_words o }
 {}
 
-/// A theorem for readers: a list of events without evictions replays over a memory system to an outcome exactly where it does
-/// over the flat one.
+/// States, for readers, that a list of events without evictions replays over a memory system to an outcome if and
+/// only if it does over flat memory.
 pub fn replays_are_flat<M: MemorySystem>()
     ensures { (test : X86Test) (m : M) (events : List Event) (o : FinalState) → IsWellFormedProgram test
         → IsInitialMemory (memory_of M.content M.state M.serves) (invariant_of M.cpus M.sound) test m → without_evictions events ≡ events
         → ReplaysTo (memory_of M.content M.state M.serves) test m events o ↔ ReplaysTo flat_memory test test.head.init_words events o }
 {}
 
-/// A theorem for readers: every run of a program, over every memory system, can be brought to a final state, by a few
-/// more events of each thread.
+/// States, for readers, that every run of a program, over every memory system, can be extended to a final state by a
+/// few more events of each thread.
 pub fn every_run_ends<M: MemorySystem>()
     ensures { (test : X86Test) (m : M) (events : List Event) (s : MachineState M) → IsWellFormedProgram test
         → IsInitialMemory (memory_of M.content M.state M.serves) (invariant_of M.cpus M.sound) test m
@@ -46,8 +46,8 @@ pub fn every_run_ends<M: MemorySystem>()
         → CanTerminate (memory_of M.content M.state M.serves) test.threads s }
 {}
 
-/// A theorem for readers: what replays to an outcome speaks of the test's processors and locations alone, and the outcome is of
-/// their numbers.
+/// States, for readers, that the events of a replay name only the test's processors and locations, and that its
+/// outcome has as many threads and locations.
 pub fn replays_are_of_their_test<M: MemorySystem>()
     ensures { (test : X86Test) (m : M) (events : List Event) (o : FinalState) → IsWellFormedProgram test
         → IsInitialMemory (memory_of M.content M.state M.serves) (invariant_of M.cpus M.sound) test m
@@ -55,8 +55,8 @@ pub fn replays_are_of_their_test<M: MemorySystem>()
         → HasOutcomeShape test.head.threads (length test.head.locs) o × AllByRecursion (IsEvent test.head.locs) events }
 {}
 
-/// In a state that a run of a program reaches, an event that is no eviction is done over a memory system as it is over the
-/// flat one: with the same answer, and leaving the same processors and the same content.
+/// States, of a reachable state and an event that is no eviction, that the event has the same result over a memory
+/// system as over flat memory, and leaves the same processors and the same content.
 pub fn events_are_flat<M: MemorySystem>()
     ensures over_flat { (test : X86Test) (m : M) (events : List Event) (s after : MachineState M) (e : Event) (answer : EventResult)
         → IsWellFormedProgram test → IsInitialMemory (memory_of M.content M.state M.serves) (invariant_of M.cpus M.sound) test m
@@ -75,27 +75,27 @@ pub fn events_are_flat<M: MemorySystem>()
         × (over_flat_memory (memory_of M.content M.state M.serves) after ≡ end) }
 {}
 
-/// Over flat memory an event has one answer, and leaves one state.
+/// States that over flat memory an event has one result and one next state.
 pub fn flat_events_are_determined()
     ensures { (program : List (List Instr)) (e : Event) (s after other : MachineState (List ℕ)) (a b : EventResult)
         → MachineTransition flat_memory program e s a after → MachineTransition flat_memory program e s b other → (a ≡ b) × (after ≡ other) }
 {}
 
-/// A theorem for readers: independent neighbouring events of the flat machine can be exchanged: the state after both is
-/// the same, and each step is one at the same position.
+/// States, for readers, that adjacent independent events of the flat machine commute: the state after both is the
+/// same, and each step executes the same position.
 pub fn independent_events_can_be_exchanged()
     ensures { (program : List (List Instr)) (e f : Event) (s : MachineState (List ℕ)) → AreIndependent program e f s
         → EventsCommute program e f s }
 {}
 
-/// A theorem for readers: fences only take outcomes away. Of a test with MFENCEs inserted, at any indices, every outcome is one of
-/// the test.
+/// States, for readers, that fences only remove outcomes: every outcome of a test with MFENCEs inserted, at any
+/// indices, is an outcome of the test.
 pub fn fences_only_take_outcomes_away()
     ensures { (test fenced : X86Test) (o : FinalState) → IsFencedTest test fenced
         → IsMachineOutcome flat_memory fenced fenced.head.init_words o → IsMachineOutcome flat_memory test test.head.init_words o }
 {}
 
-/// Fences only take outcomes away over every memory system too.
+/// States that fences only remove outcomes over every memory system too.
 pub fn fences_only_take_outcomes_away_over_every_memory<M: MemorySystem>()
     ensures { (test fenced : X86Test) (m n : M) (o : FinalState) → IsTestName test.head.name → IsWellFormedProgram fenced
         → IsFencedTest test fenced
@@ -109,13 +109,13 @@ pub fn fences_only_take_outcomes_away_over_every_memory<M: MemorySystem>()
     tests_without_fences_are_well_formed();
 }
 
-/// A test is well-formed if it is so with MFENCEs inserted, and if it has a name that a test may have.
+/// States that a test is well-formed if it has a valid name and is well-formed with MFENCEs inserted.
 pub fn tests_without_fences_are_well_formed()
     ensures { (test fenced : X86Test) → IsTestName test.head.name → IsWellFormedProgram fenced → IsFencedTest test fenced
         → IsWellFormedProgram test }
 {}
 
-/// Any MFENCEs of a code can be left out: with them inserted again, what is left is the code.
+/// States that any MFENCEs of a code can be removed: inserting them again gives the code.
 pub fn fences_can_be_left_out()
     ensures { (left_out : List Bool) (code : List Instr) → MarksAreFences left_out code
         → IsFencedCode (code_without left_out code) code }

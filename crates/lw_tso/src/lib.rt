@@ -1,8 +1,7 @@
 //! The x86-TSO machine: processors with store buffers over any memory system.
-//!
-//! It names lw_base, of lw_litmus the program and its instructions, of lw_memory the trait of memory systems, and the kit's
-//! ring for the buffers. The promise that the crates above use: an event of a `Machine` is done as the table in
-//! `specs/EventEffects.antt` says, over any memory that keeps the laws.
+//! This crate depends on lw_base, on the program and its instructions in lw_litmus, on the trait of memory systems in
+//! lw_memory, and on circular_buffer for the store buffers. Crates above rely on one promise: an event of a `Machine`
+//! has the effect that the table in `specs/EventEffects.antt` says, over any lawful memory.
 #![tactic(auto)]
 
 mod buffer;

@@ -49,9 +49,9 @@ impl<'a, M: MemorySystem, A: Allocator, B: Allocator> Model for Machine<'a, M, A
 }
 
 impl<'a, M: MemorySystem, A: Allocator + Copy, B: Allocator> Machine<'a, M, A, B> {
-    /// A program at its start, over a memory system that has a processor for each of its threads, and its initial words as
-    /// content. An error is that memory ran out: the memory system is handed back as it was. No later call but `outcome`
-    /// takes any.
+    /// Creates a machine in the initial state of a program. The memory system has at least a processor for each
+    /// thread, and the program's initial words as content. If memory runs out, the error returns the memory system
+    /// unchanged. Later calls except `outcome` do not allocate.
     pub fn new(alloc: A, program: &'a Program<B>, memory: M) -> Result<Self, M>
         requires threads { length program.now.threads ≤ M.cpus memory }
         requires words { M.content memory ≡ program.now.head.init_words }
@@ -72,7 +72,7 @@ impl<'a, M: MemorySystem, A: Allocator + Copy, B: Allocator> Machine<'a, M, A, B
         }
     }
 
-    /// The registers as they are, and the memory's content.
+    /// Returns the current registers and the memory's content. Fails only if memory runs out.
     pub fn outcome(&self) -> Result<Outcome<A>, AllocError>
         ensures { IfOk result (λ o. o ≡ machine_outcome (memory_of M.content M.state M.serves) self.now.state) }
     {
@@ -84,7 +84,7 @@ impl<'a, M: MemorySystem, A: Allocator + Copy, B: Allocator> Machine<'a, M, A, B
 }
 
 impl<'a, M: MemorySystem, A: Allocator, B: Allocator> Machine<'a, M, A, B> {
-    /// The index of the processor's next instruction.
+    /// Returns the index of the processor's next instruction.
     pub fn position(&self, cpu: Cpu) -> usize
         requires { cpu < length self.now.state.processors }
         ensures { slice_get (map (λ p. p.position) self.now.state.processors) cpu ≡ Some result }
@@ -92,7 +92,7 @@ impl<'a, M: MemorySystem, A: Allocator, B: Allocator> Machine<'a, M, A, B> {
         self.processors[cpu.index()].position
     }
 
-    /// The word of a processor's register.
+    /// Returns the word of a processor's register.
     pub fn reg(&self, cpu: Cpu, reg: Reg) -> Word
         requires { cpu < length self.now.state.processors }
         ensures { slice_get (map (λ p. slice_index p.regs reg) self.now.state.processors) cpu ≡ Some result }
@@ -100,7 +100,7 @@ impl<'a, M: MemorySystem, A: Allocator, B: Allocator> Machine<'a, M, A, B> {
         self.processors[cpu.index()].regs[reg.index()]
     }
 
-    /// The number of entries in a processor's store buffer.
+    /// Returns the number of entries in a processor's store buffer.
     pub fn buffered(&self, cpu: Cpu) -> usize
         requires { cpu < length self.now.state.processors }
         ensures { result ≡ length (buffer_of self.now.state cpu) }
@@ -108,7 +108,7 @@ impl<'a, M: MemorySystem, A: Allocator, B: Allocator> Machine<'a, M, A, B> {
         self.processors[cpu.index()].buffer.len()
     }
 
-    /// An entry of a processor's store buffer, counted from the oldest.
+    /// Returns an entry of a processor's store buffer, counted from the oldest.
     pub fn entry(&self, cpu: Cpu, index: usize) -> (Loc, Word)
         requires { index < length (buffer_of self.now.state cpu) }
         ensures entry { slice_get (buffer_of self.now.state cpu) index ≡ Some result }
@@ -117,7 +117,7 @@ impl<'a, M: MemorySystem, A: Allocator, B: Allocator> Machine<'a, M, A, B> {
         self.processors[cpu.index()].buffer.entry(index)
     }
 
-    /// Puts the machine back to the start of its test. It takes no memory.
+    /// Resets the machine to the initial state. Does not allocate.
     pub fn restart(&mut self)
         ensures program { self.new.program ≡ self.old.program }
         ensures initial { self.new.initial ≡ self.old.initial }
@@ -132,8 +132,7 @@ impl<'a, M: MemorySystem, A: Allocator, B: Allocator> Machine<'a, M, A, B> {
         self.memory.restart(head.init_words.as_slice());
     }
 
-    /// Puts the registers as they are and the memory's content into an outcome of as many threads and locations. It takes
-    /// no memory.
+    /// Writes the current registers and the memory's content into an outcome of the same size. Does not allocate.
     pub fn write_outcome<C: Allocator>(&self, outcome: &mut Outcome<C>)
         requires threads { length outcome.old.regs ≡ length self.now.state.processors }
         requires words { length outcome.old.words ≡ length (M.content self.now.state.memory) }
@@ -143,7 +142,7 @@ impl<'a, M: MemorySystem, A: Allocator, B: Allocator> Machine<'a, M, A, B> {
         copy_content(&self.memory, &mut outcome.words);
     }
 
-    /// The memory system.
+    /// Borrows the memory system.
     pub fn memory(&self) -> &M
         ensures memory { result.now ≡ self.now.state.memory }
         ensures cpus { length self.now.state.processors ≤ M.cpus result.now }
@@ -151,7 +150,7 @@ impl<'a, M: MemorySystem, A: Allocator, B: Allocator> Machine<'a, M, A, B> {
         &self.memory
     }
 
-    /// Carries out an event. A refused one changes nothing.
+    /// Carries out an event. A rejected event changes nothing.
     pub fn step(&mut self, event: Event) -> Result<(), Stop>
         ensures program { self.new.program ≡ self.old.program }
         ensures initial { self.new.initial ≡ self.old.initial }
@@ -168,7 +167,7 @@ impl<'a, M: MemorySystem, A: Allocator, B: Allocator> Machine<'a, M, A, B> {
         }
     }
 
-    /// Carries out the events before the first that is refused, or all.
+    /// Carries out events up to the first that is rejected, or all.
     pub fn run(&mut self, events: &[Event]) -> Replay
         ensures program { self.new.program ≡ self.old.program }
         ensures initial { self.new.initial ≡ self.old.initial }
@@ -196,14 +195,14 @@ impl<'a, M: MemorySystem, A: Allocator, B: Allocator> Machine<'a, M, A, B> {
         }
     }
 
-    /// Whether all threads are at their ends and all store buffers are empty.
+    /// Returns whether all threads have terminated and all store buffers are empty.
     pub fn is_final(&self) -> bool
         ensures { result ≡ runs.is_final self.now.program self.now.state }
     {
         have_terminated(self.program, self.processors.as_slice())
     }
 
-    /// Carries out the next instruction of a processor.
+    /// Executes the next instruction of a processor. A rejected step changes nothing.
     fn step_thread(&mut self, cpu: Cpu) -> Result<(), Stop>
         ensures program { self.new.program ≡ self.old.program }
         ensures initial { self.new.initial ≡ self.old.initial }
@@ -221,7 +220,7 @@ impl<'a, M: MemorySystem, A: Allocator, B: Allocator> Machine<'a, M, A, B> {
         processor.carry_out(cpu, instr.operation(), &mut self.memory)
     }
 
-    /// The oldest entry of a processor's store buffer goes to memory.
+    /// Drains the oldest entry of a processor's store buffer to memory. A rejected drain changes nothing.
     fn drain(&mut self, cpu: Cpu) -> Result<(), Stop>
         ensures program { self.new.program ≡ self.old.program }
         ensures initial { self.new.initial ≡ self.old.initial }
@@ -236,7 +235,7 @@ impl<'a, M: MemorySystem, A: Allocator, B: Allocator> Machine<'a, M, A, B> {
         processor.drain(cpu, &mut self.memory)
     }
 
-    /// A processor's cache gives up its line of a location.
+    /// Evicts a location from a processor's cache. A rejected eviction changes nothing.
     fn evict(&mut self, cpu: Cpu, loc: Loc) -> Result<(), Stop>
         ensures program { self.new.program ≡ self.old.program }
         ensures initial { self.new.initial ≡ self.old.initial }
@@ -257,7 +256,7 @@ impl<'a, M: MemorySystem, A: Allocator, B: Allocator> Machine<'a, M, A, B> {
     }
 }
 
-/// The processors of a program, each at its first instruction.
+/// Creates the processors of a program, each at its first instruction.
 fn processors_of<A: Allocator + Copy, B: Allocator>(
     alloc: A,
     program: &Program<B>,
@@ -274,7 +273,7 @@ fn processors_of<A: Allocator + Copy, B: Allocator>(
     Ok(processors)
 }
 
-/// Puts processors back to their first instructions, with these registers.
+/// Resets the processors to their first instructions, with these registers.
 fn restart_all<A: Allocator>(processors: &mut [Processor<A>], init_regs: &[[Word; REGISTERS]])
     requires { length processors.old ≡ length init_regs.now }
     ensures start { map processor_of processors.new ≡ map initial_processor init_regs.now }
@@ -286,7 +285,7 @@ fn restart_all<A: Allocator>(processors: &mut [Processor<A>], init_regs: &[[Word
     }
 }
 
-/// The instruction at a position of a thread's code, if it is not at the end.
+/// Returns the instruction at a position of a thread's code, or `None` at the end.
 fn instr_at<A: Allocator>(program: &Program<A>, cpu: Cpu, position: usize) -> Option<Instr>
     requires { cpu < length program.now.threads }
     ensures { result ≡ slice_get (thread_code program.now.threads cpu) position }
@@ -295,7 +294,7 @@ fn instr_at<A: Allocator>(program: &Program<A>, cpu: Cpu, position: usize) -> Op
     code.get(position).copied()
 }
 
-/// Whether all processors are at the ends of their codes, and their buffers are empty.
+/// Returns whether all processors are past the ends of their codes with empty store buffers.
 fn have_terminated<A: Allocator, B: Allocator>(
     program: &Program<B>,
     processors: &[Processor<A>],
@@ -310,7 +309,7 @@ fn have_terminated<A: Allocator, B: Allocator>(
         .all(|(code, processor)| processor.is_done(code.len()))
 }
 
-/// The registers of each processor.
+/// Returns the registers of each processor.
 fn registers_of<A: Allocator, B: Allocator>(
     alloc: A,
     processors: &[Processor<B>],
@@ -324,7 +323,7 @@ fn registers_of<A: Allocator, B: Allocator>(
     Ok(regs)
 }
 
-/// The content of a memory system: a list of the word of each location.
+/// Returns the content of a memory system, a word for each location.
 fn content_of<M: MemorySystem, A: Allocator>(
     alloc: A,
     memory: &M,
@@ -338,7 +337,7 @@ fn content_of<M: MemorySystem, A: Allocator>(
     Ok(words)
 }
 
-/// Writes the registers of each processor over the rows of another list, which has as many.
+/// Copies the registers of each processor over the rows of a list of the same length.
 fn copy_registers<A: Allocator, B: Allocator>(
     processors: &[Processor<A>],
     regs: &mut Sequence<[Word; REGISTERS], B>,
@@ -351,7 +350,7 @@ fn copy_registers<A: Allocator, B: Allocator>(
     }
 }
 
-/// Writes the content of a memory system, the word of each location, over a list of as many words.
+/// Copies the content of a memory system over a list of the same length.
 fn copy_content<M: MemorySystem, A: Allocator>(memory: &M, words: &mut Sequence<Word, A>)
     requires { length words.old ≡ length (M.content memory.now) }
     ensures { words.new ≡ M.content memory.now }

@@ -1,4 +1,4 @@
-//! A processor of the machine: its position in its code, its registers and its store buffer, and what its events do.
+//! A processor of the machine: its position, its registers and its store buffer, and the effects of its events.
 ghost use Rattle.std.specs.Prelude.{◌≡◌, ◌+◌, ◌<◌, ◌≤◌, ◌^◌, ◌==◌, ◌&&◌, nat_le, true, Some, Ok, Err, length, max, slice_index, if◌then◌else◌, All, IfOk, OnOk};
 ghost use Rattle.std.specs.Prelude.{OnErr};
 ghost use Rattle.std.specs.Option.{ForSome};
@@ -19,7 +19,7 @@ use lw_litmus::{Guard, Instr, Operation, Statement};
 use lw_memory::MemorySystem;
 use std::alloc::{AllocError, Allocator, Global};
 
-/// A processor, which carries out the code of the thread of its number.
+/// A processor, which executes the code of the thread with its index.
 #[derive(Drop)]
 pub(crate) struct Processor<A: Allocator = Global> {
     /// The index of its next instruction.
@@ -30,8 +30,8 @@ pub(crate) struct Processor<A: Allocator = Global> {
 }
 
 impl<A: Allocator> Processor<A> {
-    /// A processor at the first instruction of a code. Its store buffer has room for as many entries as the code has stores,
-    /// and for one at least.
+    /// Creates a processor at the first instruction. Its store buffer has room for one entry for each store of the
+    /// code, and at least for one.
     pub(crate) fn new(alloc: A, regs: [Word; REGISTERS], code: &[Instr]) -> Result<Self, AllocError>
         ensures processor { IfOk result (λ p. processor_of p ≡ initial_processor regs) }
         ensures room { IfOk result (λ p. p.buffer.room ≡ max (stores_from 0 code.now) 1) }
@@ -49,7 +49,7 @@ impl<A: Allocator> Processor<A> {
         })
     }
 
-    /// Puts the processor back to the first instruction, with these registers. It takes no memory.
+    /// Resets the processor to the first instruction, with these registers. Does not allocate.
     pub(crate) fn restart(&mut self, regs: [Word; REGISTERS])
         ensures processor { processor_of self.new ≡ initial_processor regs }
         ensures room { self.new.buffer.room ≡ self.old.buffer.room }
@@ -60,14 +60,14 @@ impl<A: Allocator> Processor<A> {
         self.buffer.clear();
     }
 
-    /// Whether the processor is at the end of a code of so many instructions, and its buffer is empty.
+    /// Returns whether the processor is past the last of `count` instructions and its store buffer is empty.
     pub(crate) fn is_done(&self, count: usize) -> bool
         ensures { result ≡ (nat_le count self.now.position && (length self.now.buffer.entries == 0)) }
     {
         count <= self.position && self.buffer.is_empty()
     }
 
-    /// Carries out an operation over the memory. A refused one changes nothing.
+    /// Executes an operation over the memory. A rejected operation changes nothing.
     pub(crate) fn carry_out<M: MemorySystem>(
         &mut self,
         cpu: Cpu,
@@ -99,21 +99,21 @@ impl<A: Allocator> Processor<A> {
         Ok(())
     }
 
-    /// The word that an operand stands for.
+    /// Returns the operand's word.
     fn value(&self, operand: Operand) -> Word
         ensures { result ≡ operand_value operand self.now.regs }
     {
         operand.value(&self.regs)
     }
 
-    /// Whether a branch with this guard jumps.
+    /// Returns whether a guard holds.
     fn holds(&self, guard: Guard) -> bool
         ensures { result ≡ guard_holds guard self.now.regs self.now.zero_flag }
     {
         guard.holds(&self.regs, self.zero_flag)
     }
 
-    /// Goes on to the next instruction, with an entry more at the end of the store buffer.
+    /// Enqueues an entry into the store buffer and advances.
     fn store(&mut self, loc: Loc, word: Word)
         requires position { self.old.position + 1 < 2 ^ 64 }
         requires room { length self.old.buffer.entries < self.old.buffer.room }
@@ -124,7 +124,7 @@ impl<A: Allocator> Processor<A> {
         self.position += 1;
     }
 
-    /// Goes on to the next instruction, with this word in a register.
+    /// Writes a word to a register and advances.
     fn go_on_with(&mut self, reg: Reg, word: Word)
         requires { self.old.position + 1 < 2 ^ 64 }
         ensures processor { processor_of self.new ≡ advance_processor (set_register (processor_of self.old) reg word) }
@@ -134,7 +134,8 @@ impl<A: Allocator> Processor<A> {
         self.position += 1;
     }
 
-    /// A register gets the newest word that the store buffer has for a location, or else the memory's.
+    /// Loads into a register the newest buffered word for a location, or the memory's word if none is buffered, and
+    /// advances.
     fn load<M: MemorySystem>(&mut self, cpu: Cpu, reg: Reg, loc: Loc, memory: &mut M)
         requires cpu { cpu < M.cpus memory.old }
         requires loc { loc < length (M.content memory.old) }
@@ -150,7 +151,8 @@ impl<A: Allocator> Processor<A> {
         }
     }
 
-    /// A register gets the sum of a register's word and another. The zero flag tells whether the sum is 0.
+    /// Writes the sum of a register's word and another to a register, and advances. The zero flag is set if the sum
+    /// is 0.
     fn add(&mut self, dst: Reg, left: Reg, word: Word)
         requires { self.old.position + 1 < 2 ^ 64 }
         ensures processor { let sum = wrapping_sum (slice_index self.old.regs left) word in
@@ -162,7 +164,7 @@ impl<A: Allocator> Processor<A> {
         self.go_on_with(dst, sum);
     }
 
-    /// The zero flag tells whether a register has this word.
+    /// Sets the zero flag if a register has this word, clears it otherwise, and advances.
     fn compare(&mut self, reg: Reg, word: Word)
         requires { self.old.position + 1 < 2 ^ 64 }
         ensures processor { processor_of self.new
@@ -173,7 +175,7 @@ impl<A: Allocator> Processor<A> {
         self.position += 1;
     }
 
-    /// To the target where the guard holds, and else to the next instruction.
+    /// Jumps to the target if the guard holds, and advances otherwise.
     fn jump(&mut self, holds: bool, to: usize)
         requires { self.old.position + 1 < 2 ^ 64 }
         ensures processor { processor_of self.new ≡ jump_or_advance_processor (processor_of self.old) holds to }
@@ -182,7 +184,8 @@ impl<A: Allocator> Processor<A> {
         self.position = if holds { to } else { self.position + 1 };
     }
 
-    /// A register gets a location's word, and the location another register's, once the store buffer is empty.
+    /// Atomically loads the location's word into `dst`, stores the word of `src`, and advances. Is rejected unless
+    /// the store buffer is empty.
     fn swap<M: MemorySystem>(
         &mut self,
         cpu: Cpu,
@@ -207,8 +210,8 @@ impl<A: Allocator> Processor<A> {
         Ok(())
     }
 
-    /// A register, if there is one, gets a location's word, and the location its sum with a value, once the store buffer
-    /// is empty. The zero flag tells whether the sum is 0.
+    /// Atomically loads the location's word into `dst`, if there is one, adds a value to the location, and advances.
+    /// The zero flag is set if the sum is 0. Is rejected unless the store buffer is empty.
     fn fetch_add<M: MemorySystem>(
         &mut self,
         cpu: Cpu,
@@ -238,7 +241,7 @@ impl<A: Allocator> Processor<A> {
         Ok(())
     }
 
-    /// Goes on to the next instruction; refused while the store buffer has an entry.
+    /// Advances. Is rejected unless the store buffer is empty.
     fn fence(&mut self) -> Result<(), Stop>
         requires { self.old.position + 1 < 2 ^ 64 }
         ensures waits { result ≡ (if length self.old.buffer.entries == 0 then Ok tt else Err Stop.FenceWaits) }
@@ -253,7 +256,8 @@ impl<A: Allocator> Processor<A> {
         Ok(())
     }
 
-    /// The oldest entry of the store buffer goes to memory. Where there is none, it is refused, and nothing changes.
+    /// Drains the oldest entry of the store buffer to memory. Is rejected, and changes nothing, if the buffer is
+    /// empty.
     pub(crate) fn drain<M: MemorySystem>(&mut self, cpu: Cpu, memory: &mut M) -> Result<(), Stop>
         requires cpu { cpu < M.cpus memory.old }
         requires locs { All (λ entry. entry.0 < length (M.content memory.old)) self.old.buffer.entries }

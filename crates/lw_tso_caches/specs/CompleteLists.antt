@@ -1,4 +1,4 @@
--- Complete lists: what the list of a test has, however it was made.
+-- Complete lists: the content of a test's list, by whatever algorithm it is made.
 use Rattle.std.specs.Prelude.{◌↔◌, ℕ, All, Contains, List}
 use Rattle.lw_base.specs.ListedOutcomes.{IsListedOutcome}
 use Rattle.lw_base.specs.Outcomes.{FinalState}
@@ -8,8 +8,8 @@ use Rattle.lw_litmus.specs.Tests.{SourceTest, X86Test}
 use Rattle.lw_outcome_map.specs.Listings.{OutcomeEntries, outcomes_of}
 use Rattle.lw_tso_caches.specs.OverCaches.{ReplaysToOverCaches, OutcomeOverCaches}
 
--- The list of a source test has exactly the outcomes that its compiled program reaches on the whole machine, over all schedules of
--- steps, drains and evictions; and each schedule leads there to its outcome.
+-- The list of a source test has exactly the outcomes that its compiled program reaches on the whole machine, over all schedules of steps,
+-- drains and evictions, and each schedule replays there to its outcome.
 pub record ListsMachine (test : SourceTest) (entries : OutcomeEntries) : Type 0 where
   pub program : X86Test
   pub starts : List (List ℕ)
@@ -17,8 +17,8 @@ pub record ListsMachine (test : SourceTest) (entries : OutcomeEntries) : Type 0 
   pub outcomes : (protocol : Protocol) (o : FinalState) → Contains (outcomes_of entries) o ↔ OutcomeOverCaches protocol program o
   pub replays : (protocol : Protocol) → All (λ e. ReplaysToOverCaches protocol program e.1 e.0) entries
 
--- For readers of the crates that make lists, no public call cites it: the list has exactly the outcomes of which Has holds; these are
--- those of a program over caches of each protocol, where its schedules lead to them.
+-- The list has exactly the outcomes of which Has holds; these are those of a program over caches of each protocol, where its schedules
+-- replay to them. For the crates that make lists; no public call cites it.
 pub record IsComplete (Has : FinalState → Type 0) (program : X86Test) (entries : OutcomeEntries) : Type 0 where
   pub exactly : (o : FinalState) → Contains (outcomes_of entries) o ↔ Has o
   pub over_caches : (protocol : Protocol) (o : FinalState) → Contains (outcomes_of entries) o ↔ OutcomeOverCaches protocol program o

@@ -9,15 +9,18 @@ use Rattle.lw_tso.specs.Machines.{MachineState}
 use Rattle.lw_tso.specs.Runs.{MachineRunsTo, ReplaysTo, IsMachineOutcome, initial_machine_state}
 use Rattle.lw_litmus.specs.Tests.{X86Test}
 
-abbrev pub initial_caches : X86Test → Caches  -- the caches of a test at its start, which hold nothing
+-- The empty caches with which a test starts.
+abbrev pub initial_caches : X86Test → Caches
 initial_caches test = empty_caches test.head.threads test.head.init_words
 
--- These steps, drains and evictions, each possible in turn, lead from the start to this state.
+-- These steps, drains and evictions lead from the initial state to this one, each being enabled in its turn.
 abbrev pub RunsToOverCaches : Protocol → X86Test → List Event → MachineState Caches → Type 0
 RunsToOverCaches protocol test events = MachineRunsTo (caches_by protocol) test.threads events (initial_machine_state test (initial_caches test))
 
-abbrev pub ReplaysToOverCaches : Protocol → X86Test → List Event → FinalState → Type 0  -- These steps, drains and evictions lead to the outcome.
+-- These steps, drains and evictions replay to the outcome.
+abbrev pub ReplaysToOverCaches : Protocol → X86Test → List Event → FinalState → Type 0
 ReplaysToOverCaches protocol test = ReplaysTo (caches_by protocol) test (initial_caches test)
 
-abbrev pub OutcomeOverCaches : Protocol → X86Test → FinalState → Type 0  -- Some list of steps, drains and evictions leads to the outcome.
+-- Some list of steps, drains and evictions replays to the outcome.
+abbrev pub OutcomeOverCaches : Protocol → X86Test → FinalState → Type 0
 OutcomeOverCaches protocol test = IsMachineOutcome (caches_by protocol) test (initial_caches test)

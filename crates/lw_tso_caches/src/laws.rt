@@ -1,6 +1,6 @@
-//! Laws of the runs and the outcomes of x86 tests over caches: their proofs are forward simulations, in both directions, between
-//! caches and flat memory.
-//! A law is a function without a result, whose contract is the law; who needs it calls the function.
+//! Laws of the runs and outcomes of x86 tests over caches. They are proved by forward simulations, in both
+//! directions, between caches and flat memory. A law is a function without a result, whose contract states the law. A
+//! proof uses the law by calling the function.
 ghost use Rattle.std.specs.Prelude.{◌≡◌, ◌↔◌, List};
 ghost use Rattle.lw_base.specs.Outcomes.{FinalState};
 ghost use Rattle.lw_base.specs.declared.event.Event.{Event};
@@ -15,7 +15,7 @@ ghost use Rattle.lw_tso_caches.specs.OverCaches.{ReplaysToOverCaches, OutcomeOve
 
 use lw_mesi::empty_caches_are_kept;
 
-/// Over caches of each protocol, which hold nothing at the start, an x86 test has the outcomes that it has over flat
+/// States that an x86 test has the same outcomes over caches of each protocol, empty at the start, as over flat
 /// memory.
 pub fn outcomes_over_caches_are_flat()
     ensures { (protocol : Protocol) (test : X86Test) (o : FinalState) → IsWellFormedProgram test
@@ -24,9 +24,9 @@ pub fn outcomes_over_caches_are_flat()
     empty_caches_are_kept();
 }
 
-/// Over caches of each protocol, which hold nothing at the start, a list of steps and drains replays to an outcome exactly where
-/// it does over flat memory. And what replays over them, evictions too, speaks of the test's processors and locations alone, and
-/// the outcome is of their numbers.
+/// States that a list of steps and drains replays to an outcome over caches of each protocol, empty at the start, if
+/// and only if it does over flat memory. The events of a replay over caches, evictions included, name only the test's
+/// processors and locations, and its outcome has as many threads and locations.
 pub fn replays_over_caches_are_flat()
     ensures flat { (protocol : Protocol) (test : X86Test) (events : List Event) (o : FinalState) → IsWellFormedProgram test
         → without_evictions events ≡ events

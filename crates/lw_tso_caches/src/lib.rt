@@ -1,9 +1,8 @@
-//! The whole machine: the processors and store buffers of lw_tso over the caches of lw_mesi, of each protocol. Its outcomes
-//! and replays are those over flat memory. (That its caches are coherent in every state of every run, and other laws for readers
-//! that no crate above calls, stand in lw_bench.)
-//!
-//! It names lw_base; of lw_litmus the x86 tests; lw_tso, lw_memory and lw_mesi, and is the lowest crate that names both the
-//! machine and the caches. There is no code here: `laws` has what the crates above use.
+//! The whole machine: the processors and store buffers of lw_tso over the caches of lw_mesi, of each protocol. Its
+//! outcomes and replays are those over flat memory. (lw_bench states further laws for readers, such as coherence in
+//! every state of every run.)
+//! This crate depends on lw_base, on the x86 tests of lw_litmus, and on lw_tso, lw_memory and lw_mesi. It is the
+//! lowest crate that names both the machine and the caches. It has no code: `laws` states what the crates above use.
 #![tactic(auto)]
 
 mod laws;

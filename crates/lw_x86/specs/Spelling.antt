@@ -1,5 +1,4 @@
--- How the instructions of an x86 test are spelled.
--- The source is the format of the workbench, docs/FORMAT.md, which follows the Intel syntax of herd's x86 litmus tests.
+-- The spelling of the instructions of an x86 test, by docs/FORMAT.md, which follows the Intel syntax of herd's x86 litmus tests.
 use Rattle.std.specs.Prelude.{ℕ, List, [], ◌∷◌, codes}
 use Rattle.lw_base.specs.Types.{Bytes}
 use Rattle.lw_base.specs.declared.operand.Operand.TheVariants as operand
@@ -17,7 +16,7 @@ use Rattle.lw_x86.specs.declared.language.X86Form.TheVariants.{Store, StoreNumbe
 use Rattle.lw_x86.specs.declared.language.X86Form.TheVariants.{ExchangeLast, LockedExchange, LockedExchangeLast, ExchangeAdd, Fence, JumpEqual, JumpNotEqual}
 use Rattle.lw_x86.specs.declared.language.X86Form.TheVariants.{Jump}
 
--- a mnemonic or a sign, as it is spelled
+-- The text of a mnemonic or a sign.
 abbrev pub x86_keyword_text : X86Keyword → Bytes
 x86_keyword_text keyword.Mov = codes "MOV"
 x86_keyword_text keyword.Add = codes "ADD"
@@ -34,7 +33,7 @@ x86_keyword_text Close = codes "]"
 x86_keyword_text Comma = codes ","
 x86_keyword_text Dollar = codes "$"
 
--- all forms of x86's instructions
+-- All forms of x86 instructions.
 abbrev pub x86_forms : List X86Form
 x86_forms =
     Store ∷ StoreNumber ∷ Load ∷ Set
@@ -43,7 +42,7 @@ x86_forms =
     ∷ LockedExchangeLast ∷ ExchangeAdd ∷ Fence
     ∷ JumpEqual ∷ JumpNotEqual ∷ Jump ∷ []
 
--- the slots of a form, one for each token
+-- The slots of a form, one for each token.
 abbrev pub x86_slots : X86Form → List (Slot X86Keyword)
 -- `MOV [x],a`
 x86_slots Store = Keyword keyword.Mov ∷ Keyword Open ∷ Location ∷ Keyword Close ∷ Keyword Comma ∷ Value ∷ []
@@ -82,8 +81,8 @@ x86_slots JumpNotEqual = Keyword keyword.Jne ∷ Label ∷ []
 -- `JMP L`
 x86_slots Jump = Keyword keyword.Jmp ∷ Label ∷ []
 
--- The instruction of what tokens give, on the location of an index, with a target. A slot is named as above, by the letter that
--- stands there, by its keyword, which gives nothing (`[` opens and `]` closes), or as a location or a label.
+-- The instruction of a form, from the values of its slots, the index of its location, and the index of its label's instruction. Slots are
+-- named by the letter of the form, by the keyword, which has no value (`[` opens and `]` closes), or as a location or a label.
 abbrev pub instruction : ℕ → ℕ → (form : X86Form) → Filling (x86_slots form) → Instr
 instruction x target Store (mov, (opens, (location, (closes, (comma, (a, end)))))) = instr.Store x a
 instruction x target StoreNumber (mov, (opens, (location, (closes, (comma, (dollar, (n, end))))))) = instr.Store x (operand.Number n)
@@ -104,7 +103,7 @@ instruction x target JumpEqual (je, (label, end)) = instr.Je target
 instruction x target JumpNotEqual (jne, (label, end)) = instr.Jne target
 instruction x target Jump (jmp, (label, end)) = instr.Jmp target
 
--- the spelling of x86: its keywords, forms, slots and instructions
+-- The spelling of x86: its keywords, forms, slots and instructions.
 abbrev pub x86_spelling : Spelling X86Keyword X86Form Instr
 x86_spelling = record {
   language = x86_language;

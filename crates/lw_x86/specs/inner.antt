@@ -1,4 +1,4 @@
--- What serves the reader of this crate; no public call speaks of it.
+-- Definitions for the reader of this crate. No public call cites them.
 pub mod Operands
 pub mod OperandTexts
 pub mod Separators

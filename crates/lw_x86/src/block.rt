@@ -11,8 +11,8 @@ ghost use Rattle.lw_x86.specs.CanonicalTexts.{initializer_text, register_initial
 use lw_base::{Arch, Head, Loc, Reg, reg_name};
 use std::alloc::{AllocError, Allocator};
 
-/// Writes the initial block: an initializer for each register that does not begin with 0, by thread and index, and for
-/// each location.
+/// Writes the initial block: an initializer for each register whose initial word is not 0, by thread and index, and
+/// for each location.
 pub(crate) fn write_block<A: Allocator, B: Allocator>(
     out: &mut String<A>,
     head: &Head<B>,
@@ -26,7 +26,7 @@ pub(crate) fn write_block<A: Allocator, B: Allocator>(
     out.push_str("}\n")
 }
 
-/// Writes the initializers of all registers that do not begin with 0.
+/// Writes the initializers of all registers whose initial word is not 0.
 fn write_registers<A: Allocator, B: Allocator>(
     out: &mut String<A>,
     head: &Head<B>,
@@ -41,7 +41,7 @@ fn write_registers<A: Allocator, B: Allocator>(
     Ok(())
 }
 
-/// Writes the initializers of a thread's registers that do not begin with 0.
+/// Writes the initializers of a thread's registers whose initial word is not 0.
 fn write_registers_of<A: Allocator, B: Allocator>(
     out: &mut String<A>,
     head: &Head<B>,
@@ -57,7 +57,7 @@ fn write_registers_of<A: Allocator, B: Allocator>(
     Ok(())
 }
 
-/// Writes a register's initializer, if it does not begin with 0.
+/// Writes a register's initializer, if its initial word is not 0.
 fn write_register<A: Allocator, B: Allocator>(
     out: &mut String<A>,
     head: &Head<B>,

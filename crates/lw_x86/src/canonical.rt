@@ -16,13 +16,13 @@ use lw_base::{Arch, Head, LocNames, Seen, Text, reg_name, write_condition};
 use lw_litmus::Program;
 use std::alloc::{AllocError, Allocator};
 
-/// The canonical text of a program.
+/// Renders the canonical text of a program. Fails only if memory runs out.
 pub fn write_program<A: Allocator + Copy, B: Allocator>(
     alloc: A,
     program: &Program<B>,
 ) -> Result<Text<A>, AllocError>
     ensures text { IfOk result (λ text. text ≡ canonical_text (test_of program.now.head program.now.threads)) }
-    // It can be read: it is short enough, and the program is what it says.
+    // The text can be read: it is short enough, and its test is the program.
     ensures short { IfOk result (λ text. length text ≤ most_text_bytes) }
     ensures reads_back { IfOk result (λ text. IsTextOf text (test_of program.now.head program.now.threads)) }
 {
@@ -31,7 +31,7 @@ pub fn write_program<A: Allocator + Copy, B: Allocator>(
     Ok(Text::from(out))
 }
 
-/// Writes the parts of a program's canonical text, one behind another.
+/// Writes the parts of a program's canonical text in sequence.
 fn write_parts<A: Allocator + Copy, B: Allocator>(
     alloc: A,
     out: &mut String<A>,
@@ -50,7 +50,7 @@ fn write_parts<A: Allocator + Copy, B: Allocator>(
     writeln!(out, "{}", condition.as_str())
 }
 
-/// The canonical text of a test reads back as the same test.
+/// States that the canonical text of a test reads back as the same test.
 pub fn a_canonical_text_reads_back()
     ensures { (p : X86Test) → IsWellFormedProgram p → IsTextOf (canonical_text p) p }
 {}
@@ -89,7 +89,7 @@ fn write_listed<A: Allocator, B: Allocator>(
     out.push_str("]\n")
 }
 
-/// Writes an element of the list of names, with a `;` behind it.
+/// Writes an element of the list of names, and a `;`.
 fn write_element<A: Allocator, B: Allocator>(
     out: &mut String<A>,
     names: &LocNames<B>,

@@ -1,4 +1,4 @@
-//! The text of an instruction.
+//! Printing an instruction.
 ghost use Rattle.std.specs.Prelude.{◌≡◌, ◌<◌, ◌++◌, codes, length, OnOk};
 ghost use Rattle.std.specs.Option.{ForSome};
 ghost use Rattle.std.specs.String.{string_bytes};
@@ -13,7 +13,7 @@ use lw_base::{Arch, Loc, LocNames, Operand, Reg, reg_name};
 use lw_litmus::Instr;
 use std::alloc::{AllocError, Allocator};
 
-/// Writes an instruction, with its location by the names of a table and a jump's target by its label.
+/// Writes an instruction, with its location by name and a jump's target by label.
 pub(crate) fn write_instruction<A: Allocator, B: Allocator>(
     out: &mut String<A>,
     names: &LocNames<B>,

@@ -1,4 +1,4 @@
-//! How the instructions of an x86 test are spelled.
+//! The spelling of the instructions of an x86 test.
 ghost use Rattle.std.specs.Prelude.{◌≡◌};
 ghost use Rattle.lw_x86.specs.Spelling.{x86_spelling};
 ghost use Rattle.lw_x86.specs.inner.Operands.{instruction_of_operands, value_of};
@@ -10,7 +10,7 @@ use lw_statements::{Operands, Slot, StatementReader};
 /// The x86 language.
 pub(crate) enum X86Language {}
 
-/// A mnemonic, or a sign.
+/// A mnemonic or a sign.
 #[derive(Clone, Copy)]
 pub(crate) enum X86Keyword {
     Mov,
@@ -29,44 +29,44 @@ pub(crate) enum X86Keyword {
     Dollar,
 }
 
-/// A form of instructions. Where a register may stand behind the last `,`, so may a number without its `$`.
+/// A form of instructions. Where a register may appear after the last `,`, a number without its `$` may appear too.
 #[derive(Clone, Copy)]
 pub(crate) enum X86Form {
-    /// `MOV [x],a`
+    /// `MOV [x],a`.
     Store,
-    /// `MOV [x],$n`
+    /// `MOV [x],$n`.
     StoreNumber,
-    /// `MOV d,[x]`
+    /// `MOV d,[x]`.
     Load,
-    /// `MOV d,a`
+    /// `MOV d,a`.
     Set,
-    /// `MOV d,$n`
+    /// `MOV d,$n`.
     SetNumber,
-    /// `ADD d,a`
+    /// `ADD d,a`.
     Add,
-    /// `ADD d,$n`
+    /// `ADD d,$n`.
     AddNumber,
-    /// `CMP a,b`
+    /// `CMP a,b`.
     Compare,
-    /// `CMP a,$n`
+    /// `CMP a,$n`.
     CompareNumber,
-    /// `XCHG [x],a`
+    /// `XCHG [x],a`.
     Exchange,
-    /// `XCHG a,[x]`
+    /// `XCHG a,[x]`.
     ExchangeLast,
-    /// `LOCK XCHG [x],a`
+    /// `LOCK XCHG [x],a`.
     LockedExchange,
-    /// `LOCK XCHG a,[x]`
+    /// `LOCK XCHG a,[x]`.
     LockedExchangeLast,
-    /// `LOCK XADD [x],a`
+    /// `LOCK XADD [x],a`.
     ExchangeAdd,
-    /// `MFENCE`
+    /// `MFENCE`.
     Fence,
-    /// `JE L`
+    /// `JE L`.
     JumpEqual,
-    /// `JNE L`
+    /// `JNE L`.
     JumpNotEqual,
-    /// `JMP L`
+    /// `JMP L`.
     Jump,
 }
 
@@ -81,17 +81,17 @@ impl StatementReader for X86Language {
 
     ghost made = { instruction_of_operands };
 
-    /// The language is x86.
+    /// Returns x86.
     fn arch() -> Arch {
         Arch::X86
     }
 
-    /// The most instructions of a thread.
+    /// Returns the maximum number of instructions of a thread.
     fn most() -> usize {
         MAX_INSTRUCTIONS
     }
 
-    /// A mnemonic or a sign, as it is spelled.
+    /// Returns the text of a mnemonic or a sign.
     fn text(keyword: X86Keyword) -> &'static str {
         match keyword {
             X86Keyword::Mov => "MOV",
@@ -111,7 +111,7 @@ impl StatementReader for X86Language {
         }
     }
 
-    /// All forms of instructions.
+    /// Returns all forms of instructions.
     fn forms() -> &'static [X86Form] {
         &[
             X86Form::Store,
@@ -135,7 +135,7 @@ impl StatementReader for X86Language {
         ]
     }
 
-    /// The slots of a form, token by token.
+    /// Returns the slots of a form, one for each token.
     fn slots(form: X86Form) -> &'static [Slot<X86Keyword>] {
         use Slot::{Label, Location, Number, Register, Value, Keyword};
         use X86Keyword::{
@@ -241,7 +241,7 @@ impl StatementReader for X86Language {
         }
     }
 
-    /// The instruction of a form, where the operands that it needs are there.
+    /// Returns the instruction of a form, or `None` if an operand that it needs is missing.
     fn statement(form: X86Form, operands: &Operands) -> Option<Instr> {
         let Operands { reg, loc, to, .. } = *operands;
         Some(match (form, reg, loc, value(operands), to) {
@@ -282,7 +282,8 @@ impl StatementReader for X86Language {
     }
 }
 
-/// The operand that stands last: a register, or a number, which in a form with a `$` is in `num`, and else in `val`.
+/// Returns the last operand: a register, or a number, which is in `num` if the form has a `$`, and in `val`
+/// otherwise.
 fn value(operands: &Operands) -> Option<Operand>
     ensures { result ≡ value_of operands.now }
 {

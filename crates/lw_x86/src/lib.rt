@@ -1,9 +1,8 @@
-//! The x86 language: the reading of an x86 test from its frame, and its canonical text.
-//!
-//! It names lw_base, of lw_litmus the test, of lw_text the frame, and the rule of lw_statements. What it reads and writes is said by
-//! docs/FORMAT.md. It passes on the test and its instructions of lw_litmus. The promise that the crates above use: a `Program`
-//! that is read is the test of its frame, and its canonical text is what `specs/CanonicalTexts.antt` says, and reads back as
-//! the same program.
+//! The x86 language: reading an x86 test from its frame, and its canonical text.
+//! This crate depends on lw_base, on the tests of lw_litmus, on the frames of lw_text, and on the reader of
+//! lw_statements. docs/FORMAT.md defines what is read and written. It re-exports the test and its instructions from
+//! lw_litmus. Crates above rely on one promise: a `Program` that is read is the test of its frame; its canonical
+//! text, which `specs/CanonicalTexts.antt` defines, reads back as the same program.
 #![tactic(auto)]
 
 mod block;

@@ -1,4 +1,4 @@
-//! Reads an x86 test from its frame.
+//! Reading an x86 test from its frame.
 ghost use Rattle.std.specs.Prelude.{◌≡◌, ◌≤◌, IfOk, IfErr};
 ghost use Rattle.lw_base.specs.Types.{Bytes};
 ghost use Rattle.lw_base.specs.NoParse.{HoldsOfNothingOrOutOfMemory};
@@ -20,20 +20,19 @@ use lw_statements::read_test;
 use lw_text::Frame;
 use std::alloc::Allocator;
 
-/// Reads the x86 test of a frame whose language is x86. The test takes the frame's head over.
-///
-/// The threads are read one after another, each from top to bottom, and the first fault is told.
+/// Reads the x86 test of a frame whose language is x86, and takes over the frame's head.
+/// Reads the threads in order, each from top to bottom, and fails at the first fault.
 pub fn read_program<A: Allocator + Copy>(
     alloc: A,
     frame: Frame<'_, A>,
 ) -> Result<Program<A>, CellFault>
     requires { frame.head.arch ≡ arch.X86 }
-    // What is answered is the frame's test, and where it is refused it has none, unless memory ran out.
+    // The result is the frame's test. If reading fails, the frame has no test, or memory ran out.
     ensures found { IfOk result (λ p. HasProgram (frame_of frame.entry) (program_of p)) }
     ensures fault { IfErr result (λ f. HoldsOfNothingOrOutOfMemory Memory f.cause (HasProgram (frame_of frame.entry))) }
     ensures place { IfErr result (λ f. f.at ≤ frame.entry.len) }
     ensures memory { IfErr result (λ f. f.cause ≡ Memory → f.at ≡ 0) }
-    // What the cause says of the place is so.
+    // What the cause says of the place is true.
     ensures cause { IfErr result (CellFaultIsTrue x86_grammar frame.entry.head.locs (placed_cells frame.entry.cells)) }
 {
     let parts = read_test::<X86Language, A>(alloc, frame)?;
@@ -43,12 +42,12 @@ pub fn read_program<A: Allocator + Copy>(
     })
 }
 
-/// A frame has at most one x86 test.
+/// States that a frame has at most one x86 test.
 pub fn a_frame_has_one_program()
     ensures { (frame : TestFrame) (p q : X86Test) → HasProgram frame p → HasProgram frame q → p ≡ q }
 {}
 
-/// A text says at most one x86 test.
+/// States that a text is of at most one x86 test.
 pub fn a_text_has_one_program()
     ensures { (text : Bytes) (p q : X86Test) → IsTextOf text p → IsTextOf text q → p ≡ q }
 {}

@@ -13,7 +13,7 @@ use lw_base::{LocNames, Sequence};
 use lw_litmus::{Instr, Program, Statement};
 use std::alloc::{AllocError, Allocator};
 
-/// Writes the rows of a program: as many as its longest thread has cells.
+/// Writes the rows of a program, as many as its longest thread has cells.
 pub(crate) fn write_rows<A: Allocator, B: Allocator>(
     out: &mut String<A>,
     program: &Program<B>,
@@ -27,7 +27,7 @@ pub(crate) fn write_rows<A: Allocator, B: Allocator>(
     Ok(())
 }
 
-/// The number of rows: as many as the longest thread has cells.
+/// Returns the number of rows, which is the number of cells of the longest thread.
 fn height<B: Allocator>(program: &Program<B>) -> usize
     ensures { result ≡ max_cell_count (map (cells_of program.now.head.locs) program.now.threads) }
 {
@@ -38,7 +38,7 @@ fn height<B: Allocator>(program: &Program<B>) -> usize
     height
 }
 
-/// The number of a thread's cells.
+/// Returns the number of a thread's cells.
 fn count_cells(code: &[Instr]) -> usize
     ensures { result ≡ length code.now + length (end_cells code.now (length code.now)) }
 {
@@ -62,7 +62,7 @@ fn write_row<A: Allocator, B: Allocator>(
     out.push_str(" ;\n")
 }
 
-/// Writes the cells that threads have in the row at an index, with bars between them.
+/// Writes the cells of the threads in the row at an index, separated by bars.
 fn write_cells<A: Allocator, B: Allocator>(
     out: &mut String<A>,
     names: &LocNames<B>,
@@ -80,7 +80,7 @@ fn write_cells<A: Allocator, B: Allocator>(
     Ok(())
 }
 
-/// Writes the cell that a thread has in the row at an index, which is empty where the thread has no more.
+/// Writes the cell of a thread in the row at an index. It is empty if the thread has no more.
 fn write_cell<A: Allocator, B: Allocator>(
     out: &mut String<A>,
     names: &LocNames<B>,
@@ -100,7 +100,7 @@ fn write_cell<A: Allocator, B: Allocator>(
     }
 }
 
-/// Writes the label of an instruction, with a `:` and a space behind it, where some instruction jumps to it.
+/// Writes the label of an instruction, a `:` and a space, if some instruction jumps to it.
 fn write_label<A: Allocator>(
     out: &mut String<A>,
     code: &[Instr],
@@ -114,7 +114,7 @@ fn write_label<A: Allocator>(
     Ok(())
 }
 
-/// Writes a cell behind a thread's instructions: the label of the end, where some instruction jumps there.
+/// Writes a cell after a thread's instructions: the label of the end, if some instruction jumps there.
 fn write_end<A: Allocator>(
     out: &mut String<A>,
     code: &[Instr],
@@ -128,14 +128,14 @@ fn write_end<A: Allocator>(
     Ok(())
 }
 
-/// Whether some instruction jumps to this position.
+/// Returns whether some instruction jumps to this position.
 fn is_target(code: &[Instr], index: usize) -> bool
     ensures { result ≡ printed.is_target code.now index }
 {
     code.iter().any(|instr| jumps_to(instr, index))
 }
 
-/// Whether an instruction jumps to this position.
+/// Returns whether an instruction jumps to this position.
 fn jumps_to(instr: &Instr, index: usize) -> bool
     ensures { result ≡ printed.jumps_to index instr.now }
 {

@@ -1,11 +1,11 @@
-//! What stands between the parts of a line.
+//! Separators between the parts of a line.
 ghost use Rattle.std.specs.Prelude.{◌≡◌, ◌++◌, OnOk};
 ghost use Rattle.std.specs.String.{string_bytes};
 ghost use Rattle.lw_x86.specs.inner.Separators.{separator};
 
 use std::alloc::{AllocError, Allocator};
 
-/// Writes what separates the part at an index from the one before: nothing before the first.
+/// Writes the separator before the part at an index, which is empty before the first.
 pub(crate) fn write_separator<A: Allocator>(
     out: &mut String<A>,
     number: usize,

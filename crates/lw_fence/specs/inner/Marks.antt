@@ -1,18 +1,18 @@
--- Used within the crate: the marks on the positions that a flow path reaches from a store that may still wait.
+-- The marks of positions that a flow path reaches from a store that may remain in the buffer. Used only within the crate.
 use Rattle.std.specs.Prelude.{ℕ, ◌+◌, Bool, true, ◌&&◌, ◌||◌, if◌then◌else◌, Option, Some, None, List, slice_set}
 use Rattle.lw_litmus.specs.declared.operation.Operation.{Operation}
 use Rattle.lw_litmus.specs.Operations.{is_store, branch_target, falls_through}
 use Rattle.lw_fence.specs.Fences.{preserves_pending_stores}
 
--- whether a store may wait behind the operation, where one may before it
+-- Tests whether a store may be in the buffer after the operation, if one may be before it.
 abbrev pub may_wait : Operation → Bool → Bool
 may_wait o before = is_store o || (preserves_pending_stores o && before)
 
--- the marks, with this position marked too, if one is given and they reach so far
+-- The marks, with this position marked too, if one is given and within the list.
 abbrev pub with_mark : Option ℕ → List Bool → List Bool
 with_mark None marks = marks
 with_mark (Some k) marks = slice_set marks k true
 
--- the marks, with those of the successors of the operation at i set
+-- The marks, with the successors of the operation at i marked too.
 abbrev pub mark_successors : Operation → ℕ → List Bool → List Bool
 mark_successors o i marks = with_mark (if falls_through o then Some (i + 1) else None) (with_mark (branch_target o) marks)

@@ -1,15 +1,15 @@
--- For readers of this crate, no public call cites it: a code for propositions, by which a proof tells apart the tests that have
--- them. A proposition is written as a list of its parts, each connective behind what it connects.
+-- A code for propositions, by which a proof distinguishes the tests that have them. A proposition is serialized as a list of its parts,
+-- each connective after its operands. Used only within the crate.
 use Rattle.std.specs.Prelude.{◌≡◌, ℕ, Bool, true, false, Option, Some, None, List, [], ◌∷◌}
 use Rattle.std.specs.Coded.{Coded, code_by, coded_ℕ, coded_bool, coded_list, coded_option, coded×, coded⊎}
 use Rattle.std.proofs.Common.{◌⊎◌, inl, inr, refl, ap, ◌∙◌}
 use Rattle.lw_base.specs.Formula.{Formula, Yes, No, Reg_is, Word_is, Not, And, Or}
 
--- a register's word or a location's, a constant (true: `Yes`), or a connective (None: `Not`, and of the others true: `And`)
+-- A register's or a location's word, a constant (true: `Yes`), or a connective (`None`: `Not`; true: `And`; false: `Or`).
 abbrev Part : Type 0
 Part = (ℕ × (ℕ × ℕ)) ⊎ ((ℕ × ℕ) ⊎ (Bool ⊎ Option Bool))
 
--- the list of a proposition's parts, with others behind them
+-- The parts of a proposition, followed by others.
 abbrev pub serialize : Formula → List Part → List Part
 serialize Yes rest = inr (inr (inl true)) ∷ rest
 serialize No rest = inr (inr (inl false)) ∷ rest
@@ -19,18 +19,18 @@ serialize (Not p) rest = serialize p (inr (inr (inr None)) ∷ rest)
 serialize (And p q) rest = serialize p (serialize q (inr (inr (inr (Some true))) ∷ rest))
 serialize (Or p q) rest = serialize p (serialize q (inr (inr (inr (Some false))) ∷ rest))
 
--- the propositions that are read so far, the last one negated
+-- The propositions read so far, the last one negated.
 abbrev negated : List Formula → List Formula
 negated [] = []
 negated (p ∷ ps) = Not p ∷ ps
 
--- the propositions that are read so far, the last two connected, by `And` (true) or by `Or`
+-- The propositions read so far, the last two connected, by `And` (true) or by `Or`.
 abbrev connected : Bool → List Formula → List Formula
 connected true (q ∷ p ∷ ps) = And p q ∷ ps
 connected false (q ∷ p ∷ ps) = Or p q ∷ ps
 connected b _ = []
 
--- the propositions that are read so far, with one part more read
+-- The propositions read so far, after one more part.
 abbrev with_part : Part → List Formula → List Formula
 with_part (inl (cpu, (reg, word))) ps = Reg_is cpu reg word ∷ ps
 with_part (inr (inl (loc, word))) ps = Word_is loc word ∷ ps
@@ -39,12 +39,12 @@ with_part (inr (inr (inl false))) ps = No ∷ ps
 with_part (inr (inr (inr None))) ps = negated ps
 with_part (inr (inr (inr (Some b)))) ps = connected b ps
 
--- the propositions that parts give, read on from those before them, the last one first
+-- The propositions of parts, read after others, the last one first.
 abbrev pub deserialize : List Part → List Formula → List Formula
 deserialize [] ps = ps
 deserialize (part ∷ parts) ps = deserialize parts (with_part part ps)
 
--- what a proposition's parts give is the proposition, before those that were read before
+-- Reading a proposition's parts gives the proposition, before those that were read before.
 pub read_written : (p : Formula) (rest : List Part) (ps : List Formula) → deserialize (serialize p rest) ps ≡ deserialize rest (p ∷ ps)
 read_written (Not p) rest ps = read_written p (inr (inr (inr None)) ∷ rest) ps
 read_written (And p q) rest ps =
@@ -55,12 +55,12 @@ read_written (Or p q) rest ps =
     read_written p (serialize q last) ps ∙ read_written q last (p ∷ ps)
 read_written _ rest ps = refl
 
--- the proposition that was read last
+-- The proposition that was read last.
 abbrev the_first : List Formula → Formula
 the_first [] = Yes
 the_first (p ∷ ps) = p
 
--- propositions are told apart by the lists of their parts
+-- Propositions differ if the lists of their parts do.
 abbrev pub formula_code : Coded Formula
 formula_code =
     code_by (List Part) (coded_list (coded⊎ (coded× coded_ℕ (coded× coded_ℕ coded_ℕ))

@@ -1,5 +1,5 @@
--- Of one location's cache line each case of a protocol's table keeps the content, and that it is coherent, whatever the protocol:
--- proofs that an impl cites, and no definition of the protocols.
+-- Each case of a protocol's table preserves the coherent word and coherence, in every protocol. An impl cites these proofs; there is no
+-- definition of the protocols here.
 use Rattle.std.proofs.Common.{◌≡◌, ◌≢◌, ℕ, zero, suc, ◌<◌, List, [], ◌∷◌, length, map, set, Some, Bool, true, false, refl, sym, ap, ◌∙◌, subst, arith}
 use Rattle.std.proofs.Common.{length-set}
 use Rattle.std.proofs.lemmas.List.{length-map}
@@ -10,24 +10,24 @@ use Rattle.lw_mesi.specs.Coherence.{IsOnlyCopy, IsDirty, IsCoherentCacheLine}
 use Rattle.lw_mesi.specs.Snooping.{ProtocolTable, is_held_anywhere, copy_from, get_m, cache_line_to_read, cache_line_to_write, cache_line_with_word, cache_line_evicted}
 use Rattle.lw_mesi.specs.laws.Coherent.{copy_in, at_index, put_here, put_there, copy_map, clean, dirty, put_clean, HasNoOtherCopy, no_word, one_word, single, LineAfterRequest}
 
--- Where the cache line is held nowhere, each copy is invalid.
+-- If no cache holds the line, each copy is invalid.
 pub none_held : (copies : List Copy) → is_held_anywhere copies ≡ false → (t : ℕ) → copy_in copies t ≡ Invalid
 none_held [] h t = refl
 none_held (Invalid ∷ copies) h zero = refl
 none_held (Invalid ∷ copies) h (suc t) = none_held copies h t
 none_held _ h t = cc
 
--- The copy that a load brings in, in S or in E, is not dirty.
+-- The copy that a load brings, in S or in E, is not dirty.
 from_clean : (b : Bool) (w : ℕ) → IsDirty (copy_from b w) → ⊥
 from_clean true w h = h
 from_clean false w h = h
 
--- The copy that a load brings in has the word that it was given.
+-- The copy that a load brings has the word that was sent.
 pub from_word : (b : Bool) (w : ℕ) → copy_word (copy_from b w) ≡ Some w
 from_word true w = refl
 from_word false w = refl
 
--- What a GetS does to the other copies, in each protocol: it keeps their words, leaves no M or E, and makes none dirty.
+-- The effect of a GetS on the other copies, in each protocol: it preserves their words, leaves none in M or E, and makes none dirty.
 pub record SharesOthers (f : Copy → Copy) (line : CacheLine) : Type 0 where
   pub invalid : f Invalid ≡ Invalid
   pub word : (u : ℕ) → copy_word (f (copy_of line u)) ≡ copy_word (copy_of line u)
@@ -35,13 +35,13 @@ pub record SharesOthers (f : Copy → Copy) (line : CacheLine) : Type 0 where
   pub dirty : (u : ℕ) → IsDirty (f (copy_of line u)) → IsDirty (copy_of line u)
 
 module _ (t : ℕ) (line : CacheLine) (lt : t < most_threads) (sound : IsCoherentCacheLine line) where
-  -- What a write finds: the processor alone has a copy, which holds the content.
+  -- What a write finds: only this processor has a copy, with the coherent word.
   pub record ToWrite (l : CacheLine) : Type 0 where
     pub as_many : length l.copies ≡ most_threads
     pub word : copy_word (copy_of l t) ≡ Some (coherent_word line)
     pub others : HasNoOtherCopy l t
 
-  -- Where processor t has a copy in M or E, a write hits: that is the only copy, and has the content.
+  -- If processor t has a copy in M or E, a write hits: it is the only copy, and has the coherent word.
   pub hit_to_write : (c : Copy) (w : ℕ) → copy_of line t ≡ c → copy_word c ≡ Some w → IsOnlyCopy c → ToWrite line
   hit_to_write c w e h own = record {
     as_many = sound.as_many;
@@ -49,7 +49,7 @@ module _ (t : ℕ) (line : CacheLine) (lt : t < most_threads) (sound : IsCoheren
     others = λ u ne. sound.alone t u (subst IsOnlyCopy (sym e) own) ne;
   }
 
-  -- After processor t's GetM the other copies are gone, and its own has the content, as a write finds it.
+  -- After processor t's GetM the other copies are gone, and its own has the coherent word.
   pub get_m_to_write : ToWrite (get_m t line)
   get_m_to_write =
       let gone : List Copy = map (λ c. Invalid) line.copies in
@@ -60,7 +60,7 @@ module _ (t : ℕ) (line : CacheLine) (lt : t < most_threads) (sound : IsCoheren
         others = λ u ne. put_there gone t (Modified (coherent_word line)) u ne ∙ copy_map (λ c. Invalid) line.copies u refl;
       }
 
-  -- A write, where the processor alone has a copy, leaves a coherent cache line whose content is the word.
+  -- A write to the only copy leaves a coherent line whose coherent word is the written one.
   pub written : (w : ℕ) (l : CacheLine) → ToWrite l → LineAfterRequest w (cache_line_with_word t w l)
   written w l h =
       let copies : List Copy = set l.copies t (Modified w) in
@@ -74,36 +74,36 @@ module _ (t : ℕ) (line : CacheLine) (lt : t < most_threads) (sound : IsCoheren
             (λ k e. one_word (copy_in copies t) k w (ap copy_word here) e ∙ sym d);
       }
 
-  -- What a load leaves: the content, and a copy that holds it.
+  -- What a load leaves: the same coherent word, and a copy with it.
   pub record Loaded (l : CacheLine) : Type 0 where
     pub after : LineAfterRequest (coherent_word line) l
     pub word : copy_word (copy_of l t) ≡ Some (coherent_word line)
 
-  -- A load that hits leaves the cache line as it is, and finds the content.
+  -- A load that hits leaves the line unchanged, and finds the coherent word.
   pub hit_loaded : (c : Copy) (w : ℕ) → copy_of line t ≡ c → copy_word c ≡ Some w → Loaded line
   hit_loaded c w e h = record {
     after = record { content = refl; sound = sound };
     word = (ap copy_word e ∙ h) ∙ ap Some (sound.same_word t w (ap copy_word e ∙ h));
   }
 
-  -- The copies of the cache line where the own copy is now c, and the others are what f makes of them.
+  -- The copies of the line, with c as the own copy, and the others changed by f.
   record Changes (f : Copy → Copy) (c : Copy) (copies : List Copy) (m : ℕ) : Type 0 where
     invalid : f Invalid ≡ Invalid
     long : length copies ≡ most_threads
     others : (u : ℕ) → copy_in copies u ≡ f (copy_of line u)
-    -- the content is the same
+    -- The coherent word is unchanged.
     content : dirty_word_or m (set copies t c) ≡ coherent_word line
-    -- the own copy is not dirty, and a word that it holds is the content
+    -- The own copy is not dirty, and has the coherent word if it has one.
     clean : IsDirty c → ⊥
     own : (w : ℕ) → copy_word c ≡ Some w → w ≡ coherent_word line
-    -- the others hold the words that they held, and none became dirty
+    -- The others have their words, and none becomes dirty.
     word : (u : ℕ) → copy_word (f (copy_of line u)) ≡ copy_word (copy_of line u)
     dirty : (u : ℕ) → IsDirty (f (copy_of line u)) → IsDirty (copy_of line u)
-    -- beside an only copy there is no other, nor did one become it
+    -- If a copy is in M or E, there is no other, and none becomes so beside another.
     alone : IsOnlyCopy c → (u : ℕ) → f (copy_of line u) ≡ Invalid
     only : (u : ℕ) → IsOnlyCopy (f (copy_of line u)) → IsOnlyCopy (copy_of line u) × (c ≡ Invalid)
 
-  -- Such a cache line is coherent too, with the same content.
+  -- Such a line is coherent too, with the same coherent word.
   changed : (f : Copy → Copy) (c : Copy) (copies : List Copy) (m : ℕ)
       → Changes f c copies m
       → LineAfterRequest (coherent_word line) (record { copies = set copies t c; memory = m })
@@ -131,8 +131,7 @@ module _ (t : ℕ) (line : CacheLine) (lt : t < most_threads) (sound : IsCoheren
         };
       }
 
-  -- A load by a GetS, which makes of the other copies what f says, and puts m into memory, leaves the content, and a copy with
-  -- it.
+  -- A load by a GetS, which changes the other copies by f and memory to m, preserves the coherent word, and leaves a copy with it.
   pub get_s_loaded : (f : Copy → Copy) (m : ℕ)
       → SharesOthers f line → dirty_word_or m (map f line.copies) ≡ coherent_word line → copy_of line t ≡ Invalid
       → (b : Bool) → (b ≡ false → is_held_anywhere line.copies ≡ false)
@@ -158,12 +157,12 @@ module _ (t : ℕ) (line : CacheLine) (lt : t < most_threads) (sound : IsCoheren
         word = ap copy_word (put_here (map f line.copies) t (copy_from b v) (omega (arith, long))) ∙ from_word b v;
       }
     where
-      -- where the requestor is in E nobody else has a copy
+      -- If the requestor's copy is in E, nobody else has a copy.
       nobody : (b : Bool) → (b ≡ false → is_held_anywhere line.copies ≡ false) → IsOnlyCopy (copy_from b (coherent_word line)) → (u : ℕ) → f (copy_of line u) ≡ Invalid
       nobody true e own u = absurd own
       nobody false e own u = ap f (none_held line.copies (e refl) u) ∙ shared.invalid
 
-  -- Without the own copy, where the content is the same, the cache line is coherent too.
+  -- Without the own copy the line is coherent too, if the coherent word is the same.
   without_own : (m : ℕ)
       → dirty_word_or m (set line.copies t Invalid) ≡ coherent_word line → LineAfterRequest (coherent_word line) (record { copies = set line.copies t Invalid; memory = m })
   without_own m content = changed (λ c. c) Invalid line.copies m (record {
@@ -179,7 +178,7 @@ module _ (t : ℕ) (line : CacheLine) (lt : t < most_threads) (sound : IsCoheren
     only = λ u only. (only, refl);
   })
 
-  -- An eviction of a dirty copy, whose word goes to memory, leaves a coherent cache line with the same content.
+  -- An eviction of a dirty copy, whose word is written back, leaves a coherent line with the same coherent word.
   pub written_back : (c : Copy) (w : ℕ) → copy_of line t ≡ c → copy_word c ≡ Some w → IsDirty c
       → LineAfterRequest (coherent_word line) (record { copies = set line.copies t Invalid; memory = w })
   written_back c w e h own =
@@ -190,12 +189,12 @@ module _ (t : ℕ) (line : CacheLine) (lt : t < most_threads) (sound : IsCoheren
       (λ u ne d. ne (sound.one_dirty t u (subst IsDirty (sym e) own) (subst IsDirty (put_there line.copies t Invalid u ne) d))) in
       without_own w (clean w copies none ∙ sound.same_word t w (ap copy_word e ∙ h))
 
-  -- An eviction of a copy that is not dirty leaves a coherent cache line with the same content; memory is left as it is.
+  -- An eviction of a clean copy leaves a coherent line with the same coherent word, and memory unchanged.
   pub let_go : (c : Copy) → copy_of line t ≡ c → (IsDirty c → ⊥)
       → LineAfterRequest (coherent_word line) (record { copies = set line.copies t Invalid; memory = line.memory })
   let_go c e not = without_own line.memory (put_clean line.memory line.copies t Invalid (λ d. not (subst IsDirty e d)) (λ d. d))
 
-  -- What each case of a protocol's table keeps: what a write finds, and what a load and an eviction leave.
+  -- What each case of a protocol's table preserves: what a write finds, and what a load and an eviction leave.
   pub record Keeps (table : ProtocolTable) : Type 0 where
     pub to_write : ToWrite (cache_line_to_write t line)
     pub loaded : Loaded (cache_line_to_read table t line)

@@ -1,4 +1,4 @@
--- When a cache line is coherent, and what its content is then: proofs that an impl cites, and no definition of the protocols.
+-- Coherent lines and their coherent words. An impl cites these proofs; there is no definition of the protocols here.
 use Rattle.std.proofs.Common.{◌≡◌, ◌≢◌, ℕ, zero, suc, ◌<◌, List, [], ◌∷◌, length, map, set, Some, None, refl, sym, ap, ◌∙◌, subst, ⊎_elim, arith}
 use Rattle.std.proofs.Common.{get_or-set_same, get_or-set_other}
 use Rattle.std.proofs.lemmas.Bool.{cases_eq}
@@ -6,29 +6,29 @@ use Rattle.lw_base.specs.Limits.{most_threads}
 use Rattle.lw_mesi.specs.CacheLines.{Copy, Modified, Owned, Exclusive, Shared, Invalid, CacheLine, copy_of, copy_word, dirty_word_or, coherent_word}
 use Rattle.lw_mesi.specs.Coherence.{IsOnlyCopy, IsDirty, IsCoherentCacheLine}
 
--- A processor's copy, in a list of copies.
+-- A processor's copy in a list of copies.
 abbrev pub copy_in : List Copy → ℕ → Copy
 copy_in copies t = copy_of (record { copies = copies; memory = 0 }) t
 
--- What holds of one index, and of every other index, holds of all.
+-- A property of one index, and of every other index, holds of all.
 pub at_index : (t : ℕ) (P : ℕ → Type 0) → P t → ((u : ℕ) → t ≢ u → P u) → (u : ℕ) → P u
 at_index t P here there u = ⊎_elim (λ same. subst P same here) (λ ne. there u ne) (cases_eq t u)
 
--- A copy that was put into a list is the processor's copy in it.
+-- A copy that was written into a list is the processor's copy.
 pub put_here : (copies : List Copy) (t : ℕ) (c : Copy) → t < length copies → copy_in (set copies t c) t ≡ c
 put_here copies t c lt = get_or-set_same copies t c Invalid lt
 
--- The other copies of a list are as they were after one was put in.
+-- Writing a copy leaves the other copies unchanged.
 pub put_there : (copies : List Copy) (t : ℕ) (c : Copy) (u : ℕ) → t ≢ u → copy_in (set copies t c) u ≡ copy_in copies u
 put_there copies t c u ne = get_or-set_other copies t u c Invalid (λ e. ne (sym e))
 
--- A change of all copies, which leaves an invalid one invalid, changes each of them.
+-- A function on all copies that preserves an invalid one applies to each of them.
 pub copy_map : (f : Copy → Copy) (copies : List Copy) (t : ℕ) → f Invalid ≡ Invalid → copy_in (map f copies) t ≡ f (copy_in copies t)
 copy_map f [] t e = sym e
 copy_map f (c ∷ copies) zero e = refl
 copy_map f (c ∷ copies) (suc t) e = copy_map f copies t e
 
--- With no M or O copy the content is memory's word, w.
+-- Without a copy in M or O the coherent word is memory's, w.
 pub clean : (w : ℕ) (copies : List Copy) → ((t : ℕ) → IsDirty (copy_in copies t) → ⊥) → dirty_word_or w copies ≡ w
 clean w [] h = refl
 clean w (Exclusive v ∷ copies) h = clean w copies (λ t. h (suc t))
@@ -36,7 +36,7 @@ clean w (Shared v ∷ copies) h = clean w copies (λ t. h (suc t))
 clean w (Invalid ∷ copies) h = clean w copies (λ t. h (suc t))
 clean w _ h = absurd (h 0 tt)
 
--- With one M or O copy the content is that copy's word, v.
+-- With one copy in M or O the coherent word is that copy's, v.
 pub dirty : (w v : ℕ) (copies : List Copy) (t : ℕ)
     → IsDirty (copy_in copies t) → copy_word (copy_in copies t) ≡ Some v → ((u : ℕ) → t ≢ u → IsDirty (copy_in copies u) → ⊥)
     → dirty_word_or w copies ≡ v
@@ -49,13 +49,13 @@ dirty w v (Shared k ∷ copies) (suc t) d e h = dirty w v copies t d e (λ u ne.
 dirty w v (Invalid ∷ copies) (suc t) d e h = dirty w v copies t d e (λ u ne. h (suc u) (λ same. ne (omega arith)))
 dirty w v _ _ d e h = absurd d
 
--- The first copy of a list says nothing of the content if it is not dirty.
+-- The first copy of a list does not matter for the coherent word if it is not dirty.
 skip : (w : ℕ) (c : Copy) (copies : List Copy) → (IsDirty c → ⊥) → dirty_word_or w (c ∷ copies) ≡ dirty_word_or w copies
 skip w (Modified v) copies h = absurd (h tt)
 skip w (Owned v) copies h = absurd (h tt)
 skip w _ copies h = refl
 
--- A copy that is not dirty can be put in the place of one that is not, and the content stays.
+-- Replacing a clean copy by a clean one preserves the coherent word.
 pub put_clean : (w : ℕ) (copies : List Copy) (t : ℕ) (c : Copy)
     → (IsDirty (copy_in copies t) → ⊥) → (IsDirty c → ⊥) → dirty_word_or w (set copies t c) ≡ dirty_word_or w copies
 put_clean w (k ∷ copies) zero c old new = skip w c copies new ∙ sym (skip w k copies old)
@@ -64,7 +64,7 @@ put_clean w (Shared k ∷ copies) (suc t) c old new = put_clean w copies t c old
 put_clean w (Invalid ∷ copies) (suc t) c old new = put_clean w copies t c old new
 put_clean w _ _ c old new = refl
 
--- Every copy holds this word.
+-- Every copy has this word.
 abbrev pub AllHold : CacheLine → ℕ → Type 0
 AllHold line v = (t w : ℕ) → copy_word (copy_of line t) ≡ Some w → w ≡ v
 
@@ -80,7 +80,7 @@ no_word c w v e h = let f : copy_word c ≡ None = ap copy_word e in cc
 pub one_word : (c : Copy) (w v : ℕ) → copy_word c ≡ Some v → copy_word c ≡ Some w → w ≡ v
 one_word c w v e h = cc
 
--- A cache line of which one processor alone has a copy, with the content, is coherent.
+-- A line is coherent if only one processor has a copy, with the coherent word.
 pub single : (line : CacheLine) (t : ℕ) → length line.copies ≡ most_threads → HasNoOtherCopy line t
     → ((w : ℕ) → copy_word (copy_of line t) ≡ Some w → w ≡ coherent_word line) → IsCoherentCacheLine line
 single line t long others word =
@@ -100,7 +100,7 @@ single line t long others word =
           (λ u ne w e. no_word (copy_of line u) w (coherent_word line) (others u ne) e);
     }
 
--- What holds of a cache line after a request: its content is v, and it is coherent.
+-- The line after a request: its coherent word is v, and it is coherent.
 pub record LineAfterRequest (v : ℕ) (line : CacheLine) : Type 0 where
   pub content : coherent_word line ≡ v
   pub sound : IsCoherentCacheLine line

@@ -1,5 +1,5 @@
--- Of one location's cache line each case of MESI and of MOESI keeps the content, that it is coherent, and that its copies are in
--- states of the protocol: proofs that an impl cites, and no definition of the protocols.
+-- Each case of MESI and of MOESI preserves the coherent word of a line, its coherence, and that its copies are in states of the protocol.
+-- An impl cites these proofs; there is no definition of the protocols here.
 use Rattle.std.proofs.Common.{◌≡◌, ℕ, zero, suc, ◌<◌, List, [], ◌∷◌, map, set, Bool, true, false, refl, sym, subst}
 use Rattle.lw_base.specs.Limits.{most_threads}
 use Rattle.lw_memory.specs.Memory.{is_held}
@@ -17,31 +17,31 @@ pub invalid_state : (p : Protocol) → IsProtocolState p Invalid
 invalid_state Mesi = tt
 invalid_state Moesi = tt
 
--- Another's GetS leaves an invalid copy as it is.
+-- Another cache's GetS leaves an invalid copy invalid.
 pub shared_invalid : (p : Protocol) → (table_of p).on_other_get_s Invalid ≡ Invalid
 shared_invalid Mesi = refl
 shared_invalid Moesi = refl
 
--- What a GetS makes of another's copy keeps its word, is no M or E, and is dirty only where the copy was.
+-- After another cache's GetS a copy has the same word, is not in M or E, and is dirty only if it was.
 shared_copy : (p : Protocol) (c : Copy) → let d = (table_of p).on_other_get_s c in
     (copy_word d ≡ copy_word c) × (IsOnlyCopy d → ⊥) × (IsDirty d → IsDirty c)
 shared_copy Mesi (Modified w) = (refl, (λ h. h), (λ d. absurd d))
 shared_copy Moesi (Modified w) = (refl, (λ h. h), (λ d. d))
 shared_copy _ _ = (refl, (λ h. h), (λ d. d))
 
--- Under MESI no copy is dirty after another's GetS.
+-- Under MESI no copy is dirty after another cache's GetS.
 shared_clean : (c : Copy) → IsProtocolState Mesi c → IsDirty (mesi_on_other_get_s c) → ⊥
 shared_clean (Owned w) s d = s
 shared_clean _ s d = d
 
--- Under MOESI a dirty copy stays so after another's GetS, with its word: the content stays.
+-- Under MOESI a dirty copy remains dirty after another cache's GetS, with its word, so the coherent word is preserved.
 shared_content : (m : ℕ) (copies : List Copy) → dirty_word_or m (map moesi_on_other_get_s copies) ≡ dirty_word_or m copies
 shared_content m (Exclusive w ∷ copies) = shared_content m copies
 shared_content m (Shared w ∷ copies) = shared_content m copies
 shared_content m (Invalid ∷ copies) = shared_content m copies
 shared_content m _ = refl
 
--- A GetS keeps the content, by each protocol.
+-- A GetS preserves the coherent word, by each protocol.
 content_kept : (p : Protocol) (line : CacheLine) → HasProtocolStates p line
     → dirty_word_or ((table_of p).memory_after_get_s line) (map (table_of p).on_other_get_s line.copies) ≡ coherent_word line
 content_kept Mesi line states =
@@ -79,7 +79,7 @@ module _ (p : Protocol) (t : ℕ) (line : CacheLine) (lt : t < most_threads) (so
   evicted (Shared w) e h = let_go t line lt sound (Shared w) e (λ d. d)
   evicted Invalid e h = cc
 
-  -- The table of each protocol keeps a cache line coherent, with its content, in each case.
+  -- The table of each protocol preserves coherence and the coherent word, in each case.
   pub keeps : Keeps t line lt sound (table_of p)
   keeps = record { to_write = to_write (copy_of line t) refl; loaded = loaded (copy_of line t) refl; evicted = evicted (copy_of line t) refl }
 
@@ -88,18 +88,18 @@ modified_state : (p : Protocol) (w : ℕ) → IsProtocolState p (Modified w)
 modified_state Mesi w = tt
 modified_state Moesi w = tt
 
--- Each protocol has the states S and E, in which a load brings a copy in.
+-- Each protocol has the states S and E, in which a load brings a copy.
 from_state : (p : Protocol) (b : Bool) (w : ℕ) → IsProtocolState p (copy_from b w)
 from_state Mesi true w = tt
 from_state Mesi false w = tt
 from_state Moesi b w = tt
 
--- What a GetS makes of another's copy is in a state of the protocol.
+-- A copy after another cache's GetS is in a state of the protocol.
 shared_state : (p : Protocol) (c : Copy) → IsProtocolState p c → IsProtocolState p ((table_of p).on_other_get_s c)
 shared_state Mesi (Owned w) s = s
 shared_state _ _ s = tt
 
--- Where copies are in states of the protocol, they are so after one that is too was put in.
+-- Writing a copy in a state of the protocol preserves that all copies are in such states.
 put_state : (p : Protocol) (copies : List Copy) (t : ℕ) (c : Copy)
     → IsProtocolState p c → ((u : ℕ) → IsProtocolState p (copy_in copies u)) → (u : ℕ) → IsProtocolState p (copy_in (set copies t c) u)
 put_state p [] t c here there u = there u
@@ -108,7 +108,7 @@ put_state p (k ∷ copies) zero c here there (suc u) = there (suc u)
 put_state p (k ∷ copies) (suc t) c here there zero = there zero
 put_state p (k ∷ copies) (suc t) c here there (suc u) = put_state p copies t c here (λ u. there (suc u)) u
 
--- Where copies are in states of the protocol, they are so after a change of each that keeps such states.
+-- A function that preserves the states of the protocol preserves that all copies are in such states.
 map_state : (p : Protocol) (f : Copy → Copy) (copies : List Copy)
     → f Invalid ≡ Invalid → ((c : Copy) → IsProtocolState p c → IsProtocolState p (f c)) → ((u : ℕ) → IsProtocolState p (copy_in copies u))
     → (u : ℕ) → IsProtocolState p (copy_in (map f copies) u)

@@ -1,4 +1,4 @@
--- Caches that keep a protocol are a memory system that keeps the laws: proofs that their impl cites, and no definition.
+-- Caches of a protocol are a lawful memory system. Their impl cites these proofs; there is no definition here.
 use Rattle.std.proofs.Common.{◌≡◌, ℕ, zero, suc, ◌<◌, List, [], ◌∷◌, length, map, set, Some, refl, sym, ap, ◌∙◌, subst, arith, slice_index, slice_set, true}
 use Rattle.std.proofs.Common.{length-set, get_or-set_same, get_or-set_other}
 use Rattle.std.proofs.lemmas.List.{length-map}
@@ -18,25 +18,25 @@ use Rattle.lw_mesi.specs.laws.Coherent.{at_index, LineAfterRequest}
 use Rattle.lw_mesi.specs.laws.Cases.{written}
 use Rattle.lw_mesi.specs.laws.ProtocolCases.{keeps, loaded_states, written_states, evicted_states}
 
--- The content of caches of which one cache line is replaced: that line's content in its place.
+-- Replacing a line replaces its coherent word in the list of coherent words.
 contents_set : (cache_lines : List CacheLine) (x : ℕ) (line : CacheLine)
     → map coherent_word (set cache_lines x line) ≡ slice_set (map coherent_word cache_lines) x (coherent_word line)
 contents_set (l ∷ cache_lines) (suc x) line = ap (λ r. coherent_word l ∷ r) (contents_set cache_lines x line)
 contents_set _ _ line = refl
 
--- Caches have the same content where a cache line is replaced by one of the same content.
+-- Replacing a line by one with the same coherent word preserves the list of coherent words.
 contents_same : (cache_lines : List CacheLine) (x : ℕ) (line : CacheLine)
     → coherent_word line ≡ coherent_word (cache_line_at cache_lines x) → map coherent_word (set cache_lines x line) ≡ map coherent_word cache_lines
 contents_same [] x line e = refl
 contents_same (l ∷ cache_lines) zero line e = ap (λ c. c ∷ map coherent_word cache_lines) e
 contents_same (l ∷ cache_lines) (suc x) line e = ap (λ r. coherent_word l ∷ r) (contents_same cache_lines x line e)
 
--- The content of a location's cache line stands at its index.
+-- The coherent word of a location's line is at the location's index.
 contents_at : (cache_lines : List CacheLine) (x : ℕ) → coherent_word (cache_line_at cache_lines x) ≡ slice_index (map coherent_word cache_lines) x
 contents_at (l ∷ cache_lines) (suc x) = contents_at cache_lines x
 contents_at _ _ = refl
 
--- Where caches keep a protocol, they do so with one cache line replaced by one that keeps it.
+-- Replacing a line by one that satisfies the protocol preserves that the caches do.
 pub set_kept : (p : Protocol) (m : Caches) (x : ℕ) (line : CacheLine)
     → SatisfiesProtocol p m → x < length m.cache_lines → LineSatisfiesProtocol p line → SatisfiesProtocol p (record { cpus = m.cpus; cache_lines = set m.cache_lines x line })
 set_kept p m x line ok lt s =
@@ -53,50 +53,50 @@ set_kept p m x line ok lt s =
       states = each (HasProtocolStates p) s.states ok.states;
     }
 
--- Each cache line of caches that keep a protocol keeps it.
+-- Each line of caches that satisfy a protocol satisfies it.
 pub kept_cache_line : (p : Protocol) (m : Caches) (x : ℕ) → SatisfiesProtocol p m → x < length m.cache_lines → LineSatisfiesProtocol p (cache_line_at m.cache_lines x)
 kept_cache_line p m x ok lt = record { coherent = ok.coherent.cache_lines x lt; states = ok.states x lt }
 
--- What a cache line has after a request.
+-- A line after a request.
 module _ (p : Protocol) (t : ℕ) (line : CacheLine) (lt : t < most_threads) (ok : LineSatisfiesProtocol p line) where
-  -- What a write finds in the processor's copy, which it brings in if need be, is the content.
+  -- A write finds the coherent word in the processor's copy, which it fetches if necessary.
   pub write_word : copy_word (copy_of (cache_line_to_write t line) t) ≡ Some (coherent_word line)
   write_word = (keeps p t line lt ok.coherent ok.states).to_write.word
 
-  -- After a write the cache line is coherent, and its content is the word that was written.
+  -- After a write the line is coherent, and its coherent word is the written one.
   pub write_after : (w : ℕ) → LineAfterRequest w (cache_line_written t w line)
   write_after w = written t line lt ok.coherent w (cache_line_to_write t line) (keeps p t line lt ok.coherent ok.states).to_write
 
-  -- What a load finds in the processor's copy, which it brings in if need be, is the content.
+  -- A load finds the coherent word in the processor's copy, which it fetches if necessary.
   pub load_word : copy_word (copy_of (cache_line_to_read (table_of p) t line) t) ≡ Some (coherent_word line)
   load_word = (keeps p t line lt ok.coherent ok.states).loaded.word
 
-  -- After a load the cache line is coherent, with the content that it had.
+  -- After a load the line is coherent, with the same coherent word.
   pub load_after : LineAfterRequest (coherent_word line) (cache_line_to_read (table_of p) t line)
   load_after = (keeps p t line lt ok.coherent ok.states).loaded.after
 
-  -- After an eviction the cache line is coherent, with the content that it had.
+  -- After an eviction the line is coherent, with the same coherent word.
   pub evict_after : is_held (copy_state (copy_of line t)) ≡ true → LineAfterRequest (coherent_word line) (cache_line_evicted t line)
   evict_after = (keeps p t line lt ok.coherent ok.states).evicted
 
-  -- After a load the cache line keeps the protocol.
+  -- After a load the line satisfies the protocol.
   pub load_kept : LineSatisfiesProtocol p (cache_line_to_read (table_of p) t line)
   load_kept = record { coherent = load_after.sound; states = loaded_states p line ok.states t }
 
-  -- After a write the cache line keeps the protocol.
+  -- After a write the line satisfies the protocol.
   pub write_kept : (w : ℕ) → LineSatisfiesProtocol p (cache_line_written t w line)
   write_kept w = record { coherent = (write_after w).sound; states = written_states p line ok.states t w }
 
-  -- After an eviction the cache line keeps the protocol.
+  -- After an eviction the line satisfies the protocol.
   pub evict_kept : is_held (copy_state (copy_of line t)) ≡ true → LineSatisfiesProtocol p (cache_line_evicted t line)
   evict_kept h = record { coherent = (evict_after h).sound; states = evicted_states p line ok.states t }
 
--- Each case of the table keeps the laws.
+-- Each case of the table satisfies the laws.
 module _ (p : Protocol) (m : Caches) (ok : SatisfiesProtocol p m) where
   abbrev IsServed : Request → Type 0
   IsServed r = RequestEffect (caches_by p) (caches_invariant p) m r (answer_from (table_of p) r (cache_line_at m.cache_lines (request_location r))) (caches_after (table_of p) r m)
 
-  -- at one processor and one cache line
+  -- One processor and one line.
   module _ (t x : ℕ) (cpu : t < m.cpus) (loc : x < length m.cache_lines) where
     abbrev line : CacheLine
     line = cache_line_at m.cache_lines x
@@ -107,7 +107,7 @@ module _ (p : Protocol) (m : Caches) (ok : SatisfiesProtocol p m) where
     kept : LineSatisfiesProtocol p line
     kept = kept_cache_line p m x ok loc
 
-    -- what a write of v leaves
+    -- The caches after a write of v.
     abbrev writes : ℕ → Caches
     writes v = record { cpus = m.cpus; cache_lines = set m.cache_lines x (cache_line_written t v line) }
 
@@ -146,7 +146,7 @@ module _ (p : Protocol) (m : Caches) (ok : SatisfiesProtocol p m) where
     sound = set_kept p m x _ ok loc (evict_kept p t (cache_line_at m.cache_lines x) (lt t x cpu loc) (kept t x cpu loc) possible);
   }
 
--- The law: caches by each protocol are a memory system that keeps the laws.
+-- Caches of each protocol are a lawful memory system.
 pub protocol_lawful : (p : Protocol) → IsLawful (caches_by p) (caches_invariant p)
 protocol_lawful p = record {
   served = λ m r a n ok s.

@@ -1,11 +1,11 @@
--- One direction of an open pair that is tried: it closes a cycle and is given up, or it is taken. A level is the index of an open
--- pair: so many pairs before it have their directions.
+-- Trying one orientation of an unordered pair: it closes a cycle and is abandoned, or it is chosen. A level is the index of an unordered
+-- pair, and the number of pairs before it that have an orientation.
 use Rattle.std.specs.Prelude.{ℕ, ◌≡◌, ◌+◌, ◌<◌, Bool, true, false, ◌&&◌, ◌||◌, List, [], length, take, Option, Some, slice_index_or, slice_set}
 use Rattle.lw_orders.specs.inner.Search.{SearchState, reverse_if, TurnedLast}
 use Rattle.lw_orders.specs.inner.Remaining.{reach}
 
--- the direction p of a level's pair is taken: p is chosen there, what is reached with it is saved for the next level, and the
--- pair of that is not turned
+-- The orientation p of a level's pair is chosen: p is recorded, reachability with it is saved for the next level, and the pair of that
+-- level is not reversed.
 pub record IsTaken (len : ℕ) (p : ℕ × ℕ) (level : ℕ) (old new : SearchState) : Type 0 where
   pub chosen : new.chosen ≡ slice_set old.chosen level p
   pub saved : new.saved ≡ slice_set old.saved (level + 1) (slice_index_or new.saved (level + 1) [])
@@ -15,18 +15,18 @@ pub record IsTaken (len : ℕ) (p : ℕ × ℕ) (level : ℕ) (old new : SearchS
   pub before : take (level + 1) new.ways ≡ take (level + 1) old.ways
   pub behind : slice_index_or new.ways (level + 1) false ≡ false
 
--- what a trial of the direction p makes of the search, old to new, and the level at which it goes on: where p closes a cycle
--- (true) the last pair up to here that can be is turned round, else p is taken
+-- The effect of trying the orientation p on the search, from old to new, and the level at which it continues. If p closes a cycle (true),
+-- the last pair up to here that can be is reversed; otherwise p is chosen.
 abbrev pub TriedAs : Bool → ℕ → ℕ × ℕ → ℕ → SearchState → SearchState → Option ℕ → Type 0
 TriedAs true len p level old new found =
     TurnedLast old.ways new.ways (level + 1) found × (new.chosen ≡ old.chosen) × (new.saved ≡ old.saved)
 TriedAs false len p level old new found = IsTaken len p level old new × (found ≡ Some (level + 1))
 
--- the open pair of a level, turned round if its way says so
+-- The unordered pair of a level, reversed if its way says so.
 abbrev pub pair_at : List (ℕ × ℕ) → List Bool → ℕ → ℕ × ℕ
 pair_at undecided ways level = reverse_if (slice_index_or ways level false) (slice_index_or undecided level (0, 0))
 
--- what a trial of the direction in which the pair of a level stands makes of the search, and the level at which it goes on
+-- The effect of trying the current orientation of a level's pair on the search, and the level at which it continues.
 abbrev pub TriesOrientation : ℕ → List (ℕ × ℕ) → ℕ → SearchState → SearchState → Option ℕ → Type 0
 TriesOrientation len undecided level old new found =
     TriedAs (reach old.saved level (pair_at undecided old.ways level).1 (pair_at undecided old.ways level).0)

@@ -1,10 +1,10 @@
--- For readers of this crate, no public call cites it: how many items paths and choices have.
+-- The numbers of items of paths and path assignments. Used only within the crate.
 use Rattle.std.specs.Prelude.{◌≡◌, ◌≤◌, ℕ, List, length}
 use Rattle.std.specs.Option.{option_map_or}
 use Rattle.lw_litmus.specs.Languages.{Language}
 use Rattle.lw_paths.specs.Items.{drained_location, path_items}
 
--- the most that a size comes to among all that are of a kind: none has more, and one has so much
+-- The number is the maximum of a size among all values of a kind: none has more, and one has it.
 pub record IsMost {X : Type 0} (Is : X → Type 0) (size : X → ℕ) (most : ℕ) : Type 0 where
   pub none_more : (x : X) → Is x → size x ≤ most
   pub one : X
@@ -12,10 +12,10 @@ pub record IsMost {X : Type 0} (Is : X → Type 0) (size : X → ℕ) (most : �
   pub reached : size one ≡ most
 
 module _ {S : Type 0} (language : Language S) where
-  -- the number of items of a statement: itself, and its drain if it has one
+  -- The number of items of a statement: itself, and its drain if it has one.
   abbrev pub statement_size : S → ℕ
   statement_size s = option_map_or (λ x. 2) (drained_location language s) 1
 
-  -- the number of items along a path of a thread
+  -- The number of items along a path of a thread.
   abbrev pub path_size : List S → List ℕ → ℕ
   path_size code path = length (path_items language 0 code path)

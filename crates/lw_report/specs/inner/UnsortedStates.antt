@@ -1,5 +1,5 @@
--- For readers of this crate, no public call cites it: how the states of a listing are gathered, one for each outcome, then
--- sorted, then the first of those with the same words.
+-- How the states of a listing are made: one for each outcome, then sorted, then the first of those with the same words. Used only within
+-- the crate.
 use Rattle.std.specs.Prelude.{◌≡◌, ℕ, ◌<◌, ◌≤◌, List, Some, slice_get, All, Contains}
 use Rattle.std.specs.List.{AllPairs}
 use Rattle.std.specs.Cmp.Lexicographic.{slice_cmp}
@@ -12,11 +12,11 @@ use Rattle.lw_report.specs.Observed.{observed_words}
 use Rattle.lw_report.specs.States.{ListedState, project_state, projection_of}
 use Rattle.lw_report.specs.Truth.{is_true}
 
--- the state that an outcome shows: its observed words, its index in the listing, and whether the proposition is true in it
+-- The state of an outcome: its observed words, its index in the listing, and whether the proposition is true in it.
 abbrev pub state_at : TestHead → ℕ → FinalState → ListedState
 state_at head entry o = record { words = observed_words head o; entry = entry; holds = is_true head.condition o }
 
--- The outcome at the state's index in the listing shows it.
+-- The outcome at the state's index in the listing has this state.
 pub record Shows (head : TestHead) (outcomes : List FinalState) (s : ListedState) : Type 0 where
   pub outcome : FinalState
   pub at : slice_get outcomes s.entry ≡ Some outcome
@@ -27,11 +27,11 @@ pub record AreStatesOfFirst (head : TestHead) (outcomes : List FinalState) (coun
   pub shows : All (Shows head outcomes) states
   pub each : (i : ℕ) (o : FinalState) → i < count → slice_get outcomes i ≡ Some o → Contains states (state_at head i o)
 
--- The order of states: by their words, and where these are the same by the indices of their outcomes.
+-- The order of states: by their words, then by the indices of their outcomes.
 abbrev pub state_cmp : ListedState → ListedState → Ordering
 state_cmp s t = ordering_then (slice_cmp nat_cmp s.words t.words) (ordering_then (nat_cmp s.entry t.entry) (bool_cmp s.holds t.holds))
 
--- Of all states those with the smallest index among the ones with the same words, sorted by the words.
+-- The states with the smallest index among those with the same words, sorted by the words.
 pub record AreFirstStates (all states : List ListedState) : Type 0 where
   pub sorted : AllPairs (λ (first later : ListedState). slice_cmp nat_cmp first.words later.words ≡ Less) states
   pub among : All (λ s. Contains all s) states

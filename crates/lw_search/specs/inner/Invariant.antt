@@ -1,5 +1,5 @@
--- For readers of this crate, no public call cites it: the invariant of a search.
--- It speaks of a list `found` of machine states that the code does not keep: one for each key of the table.
+-- The invariant of a search. It speaks of a list `found` of machine states that the code does not store: one for each key of the table.
+-- Used only within the crate.
 use Rattle.std.specs.Prelude.{◌≡◌, ◌≢◌, ℕ, suc, ◌+◌, ◌<◌, ◌≤◌, ◌==◌, ◌&&◌, Bool, true, false, nat_le, Some, Ok, List, [], ◌++◌, length, slice_get, slice_index, slice_index_or, IsTrue, All, Contains}
 use Rattle.lw_base.specs.Threads.{thread_code}
 use Rattle.lw_base.specs.declared.event.Event.{Event}
@@ -63,7 +63,7 @@ module _ (program : List (List Instr)) where
         → slice_get found (suc i) ≡ Some s → HasPredecessor visited.runs found (suc i) origin s
     pub covered : (i : ℕ) (s : State) → i < at → slice_get found i ≡ Some s → (e : Event) → IsCovered found s e
 
-  -- More states were found, with the invariant, and Holds is so of them.
+  -- More states were found, which satisfy the invariant, and the property Holds is true of them.
   pub record Expansion (start : State) (tables : Components) (old visited : Visited) (found : List State) (at : ℕ) (Holds : List State → Type 0) : Type 0 where
     pub more : List State
     pub longer : IsPrefix found more
@@ -85,7 +85,7 @@ module _ (program : List (List Instr)) where
       (start : State) (found : List State) → SearchInvariant start old_tables old_visited found before
       → (more : List State) × SearchInvariant start new_tables new_visited more after
 
-  -- What a search that had visited no state has done within a budget: it has visited all states that it found (true), or it has found
+  -- The progress of a search that had visited no state, within a budget: it has visited all states that it found (true), or it has found
   -- more than the budget (false).
   abbrev pub IsProgress : Components → Visited → Components → Visited → ℕ → Bool → Type 0
   IsProgress old_tables old_visited new_tables new_visited budget true =

@@ -1,4 +1,4 @@
--- For readers of this crate, no public call cites it: invisible events, which conflict with no event of another thread, now or later.
+-- Invisible events, which conflict with no event of another thread, now or later. Used only within the crate.
 use Rattle.std.specs.Prelude.{◌≡◌, ◌≢◌, ℕ, ◌<◌, ◌≤◌, ◌||◌, Bool, true, false, Option, Some, None, List, [], ◌∷◌, length, slice_get}
 use Rattle.lw_base.specs.Threads.{thread_code}
 use Rattle.lw_base.specs.declared.event.Event.{Event}
@@ -20,17 +20,17 @@ operation_access (Swap d x a) = Some (x, true)
 operation_access (FetchAdd d x v) = Some (x, true)
 operation_access o = None
 
--- The same of the step of a thread whose next instruction this is, `None` at the end of its code.
+-- The access of the step of a thread with this next instruction. `None` at the end of its code.
 abbrev pub step_access : Option Instr → Option (ℕ × Bool)
 step_access None = None
 step_access (Some i) = operation_access (x86_operation i)
 
--- The same of the drain of a store buffer: it writes the location of the oldest entry; `None` if the buffer is empty.
+-- The access of the drain of a store buffer: it writes the location of the oldest entry. `None` if the buffer is empty.
 abbrev pub drain_access : List (ℕ × ℕ) → Option (ℕ × Bool)
 drain_access [] = None
 drain_access (entry ∷ newer) = Some (entry.0, true)
 
--- The same of an event of a thread in state p.
+-- The access of an event of a thread in state p.
 abbrev pub event_access : List Instr → Event → Processor → Option (ℕ × Bool)
 event_access code (Step t) p = step_access (slice_get code p.position)
 event_access code (Drain t) p = drain_access p.buffer
@@ -56,6 +56,6 @@ module _ (program : List (List Instr)) where
       (p : Processor) (access : ℕ × Bool) → slice_get s.processors (cpu_of e) ≡ Some p
       → event_access (thread_code program (cpu_of e)) e p ≡ Some access → IsUncontended s (cpu_of e) access
 
-  -- Each instruction of each thread leads to later positions only.
+  -- Each instruction of each thread leads only to later positions.
   abbrev pub IsForward : Type 0
   IsForward = (t k j : ℕ) (i : Instr) → slice_get (thread_code program t) k ≡ Some i → IsSuccessor (x86_operation i) k j → k < j

@@ -1,4 +1,4 @@
--- For readers of this crate, no public call cites it: states of the machine as keys, the numbers of their parts.
+-- States of the machine as keys, the numbers of their parts. Used only within the crate.
 use Rattle.std.specs.Prelude.{◌≡◌, ◌≢◌, ◌⊎◌, ◌≤◌, ℕ, ◌+◌, Bool, if◌then◌else◌, Some, List, [], ◌∷◌, ◌++◌, length, map, slice_get, slice_index, slice_set}
 use Rattle.lw_base.specs.declared.event.Event.{Event}
 use Rattle.lw_base.specs.declared.event.Event.TheVariants.{Step, Drain}

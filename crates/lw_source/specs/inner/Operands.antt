@@ -1,4 +1,4 @@
--- The statement of a form with operands that must be there.
+-- The statement of a form with operands that may be missing.
 use Rattle.std.specs.Prelude.{Option}
 use Rattle.lw_litmus.specs.declared.stmt.Stmt.{Stmt}
 use Rattle.lw_litmus.specs.declared.stmt.Stmt.TheVariants as stmt
@@ -7,7 +7,7 @@ use Rattle.lw_statements.specs.Bindings.{map_some, map_some2, map_some3}
 use Rattle.lw_source.specs.declared.language.SourceForm.{SourceForm}
 use Rattle.lw_source.specs.declared.language.SourceForm.TheVariants.{Store, Load, Swap, FetchAdd, Set, Sum, IfEqual, IfNotEqual, Goto}
 
--- the statement of a form, made of operands that are there or not: `None` where one is missing that it needs
+-- The statement of a form, or `None` if an operand that it needs is missing.
 abbrev pub statement_of_operands : SourceForm → Operands → Option Stmt
 statement_of_operands Store o = map_some2 stmt.Store o.loc o.val
 statement_of_operands Load o = map_some2 stmt.Load o.reg o.loc

@@ -1,4 +1,4 @@
--- What a reader of cells has read, and why it stopped.
+-- What a reader of cells has read, and why it failed.
 use Rattle.std.specs.Prelude.{◌≡◌, ◌≢◌, ◌<◌, ◌≤◌, ◌+◌, ◌*◌, ◌⊎◌, ℕ, if◌then◌else◌, Option, Some, None, List, [], ◌∷◌, ◌++◌, length, map, take, drop}
 use Rattle.std.specs.Prelude.{codes, slice_get, All, Contains, IsSome, IfSome, MatchOption, is_some}
 use Rattle.std.specs.List.{AllZip, filter_map}
@@ -28,18 +28,18 @@ use Rattle.lw_statements.specs.Faults.{CellCauseIsTrue}
 use Rattle.lw_statements.specs.Bindings.{with_target}
 use Rattle.lw_statements.specs.inner.Tokens.{FaultClaim, Refused, IsOverflowName, AllEndBefore}
 
--- ---- labels
+-- ---- Labels.
 
--- the second of these tokens is a `:`, which makes the first a label
+-- The second of these tokens is a `:`, which makes the first a label.
 abbrev pub AtLabel : TokenList → Type 0
 AtLabel ts = slice_get ts 1 ≡ Some (codes ":")
 
--- The map leads these names somewhere, and no others.
+-- The map has exactly these names.
 abbrev pub HasExactlyLabels : LabelMap → List Bytes → Type 0
 HasExactlyLabels labels names = (n : Bytes) → is_some (target_by labels n) ≡ contains_name names n
 
--- The first `next` tokens of a cell are labels, which lead to the statement at the index `to`. The map after has them beside
--- those that the thread had before.
+-- The first `next` tokens of a cell are labels of the statement at the index `to`. The map after has them beside those that the thread had
+-- before.
 pub record LabelsRead (tokens : List Token) (to : ℕ) (labels : LabelMap) (next : ℕ) (after : LabelMap) : Type 0 where
   pub names : List Bytes
   pub within : next ≤ length tokens
@@ -48,12 +48,12 @@ pub record LabelsRead (tokens : List Token) (to : ℕ) (labels : LabelMap) (next
   pub made : (n : Bytes) → target_by after n ≡ (if contains_name names n then Some to else target_by labels n)
   pub once : (known : List Bytes) → HasExactlyLabels labels known → IsDuplicateFree known → IsDuplicateFree (known ++ names)
 
--- These are all labels of the cell: what stands behind them begins with none.
+-- These are all labels of the cell: the rest begins with no label.
 pub record LabelsTaken (tokens : List Token) (to : ℕ) (labels : LabelMap) (next : ℕ) (after : LabelMap) : Type 0 where
   pub read : LabelsRead tokens to labels next after
   pub stops : AtLabel (token_texts (drop next tokens)) → ⊥
 
--- These names are all labels of a cell; none of them is one that the thread has before, in the map, or stands twice.
+-- These names are all labels of a cell; none of them is in the map before, and there are no duplicates.
 pub record LabelsFit (labels : LabelMap) (ts : TokenList) (names : List Bytes) : Type 0 where
   pub known : List Bytes
   pub knows : HasExactlyLabels labels known
@@ -62,7 +62,7 @@ pub record LabelsFit (labels : LabelMap) (ts : TokenList) (names : List Bytes) :
   pub stops : AtLabel rest → ⊥
   pub once : IsDuplicateFree (known ++ names)
 
--- At this place of a cell stands a label that its thread has already.
+-- A label that its thread has already is at this place of a cell.
 pub record HasDuplicateLabelAt (tokens : List Token) (labels : LabelMap) (at : ℕ) : Type 0 where
   pub names : List Bytes
   pub place : ℕ
@@ -73,28 +73,27 @@ pub record HasDuplicateLabelAt (tokens : List Token) (labels : LabelMap) (at : �
   pub colon : slice_get (token_texts tokens) (place + 1) ≡ Some (codes ":")
   pub there : (known : List Bytes) → HasExactlyLabels labels known → Contains (known ++ names) token.text.now
 
--- the labels of a cell are refused: they do not fit, and if the cause is `LabelTwice`, a second label stands at the place
+-- The labels of a cell are rejected: they do not fit, and if the cause is `LabelTwice`, a second label is at the place.
 abbrev pub LabelsRefused : List Token → LabelMap → CellFault → Type 0
 LabelsRefused tokens labels =
     Refused (HoldsOfNothing (LabelsFit labels (token_texts tokens))) (λ at. FaultClaim ⊥ (HasDuplicateLabelAt tokens labels at) ⊥ ⊥)
     (λ len. All (λ t. t.at ≤ len) tokens)
 
--- ---- jumps
+-- ---- Jumps.
 
--- the jump to a label, of the statement at this index, is refused for this cause
+-- The jump of the statement at this index to a label is rejected for this cause.
 abbrev pub JumpCause : LabelMap → ℕ → Bytes → CellCause → Type 0
 JumpCause labels number l LabelMissing = target_by labels l ≡ None
 JumpCause labels number l Backward = (to : ℕ) × (target_by labels l ≡ Some to) × (to ≤ number)
 JumpCause labels number l cause = ⊥
 
--- The label at an index among the tokens, if there is one, leads to the statement at the index `to`, which stands behind the one
--- at the index `number`.
+-- If the statement has a label, at this index among its tokens, its target is `to`, and `to` is greater than the statement's own index.
 abbrev pub LedForward : LabelMap → ℕ → List Token → Option ℕ → Option ℕ → Type 0
 LedForward labels number tokens None to = to ≡ None
 LedForward labels number tokens (Some k) to =
     (t : Token) × (n : ℕ) × (slice_get tokens k ≡ Some t) × (to ≡ Some n) × (target_by labels t.text.now ≡ Some n) × (number < n)
 
--- The label at an index among the tokens does not lead behind the statement at the index `number`: the fault says at that token
+-- The label at this index among the tokens does not target a statement after the one at the index `number`; the fault says at that token
 -- whether it is missing, or leads backward.
 pub record LabelLost (labels : LabelMap) (number : ℕ) (tokens : List Token) (label : Option ℕ) (fault : CellFault) : Type 0 where
   pub index : ℕ
@@ -104,40 +103,40 @@ pub record LabelLost (labels : LabelMap) (number : ℕ) (tokens : List Token) (l
   pub begins : token.at ≡ fault.at
   pub because : JumpCause labels number token.text.now fault.cause
 
--- Drafts that are resolved, by the statement that a form makes of operands.
+-- Resolving drafts, by the function from a form and operands to a statement.
 module _ {Form Stmt : Type 0} (make : Form → Operands → Option Stmt) where
-  -- The label of a draft, if it has one, is one of the tokens; and wherever that leads, a statement can be made of the draft.
+  -- The label of a draft, if it has one, is one of the tokens; and for any target a statement results from the draft.
   pub record IsResolvable (tokens : List Token) (draft : Draft Form) : Type 0 where
     pub labelled : IfSome draft.label (λ k. k < length tokens)
     pub makes : (labels : LabelMap) (number : ℕ) (to : Option ℕ) → LedForward labels number tokens draft.label to
         → IsSome (make draft.form (with_target to draft.operands))
 
-  -- This statement, at the index `number`, is made of the draft, and the draft's label, if it has one, leads forward.
+  -- This statement, at the index `number`, results from the draft, and the draft's label, if it has one, leads forward.
   pub record IsResolved (labels : LabelMap) (number : ℕ) (tokens : List Token) (draft : Draft Form) (stmt : Stmt) : Type 0 where
     pub to : Option ℕ
     pub led : LedForward labels number tokens draft.label to
     pub made : make draft.form (with_target to draft.operands) ≡ Some stmt
 
-  -- The statement of a cell, if it has one, is resolved, and stands behind those that were resolved before.
+  -- The statement of a cell, if it has one, is resolved and appended to those before.
   abbrev pub IsCellResolved : {A : Type 0} → LabelMap → Cell A → DraftCell (Draft Form) → List Stmt → List Stmt → Type 0
   IsCellResolved labels cell draft before after =
       MatchOption draft.stmt (after ≡ before)
       (λ d. (stmt : Stmt) × IsResolved labels (length before) (drop draft.start cell.tokens) d stmt × (after ≡ before ++ stmt ∷ []))
 
--- Why a cell's statement, of this index, is not resolved: memory ran out, or its label does not lead forward.
+-- Why a cell's statement, with this index, is not resolved: memory ran out, or its label does not lead forward.
 abbrev pub IsUnresolved : {Form A : Type 0} → LabelMap → ℕ → Cell A → DraftCell (Draft Form) → CellFault → Type 0
 IsUnresolved {Form} labels number cell draft f =
     ((f.cause ≡ Memory) × (f.at ≡ 0))
     ⊎ ((d : Draft Form) × (draft.stmt ≡ Some d) × LabelLost labels number (drop draft.start cell.tokens) d.label f)
 
--- what a cell without labels says
+-- The content of a cell without labels.
 abbrev pub bare : {Syntax : Type 0} → Option Syntax → CellSyntax Syntax
 bare o = record { labels = []; stmt = o }
 
 module _ {Syntax Stmt : Type 0} (grammar : Grammar Syntax Stmt) where
-  -- ---- statements
+  -- ---- Statements.
 
-  -- At this place stands a token that is a ninth location, where a statement may have a location.
+  -- A token that is a ninth location is at this place, where a statement may have a location.
   pub record HasOverflowIn (tokens : List Token) (names : NameTable) (at : ℕ) : Type 0 where
     pub place : ℕ
     pub token : Token
@@ -145,25 +144,25 @@ module _ {Syntax Stmt : Type 0} (grammar : Grammar Syntax Stmt) where
     pub before : BeforeLocation grammar (token_texts (take place tokens))
     pub ninth : IsOverflowName names token at
 
-  -- what a cause tells of a place in a statement that is refused: if it is `TooMany`, a ninth location stands there
+  -- What a cause means for a place in a rejected statement: if it is `TooMany`, a ninth location is there.
   abbrev pub StatementFaultIsTrue : List Token → NameTable → ℕ → CellCause → Type 0
   StatementFaultIsTrue tokens names at = FaultClaim ⊥ ⊥ ⊥ (HasOverflowIn tokens names at)
 
-  -- the name of a statement's location, if it has one
+  -- The name of a statement's location, if it has one.
   abbrev pub named_by : Syntax → List Bytes
   named_by s = filter_map grammar.name_of (s ∷ [])
 
-  -- The tokens say the statement, and the table has its location or room for it.
+  -- The tokens are the statement, and the table has its location or room for it.
   abbrev pub Fits : NameTable → TokenList → Syntax → Type 0
   Fits names ts s = grammar.says ts s × (length (insert_names names (named_by s)) ≤ most_locations)
 
-  -- tokens are refused as a statement: they say none that fits the table, and the cause tells what stands at the place
+  -- The tokens are rejected as a statement: they are none that fits the table, and the cause is true of the place.
   abbrev pub StatementRefused : NameTable → Phrase → CellFault → Type 0
   StatementRefused names phrase =
       Refused (HoldsOfNothing (Fits names (token_texts phrase.tokens.now))) (StatementFaultIsTrue phrase.tokens.now names) (λ len. AllEndBefore len phrase)
 
-  -- The tokens behind a cell's labels say this, a statement or none; the table has room for its location, and the thread for it
-  -- below the statements above, which are so many.
+  -- The tokens after a cell's labels are this statement, or none; the table has room for its location, and the thread for the statement
+  -- after `above` others.
   pub record FitsBelow (above : ℕ) (names : NameTable) (ts : TokenList) (o : Option Syntax) : Type 0 where
     pub says : MaybeStatement grammar ts o
     pub few : above + length (statements (bare o ∷ [])) ≤ grammar.language.most
@@ -173,81 +172,79 @@ module _ {Syntax Stmt : Type 0} (grammar : Grammar Syntax Stmt) where
   abbrev pub BeginsAt : List Token → ℕ → Type 0
   BeginsAt tokens at = (t : Token) × (slice_get tokens 0 ≡ Some t) × (t.at ≡ at) × CanBegin grammar t.text.now
 
-  -- what a cause tells of a place behind a cell's labels, where so many statements stand above: if it is `TooMany`, the first
-  -- token would begin one too many, or a ninth location stands there
+  -- What a cause means for a place after a cell's labels, if the cells above have `above` statements: if it is `TooMany`, the first token
+  -- would begin a statement beyond the limit, or a ninth location is there.
   abbrev pub OptionalStatementFaultIsTrue : ℕ → List Token → NameTable → ℕ → CellCause → Type 0
   OptionalStatementFaultIsTrue above tokens names at =
       FaultClaim ⊥ ⊥ ⊥ (((above ≡ grammar.language.most) × BeginsAt tokens at) ⊎ HasOverflowIn tokens names at)
 
-  -- the tokens behind a cell's labels are refused: they say nothing that fits, and the cause tells what stands at the place
+  -- The tokens after a cell's labels are rejected: they are nothing that fits, and the cause is true of the place.
   abbrev pub MaybeRefused : ℕ → NameTable → Phrase → CellFault → Type 0
   MaybeRefused above names phrase =
       Refused (HoldsOfNothing (FitsBelow above names (token_texts phrase.tokens.now))) (OptionalStatementFaultIsTrue above phrase.tokens.now names) (λ len. AllEndBefore len phrase)
 
-  -- ---- columns
+  -- ---- Columns.
 
   -- All jumps of a thread lead forward.
   abbrev pub AllForward : List (CellSyntax Syntax) → Type 0
   AllForward syntaxes =
       (k : ℕ) (s : Syntax) → slice_get (statements syntaxes) k ≡ Some s → LabelsLeadForward grammar syntaxes k s
 
-  -- The cells of a thread say this, and the table has room for its locations. Where nothing fits, the column is refused.
+  -- The cells of a thread have this content, and the table has room for its locations. If nothing fits, the column is rejected.
   abbrev pub ColumnFits : NameTable → Cells → List (CellSyntax Syntax) → Type 0
   ColumnFits names cells t = Column grammar cells t × (length (insert_names names (names_in grammar t)) ≤ most_locations)
 
-  -- The cells of some threads say this, and the table has room for the locations of all of them.
+  -- The cells of threads have this content, and the table has room for the locations of all of them.
   abbrev pub ColumnsFit : NameTable → CellGrid → List (List (CellSyntax Syntax)) → Type 0
   ColumnsFit names columns t =
       AllZip (Column grammar) columns t × (length (insert_names names (names_of grammar t)) ≤ most_locations)
 
-  -- The cells of a thread are read: these are its statements, resolved; the tables are those before and after its locations'
-  -- names.
+  -- The cells of a thread are read: these are its resolved statements; the tables are those before and after its locations' names.
   abbrev pub ColumnRead : Cells → NameTable → List Stmt → NameTable → Type 0
   ColumnRead cells = ReadOn (Column grammar cells) (names_in grammar) (code_in grammar)
 
-  -- The cells of some threads are read: these are their statements, resolved; the tables are those before and after their
-  -- locations' names.
+  -- The cells of threads are read: these are their resolved statements; the tables are those before and after their locations' names.
   abbrev pub ColumnsRead : CellGrid → NameTable → List (List Stmt) → NameTable → Type 0
   ColumnsRead columns = ReadOn (AllZip (Column grammar) columns) (names_of grammar) (λ names. map (code_in grammar names))
 
-  -- what the cause of a fault in a thread's cells tells of its place, whichever threads stand around it; those before it were
-  -- read, and the table grew by their names
+  -- What the cause of a fault in a thread's cells means for its place, whatever the other threads are; those before it were read, and the
+  -- table grew by their names.
   abbrev pub ColumnFaultIsTrue : List PlacedCell → NameTable → ℕ → CellCause → Type 0
   ColumnFaultIsTrue column mid at cause =
       (names : NameTable) (front rest : List (List PlacedCell)) (threads : List (List (CellSyntax Syntax)))
       → AllZip (Column grammar) (texts_of_grid front) threads → mid ≡ insert_names names (names_of grammar threads)
       → CellCauseIsTrue grammar names (front ++ column ∷ rest) at cause
 
-  -- The cells of a thread are refused: they say nothing that fits, and the cause tells what stands at the place.
+  -- The cells of a thread are rejected: they have no content that fits, and the cause is true of the place.
   abbrev pub ColumnRefused : {A : Type 0} → NameTable → List (Cell A) → CellFault → Type 0
   ColumnRefused names cells =
       Refused (HoldsOfNothing (ColumnFits names (cells_texts cells))) (ColumnFaultIsTrue (placed_row cells) names) (λ len. All (EndsBefore len) cells)
 
-  -- The cells of some threads are refused: they say nothing that fits, and the cause tells what stands at the place.
+  -- The cells of threads are rejected: they have no content that fits, and the cause is true of the place.
   abbrev pub ColumnsRefused : {A : Type 0} → NameTable → List (List (Cell A)) → CellFault → Type 0
   ColumnsRefused names columns =
       Refused (HoldsOfNothing (ColumnsFit names (all_texts columns))) (CellCauseIsTrue grammar names (placed_cells columns))
       (λ len. All (λ column. All (EndsBefore len) column) columns)
 
--- What is read, as drafts, on a table that grows by the names of locations.
+-- Reading drafts, with a table that grows by the names of locations.
 module _ {Syntax Stmt D : Type 0} (grammar : Grammar Syntax Stmt) (draft_of : ℕ → Syntax → D) where
-  -- The tokens say a statement, and this is its draft. The tables are those before and after its location's name.
+  -- The tokens are a statement, and this is its draft. The tables are those before and after its location's name.
   abbrev pub StatementRead : TokenList → NameTable → D → NameTable → Type 0
   StatementRead ts = ReadOn (grammar.says ts) (named_by grammar) (draft_in grammar draft_of)
 
-  -- The tokens behind a cell's labels say nothing, or a statement for which the thread has room; this is its draft.
+  -- The tokens after a cell's labels are empty, or a statement for which the thread has room; this is its draft.
   pub record MaybeRead (above : ℕ) (ts : TokenList) (before : NameTable) (draft : Option D) (after : NameTable) : Type 0 where
     pub room : ForSome draft (λ _. above ≢ grammar.language.most)
     pub read : ReadOn (MaybeStatement grammar ts) (λ o. names_in grammar (bare o ∷ [])) (λ names. option_map (draft_in grammar draft_of names))
         before draft after
 
-  -- The cell is read: if the old column was what was read of the cells above it, the new one is what is read of these and of it.
+  -- The cell is read: if the old column results from the cells above it, the new one results from these and it.
   abbrev pub CellRead : {A : Type 0} → Cell A → DraftColumn D A → NameTable → DraftColumn D A → NameTable → Type 0
   CellRead {A} cell old names new after =
       (front : List (Cell A)) (before : NameTable) → ColumnDrafted grammar draft_of front before old names
       → ColumnDrafted grammar draft_of (front ++ cell ∷ []) before new after
 
-  -- the cell is refused: if the old column was what was read of the cells above it, the thread is refused, whatever stands below
+  -- The cell is rejected: if the old column results from the cells above it, the thread is rejected, whatever is below.
   abbrev pub CellRefused : {A : Type 0} → Cell A → DraftColumn D A → NameTable → CellFault → Type 0
   CellRefused {A} cell old names f =
       (front rest : List (Cell A)) (before : NameTable) → ColumnDrafted grammar draft_of front before old names

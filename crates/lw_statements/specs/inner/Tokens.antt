@@ -1,4 +1,4 @@
--- What one token of a cell is, and why it is refused.
+-- Tokens of a cell as names of locations, and why they are rejected.
 use Rattle.std.specs.Prelude.{◌≡◌, ◌≢◌, ◌≤◌, ℕ, length, All, Contains}
 use Rattle.lw_base.specs.Limits.{most_locations}
 use Rattle.lw_base.specs.Types.{Bytes, NameTable}
@@ -10,35 +10,35 @@ use Rattle.lw_base.specs.Tables.{insert_name, position_of_name}
 use Rattle.lw_text.specs.declared.token.Token.{Token}
 use Rattle.lw_statements.specs.declared.phrase.Phrase.{Phrase}
 
--- the causes of a token that does not fit, and of a cell that ends too early
+-- The causes of a token that does not fit, and of a cell that ends too early.
 abbrev pub IsMisfit : CellCause → Type 0
 IsMisfit Form = Unit {0}
 IsMisfit Register = Unit {0}
 IsMisfit cause = ⊥
 
--- no token of what stands behind a cell's labels, and not the cell's end, lies past this place
+-- Every token after the labels, and the cell's end, is at or before this offset.
 abbrev pub AllEndBefore : ℕ → Phrase → Type 0
 AllEndBefore len p = All (λ t. t.at ≤ len) p.tokens.now × (p.end ≤ len)
 
--- The text is a location's name, and the table has it, or room for it.
+-- The text is a location's name, and the table has it or room for it.
 abbrev pub FitsTable : NameTable → Bytes → Type 0
 FitsTable names n = IsLocationName n × (length (insert_name names n) ≤ most_locations)
 
--- The token is a ninth location: the table is full, and lacks it. It stands at this place.
+-- The token at this place is a ninth location: the table is full, and does not have it.
 abbrev pub IsOverflowName : NameTable → Token → ℕ → Type 0
 IsOverflowName names t at =
     (t.at ≡ at) × IsLocationName t.text.now × (length names ≡ most_locations) × (Contains names t.text.now → ⊥)
 
--- What a cause tells of its place, where a label is missing or stands twice, a jump leads back, or one is too many. The others
--- tell nothing.
+-- What a cause means for its place, if a label is missing or a duplicate, a jump leads backward, or something is beyond a limit. The other
+-- causes mean nothing.
 pub record FaultClaim (no_label second_label backward one_more : Type 0) (cause : CellCause) : Type 0 where
   pub missing : cause ≡ LabelMissing → no_label
   pub twice : cause ≡ LabelTwice → second_label
   pub back : cause ≡ Backward → backward
   pub many : cause ≡ TooMany → one_more
 
--- What each refusal says: where memory did not run out, nothing fits; the cause tells something of the fault's place; and the
--- place lies where all does that was read.
+-- What each refusal states: unless memory ran out, nothing fits; the cause means something for the fault's place; and the place is within
+-- what was read.
 pub record Refused (unfit : Type 0) (told : ℕ → CellCause → Type 0) (lies : ℕ → Type 0) (fault : CellFault) : Type 0 where
   pub none : fault.cause ≢ Memory → unfit
   pub cause : told fault.at fault.cause

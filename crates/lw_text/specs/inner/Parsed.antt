@@ -1,4 +1,4 @@
--- Used within the crate: what a reader of tokens has taken between two places, with the names that it put into the table.
+-- What the parser has parsed between two positions, with the names that it inserted into the table. Used only within the crate.
 use Rattle.std.specs.Prelude.{◌≡◌, ℕ, Option, true, false, List, [], ◌∷◌, ◌++◌, map, All}
 use Rattle.std.specs.List.{AllByRecursion}
 use Rattle.lw_base.specs.Types.{NameTable, TokenList}
@@ -22,13 +22,13 @@ use Rattle.lw_text.specs.Frames.{Block}
 use Rattle.lw_text.specs.Views.{remaining, remaining_texts, AdvancesTo}
 use Rattle.lw_text.specs.inner.Resolved.{site_by_name, named_initializer, named_terminal, IsIn, TerminalIn}
 
--- The tokens of a cell were taken, and the `|` or `;` behind them.
+-- The tokens of a cell were parsed, and the `|` or `;` after them.
 pub record ParsedCell (before after : Cursor) (cell : List Token) (mark : Token) : Type 0 where
   pub parts : remaining before ≡ cell ++ mark ∷ remaining after
   pub plain : AllByRecursion (λ t. ends_cell t ≡ false) (token_texts cell)
   pub ends : ends_cell mark.text.now ≡ true
 
--- A site was taken, whose thread is allowed; a location's name went into the table.
+-- A site was parsed, whose thread is allowed; a location's name was inserted into the table.
 pub record ParsedSite (arch : Arch) (threads : Option ℕ) (before after : Cursor) (names table : NameTable) (s : Site) : Type 0 where
   pub is : IsSite arch (remaining_texts before) (site_by_name table s) (remaining_texts after)
   pub there : ThreadAllowed threads (site_by_name table s)
@@ -36,44 +36,44 @@ pub record ParsedSite (arch : Arch) (threads : Option ℕ) (before after : Curso
   pub within : IsIn table s
   pub leaves : AdvancesTo before after
 
--- A terminal of a proposition was taken, whose site's name went into the table.
+-- A terminal of a proposition was parsed; its site's name was inserted into the table.
 pub record ParsedTerminal (arch : Arch) (threads : ℕ) (before after : Cursor) (names table : NameTable) (s : Terminal) : Type 0 where
   pub is : IsTerminal arch threads (remaining_texts before) (named_terminal table s) (remaining_texts after)
   pub names_are : table ≡ with_sites names (sites_in (named_terminal table s ∷ []))
   pub within : TerminalIn table s
 
--- The initial block was taken, whose sites' names went into the table.
+-- The initial block was parsed; its sites' names were inserted into the table.
 pub record ParsedBlock (arch : Arch) (before after : Cursor) (names table : NameTable) (es : List Initializer) : Type 0 where
   pub is : Block arch (remaining_texts before) (map (named_initializer table) es) (remaining_texts after)
   pub names_are : table ≡ with_sites names (map (λ e. site_by_name table e.site) es)
   pub within : All (λ e. IsIn table e.site) es
   pub leaves : AdvancesTo before after
 
--- The list of names was taken, or none: the threads of its sites exist, and its locations' names went into the table.
+-- The list of names was parsed, or none: the threads of its sites exist, and its locations' names were inserted into the table.
 pub record ParsedNameList (arch : Arch) (threads : ℕ) (before after : Cursor) (names table : NameTable) (ss : List Site) : Type 0 where
   pub is : Listed arch (remaining_texts before) (map (site_by_name table) ss) (remaining_texts after)
   pub there : AllByRecursion (ThreadExists threads) (map (site_by_name table) ss)
   pub names_are : table ≡ with_sites names (map (site_by_name table) ss)
   pub within : All (IsIn table) ss
 
--- The terminals are a proposition that says p, of not too many nodes, and the table has room for their names.
+-- The terminals are a proposition with the formula p, of not too many nodes, and the table has room for their names.
 pub record Fits (names : NameTable) (ss : List (syntax.Terminal AtomSyntax)) (p : Formula) : Type 0 where
   pub room : HasRoomFor names (sites_in ss)
   pub few : HasFewNodes ss
   pub says : IsProposition (map (resolved (with_sites names (sites_in ss))) ss) p
 
--- no proposition of so many threads stands here whose names the table has room for
+-- The tokens are no proposition, on threads below `threads`, whose names the table has room for.
 abbrev pub NoProposition : Arch → ℕ → TokenList → NameTable → Type 0
 NoProposition arch threads ts names =
     (ss : List (syntax.Terminal AtomSyntax)) (p : Formula) → Terminals arch threads ts ss → Fits names ss p → ⊥
 
--- no condition of so many threads stands here whose names the table has room for
+-- The tokens are no condition, on threads below `threads`, whose names the table has room for.
 abbrev pub NoCondition : Arch → ℕ → TokenList → NameTable → Type 0
 NoCondition arch threads ts names =
     (listed : List SiteSyntax) (quant : Quant) (ss : List (syntax.Terminal AtomSyntax)) (p : Formula)
     → Condition arch threads ts listed quant ss → Fits (with_sites names listed) ss p → ⊥
 
--- A proposition was taken, which ends the text, and its locations' names went into the table.
+-- A proposition was parsed, which ends the text; its locations' names were inserted into the table.
 pub record ParsedProposition {A : Type 0} (arch : Arch) (threads : ℕ) (before : TokenList) (names table : NameTable) (p : Prop A) : Type 0 where
   pub terminals : List (syntax.Terminal AtomSyntax)
   pub is : Terminals arch threads before terminals
@@ -81,7 +81,7 @@ pub record ParsedProposition {A : Type 0} (arch : Arch) (threads : ℕ) (before 
   pub few : HasFewNodes terminals
   pub says : IsProposition (map (resolved table) terminals) (formula_of p)
 
--- The list of names with these sites was taken, and then a condition, which ends the text; the names of both went into the table.
+-- The list of names with these sites was parsed, and then a condition, which ends the text; the names of both were inserted into the table.
 pub record ParsedCondition {A : Type 0} (arch : Arch) (threads : ℕ) (before : TokenList) (names table : NameTable) (ss : List Site) (quant : Quant) (p : Prop A)
     : Type 0 where
   pub terminals : List (syntax.Terminal AtomSyntax)

@@ -1,4 +1,4 @@
--- Used within the crate: sites, initializers and terminals in memory, whose locations are resolved to numbers, and their names.
+-- Sites, initializers and terminals in memory, whose locations are resolved to indices, and their names. Used only within the crate.
 use Rattle.std.specs.Prelude.{◌≡◌, ℕ, suc, ◌<◌, ◌≤◌, Bool, true, nat_lt, Option, None, Some, List, [], ◌++◌, length, map, filter, fold, if◌then◌else◌}
 use Rattle.std.specs.Prelude.{slice_index_or, All}
 use Rattle.std.specs.List.{list_any, range_with_len}
@@ -25,48 +25,48 @@ use Rattle.lw_text.specs.Propositions.{Terminal, Open, Close, Negation, Conjunct
 use Rattle.lw_text.specs.Conditions.{AtomSyntax, Always, Never, Holds, resolved}
 use Rattle.lw_text.specs.Places.{all_texts}
 
--- what a site in memory says in a text, by the names of this table
+-- The syntax of a site in memory, by the names of this table.
 abbrev pub site_by_name : NameTable → Site → syntax.SiteSyntax
 site_by_name names (made.Location loc) = syntax.InMemory (slice_index_or names loc [])
 site_by_name names (made.Register t r) = syntax.InThread t r
 
--- a site in memory as a register or a location of a test, by its index
+-- The register or location of a site in memory.
 abbrev pub seen_of : Site → Seen
 seen_of (made.Location loc) = seen.Location loc
 seen_of (made.Register t r) = seen.Register t r
 
--- how many names a table needs at least so that the index of the site's location is one of it
+-- The number of names that a table needs to have the index of the site's location.
 abbrev pub names_needed : Site → ℕ
 names_needed (made.Location loc) = suc loc
 names_needed (made.Register t r) = 0
 
--- whether a site's thread is one of so many
+-- Tests whether a site's thread is below `threads`. True of a location.
 abbrev pub thread_exists : ℕ → Site → Bool
 thread_exists threads (made.Location loc) = true
 thread_exists threads (made.Register t r) = nat_lt t threads
 
--- whether this is the number of one of so many threads, or of any where their number is not known
+-- Tests whether a number is below `threads`, if their number is known.
 abbrev pub is_allowed : Option ℕ → ℕ → Bool
 is_allowed None t = true
 is_allowed (Some threads) t = nat_lt t threads
 
--- the index of the site's location is one of the table's; of a register nothing is asked
+-- The table has the index of the site's location. True of a register.
 abbrev pub IsIn : NameTable → Site → Type 0
 IsIn names site = names_needed site ≤ length names
 
--- an initializer, by the names of this table
+-- The syntax of an initializer, by the names of this table.
 abbrev pub named_initializer : NameTable → Initializer → frames.InitializerSyntax
 named_initializer names e = record { site = site_by_name names e.site; word = e.word }
 
--- the word of the last initializer for a register or a location, or 0
+-- The word of the last initializer of a register or a location, or 0.
 abbrev pub word_at : List Initializer → Seen → ℕ
 word_at initializers s = fold (λ w e. if seen_eq (seen_of e.site) s then e.word else w) 0 initializers
 
--- whether a register or a location is among the sites
+-- Tests whether a register or a location is among the sites.
 abbrev pub is_listed : List Site → Seen → Bool
 is_listed sites s = list_any (λ site. seen_eq (seen_of site) s) sites
 
--- the head that parts in memory make, of a test of the language with this name: locations stand in them by their indices
+-- The head of parsed parts in memory, of a test of the language with this name. Its locations are indices.
 abbrev pub resolved_head : {A : Type 0} → Arch → Bytes → ParsedHead A → TestHead
 resolved_head arch name s =
     record {
@@ -81,7 +81,7 @@ resolved_head arch name s =
       condition = formula_of s.prop;
     }
 
--- what a `ParsedBody` in memory says by the names of its table, where its proposition was read from these terminals
+-- The syntax of a `ParsedBody` in memory, by the names of its table, whose proposition was parsed from these terminals.
 abbrev pub syntax_of : {A : Type 0} → ParsedBody A → List (Terminal AtomSyntax) → frames.TestSyntax
 syntax_of b terminals =
     record {
@@ -93,7 +93,7 @@ syntax_of b terminals =
       terminals = terminals;
     }
 
--- The body says the parts and the proposition of a text of the language, whose tokens these are.
+-- The body has the syntax and the proposition of these tokens, in the language.
 pub record HasSyntax {A : Type 0} (arch : Arch) (ts : TokenList) (b : ParsedBody A) : Type 0 where
   pub terminals : List (Terminal AtomSyntax)
   pub parts : ParsesTest arch ts (syntax_of b terminals)
@@ -102,14 +102,14 @@ pub record HasSyntax {A : Type 0} (arch : Arch) (ts : TokenList) (b : ParsedBody
   pub initializers_in : All (λ e. IsIn b.parts.locs e.site) b.parts.initializers
   pub listed_in : All (IsIn b.parts.locs) b.parts.listed
 
--- an atom in memory, by the names of this table
+-- The syntax of an atom in memory, by the names of this table.
 abbrev pub named_atom : NameTable → Atom → AtomSyntax
 named_atom names atoms.Always = Always
 named_atom names atoms.Never = Never
 named_atom names (atoms.WordIs loc n) = Holds (syntax.InMemory (slice_index_or names loc [])) n
 named_atom names (atoms.RegIs t r n) = Holds (syntax.InThread t r) n
 
--- a terminal in memory, by the names of this table
+-- The syntax of a terminal in memory, by the names of this table.
 abbrev pub named_terminal : NameTable → MadeTerminal → Terminal AtomSyntax
 named_terminal names terminals.Open = Open
 named_terminal names terminals.Close = Close
@@ -118,12 +118,12 @@ named_terminal names terminals.Conjunction = Conjunction
 named_terminal names terminals.Disjunction = Disjunction
 named_terminal names (terminals.Atom a) = Claims (named_atom names a)
 
--- the index of the location that an atom speaks of is one of the table's; of all other atoms nothing is asked
+-- The table has the index of an atom's location. True of all other atoms.
 abbrev pub AtomIn : NameTable → Atom → Type 0
 AtomIn names (atoms.WordIs loc n) = loc < length names
 AtomIn names _ = Unit {0}
 
--- the index of the location that a terminal's atom speaks of is one of the table's; of all other terminals nothing is asked
+-- The table has the index of the location of a terminal's atom. True of all other terminals.
 abbrev pub TerminalIn : NameTable → MadeTerminal → Type 0
 TerminalIn names (terminals.Atom a) = AtomIn names a
 TerminalIn names _ = Unit {0}

@@ -1,4 +1,4 @@
--- Used within the crate: a terminal in memory, as the grammar of propositions sees it.
+-- Terminals in memory, as terminals of the grammar of propositions. Used only within the crate.
 use Rattle.lw_base.specs.Formula.{Formula, Yes, No, Reg_is, Word_is}
 use Rattle.lw_text.specs.declared.terminal.Terminal.{Terminal}
 use Rattle.lw_text.specs.declared.terminal.Terminal.TheVariants as made
@@ -7,14 +7,14 @@ use Rattle.lw_text.specs.declared.terminal.Atom.TheVariants.{Always, Never, Word
 use Rattle.lw_text.specs.Propositions.{Open, Close, Negation, Conjunction, Disjunction, Atom as says}
 use Rattle.lw_text.specs.Propositions as syntax
 
--- what an atom in memory says
+-- The formula of an atom in memory.
 abbrev pub atom_formula : Atom → Formula
 atom_formula Always = Yes
 atom_formula Never = No
 atom_formula (WordIs loc n) = Word_is loc n
 atom_formula (RegIs t r n) = Reg_is t r n
 
--- a terminal in memory as one of the grammar, an atom by the formula that it says
+-- The terminal of the grammar, with an atom's formula.
 abbrev pub terminal_of : Terminal → syntax.Terminal Formula
 terminal_of made.Open = Open
 terminal_of made.Close = Close

@@ -1,4 +1,5 @@
--- A token is of a kind in one way only, as the fact of a ghost field has to be: proofs that the field cites, and no definition.
+-- That a token is of a kind is a proposition, as a ghost field requires of its fact. The field cites these proofs; there is no definition
+-- here.
 use Rattle.std.specs.Prelude.{◌≡◌, ℕ, ◌+◌, ◌*◌, ◌<◌, ◌⊎◌, [], ◌∷◌, ◌++◌, length, codes}
 use Rattle.std.specs.Char.{digit_value}
 use Rattle.std.specs.Coded.{×_prop, le_prop}
@@ -10,24 +11,24 @@ use Rattle.lw_text.specs.declared.token_kind.TokenKind.TheVariants.{Name, Number
 use Rattle.lw_text.specs.Tokens.{Digits, IsNumber}
 use Rattle.lw_text.specs.TokenKinds.{IsOfKind}
 
--- any two proofs that digits stand for a number are equal
+-- `Digits` is a proposition.
 Digits-prop : (base n : ℕ) (ds : Bytes) (v : ℕ) → IsProp (Digits base n ds v)
 Digits-prop base n [] v = hlevel props
 Digits-prop base n (d ∷ ds) v = ×_prop le_prop (Digits-prop base (base * n + digit_value d) ds v)
 
--- any two proofs that decimal digits are a number are equal
+-- That decimal digits are a number is a proposition.
 Decimal-prop : (w : Bytes) (n : ℕ) → IsProp ((0 < length w) × Digits 10 0 w n)
 Decimal-prop w n = ×_prop le_prop (Digits-prop 10 0 w n)
 
--- what stands behind `0x` is these digits of this number
+-- The text after `0x` is these digits of this number.
 abbrev Behind : Bytes → ℕ → Bytes → Type 0
 Behind w n ds = (w ≡ codes "0x" ++ ds) × (0 < length ds) × Digits 16 0 ds n
 
--- any two proofs that these digits of this number stand behind `0x` are equal
+-- `Behind` is a proposition.
 Behind-prop : (w : Bytes) (n : ℕ) (ds : Bytes) → IsProp (Behind w n ds)
 Behind-prop w n ds = hlevel (props, Digits-prop)
 
--- any two proofs that hexadecimal digits are a number are equal
+-- That hexadecimal digits are a number is a proposition.
 Hexadecimal-prop : (w : Bytes) (n : ℕ)
     → IsProp ((ds : Bytes) × (w ≡ codes "0x" ++ ds) × (0 < length ds) × Digits 16 0 ds n)
 Hexadecimal-prop w n p q =
@@ -35,11 +36,11 @@ Hexadecimal-prop w n p q =
     subst (λ ds. (b : Behind w n ds) → p ≡ (ds, b.0, b.1, b.2)) same
     (λ b. ap (λ c. (p.0, c.0, c.1, c.2)) (Behind-prop w n p.0 (p.1, p.2, p.3) b)) (q.1, q.2, q.3)
 
--- decimal digits don't begin with `0x`
+-- Decimal digits do not begin with `0x`.
 pub no_both : (w ds : Bytes) (n : ℕ) → Digits 10 0 w n → w ≡ codes "0x" ++ ds → ⊥
 no_both w ds n d e = let h = subst (λ l. Digits 10 0 l n) e d in omega (arith, h.1.0)
 
--- any two proofs that a token is a number are equal: it is one in one of the two notations
+-- `IsNumber` is a proposition: a token is a number in one of the two notations.
 IsNumber-prop : (w : Bytes) (n : ℕ) → IsProp (IsNumber w n)
 IsNumber-prop w n = ×_prop le_prop one
   where
@@ -50,7 +51,7 @@ IsNumber-prop w n = ×_prop le_prop one
     one (inr h) (inl d) = absurd (no_both w h.0 n d.1 h.1)
     one (inr h) (inr k) = ap inr (Hexadecimal-prop w n h k)
 
--- any two proofs that a token is of a kind are equal
+-- `IsOfKind` is a proposition.
 pub IsOfKind-prop : (kind : TokenKind) (w : Bytes) → IsProp (IsOfKind kind w)
 IsOfKind-prop Name w = hlevel props
 IsOfKind-prop (Number n) w = IsNumber-prop w n

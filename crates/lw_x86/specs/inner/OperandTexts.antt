@@ -1,4 +1,4 @@
--- The texts of operands, as they are written.
+-- The printed texts of operands.
 use Rattle.std.specs.Prelude.{ℕ, ◌++◌, [], codes, slice_index_or}
 use Rattle.std.specs.Fmt.{decimal}
 use Rattle.lw_base.specs.Types.{Bytes, NameTable}
@@ -7,15 +7,15 @@ use Rattle.lw_base.specs.declared.operand.Operand.{Operand}
 use Rattle.lw_base.specs.declared.operand.Operand.TheVariants.{Register, Number}
 use Rattle.lw_base.specs.Registers.{register_name}
 
--- an operand as it is printed: a register, or a number behind a `$`
+-- The text of an operand: a register, or a number after a `$`.
 abbrev pub operand_text : Operand → Bytes
 operand_text (Register r) = register_name X86 r
 operand_text (Number n) = codes "$" ++ decimal n
 
--- a location as it is printed in an instruction: `[x]`
+-- The text of a location in an instruction, as in `[x]`.
 abbrev pub memory_text : NameTable → ℕ → Bytes
 memory_text names x = codes "[" ++ (slice_index_or names x [] ++ codes "]")
 
--- a mnemonic and its two operands, as they are printed
+-- The text of a mnemonic and its two operands.
 abbrev pub with_operands : Bytes → Bytes → Bytes → Bytes
 with_operands mnemonic first second = mnemonic ++ (codes " " ++ (first ++ (codes "," ++ second)))

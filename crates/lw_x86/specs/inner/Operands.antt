@@ -1,4 +1,4 @@
--- The instruction of a form with operands that must be there.
+-- The instruction of a form with operands that may be missing.
 use Rattle.std.specs.Prelude.{ℕ, Option, Some, None}
 use Rattle.lw_base.specs.declared.operand.Operand.{Operand}
 use Rattle.lw_base.specs.declared.operand.Operand.TheVariants.{Number}
@@ -11,16 +11,16 @@ use Rattle.lw_x86.specs.declared.language.X86Form.TheVariants.{Store, StoreNumbe
 use Rattle.lw_x86.specs.declared.language.X86Form.TheVariants.{ExchangeLast, LockedExchange, LockedExchangeLast, ExchangeAdd, Fence, JumpEqual, JumpNotEqual}
 use Rattle.lw_x86.specs.declared.language.X86Form.TheVariants.{Jump}
 
--- an operand that stands last: this number, if there is one (it stood behind a `$`), or else what stood where either may
+-- The last operand: this number, if there is one (after a `$`), or the value of a slot that takes either.
 abbrev pub value_in : Option ℕ → Option Operand → Option Operand
 value_in None val = val
 value_in (Some n) val = Some (Number n)
 
--- the operand that stands last among those that a statement's tokens give: a register or a number
+-- The last operand of those that a statement's tokens bind: a register or a number.
 abbrev pub value_of : Operands → Option Operand
 value_of o = value_in o.num o.val
 
--- the instruction of a form, where the operands that it needs are there
+-- The instruction of a form, or `None` if an operand that it needs is missing.
 abbrev pub instruction_of_operands : X86Form → Operands → Option Instr
 instruction_of_operands Store o = map_some2 instr.Store o.loc (value_of o)
 instruction_of_operands StoreNumber o = map_some2 instr.Store o.loc (value_of o)
