@@ -58,7 +58,7 @@ module _ {S : Type 0} (language : Language S) (test : Test S) {State : Type 0} (
         let given = complete.exactly_one t (formed paths choice) c.order ((same c.order).1 c.keeps) in
         let there : Contains (orders t) given.one =
         subst (λ (xs : List (List ℕ)). Contains xs given.one) (sym given.split)
-        (Contains-append_right given.before _ given.one (Contains-head given.one given.one given.behind refl)) in
+        (Contains-append_right given.before _ given.one (Contains-head given.one given.one given.after refl)) in
         let keeps = (same given.one).0 (All-contains (IsLinearExtension t) _ _ (complete.each t (formed paths choice)) there) in
         let forward : All (JumpsForward language) test.threads =
         All-weaker (IsWellFormedThread language (length test.head.locs)) (JumpsForward language) (λ code t. t.forward)
