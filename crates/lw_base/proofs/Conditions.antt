@@ -1,10 +1,10 @@
--- Conditions as they are written: propositions, their parts, and what stands between these.
+-- Writing conditions: propositions, their parts, and the connectives and parentheses between these.
 use Rattle.lw_base.proofs.Common.{◌≡◌, Bool, true, ◌++◌, append_assoc, sym, ap, ◌∙◌, subst, Result, OnOk}
 use Rattle.lw_base.proofs.Common.{codes, Bytes, NameTable, Arch, Prop, Formula, formula_of, proposition_text}
 use Rattle.lw_base.proofs.Common.{parenthesized_if}
 use Rattle.lw_base.proofs.api.Writing.{then_written, both_written}
 
--- where parentheses are needed: if `(`, a text and `)` were written one behind another, the text was written in parentheses
+-- Concatenating `(`, a text and `)`, if parentheses are needed, gives the text in parentheses.
 pub enclosed : {T E : Type 0} (answer : Result T E) (start one two end text : Bytes) (needed : Bool)
     → needed ≡ true
     → one ≡ start ++ codes "("
@@ -16,8 +16,8 @@ enclosed answer start one two end text needed is opened told closed =
     (then_written _ start end _ _ (both_written start one two _ text opened told) (append_assoc (codes "(") text (codes ")"))
     closed)
 
--- if a text was written, and then a mark and another text, then the two were written with the mark between them; left and right
--- are other names of these texts
+-- If a text was written, followed by a connective and another text, then the two were written with the connective between them; left and
+-- right are other names of these texts.
 pub joined_written : {T E : Type 0} {mid first second left right : Bytes} (answer : Result T E) (start end mark : Bytes)
     → first ≡ left
     → second ≡ right
@@ -29,19 +29,18 @@ joined_written {first} {second} {left} answer start end mark p q before written 
     (ap (λ t. t ++ (mark ++ second)) p ∙ ap (λ t. left ++ (mark ++ t)) q) written
 
 module _ {A : Type 0} (arch : Arch) (names : NameTable) where
-  -- the text of a proposition in memory
+  -- The text of a proposition in memory.
   abbrev pub text_of : Prop A → Bytes
   text_of p = proposition_text arch names (formula_of p)
 
-  -- if the text of q was written, and p is q, then the text of p was written
+  -- If the text of q was written, and p is q, then the text of p was written.
   pub told_of : {T E : Type 0} (answer : Result T E) (start end : Bytes) (p q : Prop A)
       → p ≡ q
       → OnOk answer (end ≡ start ++ text_of q)
       → OnOk answer (end ≡ start ++ text_of p)
   told_of answer start end p q is written = rw (← is) at written
 
-  -- the text of a part v of a proposition, in parentheses if it is joined, is what was written: d and e are names of v, and
-  -- whether parentheses are needed was asked of e
+  -- The text of a part v of a proposition, in parentheses if it is binary, is what was written: d and e are names of v, and e was tested.
   pub part_told : (joins : Formula → Bool) (needed : Bool) (d e v : Prop A)
       → d ≡ v
       → e ≡ v

@@ -1,11 +1,11 @@
--- The texts of the events in a schedule, which are the pieces between its blanks, as the loop of `read_schedule` takes them.
+-- The texts of the events in a schedule, which are the pieces between its blanks, as the loop of `read_schedule` consumes them.
 use Rattle.lw_base.proofs.Common.{append_assoc, drop, ◌-◌, length-append, ◌≡◌, ◌<◌, ◌≤◌, ◌==◌, ℕ, zero, suc}
 use Rattle.lw_base.proofs.Common.{true, false, not, List, [], ◌∷◌, ◌++◌, length, refl, sym, ap, ◌∙◌, arith}
 use Rattle.lw_base.proofs.Common.{true≢false, eqb-true, append-nil, map, not-true, not-false, map-append}
 use Rattle.lw_base.proofs.Common.{drop-append_seam, AllByRecursion, Bytes, NameTable, is_blank, first_byte_is}
 use Rattle.lw_base.proofs.Common.{Event, split_blanks, event_texts, IsEvent, event_text, IsSchedule}
 
--- bytes that are no blanks, before a blank or the end of the text, are one piece
+-- Bytes that are not blank, before a blank or the end of the text, are one piece.
 first_piece : (w r : Bytes) (ps : List Bytes)
     → AllByRecursion (λ b. not (is_blank b) ≡ true) w
     → split_blanks r ≡ [] ∷ ps
@@ -13,7 +13,7 @@ first_piece : (w r : Bytes) (ps : List Bytes)
 first_piece [] r ps others e = e
 first_piece (b ∷ w) r ps others e = rw (not-true (is_blank b) others.0, first_piece w r ps others.1 e) refl
 
--- without the blanks at its front a text has the same pieces
+-- Removing the blanks at the start of a text does not change its pieces.
 pub event_texts-behind : (text w r : Bytes)
     → text ≡ w ++ r
     → AllByRecursion (λ b. is_blank b ≡ true) w
@@ -21,7 +21,7 @@ pub event_texts-behind : (text w r : Bytes)
 event_texts-behind text [] r e all = ap event_texts e
 event_texts-behind text (b ∷ w) r e all = rw (e, all.0) (event_texts-behind (w ++ r) w r refl all.1)
 
--- A text that is not empty begins with a piece: no blank stands before it or in it, and it ends at a blank or with the text.
+-- A text that is not empty begins with a piece: no blank is before it or in it, and it ends at a blank or with the text.
 pub record BeginsWithPiece (text piece after : Bytes) : Type 0 where
   pub parts : text ≡ piece ++ after
   pub some : 0 < length text
@@ -29,13 +29,13 @@ pub record BeginsWithPiece (text piece after : Bytes) : Type 0 where
   pub others : AllByRecursion (λ b. not (is_blank b) ≡ true) piece
   pub ends : first_byte_is (λ b. not (is_blank b)) after ≡ false
 
--- the piece that a text begins with is not empty
+-- The piece with which a text begins is not empty.
 not_empty : (text after : Bytes) → BeginsWithPiece text [] after → ⊥
 not_empty text [] x = omega (arith, ap length x.parts, x.some)
 not_empty text (c ∷ r) x =
     true≢false (sym (not-false (is_blank c) x.ends) ∙ (ap (first_byte_is is_blank) (sym x.parts) ∙ x.front))
 
--- if a text begins with a piece, its pieces are that one and those of what stands behind it
+-- If a text begins with a piece, its pieces are that one and those of the rest.
 pub event_texts-first : (text w r : Bytes) → BeginsWithPiece text w r → event_texts text ≡ w ∷ event_texts r
 event_texts-first text [] r x = absurd (not_empty text r x)
 event_texts-first text (b ∷ w) [] x = rw (x.parts, first_piece (b ∷ w) [] [] x.others refl) refl
@@ -43,7 +43,7 @@ event_texts-first text (b ∷ w) (c ∷ r) x =
     let blank : is_blank c ≡ true = not-false (is_blank c) x.ends in
     rw (x.parts, first_piece (b ∷ w) (c ∷ r) (split_blanks r) x.others (rw blank refl), blank) refl
 
--- if the texts of a list of events are those of some events, and then others, the first of the others is the text of an event
+-- If the texts of a list of events are those of some events followed by others, the first of the others is the text of an event.
 event_at : (names : NameTable) (done events : List Event) (w : Bytes) (ws : List Bytes)
     → AllByRecursion (IsEvent names) events
     → map (event_text names) events ≡ map (event_text names) done ++ w ∷ ws
@@ -53,7 +53,7 @@ event_at names [] (e ∷ events) w ws all same = (e, all.0, cc)
 event_at names (d ∷ done) [] w ws all same = absurd cc
 event_at names (d ∷ done) (e ∷ events) w ws all same = event_at names done events w ws all.1 cc
 
--- a text is no schedule, if behind the texts of some events it has a piece that is no event's text
+-- A text is no schedule if, after the texts of some events, it has a piece that is no event's text.
 pub no_schedule : (names : NameTable) (text : Bytes) (done : List Event) (w : Bytes) (ws : List Bytes)
     → event_texts text ≡ map (event_text names) done ++ w ∷ ws
     → ((e : Event) → IsEvent names e → event_text names e ≡ w → ⊥)
@@ -62,7 +62,7 @@ pub no_schedule : (names : NameTable) (text : Bytes) (done : List Event) (w : By
     → ⊥
 no_schedule names text done w ws whole none events is = let e = event_at _ _ _ w ws is.0 (sym is.1 ∙ whole) in none e.0 e.1 e.2
 
--- where the rest of a text begins with a piece w and then blanks b, what is left behind these stands behind all that was read
+-- If the rest of a text begins with a piece w and blanks b, what follows them also follows everything that was read.
 pub behind_more : {text rest after : Bytes} (front w b last : Bytes)
     → text ≡ front ++ rest
     → rest ≡ w ++ after
@@ -70,17 +70,17 @@ pub behind_more : {text rest after : Bytes} (front w b last : Bytes)
     → text ≡ (front ++ w ++ b) ++ last
 behind_more front w b last e f g = rw (e, f, g) (sym (append_assoc (front ++ w) b last ∙ append_assoc front w (b ++ last)))
 
--- the last part of a text stands behind as many bytes as the whole is longer; so a piece's place is found
+-- The last part of a text begins at the difference of the lengths, which gives the offset of a piece.
 pub drop-back : (text front rest : Bytes) → text ≡ front ++ rest → drop (length text - length rest) text ≡ rest
 drop-back text front rest e =
     let n : length text - length rest ≡ length front = omega (arith, ap length e, length-append front rest) in
     rw (n, e) (drop-append_seam front rest)
 
--- the last part of a text is no longer than the text
+-- The last part of a text is no longer than the text.
 pub no_longer : (text front rest : Bytes) → text ≡ front ++ rest → length rest ≤ length text
 no_longer text front rest e = omega (arith, ap length e, length-append front rest)
 
--- events of the test, with one more behind them, are events of the test
+-- Appending an event of the test to events of the test gives events of the test.
 pub more_events : (names : NameTable) (es fs : List Event) (e : Event)
     → fs ≡ es ++ e ∷ []
     → AllByRecursion (IsEvent names) es
@@ -92,8 +92,8 @@ more_events names es fs e more all is = rw more (go es all)
     go [] h = (is, tt)
     go (d ∷ ds) h = (h.0, go ds h.1)
 
--- One more event of a text is read. The pieces of the events es were read before it, and the rest was left: this begins with the
--- piece of e, and behind the piece and its blanks stands the last of the text.
+-- One more event of a text is read. The pieces of the events es were read before it. The rest begins with the piece of e, followed by
+-- blanks and the last part of the text.
 pub record OneMoreRead (names : NameTable) (text last : Bytes) (es : List Event) (e : Event) : Type 0 where
   pub rest : Bytes
   pub piece : Bytes
@@ -103,7 +103,7 @@ pub record OneMoreRead (names : NameTable) (text last : Bytes) (es : List Event)
   pub behind : event_texts after ≡ event_texts last
   pub says : event_text names e ≡ piece
 
--- if one more event is read, the pieces of the text are those of the events fs that were read, and of the last, which is left
+-- If one more event is read, the pieces of the text are those of the events fs that were read, and of the last part, which is not read yet.
 pub more_pieces : (names : NameTable) (text last : Bytes) (es fs : List Event) (e : Event)
     → OneMoreRead names text last es e
     → fs ≡ es ++ e ∷ []
@@ -117,7 +117,7 @@ more_pieces names text last es fs e x more =
     let two = ap (λ ws. map piece es ++ ws) (x.first ∙ ap (λ ws. x.piece ∷ ws) x.behind) in
     x.before ∙ two ∙ ap (λ v. map piece es ++ v ∷ event_texts last) (sym x.says) ∙ sym one
 
--- where nothing is left of a text, its pieces are the texts of the events that were read
+-- If nothing of a text remains, its pieces are the texts of the events that were read.
 pub all_pieces : (names : NameTable) (text rest : Bytes) (es : List Event)
     → event_texts text ≡ map (event_text names) es ++ event_texts rest
     → true ≡ (length rest == 0)
@@ -125,12 +125,12 @@ pub all_pieces : (names : NameTable) (text rest : Bytes) (es : List Event)
 all_pieces names text [] es before none = before ∙ append-nil (map (event_text names) es)
 all_pieces names text (b ∷ rest) es before none = absurd (omega (arith, eqb-true (length (b ∷ rest)) 0 (sym none)))
 
--- a number that is not 0 is above 0
+-- A number that is not 0 is positive.
 pub not_zero : (n : ℕ) → false ≡ (n == 0) → 0 < n
 not_zero zero e = absurd (true≢false (sym e))
 not_zero (suc n) e = omega arith
 
--- what stands behind the first piece of a text, and behind the blanks there, is shorter than the text; so the loop ends
+-- The text after its first piece and the following blanks is shorter than the text, so the loop terminates.
 pub shrinks : (rest w after b last : Bytes) → BeginsWithPiece rest w after → after ≡ b ++ last → length last < length rest
 shrinks rest [] after b last x blanks = absurd (not_empty rest after x)
 shrinks rest (c ∷ w) after b last x blanks =

@@ -1,11 +1,11 @@
--- The text of an event says which event it is, so a schedule is read in one way.
+-- The text of an event determines the event, so a schedule is read in one way.
 use Rattle.lw_base.proofs.Common.{◌≡◌, ℕ, zero, suc, ◌<◌, ◌+◌, List, [], ◌∷◌, length, refl, sym, ap, ◌∙◌}
 use Rattle.lw_base.proofs.Common.{subst, arith, map, slice_index_or, Contains, AllByRecursion}
 use Rattle.lw_base.proofs.Common.{Contains-get_or, Bytes, NameTable, IsDuplicateFree, IsNameTable, IsEvent}
 use Rattle.lw_base.proofs.Common.{event_text, IsSchedule, Event, Step, Drain, Evict}
 use Rattle.lw_base.proofs.api.Lists.{cons-ne}
 
--- where each name stands once, a name has one index
+-- In a list of names without duplicates a name has one index.
 pub one_index : (names : NameTable) (i j : ℕ)
     → IsDuplicateFree names
     → i < length names
@@ -20,7 +20,7 @@ one_index (n ∷ names) (suc i) zero once l m e =
     absurd (once.0 (subst (Contains names) e (Contains-get_or names i [] (omega arith))))
 one_index (n ∷ names) (suc i) (suc j) once l m e = ap suc (one_index names i j once.1 (omega arith) (omega arith) e)
 
--- events with the same text are the same, where each name stands once
+-- Events with the same text are equal, if names have no duplicates.
 one_event : (names : NameTable)
     → IsDuplicateFree names
     → (e f : Event)
@@ -49,7 +49,7 @@ one_event names once (Evict c l) (Evict d m) h k same =
     let p = one_index names l m once h.1 k.1 n in
     cc
 
--- lists of events with the same texts are the same
+-- Lists of events with the same texts are equal.
 one_list : (names : NameTable)
     → IsDuplicateFree names
     → (es fs : List Event)
@@ -66,7 +66,7 @@ one_list names once (e ∷ es) (f ∷ fs) h k same =
     cc
 one_list names once _ _ h k same = absurd cc
 
--- a text is a schedule of one list of events at most
+-- A text is a schedule of at most one list of events.
 pub one_schedule : (names : NameTable)
     → IsNameTable names
     → (text : Bytes) (events others : List Event)

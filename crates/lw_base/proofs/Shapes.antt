@@ -1,4 +1,4 @@
--- Pieces of a schedule that have an event's shape, and pieces that are refused.
+-- Pieces of a schedule that have the shape of an event, and pieces that are rejected.
 use Rattle.lw_base.proofs.Common.{All-from_recursion, rules, ◌≡◌, ◌≢◌, ◌⊎◌, not, ℕ, ◌<◌, ◌+◌, ◌==◌, inl, inr}
 use Rattle.lw_base.proofs.Common.{true, false, [], ◌∷◌, ◌++◌, length, refl, sym, ap, ◌∙◌, subst, arith}
 use Rattle.lw_base.proofs.Common.{true≢false, eqb-true, append-nil, slice_get, slice_index_or, Some, Contains}
@@ -11,11 +11,11 @@ use Rattle.lw_base.proofs.Common.{Event, Step, Drain, Evict, ScheduleCause, Word
 use Rattle.lw_base.proofs.api.Lists.{cons-ne}
 use Rattle.lw_base.specs.declared.fault.ScheduleCause.TheVariants.{Location}
 
--- where two texts are equal, so is what stands behind their first bytes
+-- Equal texts have equal rests after their first bytes.
 same_rest : (a b : ℕ) (u v : Bytes) → a ∷ u ≡ b ∷ v → u ≡ v
 same_rest a b u v same = cc
 
--- digits have no `:`
+-- Digits do not contain a `:`.
 no_colon : (ds : Bytes) → list_all is_ascii_digit ds ≡ true → AllByRecursion (λ b. b ≢ 58) ds
 no_colon [] h = tt
 no_colon (b ∷ ds) h =
@@ -23,12 +23,12 @@ no_colon (b ∷ ds) h =
     let rest : list_all is_ascii_digit ds ≡ true = search rules in
     ((λ e. let k : is_ascii_digit 58 ≡ true = rw e at front in absurd (true≢false (sym k))), no_colon ds rest)
 
--- an event's digits, of which there is at least one, have no `:`
+-- The digits of an event, of which there is at least one, do not contain a `:`.
 digits_no_colon : (ds : Bytes) → are_digits ds ≡ true → AllByRecursion (λ b. b ≢ 58) ds
 digits_no_colon [] h = tt
 digits_no_colon (b ∷ ds) h = let some : (length (b ∷ ds) == 0) ≡ false = search rules in no_colon (b ∷ ds) (rw some at h)
 
--- a text is cut at its first `:` in one way only
+-- A text is split at its first `:` in one way only.
 cut_once : (a c n m : Bytes)
     → AllByRecursion (λ b. b ≢ 58) a
     → AllByRecursion (λ b. b ≢ 58) c
@@ -39,12 +39,12 @@ cut_once [] (d ∷ c) n m h k e = absurd (k.0 cc)
 cut_once (b ∷ a) [] n m h k e = absurd (h.0 cc)
 cut_once (b ∷ a) (d ∷ c) n m h k e = let p = cut_once a c n m h.1 k.1 cc in (cc, p.1)
 
--- not all bytes of a text with a `:` in it differ from `:`
+-- A text that contains a `:` has a byte that is a `:`.
 colon_there : (ds n : Bytes) → AllByRecursion (λ b. b ≢ 58) (ds ++ 58 ∷ n) → ⊥
 colon_there [] n h = h.0 refl
 colon_there (b ∷ ds) n h = colon_there ds n h.1
 
--- a text behind `E` that has no `:` is refused, for it has no event's shape
+-- A text after `E` that has no `:` is rejected, since it does not have the shape of an event.
 pub uncut : (names : NameTable) (text : Bytes) → AllByRecursion (λ b. b ≢ 58) text → IsFaultyPiece names (69 ∷ text) Word
 uncut names text others ds shape = go shape.1
   where
@@ -53,10 +53,10 @@ uncut names text others ds shape = go shape.1
     go (inr (inl e)) = cons-ne 69 68 _ _ (λ k. omega arith) e
     go (inr (inr h)) = colon_there ds h.0 (subst (AllByRecursion (λ b. b ≢ 58)) (same_rest 69 69 _ _ h.2) others)
 
--- A text behind `E`, cut at its first `:`.
+-- A text after `E`, split at its first `:`.
 module _ (names : NameTable) (text digits name : Bytes) (cut : text ≡ digits ++ 58 ∷ name)
     (others : AllByRecursion (λ b. b ≢ 58) digits) where
-  -- if `E` and the text have an event's shape with the digits ds, these stand before the `:`, and behind it a name's shape
+  -- If `E` and the text have the shape of an event with the digits ds, these come before the `:`, and a name-shaped text after it.
   eviction : (ds : Bytes) → HasEventShape (69 ∷ text) ds → (digits ≡ ds) × IsNameShaped name
   eviction ds shape = go shape.1
     where
@@ -68,21 +68,21 @@ module _ (names : NameTable) (text digits name : Bytes) (cut : text ≡ digits +
           let p = cut_once digits ds name h.0 others (digits_no_colon ds shape.0) e in
           (p.0, subst IsNameShaped (sym p.1) h.1)
 
-  -- if what stands behind the `:` is not name-shaped, the text is refused, for it has no event's shape
+  -- If the text after the `:` is not name-shaped, the piece is rejected, since it does not have the shape of an event.
   pub no_name : (IsNameShaped name → ⊥) → IsFaultyPiece names (69 ∷ text) Word
   no_name none ds shape = none (eviction ds shape).1
 
-  -- if what stands before the `:` is refused for a cause, as no digits or no processor's, so is the text
+  -- If the text before the `:` is rejected for a cause, as no digits or no processor's index, so is the piece.
   pub no_cpu : IsNameShaped name → (e : ScheduleCause) → HasBadDigits digits e → IsFaultyPiece names (69 ∷ text) e
   no_cpu named Word bad = λ ds shape. true≢false (sym shape.0 ∙ ap are_digits (sym (eviction ds shape).0) ∙ bad)
   no_cpu named Cpu bad = (digits, (bad.0, inr (inr (name, named, ap (λ t. 69 ∷ t) cut))), bad.1)
   no_cpu named _ bad = absurd bad
 
-  -- if a processor's digit stands before the `:`, and behind it a name that is not in the table, the text is refused for that
+  -- If a processor's digit is before the `:`, and after it a name that is not in the table, the piece is rejected for that.
   pub no_location : IsNameShaped name → IsCpu digits → (Contains names name → ⊥) → IsFaultyPiece names (69 ∷ text) Location
   no_location named cpu missing = (digits, name, cpu, named, ap (λ t. 69 ∷ t) cut, missing)
 
-  -- if the digit of processor c stands before the `:`, and behind it the name of location l, `E` and the text are that eviction's
+  -- If the digit of processor c is before the `:`, and after it the name of location l, `E` and the text are that eviction's.
   pub eviction_found : (c l : ℕ)
       → c < most_threads
       → digits ≡ (48 + c) ∷ []
@@ -92,11 +92,11 @@ module _ (names : NameTable) (text digits name : Bytes) (cut : text ≡ digits +
       let named : slice_index_or names l [] ≡ name = get_or_from_slice_get names l name [] at in
       ((h, slice_get_within names l name at), ap (λ t. 69 ∷ t) (rw (cut, digit, named) refl))
 
--- a processor's index is one digit
+-- A processor's index is one digit.
 one_digit : (c : ℕ) → c < most_threads → are_digits ((48 + c) ∷ []) ≡ true
 one_digit c h = agree_below_at (λ d. are_digits ((48 + d) ∷ [])) (λ d. true) most_threads c refl h
 
--- an event's text has an event's shape, with the digit of a processor
+-- An event's text has the shape of an event, with the digit of a processor.
 shape_of : (names : NameTable)
     → IsNameTable names
     → (e : Event)
@@ -113,7 +113,7 @@ shape_of names table (Evict c l) is = (
   ),
 )
 
--- a piece has an event's shape with one text of digits only
+-- A piece has the shape of an event with at most one text of digits.
 one_shape : (w ds es : Bytes) → HasEventShape w ds → HasEventShape w es → ds ≡ es
 one_shape w ds es shape other = go shape.1 other.1
   where
@@ -130,7 +130,7 @@ one_shape w ds es shape other = go shape.1 other.1
         let same : ds ++ 58 ∷ e.0 ≡ es ++ 58 ∷ f.0 = same_rest 69 69 _ _ (sym e.2 ∙ f.2) in
         (cut_once ds es e.0 f.0 (digits_no_colon ds shape.0) (digits_no_colon es other.0) same).0
 
--- a piece that is refused is no event's text
+-- A piece that is rejected is no event's text.
 pub no_event : (names : NameTable)
     → IsNameTable names
     → (w : Bytes) (cause : ScheduleCause)
@@ -155,9 +155,9 @@ no_event names table w Location (ds, n, cpu, text, is_word, missing) (Evict c l)
     missing (subst (Contains names) named (Contains-get_or names l [] is.1))
 no_event names table w Memory faulty e is same = absurd faulty
 
--- ---- pieces without a `:`, and without an event's letter
+-- ---- Pieces without a `:`, and without an event's letter.
 
--- where all bytes of a text differ from b, it lacks b
+-- A text all of whose bytes differ from b does not contain b.
 lacks_all : (b : ℕ) (front : Bytes) → AllByRecursion (λ c. not (c == b) ≡ true) front → DoesNotContain b front
 lacks_all b [] all = tt
 lacks_all b (c ∷ front) all = (differ, lacks_all b front all.1)
@@ -165,7 +165,7 @@ lacks_all b (c ∷ front) all = (differ, lacks_all b front all.1)
     differ : c ≢ b
     differ e = let k = subst (λ d. not (d == b) ≡ true) e all.0 in grind (arith, nat_tests)
 
--- a text lacks b, if nothing is left of it behind the bytes at its front that differ from b
+-- A text does not contain b if nothing remains after its longest prefix of other bytes.
 pub cut_nowhere : {text : Bytes} (b : ℕ) (front rest : Bytes)
     → text ≡ front ++ rest
     → AllByRecursion (λ c. not (c == b) ≡ true) front
@@ -174,7 +174,7 @@ pub cut_nowhere : {text : Bytes} (b : ℕ) (front rest : Bytes)
 cut_nowhere b front [] parts all none = subst (DoesNotContain b) (sym (parts ∙ append-nil front)) (lacks_all b front all)
 cut_nowhere b front (c ∷ rest) parts all none = absurd (omega (arith, none))
 
--- a text is cut at b, if b stands behind the bytes at its front that differ from b
+-- A text is split at b if b follows its longest prefix of other bytes.
 pub cut_there : {text rest others : Bytes} {x : ℕ} (b : ℕ) (front : Bytes)
     → text ≡ front ++ rest
     → AllByRecursion (λ c. not (c == b) ≡ true) front
@@ -187,7 +187,7 @@ cut_there {others} {x} b front parts all longest is =
     first : x ≡ b
     first = eqb-true x b (not-false (x == b) (ap (first_byte_is (λ c. not (c == b))) (sym is) ∙ longest))
 
--- a piece without bytes has no event's shape
+-- An empty piece does not have the shape of an event.
 pub none_shaped : (w ds : Bytes) → length w ≡ 0 → HasEventShape w ds → ⊥
 none_shaped [] ds none shape = go shape.1
   where
@@ -197,7 +197,7 @@ none_shaped [] ds none shape = go shape.1
     go (inr (inr h)) = let e = h.2 in cc
 none_shaped (b ∷ w) ds none shape = omega (arith, none)
 
--- if a piece with an event's parts begins with `P` or `D`, its digits are what stands behind that
+-- If a piece with an event's parts begins with `P` or `D`, its digits are the rest.
 digits_are : (w rest ds : Bytes) → (w ≡ 80 ∷ rest) ⊎ (w ≡ 68 ∷ rest) → HasEventParts w ds → rest ≡ ds
 digits_are w rest ds (inl e) (inl f) = same_rest 80 80 _ _ (sym e ∙ f)
 digits_are w rest ds (inl e) (inr (inl f)) = absurd (cons-ne 80 68 _ _ (λ k. omega arith) (sym e ∙ f))
@@ -206,12 +206,12 @@ digits_are w rest ds (inr e) (inl f) = absurd (cons-ne 68 80 _ _ (λ k. omega ar
 digits_are w rest ds (inr e) (inr (inl f)) = same_rest 68 68 _ _ (sym e ∙ f)
 digits_are w rest ds (inr e) (inr (inr f)) = absurd (cons-ne 68 69 _ _ (λ k. omega arith) (sym e ∙ f.2))
 
--- a piece that begins with `P` or `D` has an event's parts, with what stands behind that for its digits
+-- A piece that begins with `P` or `D` has an event's parts, with the rest as its digits.
 parts_there : (w rest : Bytes) → (w ≡ 80 ∷ rest) ⊎ (w ≡ 68 ∷ rest) → HasEventParts w rest
 parts_there w rest (inl e) = inl e
 parts_there w rest (inr e) = inr (inl e)
 
--- a piece that begins with `P` or `D`, and has something else than digits behind that, has no event's shape
+-- A piece that begins with `P` or `D`, followed by anything else than digits, does not have the shape of an event.
 not_shaped : (w rest : Bytes)
     → (w ≡ 80 ∷ rest) ⊎ (w ≡ 68 ∷ rest)
     → are_digits rest ≡ false
@@ -221,7 +221,7 @@ not_shaped : (w rest : Bytes)
 not_shaped w rest is bad ds shape =
     true≢false (sym (subst (λ r. are_digits r ≡ true) (sym (digits_are w rest ds is shape.1)) shape.0) ∙ bad)
 
--- a piece that begins with `P` or `D` is refused for a cause for which what stands behind that is refused as digits
+-- A piece that begins with `P` or `D` is rejected for a cause for which its rest is rejected as digits.
 bad_digits : (names : NameTable) (w rest : Bytes)
     → (w ≡ 80 ∷ rest) ⊎ (w ≡ 68 ∷ rest)
     → (cause : ScheduleCause)
@@ -231,7 +231,7 @@ bad_digits names w rest is Word bad = not_shaped w rest is bad
 bad_digits names w rest is Cpu bad = (rest, (bad.0, parts_there w rest is), bad.1)
 bad_digits names w rest is _ bad = absurd bad
 
--- a piece that begins with `P` is refused for a cause for which what stands behind that is refused as digits
+-- A piece that begins with `P` is rejected for a cause for which its rest is rejected as digits.
 pub bad_step : (names : NameTable) (w rest : Bytes) (x : ℕ) (cause : ScheduleCause)
     → w ≡ x ∷ rest
     → x ≡ 80
@@ -239,7 +239,7 @@ pub bad_step : (names : NameTable) (w rest : Bytes) (x : ℕ) (cause : ScheduleC
     → IsFaultyPiece names w cause
 bad_step names w rest x cause is letter bad = bad_digits _ w rest (inl (is ∙ ap (λ y. y ∷ rest) letter)) _ bad
 
--- a piece that begins with `D` is refused for a cause for which what stands behind that is refused as digits
+-- A piece that begins with `D` is rejected for a cause for which its rest is rejected as digits.
 pub bad_drain : (names : NameTable) (w rest : Bytes) (x : ℕ) (cause : ScheduleCause)
     → w ≡ x ∷ rest
     → x ≡ 68
@@ -247,6 +247,6 @@ pub bad_drain : (names : NameTable) (w rest : Bytes) (x : ℕ) (cause : Schedule
     → IsFaultyPiece names w cause
 bad_drain names w rest x cause is letter bad = bad_digits _ w _ (inr (is ∙ ap (λ y. y ∷ rest) letter)) _ bad
 
--- a piece w that is x and then rest is also y and then told, where x is y and rest is told
+-- A piece that is x followed by rest is y followed by told, if x is y and rest is told.
 pub lettered : (w rest told : Bytes) (x y : ℕ) → w ≡ x ∷ rest → x ≡ y → rest ≡ told → y ∷ told ≡ w
 lettered w rest told x y is letter same_rest = sym (is ∙ ap (λ z. z ∷ rest) letter ∙ ap (λ r. y ∷ r) same_rest)

@@ -1,4 +1,4 @@
--- Schedules that are written: the texts of their events, and that they are read again.
+-- Writing schedules: the texts of their events, and that they are read back.
 use Rattle.lw_base.proofs.Common.{◌≡◌, ℕ, zero, suc, ◌<◌, inl, inr, true, false, not, List, [], ◌∷◌, ◌++◌}
 use Rattle.lw_base.proofs.Common.{length, refl, sym, ap, ◌∙◌, arith, drop, flat_map, map, slice_index_or}
 use Rattle.lw_base.proofs.Common.{codes, AllByRecursion, not-true, cases_Bool, agree_below_at, Bytes}
@@ -9,24 +9,24 @@ use Rattle.lw_base.proofs.Common.{append_assoc}
 use Rattle.lw_base.proofs.api.Blanks.{blank_all}
 use Rattle.lw_base.proofs.EventTexts.{event_texts-behind, event_texts-first}
 
--- an event's text, with the space that stands before it
+-- The text of an event after a space.
 abbrev pub next_piece : NameTable → Event → Bytes
 next_piece names e = codes " " ++ event_text names e
 
--- joining the events' texts, each behind a space, is joining what `next_piece` makes of each event
+-- Joining the texts of events, each after a space, is joining the value of `next_piece` for each event.
 next_event_texts : (names : NameTable) (es : List Event)
     → flat_map (λ next. codes " " ++ next) (map (event_text names) es) ≡ flat_map (next_piece names) es
 next_event_texts names [] = refl
 next_event_texts names (e ∷ es) = ap (λ t. next_piece names e ++ t) (next_event_texts names es)
 
--- where there are no events, what was written is the text of the schedule: nothing
+-- If there are no events, the empty text is the text of the schedule.
 pub schedule_none : (names : NameTable) (events : List Event) (out : Bytes)
     → length events ≡ 0
     → out ≡ out ++ schedule_text names events
 schedule_none names [] out none = sym (append-nil out)
 schedule_none names (e ∷ events) out none = absurd (omega (arith, none))
 
--- if the first event's text was written, it and the texts of the others, each with its space, are the schedule's text
+-- If the first event's text was written, it and the texts of the others, each after a space, are the schedule's text.
 pub schedule_begun : (names : NameTable) (events : List Event) (first : Event) (others : List Event) (start out : Bytes)
     → events ≡ first ∷ others
     → out ≡ start ++ event_text names first
@@ -37,29 +37,29 @@ schedule_begun names events first others start out are written =
     ∙ ap (λ t. start ++ (event_text names first ++ t)) (sym (next_event_texts names others))
     ∙ ap (λ es. start ++ schedule_text names es) (sym are)
 
--- ---- they are read again
+-- ---- Written schedules are read back.
 
--- no byte of the text is a blank
+-- No byte of the text is blank.
 abbrev pub Shows : Bytes → Type 0
 Shows w = AllByRecursion (λ b. not (is_blank b) ≡ true) w
 
--- a processor's digit is no blank
+-- A processor's digit is not blank.
 digit_shows : (n : ℕ) → n < most_threads → not (is_blank (digit n)) ≡ true
 digit_shows n lt = agree_below_at (λ d. not (is_blank (digit d))) (λ d. true) most_threads n refl lt
 
--- a name byte is no blank
+-- A name byte is not blank.
 name_byte_shows : (b : ℕ) → is_name_byte b ≡ true → not (is_blank b) ≡ true
 name_byte_shows b is = elim (cases_Bool (is_blank b)) [
   | inl e ↦ absurd (let k = not-true (is_name_byte b) (blank_all (λ c. not (is_name_byte c)) b refl e) in cc)
   | inr e ↦ ap not e
 ]
 
--- among name bytes there is no blank
+-- A text of name bytes has no blank.
 all_show : (w : Bytes) → AllByRecursion (λ b. is_name_byte b ≡ true) w → Shows w
 all_show [] all = tt
 all_show (b ∷ w) all = (name_byte_shows b all.0, all_show w all.1)
 
--- the name of a location has no blank in it
+-- The name of a location has no blank.
 name_shows : (names : NameTable) (l : ℕ)
     → AllByRecursion IsLocationName names
     → l < length names
@@ -68,15 +68,15 @@ name_shows [] l all lt = absurd (omega (arith, lt))
 name_shows (n ∷ names) zero all lt = all_show n all.0.0.0.all
 name_shows (n ∷ names) (suc l) all lt = name_shows names l all.1 (omega (arith, lt))
 
--- an event's text has no blank in it
+-- The text of an event has no blank.
 event_text_shows : (names : NameTable) (e : Event) → IsNameTable names → IsEvent names e → Shows (event_text names e)
 event_text_shows names (Step c) table is = (refl, (digit_shows c is, tt))
 event_text_shows names (Drain c) table is = (refl, (digit_shows c is, tt))
 event_text_shows names (Evict c l) table is = (refl, (digit_shows c is.0, (refl, name_shows _ l table.all is.1)))
 
--- The texts of events, one behind another.
+-- The texts of events, concatenated.
 module _ (names : NameTable) (table : IsNameTable names) where
-  -- an event's text, before a blank or the end, is the first piece of the whole
+  -- The text of an event, before a blank or the end, is the first piece.
   first_piece : (e : Event) (r : Bytes)
       → IsEvent names e
       → first_byte_is (λ b. not (is_blank b)) r ≡ false
@@ -96,11 +96,11 @@ module _ (names : NameTable) (table : IsNameTable names) where
         ends = ends;
       })
 
-  -- the texts of the events behind the first, each with a space before it
+  -- The texts of the events after the first, each after a space.
   abbrev pub rest_of : List Event → Bytes
   rest_of es = flat_map (λ next. codes " " ++ next) (map (event_text names) es)
 
-  -- the pieces of a schedule's text are the texts of its events
+  -- The pieces of a schedule's text are the texts of its events.
   row_read : (e : Event) (es : List Event)
       → IsEvent names e
       → AllByRecursion (IsEvent names) es
@@ -111,7 +111,7 @@ module _ (names : NameTable) (table : IsNameTable names) where
       event_texts-behind (rest_of (f ∷ es)) (32 ∷ []) (event_text names f ++ rest_of es) refl (refl, tt) in
       first_piece e (rest_of (f ∷ es)) is refl ∙ ap (λ ws. event_text names e ∷ ws) (behind ∙ row_read f es all.0 all.1)
 
--- a schedule that is written is read again as these events
+-- A written schedule is read back as the same events.
 pub written_is_read : (names : NameTable) (events : List Event)
     → IsNameTable names
     → AllByRecursion (IsEvent names) events

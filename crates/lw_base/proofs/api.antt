@@ -1,4 +1,4 @@
--- What proofs of other crates cite: lemmas on lists, tables, names, heads, runs and what a function owes where it returns.
+-- Lemmas for the proofs of other crates: on lists, tables, names, heads, runs and on clauses at early returns.
 pub mod Returns
 pub mod Lists
 pub mod Members

@@ -1,10 +1,10 @@
--- What holds of blanks, of name bytes, of the bytes of tests' names, and of what is found in a list.
+-- Lemmas on blanks, on name bytes, on the bytes of tests' names, and on the results of searches in lists.
 use Rattle.lw_base.proofs.Common.{◌≡◌, ℕ, zero, suc, ◌<◌, ◌==◌, inl, inr, Bool, true, List, [], ◌∷◌, subst}
 use Rattle.lw_base.proofs.Common.{arith, slice_index_or, eqb-true, list_any, list_all, AllByRecursion}
 use Rattle.lw_base.proofs.Common.{or_cases, and_parts, nat_tests, Bytes, is_blank, is_name_byte, IsTestName}
 use Rattle.lw_base.proofs.Common.{is_ascii_graphic}
 
--- if all items of a list pass a test q, and b is found among them by a comparison, b passes it
+-- If all items of a list pass a test q, and b is found among them by a comparison, b passes it.
 pub any_all : {X : Type 0} (same : X → X → Bool)
     → ((x y : X) → same x y ≡ true → x ≡ y)
     → (q : X → Bool) (xs : List X) (b : X)
@@ -19,15 +19,15 @@ any_all same decides q (x ∷ xs) b all any =
       | inr h ↦ any_all same decides q xs b each.1 h
     ]
 
--- bytes that compare equal are one byte
+-- Bytes that compare equal are equal.
 pub same_byte : (x y : ℕ) → (x == y) ≡ true → x ≡ y
 same_byte x y h = eqb-true x y h
 
--- if all four blanks pass a test, so does any byte that is a blank
+-- If all four blanks pass a test, so does any blank byte.
 pub blank_all : (q : ℕ → Bool) (b : ℕ) → list_all q (32 ∷ 9 ∷ 10 ∷ 13 ∷ []) ≡ true → is_blank b ≡ true → q b ≡ true
 blank_all q b all h = any_all (λ x y. x == y) same_byte q (32 ∷ 9 ∷ 10 ∷ 13 ∷ []) b all h
 
--- if all bytes of a text pass a test, and whatever passes it is below 128, then all bytes of the text are below 128
+-- If all bytes of a text pass a test, and whatever passes it is below 128, all bytes of the text are below 128.
 pub all_ascii : (q : ℕ → Bool)
     → ((b : ℕ) → q b ≡ true → b < 128)
     → (w : Bytes)
@@ -38,18 +38,18 @@ all_ascii q low [] all i = omega arith
 all_ascii q low (b ∷ w) all zero = low b all.0
 all_ascii q low (b ∷ w) all (suc i) = all_ascii q low w all.1 i
 
--- a name byte is below 128
+-- A name byte is below 128.
 name_byte_ascii : (b : ℕ) → is_name_byte b ≡ true → b < 128
 name_byte_ascii b is = grind (arith, nat_tests)
 
--- a text of name bytes has bytes below 128 alone
+-- A text of name bytes has only bytes below 128.
 pub name_bytes_ascii : (w : Bytes) → AllByRecursion (λ b. is_name_byte b ≡ true) w → (i : ℕ) → slice_index_or w i 0 < 128
 name_bytes_ascii w all = all_ascii is_name_byte name_byte_ascii w all
 
--- a visible ASCII character is below 128
+-- A visible ASCII character is below 128.
 graphic_ascii : (b : ℕ) → is_ascii_graphic b ≡ true → b < 128
 graphic_ascii b is = grind (arith, nat_tests)
 
--- the name of a test has bytes below 128 alone
+-- The name of a test has only bytes below 128.
 pub name_ascii : (name : Bytes) → IsTestName name → (i : ℕ) → slice_index_or name i 0 < 128
 name_ascii name is = all_ascii is_ascii_graphic graphic_ascii name is.all

@@ -1,17 +1,17 @@
--- Tables that grow: what is in one stays at its index.
+-- Growing tables: names keep their indices.
 use Rattle.lw_base.proofs.Common.{◌≡◌, ℕ, ◌<◌, ◌≤◌, ◌+◌, Bool, true, false, [], ◌∷◌, ◌++◌, length, refl, sym}
 use Rattle.lw_base.proofs.Common.{ap, ◌∙◌, length-append, arith, if◌then◌else◌, bytes_eq, append-nil, or_left}
 use Rattle.lw_base.proofs.Common.{or_right, unsigned_Decides, pointwise_decides, Bytes, NameTable}
 use Rattle.lw_base.proofs.Common.{IsDuplicateFree, contains_name, insert_name, insert_names, position_of_name}
 use Rattle.lw_base.proofs.api.Tables.{once_more, contains_name-Contains}
 
--- a table after a name was put in, by whether it was there already
+-- A table after inserting a name, by whether it had the name.
 insert_name-case : (names : NameTable) (n : Bytes) (b : Bool)
     → contains_name names n ≡ b
     → insert_name names n ≡ (if b then names else names ++ n ∷ [])
 insert_name-case names n b e = rw e refl
 
--- a table with a name put in is the table before, and perhaps more behind it
+-- A table after inserting a name is an extension of the table.
 pub insert_name-grows : (names : NameTable) (n : Bytes) → (more : NameTable) × (insert_name names n ≡ names ++ more)
 insert_name-grows names n = go (contains_name names n) refl
   where
@@ -19,12 +19,12 @@ insert_name-grows names n = go (contains_name names n) refl
     go true e = ([], insert_name-case names n true e ∙ sym (append-nil names))
     go false e = (n ∷ [], insert_name-case names n false e)
 
--- names that are put in one after another may be put in in two parts
+-- Inserting a concatenation of names is inserting the first names and then the others.
 pub insert_names-append : (names ns ms : NameTable) → insert_names names (ns ++ ms) ≡ insert_names (insert_names names ns) ms
 insert_names-append names [] ms = refl
 insert_names-append names (n ∷ ns) ms = insert_names-append (insert_name names n) ns ms
 
--- a table with names put in is no shorter
+-- A table after inserting names is no shorter.
 pub insert_names-longer : (names ns : NameTable) → length names ≤ length (insert_names names ns)
 insert_names-longer names [] = omega arith
 insert_names-longer names (n ∷ ns) =
@@ -32,7 +32,7 @@ insert_names-longer names (n ∷ ns) =
     let longer : length names ≤ length (insert_name names n) = omega (arith, ap length grows.1, length-append names grows.0) in
     omega (arith, insert_names-longer (insert_name names n) ns)
 
--- a name that is in a table is in each that goes on from it
+-- A name that is in a table is in each extension of it.
 pub contains_name-append : (names more : NameTable) (n : Bytes)
     → contains_name names n ≡ true
     → contains_name (names ++ more) n ≡ true
@@ -46,7 +46,7 @@ contains_name-append (m ∷ names) more n e = go (bytes_eq m n) refl (contains_n
     go true f further = rw f refl
     go false f further = rw f (further (rw f at e))
 
--- a name has the same index in each table that goes on from one that has it
+-- A name has the same index in each extension of a table that has it.
 pub position_of_name-append : (names more : NameTable) (n : Bytes)
     → contains_name names n ≡ true
     → position_of_name (names ++ more) n ≡ position_of_name names n
@@ -60,12 +60,12 @@ position_of_name-append (m ∷ names) more n e = go (bytes_eq m n) refl (positio
     go true f further = rw f refl
     go false f further = rw f (ap (λ (k : ℕ). 1 + k) (further (rw f at e)))
 
--- a name that is put last is in the table
+-- A name that is appended is in the table.
 pub contains_name-last : (names : NameTable) (n : Bytes) → contains_name (names ++ n ∷ []) n ≡ true
 contains_name-last [] n = or_left (bytes_eq n n) false ((pointwise_decides unsigned_Decides n n).1 refl)
 contains_name-last (m ∷ names) n = or_right (bytes_eq m n) _ (contains_name-last names n)
 
--- a name that is put in is there, whether it is new or not
+-- A name that is inserted is in the table, whether it is new or not.
 pub contains_name-insert_name : (names : NameTable) (n : Bytes) → contains_name (insert_name names n) n ≡ true
 contains_name-insert_name names n = go (contains_name names n) refl
   where
@@ -73,13 +73,13 @@ contains_name-insert_name names n = go (contains_name names n) refl
     go true e = rw (insert_name-case names n true e) e
     go false e = rw (insert_name-case names n false e) (contains_name-last names n)
 
--- a name that is in a table still is when another is put in
+-- A name that is in a table is still in it after another is inserted.
 pub contains_name-more : (names : NameTable) (m n : Bytes)
     → contains_name names n ≡ true
     → contains_name (insert_name names m) n ≡ true
 contains_name-more names m n e = let grows = insert_name-grows names m in rw grows.1 (contains_name-append names grows.0 n e)
 
--- a name that is in a table still is when several are put in
+-- A name that is in a table is still in it after several are inserted.
 pub contains_name-insert_names : (names ns : NameTable) (n : Bytes)
     → contains_name names n ≡ true
     → contains_name (insert_names names ns) n ≡ true
@@ -87,7 +87,7 @@ contains_name-insert_names names [] n e = e
 contains_name-insert_names names (m ∷ ns) n e =
     contains_name-insert_names (insert_name names m) ns n (contains_name-more names m n e)
 
--- a name that is in a table keeps its index when several are put in
+-- A name that is in a table keeps its index when several are inserted.
 pub position_of_name-insert_names : (names ns : NameTable) (n : Bytes)
     → contains_name names n ≡ true
     → position_of_name (insert_names names ns) n ≡ position_of_name names n
@@ -98,7 +98,7 @@ position_of_name-insert_names names (m ∷ ns) n e =
     ∙ ap (λ ms. position_of_name ms n) grows.1
     ∙ position_of_name-append names grows.0 n e
 
--- the index of a name that is in a table is below the table's length
+-- The index of a name that is in a table is below the table's length.
 pub position_of_name-within : (names : NameTable) (n : Bytes)
     → contains_name names n ≡ true
     → position_of_name names n < length names
@@ -112,7 +112,7 @@ position_of_name-within (m ∷ names) n e = go (bytes_eq m n) refl (position_of_
     go true f further = rw f (omega arith)
     go false f further = rw f (omega (arith, further (rw f at e)))
 
--- a table that has each name once has each once when a name is put in
+-- Inserting a name preserves that a table has no duplicates.
 pub once-name : (names : NameTable) (n : Bytes) → IsDuplicateFree names → IsDuplicateFree (insert_name names n)
 once-name names n once = go (contains_name names n) refl
   where
@@ -121,7 +121,7 @@ once-name names n once = go (contains_name names n) refl
     go false e =
         rw (insert_name-case names n false e) (once_more names n once (λ h. let k = contains_name-Contains names n h in cc))
 
--- a table that has each name once has each once when names are put in
+-- Inserting names preserves that a table has no duplicates.
 pub once-along : (names ns : NameTable) → IsDuplicateFree names → IsDuplicateFree (insert_names names ns)
 once-along names [] once = once
 once-along names (n ∷ ns) once = once-along (insert_name names n) ns (once-name names n once)

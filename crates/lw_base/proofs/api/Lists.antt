@@ -3,49 +3,49 @@ use Rattle.lw_base.proofs.Common.{◌≡◌, ◌≢◌, ℕ, zero, suc, ◌<◌,
 use Rattle.lw_base.proofs.Common.{◌∷◌, ◌++◌, length, take, drop, refl, sym, ap, ◌∙◌, subst, arith, slice_get}
 use Rattle.lw_base.proofs.Common.{slice_set, set-get_or, cases_eq, same_Some, get_or_from_slice_get, Option}
 use Rattle.lw_base.proofs.Common.{None, set_word_if_some, length-set}
--- the item at an index that is there
+-- The item at an index in range.
 pub use Rattle.std.proofs.lemmas.Option.{slice_get-get_or as at_index}
 
--- lists with other first items differ
+-- Lists with different first items are different.
 pub cons-ne : {X : Type 0} (a b : X) (u v : List X) → (a ≡ b → ⊥) → a ∷ u ≡ b ∷ v → ⊥
 cons-ne a b u v differ same = differ cc
 
--- equal lists have one first item
+-- Equal lists have the same first item.
 pub cons_head : {X : Type 0} (a b : X) (u v : List X) → a ∷ u ≡ b ∷ v → a ≡ b
 cons_head a b u v same = cc
 
--- a list, cut at an index
+-- A list, split at an index.
 pub cut_at : {X : Type 0} (xs : List X) (k : ℕ) (x : X) → slice_get xs k ≡ Some x → xs ≡ take k xs ++ x ∷ drop (suc k) xs
 cut_at [] k x e = absurd cc
 cut_at {X} (y ∷ xs) zero x e = let f : y ≡ x = cc in ap (λ (z : X). z ∷ xs) f
 cut_at {X} (y ∷ xs) (suc k) x e = ap (λ (zs : List X). y ∷ zs) (cut_at xs k x e)
 
--- what is left from an index on begins with the item there
+-- The rest of a list from an index on begins with the item there.
 pub drop_at : {X : Type 0} (xs : List X) (k : ℕ) (x : X) → slice_get xs k ≡ Some x → drop k xs ≡ x ∷ drop (suc k) xs
 drop_at [] k x e = absurd cc
 drop_at {X} (y ∷ xs) zero x e = let f : y ≡ x = cc in ap (λ (z : X). z ∷ xs) f
 drop_at (y ∷ xs) (suc k) x e = drop_at xs k x e
 
--- behind the end of a list nothing is left
+-- The rest past the end of a list is empty.
 pub drop_all : {X : Type 0} (xs : List X) (n : ℕ) → length xs ≤ n → drop n xs ≡ []
 drop_all [] zero le = refl
 drop_all [] (suc n) le = refl
 drop_all (x ∷ xs) zero le = absurd (omega (arith, le))
 drop_all (x ∷ xs) (suc n) le = drop_all xs n (omega (arith, le))
 
--- at an index within a list there is an item
+-- There is an item at each index in range.
 pub get_some : {X : Type 0} (xs : List X) (k : ℕ) → k < length xs → (x : X) × (slice_get xs k ≡ Some x)
 get_some [] k lt = absurd (omega arith)
 get_some (x ∷ xs) zero lt = (x, refl)
 get_some (x ∷ xs) (suc k) lt = get_some xs k (omega (arith, lt))
 
--- one item more from the front is the item at the next index
+-- One more item from the start is the item at the next index.
 pub take_one : {X : Type 0} (xs : List X) (k : ℕ) (x : X) → slice_get xs k ≡ Some x → take (suc k) xs ≡ take k xs ++ x ∷ []
 take_one [] k x e = absurd cc
 take_one {X} (y ∷ xs) zero x e = let f : y ≡ x = cc in ap (λ (z : X). z ∷ []) f
 take_one {X} (y ∷ xs) (suc k) x e = ap (λ (zs : List X). y ∷ zs) (take_one xs k x e)
 
--- at each index of a list with one item more stands the list's item, or the new one
+-- Each index of a list with one appended item has the list's item, or the new one.
 pub get_append : {X : Type 0} (xs : List X) (y z : X) (k : ℕ)
     → slice_get (xs ++ y ∷ []) k ≡ Some z
     → (slice_get xs k ≡ Some z) ⊎ ((k ≡ length xs) × (y ≡ z))
@@ -59,7 +59,7 @@ get_append {X} (x ∷ xs) y z (suc k) e = go (get_append xs y z k e)
     go (inl f) = inl f
     go (inr f) = inr (ap suc f.0, f.1)
 
--- the item between two lists stands where the first one ends
+-- The item between two lists is at the length of the first.
 pub get-append_middle : {X : Type 0} (xs : List X) (y : X) (ys : List X) (k : ℕ)
     → k ≡ length xs
     → slice_get (xs ++ y ∷ ys) k ≡ Some y
@@ -67,7 +67,7 @@ get-append_middle {X} [] y ys k e = ap (slice_get (y ∷ ys)) e
 get-append_middle (x ∷ xs) y ys zero e = absurd (omega (arith, e))
 get-append_middle (x ∷ xs) y ys (suc k) e = get-append_middle xs y ys k (omega (arith, e))
 
--- where an item is set, it stands
+-- Setting an item puts it at its index.
 pub get-set_same : {A : Type 0}
     → (xs : List A) (i : ℕ) (x y : A)
     → slice_get xs i ≡ Some y
@@ -76,21 +76,21 @@ get-set_same [] i x y e = absurd cc
 get-set_same (z ∷ xs) zero x y e = refl
 get-set_same (z ∷ xs) (suc i) x y e = get-set_same xs i x y e
 
--- where an item is set, at every other index stands what stood there
+-- Setting an item leaves every other index unchanged.
 pub get-set_other : {A : Type 0} → (xs : List A) (i j : ℕ) (x : A) → i ≢ j → slice_get (slice_set xs i x) j ≡ slice_get xs j
 get-set_other (z ∷ xs) zero zero x ne = absurd (ne refl)
 get-set_other (z ∷ xs) (suc i) (suc j) x ne = get-set_other xs i j x (λ e. ne (ap suc e))
 get-set_other _ _ _ x ne = refl
 
--- to set an item where it stands already leaves the list as it is
+-- Setting an item where it is already leaves the list unchanged.
 pub set-get_same : {X : Type 0} (xs : List X) (i : ℕ) (x : X) → slice_get xs i ≡ Some x → slice_set xs i x ≡ xs
 set-get_same xs i x at = ap (slice_set xs i) (sym (get_or_from_slice_get xs i x x at)) ∙ set-get_or xs i x
 
--- the property P holds of each index of a list, with the item there
+-- The property P holds of each index of a list, with its item.
 abbrev pub AtEach : {X : Type 0} → (ℕ → X → Type 0) → List X → Type 0
 AtEach {X} P xs = (u : ℕ) (y : X) → slice_get xs u ≡ Some y → P u y
 
--- what holds of each index with its item does so after one item is set, if it holds of that one
+-- Setting an item preserves a property of all indices, if the new item has it.
 pub each_after : {X : Type 0} (P : ℕ → X → Type 0) (xs : List X) (i : ℕ) (x : X)
     → i < length xs
     → AtEach P xs
@@ -106,16 +106,16 @@ each_after P xs i x within before here u y at = go (cases_eq u i)
         subst (λ (k : ℕ). P k y) (sym e) (subst (P i) same here)
     go (inr other) = before u y (sym (get-set_other xs i u x (λ e. other (sym e))) ∙ at)
 
--- the property P holds of each index of two lists, with the items there, which are fellows
+-- The property P holds of each index of two lists, with their items.
 abbrev pub OfFellows : {X Y : Type 0} → (ℕ → X → Y → Type 0) → List X → List Y → Type 0
 OfFellows {X} {Y} P xs ys = (u : ℕ) (a : X) (b : Y) → slice_get xs u ≡ Some a → slice_get ys u ≡ Some b → P u a b
 
--- Items of two lists are fellows: they stand at the same index.
+-- Items of two lists are fellows: they are at the same index.
 pub record AreFellows {X Y : Type 0} (xs : List X) (ys : List Y) (t : ℕ) (a : X) (b : Y) : Type 0 where
   pub left : slice_get xs t ≡ Some a
   pub right : slice_get ys t ≡ Some b
 
--- if something holds of all fellows but those at t, it holds of all after x and y are set there, if it holds of these
+-- Setting x and y at t in two lists preserves a property of all fellows, if x and y have it.
 pub fellows_after : {X Y : Type 0} {old : X} {was : Y} (P : ℕ → X → Y → Type 0) (xs : List X) (ys : List Y) (t : ℕ) (x : X)
     (y : Y)
     → AreFellows xs ys t old was
@@ -133,7 +133,7 @@ fellows_after {X} {Y} {old} {was} P xs ys t x y fellows others now u a b e f =
         same_Some y b (sym (get-set_same ys t y was fellows.right) ∙ ap (λ (k : ℕ). slice_get (slice_set ys t y) k) same ∙ f) in
         subst (λ k. P k a b) same (subst (λ (c : X). P t c b) left (subst (λ (d : Y). P t x d) right now))
 
--- setting a register's word leaves as many registers
+-- Setting a register's word preserves the number of registers.
 pub length-set_word_if_some : (regs : List ℕ) (d : Option ℕ) (w : ℕ) → length (set_word_if_some regs d w) ≡ length regs
 length-set_word_if_some regs None w = refl
 length-set_word_if_some regs (Some d) w = length-set regs d w

@@ -1,19 +1,19 @@
--- Membership in lists: of the empty list, and of a list with one item in front.
+-- Membership in lists: in the empty list, and in a list with one more item at its head.
 use Rattle.lw_base.proofs.Common.{◌≡◌, zero, suc, ◌⊎◌, inl, inr, List, [], ◌∷◌, arith, Contains}
 
--- the empty list has no member
+-- The empty list has no member.
 pub not-Contains-nil : {X : Type 0} (x : X) → Contains [] x → ⊥
 not-Contains-nil x (k, l, e) = absurd (omega arith)
 
--- the item in front is a member
+-- The head of a list is a member.
 pub Contains-head : {X : Type 0} (x y : X) (xs : List X) → x ≡ y → Contains (x ∷ xs) y
 Contains-head x y xs e = (0, omega arith, e)
 
--- a member of what stands behind an item is one of the whole list
+-- A member of the tail is a member of the list.
 pub Contains-tail : {X : Type 0} (x y : X) (xs : List X) → Contains xs y → Contains (x ∷ xs) y
 Contains-tail x y xs (k, l, e) = (suc k, omega arith, e)
 
--- a member of a list is its first item or stands behind it
+-- A member of a list is its head or a member of its tail.
 pub Contains-cons : {X : Type 0} (x y : X) (xs : List X) → Contains (x ∷ xs) y → (x ≡ y) ⊎ Contains xs y
 Contains-cons x y xs (zero, l, e) = inl e
 Contains-cons x y xs (suc k, l, e) = inr (k, omega arith, e)

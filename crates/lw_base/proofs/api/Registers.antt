@@ -1,9 +1,9 @@
--- A token names one register at most.
+-- A token names at most one register.
 use Rattle.lw_base.proofs.Common.{◌≡◌, ℕ, suc, ◌+◌, ◌<◌, [], ◌∷◌, Some, None, Option, refl, sym, ap, ◌∙◌}
 use Rattle.lw_base.proofs.Common.{arith, if◌then◌else◌, codes, bytes_eq, Bytes, Arch, Source, X86}
 use Rattle.lw_base.proofs.Common.{IsRegisterName, register_name, lowercase_if_x86}
 
--- the register of x86 that a text in small letters names
+-- The x86 register that a text in small letters names.
 abbrev spelled : Bytes → Option ℕ
 spelled w =
     if bytes_eq w (codes "eax")
@@ -16,12 +16,12 @@ spelled w =
     then Some 3
     else (if bytes_eq w (codes "esi") then Some 4 else (if bytes_eq w (codes "edi") then Some 5 else None)))))
 
--- the name of a register of x86, in small letters, names that register
+-- The name of an x86 register, in small letters, names that register.
 spelled_name : (r : ℕ) → r < 6 → spelled (lowercase_if_x86 X86 (register_name X86 r)) ≡ Some r
 spelled_name (suc (suc (suc (suc (suc (suc r)))))) h = absurd (omega arith)
 spelled_name _ h = refl
 
--- a token names one register of a language
+-- A token names at most one register of a language.
 pub register_unique : (arch : Arch) (w : Bytes) (r q : ℕ) → IsRegisterName arch w r → IsRegisterName arch w q → r ≡ q
 register_unique Source w r q h k =
     let e : 114 ∷ (48 + r) ∷ [] ≡ 114 ∷ (48 + q) ∷ [] = h.1 ∙ sym k.1 in

@@ -1,9 +1,9 @@
--- Runs, one behind another, and one event further.
+-- Concatenating runs, and extending a run by one event.
 use Rattle.lw_base.proofs.Common.{◌≡◌, ℕ, suc, ◌+◌, ◌<◌, List, [], ◌∷◌, ◌++◌, length, take, get_or, Ok}
 use Rattle.lw_base.proofs.Common.{Result, refl, sym, ap, ◌∙◌, subst, arith, take-suc, Event, Stop, RunsTo}
 
 module _ {State : Type 0} (Done : Event → State → Result (Unit {0}) Stop → State → Type 0) where
-  -- a run by one list of events, and then by another, is one by both
+  -- A run by one list of events followed by a run by another is a run by both.
   pub RunsTo-append : (es fs : List Event) (s mid end : State)
       → RunsTo Done es s mid
       → RunsTo Done fs mid end
@@ -17,7 +17,7 @@ module _ {State : Type 0} (Done : Event → State → Result (Unit {0}) Stop →
       → RunsTo Done (es ++ e ∷ []) s end
   RunsTo-push es e s mid end ran done = RunsTo-append es (e ∷ []) s mid end ran (end, done, refl)
 
-  -- a run, and one event more that is carried out, are a run by all these events
+  -- A run followed by one more event is a run by all these events.
   pub RunsTo-more : (events : List Event) (n : ℕ) (e : Event) (s mid end : State)
       → n < length events
       → e ≡ get_or events n e

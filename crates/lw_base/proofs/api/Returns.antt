@@ -1,13 +1,13 @@
--- What a function owes where it returns early by `?`.
+-- Clauses at early returns by `?`.
 use Rattle.lw_base.proofs.Common.{◌≡◌, ◌≢◌, sym, subst, Option, None, Result, Ok, Err, IfErr, IsErrAnd}
 use Rattle.lw_base.proofs.Common.{MatchOption, MatchResult}
 
--- The callee's error is returned as it is: what is known of it holds of what is returned.
+-- The callee's error is returned unchanged, so what is known of it holds of the result.
 pub Err-clause_propagated : {T E : Type 0} {e : E} (P : E → Type 0) (r : Result T E) → IsErrAnd r (λ y. y ≡ e) → P e → IfErr r P
 Err-clause_propagated P (Ok x) h p = absurd h
 Err-clause_propagated P (Err y) h p = subst P (sym h) p
 
--- A known error is returned, in a clause for both cases: what is owed of it holds.
+-- A known error is returned, and the clause for errors holds of it.
 pub Err-clause_known : {T E : Type 0} {e : E} (P : T → Type 0) (Q : E → Type 0) (r : Result T E)
     → IsErrAnd r (λ y. y ≡ e)
     → Q e
@@ -15,19 +15,19 @@ pub Err-clause_known : {T E : Type 0} {e : E} (P : T → Type 0) (Q : E → Type
 Err-clause_known P Q (Ok x) h q = absurd h
 Err-clause_known P Q (Err y) h q = subst Q (sym h) q
 
--- The callee's error is turned by `From`: what holds of all that it can become.
+-- The callee's error is converted by `From`, and the clause holds of each possible result.
 pub turned : {T E : Type 0} {Q : E → Type 0} (P : E → Type 0) (r : Result T E) → IsErrAnd r Q → ((y : E) → Q y → P y) → IfErr r P
 turned P (Ok x) h f = absurd h
 turned P (Err y) h f = f y h
 
--- Memory ran out: a clause on all other causes promises nothing. A crate has a lemma of its own of this for each error
--- type, where `cause` is the type's field, and R what else `From` says.
+-- Memory ran out: a clause on all other causes is trivial. Each crate has its own instance of this for each error type, where `cause` is
+-- the type's field, and R is what else `From` says.
 pub out_of_memory : {T E C : Type 0} (cause : E → C) (memory : C) (R P : E → Type 0) (r : Result T E)
     → IsErrAnd r (λ f. R f × (cause f ≡ memory))
     → IfErr r (λ f. cause f ≢ memory → P f)
 out_of_memory cause memory R P (Ok x) h = absurd h
 out_of_memory cause memory R P (Err y) h = λ other. absurd (other h.1)
 
--- `None` is returned: what is owed in that case holds of the answer.
+-- `None` is returned, and the clause for it holds.
 pub none_answered : {X P : Type 0} (Q : X → Type 0) (r : Option X) → r ≡ None → P → MatchOption r P Q
 none_answered {P} Q r is p = subst (λ s. MatchOption s P Q) (sym is) p

@@ -5,7 +5,7 @@ use Rattle.lw_base.proofs.Common.{Register, Location, IsSeenInRange, IsSeenLess,
 use Rattle.lw_base.proofs.Common.{thread_registers, all_registers, locations}
 use Rattle.lw_base.proofs.api.Elements.{all_append, all_filter, all_of_range, all_of_flat}
 
--- two lists in order, of which all of the first come before all of the second, are in order
+-- Two ascending lists are ascending together, if every item of the first is less than every item of the second.
 pub ascending_append : (xs ys : List Seen)
     → IsAscending xs
     → IsAscending ys
@@ -14,7 +14,7 @@ pub ascending_append : (xs ys : List Seen)
 ascending_append [] ys h k all = k
 ascending_append (x ∷ xs) ys h k all = (all_append _ xs ys h.0 all.0, ascending_append xs ys h.1 k all.1)
 
--- what a filter keeps of a list in order is in order
+-- A filtered ascending list is ascending.
 pub ascending_filter : (p : Seen → Bool) (xs : List Seen) → IsAscending xs → IsAscending (filter p xs)
 ascending_filter p [] h = tt
 ascending_filter p (x ∷ xs) h = one (p x) refl (ascending_filter p xs h.1)
@@ -23,7 +23,7 @@ ascending_filter p (x ∷ xs) h = one (p x) refl (ascending_filter p xs h.1)
     one true e k = rw e (all_filter (IsSeenLess x) p xs h.0, k)
     one false e k = rw e k
 
--- locations stand in order by their indices
+-- Locations are ascending by index.
 pub ascending_locations : (a n : ℕ) → IsAscending (map (λ x. Location x) (range_with_len a n))
 ascending_locations a zero = tt
 ascending_locations a (suc n) = (
@@ -31,13 +31,13 @@ ascending_locations a (suc n) = (
   ascending_locations (a + 1) n,
 )
 
--- the registers of one thread stand in order
+-- The registers of one thread are ascending.
 pub ascending_row : (t a n : ℕ) → IsAscending (map (λ r. Register t r) (range_with_len a n))
 ascending_row t a zero = tt
 ascending_row t a (suc n) =
     (all_of_range _ (λ r. Register t r) (a + 1) n (λ k le lt. inr (refl, omega (arith, le))), ascending_row t (a + 1) n)
 
--- the registers of all threads stand in order, one thread behind another
+-- The registers of all threads are ascending, thread by thread.
 pub ascending_registers : (a n : ℕ) → IsAscending (flat_map thread_registers (range_with_len a n))
 ascending_registers a zero = tt
 ascending_registers a (suc n) =
@@ -49,7 +49,7 @@ ascending_registers a (suc n) =
     all_of_flat (IsSeenLess (Register a r)) thread_registers (a + 1) n
     (λ t le lt. all_of_range (IsSeenLess (Register a r)) (λ s. Register t s) 0 6 (λ s le2 lt2. inl (omega (arith, le))))))
 
--- all registers and locations of a test are ones that it has
+-- All registers and locations of a test are in range.
 pub all_seen : (threads locs : ℕ) → AllByRecursion (IsSeenInRange threads locs) (all_registers threads ++ locations locs)
 all_seen threads locs =
     all_append (IsSeenInRange threads locs) (all_registers threads) (locations locs)
@@ -58,7 +58,7 @@ all_seen threads locs =
     all_of_range (IsSeenInRange threads locs) (λ r. Register t r) 0 6 (λ r le2 lt2. (omega (arith, lt), omega (arith, lt2)))))
     (all_of_range (IsSeenInRange threads locs) (λ x. Location x) 0 locs (λ x le lt. omega (arith, lt)))
 
--- all registers and locations of a test stand in order, registers first
+-- All registers and locations of a test are ascending, registers first.
 pub all_ascending : (threads locs : ℕ) → IsAscending (all_registers threads ++ locations locs)
 all_ascending threads locs =
     ascending_append (all_registers threads) (locations locs) (ascending_registers 0 _) (ascending_locations 0 locs)

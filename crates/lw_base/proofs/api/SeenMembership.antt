@@ -1,4 +1,4 @@
--- A list of a test's registers and locations in their order is what a filter leaves of all of them: those that are in the list.
+-- An ascending list of a test's registers and locations is a filtered list of all of them: those that are in the list.
 use Rattle.lw_base.proofs.Common.{◌≡◌, ℕ, zero, suc, ◌+◌, ◌*◌, ◌<◌, ◌≤◌, ◌⊎◌, inl, inr, Bool, true, false}
 use Rattle.lw_base.proofs.Common.{List, [], ◌∷◌, ◌++◌, map, length, refl, sym, ap, ◌∙◌, subst, arith}
 use Rattle.lw_base.proofs.Common.{length-append, ◌==◌, filter, flat_map, eqb-true, eq-eqb, AllByRecursion}
@@ -8,9 +8,9 @@ use Rattle.lw_base.proofs.Common.{most_threads, most_locations, registers, IsSee
 use Rattle.lw_base.proofs.Common.{IsAscending, seen_eq, thread_registers, all_registers, locations}
 use Rattle.lw_base.proofs.api.SeenLists.{all_ascending}
 
--- ---- the same register or location
+-- ---- Equality of registers and locations.
 
--- registers and locations that compare the same are one
+-- Registers and locations that compare equal are equal.
 pub same_seen_is : (s t : Seen) → seen_eq s t ≡ true → s ≡ t
 same_seen_is (Register t r) (Register u q) h =
     let both = and_parts (t == u) (r == q) h in
@@ -20,30 +20,30 @@ same_seen_is (Register t r) (Register u q) h =
 same_seen_is (Location x) (Location y) h = ap (λ (z : ℕ). Location z) (eqb-true x y h)
 same_seen_is _ _ h = absurd cc
 
--- a register or location compares the same as itself
+-- A register or location compares equal to itself.
 pub same_seen_itself : (s : Seen) → seen_eq s s ≡ true
 same_seen_itself (Register t r) = rw (eq-eqb t t refl, eq-eqb r r refl) refl
 same_seen_itself (Location x) = eq-eqb x x refl
 
--- no register or location comes before itself
+-- No register or location is less than itself.
 not_before_itself : (s : Seen) → IsSeenLess s s → ⊥
 not_before_itself (Register t r) (inl h) = omega (arith, h)
 not_before_itself (Register t r) (inr h) = omega (arith, h.1)
 not_before_itself (Location x) h = omega (arith, h)
 
--- two registers or locations that differ do not compare the same
+-- Two registers or locations that differ compare unequal.
 other_seen : (s t : Seen) → (s ≡ t → ⊥) → seen_eq s t ≡ false
 other_seen s t ne = elim (cases_Bool (seen_eq s t)) [ inl e ↦ absurd (ne (same_seen_is s t e)) | inr e ↦ e ]
 
--- what comes before another does not compare the same as it
+-- A lesser register or location compares unequal.
 before_apart : (s t : Seen) → IsSeenLess s t → seen_eq s t ≡ false
 before_apart s t h = other_seen s t (λ e. not_before_itself t (subst (λ (x : Seen). IsSeenLess x t) e h))
 
--- what comes behind another does not compare the same as it
+-- A greater register or location compares unequal.
 behind_apart : (s t : Seen) → IsSeenLess s t → seen_eq t s ≡ false
 behind_apart s t h = other_seen t s (λ e. not_before_itself t (subst (λ (x : Seen). IsSeenLess x t) (sym e) h))
 
--- what comes before one that comes before a third comes before the third
+-- The order of registers and locations is transitive.
 before_before : (s t u : Seen) → IsSeenLess s t → IsSeenLess t u → IsSeenLess s u
 before_before (Register a b) (Register c d) (Register e f) (inl h) (inl k) = inl (omega (arith, h, k))
 before_before (Register a b) (Register c d) (Register e f) (inl h) (inr k) = inl (omega (arith, h, k.0))
@@ -56,9 +56,9 @@ before_before (Location x) (Location y) (Register a b) h k = absurd k
 before_before (Location x) (Location y) (Location z) h k = omega (arith, h, k)
 before_before (Register a b) _ _ h k = tt
 
--- ---- which are in a list
+-- ---- Membership in a list.
 
--- Whether a register or location is in a list.
+-- Tests whether a register or location is in a list.
 abbrev pub has_seen : List Seen → Seen → Bool
 has_seen ss s = list_any (λ x. seen_eq x s) ss
 
@@ -67,7 +67,7 @@ module _ (us : List Seen) (u : Seen) where
   none_same [] h = refl
   none_same (s ∷ ss) h = let e = h.0 in rw (e, none_same ss h.1) refl
 
-  -- one that is behind the first of a list is in the rest
+  -- A member of a list that differs from its head is in the tail.
   all_behind : (ls : List Seen)
       → AllByRecursion (λ x. seen_eq u x ≡ false) ls
       → AllByRecursion (λ x. has_seen (u ∷ us) x ≡ true) ls
@@ -75,7 +75,7 @@ module _ (us : List Seen) (u : Seen) where
   all_behind [] h k = tt
   all_behind (l ∷ ls) h k = let e = h.0 in (rw e at k.0, all_behind ls h.1 k.1)
 
--- what comes before the first of a list in order comes before all of it
+-- What is less than the head of an ascending list is less than all of it.
 all_before : (l u : Seen) (ls : List Seen)
     → IsSeenLess u l
     → AllByRecursion (IsSeenLess l) ls
@@ -86,17 +86,17 @@ all_before l u ls h all = (h, go ls all)
     go [] a = tt
     go (x ∷ xs) a = (before_before u l x h a.0, go xs a.1)
 
--- what comes before all of a list compares the same as none of it
+-- What is less than all of a list compares unequal to each item.
 all_apart : (u : Seen) (ls : List Seen) → AllByRecursion (IsSeenLess u) ls → AllByRecursion (λ x. seen_eq u x ≡ false) ls
 all_apart u [] h = tt
 all_apart u (l ∷ ls) h = (before_apart u l h.0, all_apart u ls h.1)
 
--- none of a list compares the same as what comes before all of it
+-- Each item of a list compares unequal to what is less than all of it.
 all_apart_from : (u : Seen) (ls : List Seen) → AllByRecursion (IsSeenLess u) ls → AllByRecursion (λ x. seen_eq x u ≡ false) ls
 all_apart_from u [] h = tt
 all_apart_from u (l ∷ ls) h = (behind_apart u l h.0, all_apart_from u ls h.1)
 
--- one that is in a list behind another stands behind it
+-- A member of a list whose items are all greater than u is greater than u.
 found_behind : (u l : Seen) (us : List Seen) → AllByRecursion (IsSeenLess u) us → has_seen us l ≡ true → IsSeenLess u l
 found_behind u l [] all h = absurd cc
 found_behind u l (x ∷ us) all h = elim (or_cases (seen_eq x l) (has_seen us l) h) [
@@ -104,7 +104,7 @@ found_behind u l (x ∷ us) all h = elim (or_cases (seen_eq x l) (has_seen us l)
   | inr k ↦ found_behind u l us all.1 k
 ]
 
--- two tests that agree on a list leave the same of it
+-- Two tests that agree on a list filter it equally.
 filter_agrees : (p q : Seen → Bool) (us : List Seen) → AllByRecursion (λ s. p s ≡ q s) us → filter p us ≡ filter q us
 filter_agrees p q [] h = refl
 filter_agrees p q (u ∷ us) h = go (q u) refl (filter_agrees p q us h.1)
@@ -113,19 +113,19 @@ filter_agrees p q (u ∷ us) h = go (q u) refl (filter_agrees p q us h.1)
     go true e rest = rw (h.0 ∙ e, e) (ap (λ (l : List Seen). u ∷ l) rest)
     go false e rest = rw (h.0 ∙ e, e) rest
 
--- of any list nothing is left by keeping what is in the empty list
+-- Filtering by membership in the empty list leaves nothing.
 filter_nothing : (us : List Seen) → filter (has_seen []) us ≡ []
 filter_nothing [] = refl
 filter_nothing (u ∷ us) = filter_nothing us
 
--- what comes behind l is in the list that begins with l just where it is in the rest of that list
+-- What is greater than l is in the list with head l if and only if it is in its tail.
 without_first : (l : Seen) (ls us : List Seen)
     → AllByRecursion (IsSeenLess l) us
     → AllByRecursion (λ s. has_seen (l ∷ ls) s ≡ has_seen ls s) us
 without_first l ls [] h = tt
 without_first l ls (u ∷ us) h = let e = before_apart l u h.0 in (rw e refl, without_first l ls us h.1)
 
--- if all items of a list ls in order are in a list us in order, then keeping of us what is in ls leaves ls
+-- If all items of an ascending list ls are in an ascending list us, filtering us by membership in ls gives ls.
 pub filtered_again : (us ls : List Seen)
     → IsAscending us
     → IsAscending ls
@@ -158,9 +158,9 @@ filtered_again (u ∷ us) (l ∷ ls) au al all =
         let none : has_seen (l ∷ ls) u ≡ false = none_same us u (l ∷ ls) (all_apart_from u (l ∷ ls) behind) in
         rw none (whole (all_behind us u (l ∷ ls) (all_apart u (l ∷ ls) behind) all))
 
--- ---- all registers and locations
+-- ---- All registers and locations.
 
--- what is in the first of two lists is in both, one behind the other
+-- A member of the first of two lists is a member of their concatenation.
 pub has_left : (ss us : List Seen) (s : Seen) → has_seen ss s ≡ true → has_seen (ss ++ us) s ≡ true
 has_left [] us s h = absurd cc
 has_left (x ∷ ss) us s h = elim (or_cases (seen_eq x s) (has_seen ss s) h) [
@@ -168,12 +168,12 @@ has_left (x ∷ ss) us s h = elim (or_cases (seen_eq x s) (has_seen ss s) h) [
   | inr k ↦ or_right (seen_eq x s) (has_seen (ss ++ us) s) (has_left ss us s k)
 ]
 
--- what is in the second of two lists is in both, one behind the other
+-- A member of the second of two lists is a member of their concatenation.
 pub has_right : (ss us : List Seen) (s : Seen) → has_seen us s ≡ true → has_seen (ss ++ us) s ≡ true
 has_right [] us s h = h
 has_right (x ∷ ss) us s h = or_right (seen_eq x s) (has_seen (ss ++ us) s) (has_right ss us s h)
 
--- what is made of an index is among what is made of all indices
+-- The image of an index is among the images of all indices.
 has_mapped : (f : ℕ → Seen) (a n k : ℕ) → a ≤ k → k < a + n → has_seen (map f (range_with_len a n)) (f k) ≡ true
 has_mapped f a zero k le lt = absurd (omega (arith, le, lt))
 has_mapped f a (suc n) k le lt = elim (cases_Bool (a == k)) [
@@ -186,7 +186,7 @@ has_mapped f a (suc n) k le lt = elim (cases_Bool (a == k)) [
       (has_mapped f (a + 1) n k (omega (arith, le, eqb-false a k e)) (omega (arith, lt)))
 ]
 
--- what is among what is made of one index is among all of it, joined
+-- A member of one index's list is a member of the concatenated lists.
 has_joined : (f : ℕ → List Seen) (a n k : ℕ) (s : Seen)
     → a ≤ k
     → k < a + n
@@ -200,17 +200,17 @@ has_joined f a (suc n) k s le lt h = elim (cases_Bool (a == k)) [
       (has_joined f (a + 1) n k s (omega (arith, le, eqb-false a k e)) (omega (arith, lt)) h)
 ]
 
--- the registers of all threads are among all registers
+-- The registers of each thread are among all registers.
 pub has_register : (threads t r : ℕ) → t < threads → r < 6 → has_seen (all_registers threads) (Register t r) ≡ true
 has_register threads t r h k =
     has_joined thread_registers 0 threads t (Register t r) (omega arith) (omega (arith, h))
     (has_mapped (λ q. Register t q) 0 6 r (omega arith) (omega (arith, k)))
 
--- the locations of a table are among all locations
+-- The locations of a table are among all locations.
 pub has_location : (locs x : ℕ) → x < locs → has_seen (locations locs) (Location x) ≡ true
 has_location locs x h = has_mapped (λ y. Location y) 0 locs x (omega arith) (omega (arith, h))
 
--- a register or location of a test is among all its registers and locations
+-- A register or location of a test is among all its registers and locations.
 has_all : (threads locs : ℕ) (s : Seen)
     → IsSeenInRange threads locs s
     → has_seen (all_registers threads ++ locations locs) s ≡ true
@@ -218,14 +218,14 @@ has_all threads locs (Register t r) h =
     has_left (all_registers threads) (locations locs) (Register t r) (has_register threads t r h.0 h.1)
 has_all threads locs (Location x) h = has_right (all_registers threads) _ (Location x) (has_location locs x h)
 
--- each of a list of a test's registers and locations is among all of them
+-- Each item of a list of a test's registers and locations is among all of them.
 has_each : (threads locs : ℕ) (ss : List Seen)
     → AllByRecursion (IsSeenInRange threads locs) ss
     → AllByRecursion (λ s. has_seen (all_registers threads ++ locations locs) s ≡ true) ss
 has_each threads locs [] h = tt
 has_each threads locs (s ∷ ss) h = (has_all threads locs s h.0, has_each threads locs ss h.1)
 
--- a list of a test's registers and locations in order is what is left of all of them by keeping what is in it
+-- An ascending list of a test's registers and locations results from filtering all of them by membership.
 pub listed_again : (threads locs : ℕ) (ss : List Seen)
     → IsAscending ss
     → AllByRecursion (IsSeenInRange threads locs) ss
@@ -234,9 +234,9 @@ listed_again threads locs ss ascending there =
     filtered_again (all_registers threads ++ locations locs) ss (all_ascending threads locs) ascending
     (has_each threads locs ss there)
 
--- ---- how many there are
+-- ---- The number of registers and locations.
 
--- a filter leaves a list that is no longer
+-- A filtered list is no longer.
 pub filter_shorter : (p : Seen → Bool) (us : List Seen) → length (filter p us) ≤ length us
 filter_shorter p [] = omega arith
 filter_shorter p (u ∷ us) = go (p u) refl (filter_shorter p us)
@@ -245,7 +245,7 @@ filter_shorter p (u ∷ us) = go (p u) refl (filter_shorter p us)
     go true e h = rw e (omega (arith, h))
     go false e h = rw e (omega (arith, h))
 
--- all registers of so many threads are six times as many
+-- There are six registers for each thread.
 registers_length : (a n : ℕ) → length (flat_map thread_registers (range_with_len a n)) ≡ 6 * n
 registers_length a zero = omega arith
 registers_length a (suc n) =
@@ -255,7 +255,7 @@ registers_length a (suc n) =
       registers_length (a + 1) n,
     )
 
--- all registers and locations are six for each thread and one for each location
+-- There are six registers for each thread, and one location for each name.
 pub seen_length : (threads locs : ℕ) → length (all_registers threads ++ locations locs) ≡ 6 * threads + locs
 seen_length threads locs = omega (
   arith,
@@ -264,11 +264,11 @@ seen_length threads locs = omega (
   length-map-range_with_len (λ x. Location x) 0 locs,
 )
 
--- how many registers and locations a test has at most
+-- The maximum number of registers and locations of a test.
 abbrev pub most_seen : ℕ
 most_seen = registers * most_threads + most_locations
 
--- a list in order of a test's registers and locations is no longer than all of them
+-- An ascending list of a test's registers and locations is no longer than all of them.
 pub listed_few : (threads locs : ℕ) (ss : List Seen)
     → IsAscending ss
     → AllByRecursion (IsSeenInRange threads locs) ss

@@ -1,4 +1,4 @@
--- Where a name stands in a table, and a table with one name more.
+-- The index of a name in a table, and tables with one more name.
 use Rattle.lw_base.proofs.Common.{bytes_eq, true≢false, append-nil, append_assoc, ◌++◌, ◌∷◌, length-append}
 use Rattle.lw_base.proofs.Common.{◌≡◌, ℕ, ◌<◌, ◌+◌, true, false, suc, zero, List, [], map, length, take}
 use Rattle.lw_base.proofs.Common.{get_or, slice_get, Option, Some, None, MatchOption, Contains, ◌⊎◌, inl, inr}
@@ -10,7 +10,7 @@ use Rattle.lw_base.proofs.Common.{Contains-push_cases, Contains-append_right, un
 use Rattle.lw_base.proofs.Common.{pointwise_decides, slice_get-get_or, slice_get-map, slice_get_read}
 use Rattle.lw_base.proofs.Common.{slice_get_within, get_or_from_slice_get}
 
--- An entry stands at index p of a list, and this is its name, which f gives.
+-- There is an entry at index p of a list, and f gives this name for it.
 pub record EntryAt {S : Type 0} (f : S → Bytes) (ss : List S) (p : ℕ) (name : Bytes) : Type 0 where
   pub entry : S
   pub within : p < length ss
@@ -21,13 +21,13 @@ module _ {S : Type 0} (f : S → Bytes) (ss : List S) (p : ℕ) (t : Bytes) (x :
   at_index : slice_get (map f ss) p ≡ Some t
   at_index = slice_get-map f _ p ∙ ap (option_map f) (slice_get_read ss _ p x.entry refl x.within x.is) ∙ ap Some (sym x.named)
 
-  -- if the entry at an index has another name, the table does not have this name at that index
+  -- If the entry at an index has another name, the table does not have this name at that index.
   pub not_here : (name : Bytes) → pointwise nat_eq t name ≡ false → get_or (map f ss) p [] ≡ name → ⊥
   not_here name other e =
       let same : t ≡ name = sym (get_or_from_slice_get (map f ss) p t [] at_index) ∙ e in
       true≢false (sym ((pointwise_decides unsigned_Decides t name).1 same) ∙ other)
 
-  -- if the entry at an index has this name, an answer that gives that index as a location is right: the name stands there
+  -- If the entry at an index has this name, the location with that index has the name.
   pub here : (name : Bytes) (o : Option ℕ)
       → length ss < 9
       → SomeIff o (p < 8) p
@@ -38,7 +38,7 @@ module _ {S : Type 0} (f : S → Bytes) (ss : List S) (p : ℕ) (t : Bytes) (x :
       subst (λ (i : ℕ). slice_get (map f ss) i ≡ Some name) (sym h.1)
       (at_index ∙ ap Some ((pointwise_decides unsigned_Decides t name).0 same))
 
--- the name that an entry of a list has is the table's at that index
+-- The name of an entry of a list is the table's name at that index.
 pub name_at : {S : Type 0} {names : NameTable} {place : ℕ} (f : S → Bytes) (ss : List S) (p : ℕ) (t : Bytes)
     → EntryAt f ss p t
     → map f ss ≡ names
@@ -47,7 +47,7 @@ pub name_at : {S : Type 0} {names : NameTable} {place : ℕ} (f : S → Bytes) (
 name_at {place} f ss p t x view same =
     subst (λ ns. slice_get ns place ≡ Some t) view (subst (λ (q : ℕ). slice_get (map f ss) q ≡ Some t) same (at_index f ss p t x))
 
--- names that stand once each, and one more that is none of them, stand once each
+-- Appending a new name preserves that names have no duplicates.
 pub once_more : (ns : NameTable) (n : Bytes) → IsDuplicateFree ns → (Contains ns n → ⊥) → IsDuplicateFree (ns ++ n ∷ [])
 once_more [] n once fresh = ((λ h. let k : h.0 < 0 = h.1 in absurd (omega arith)), tt)
 once_more (m ∷ ns) n once fresh =
@@ -57,7 +57,7 @@ once_more (m ∷ ns) n once fresh =
     apart (inl h) = once.0 h
     apart (inr e) = fresh (0, omega arith, sym e)
 
--- a table of allowed names with one more has allowed names alone
+-- Appending a valid name preserves that all names are valid.
 all_more : (ns : NameTable) (n : Bytes)
     → AllByRecursion IsLocationName ns
     → IsLocationName n
@@ -65,14 +65,14 @@ all_more : (ns : NameTable) (n : Bytes)
 all_more [] n all is = (is, tt)
 all_more (m ∷ ns) n all is = (all.0, all_more ns n all.1 is)
 
--- the names of a list with one entry more are one name more
+-- The names of a list with one more entry are one more name.
 pub names_more : {S : Type 0} (f : S → Bytes) (ss ts : List S) (s : S) (name : Bytes)
     → ts ≡ ss ++ s ∷ []
     → f s ≡ name
     → map f ts ≡ map f ss ++ name ∷ []
 names_more f ss ts s name more text = ap (map f) more ∙ map-append f ss (s ∷ []) ∙ ap (λ n. map f ss ++ n ∷ []) text
 
--- if the names of the entries before index k were copied, and then that of the entry there, those up to it were copied
+-- If the names of the entries before index k were copied, and then that of the entry at k, the names of the first k + 1 were copied.
 pub copied_more : {S : Type 0} {ts : List S} (f : S → Bytes) (us ss : List S) (s : S) (k : ℕ)
     → EntryAt f us k (f s)
     → map f ss ≡ map f (take k us)
@@ -85,7 +85,7 @@ copied_more {ts} f us ss s k x done more =
     ∙ map-append f (take k us) (get_or us k x.entry ∷ [])
     ∙ ap (λ t. map f (take k us) ++ f t ∷ []) (sym x.is))
 
--- a table of locations with a new one put last is a table
+-- Appending a new valid name to a table with room gives a table.
 pub table_more : (names : NameTable) (name : Bytes)
     → length names < 8
     → IsLocationName name
@@ -98,25 +98,25 @@ table_more names name few is fresh table = record {
   once = once_more names name table.once fresh;
 }
 
--- the location that is made of the index of a name put last has that index
+-- The location that results from the index of an appended name has that index.
 pub last_index : (o : Option ℕ) (p at n : ℕ) → SomeIff o (p < 8) p → p ≡ n → n < 8 → o ≡ Some at → at ≡ n
 last_index None p at n is e few same = absurd (is (omega arith))
 last_index (Some loc) p at n is e few same = let h : loc ≡ at = cc in sym h ∙ is.1 ∙ e
 
--- of an index below eight a location is made
+-- A location results from any index below eight.
 pub has_index : (o : Option ℕ) (p n : ℕ) → SomeIff o (p < 8) p → p ≡ n → n < 8 → IsSome o
 has_index None p n is e few = absurd (is (omega arith))
 has_index (Some loc) p n is e few = refl
 
--- texts that are the same compare equal
+-- Equal texts compare equal.
 same_bytes : (a b : Bytes) → a ≡ b → bytes_eq a b ≡ true
 same_bytes a b e = (pointwise_decides unsigned_Decides a b).1 e
 
--- texts that differ do not compare equal
+-- Different texts compare unequal.
 other_bytes : (a b : Bytes) → (a ≡ b → ⊥) → bytes_eq a b ≡ false
 other_bytes a b n = false_from_ne_true (bytes_eq a b) (λ e. n ((pointwise_decides unsigned_Decides a b).0 e))
 
--- a name that is in the table is found there
+-- A name that is in the table is found there.
 pub contains_name-Contains : (names : NameTable) (n : Bytes) → Contains names n → contains_name names n ≡ true
 contains_name-Contains [] n h = let k : h.0 < 0 = h.1 in absurd (omega arith)
 contains_name-Contains (m ∷ names) n h = go h.0 h.1 h.2 (contains_name-Contains names n)
@@ -129,7 +129,7 @@ contains_name-Contains (m ∷ names) n h = go h.0 h.1 h.2 (contains_name-Contain
     go zero l e further = rw (same_bytes m n e) refl
     go (suc k) l e further = rw (further (k, omega arith, e)) (or_right (bytes_eq m n) true refl)
 
--- a name that is not in the table is not found there
+-- A name that is not in the table is not found there.
 contains_name-not : (names : NameTable) (n : Bytes) → (Contains names n → ⊥) → contains_name names n ≡ false
 contains_name-not [] n h = refl
 contains_name-not (m ∷ names) n h =
@@ -137,16 +137,16 @@ contains_name-not (m ∷ names) n h =
     (other_bytes m n (λ e. h (0, omega arith, e)), contains_name-not names n (λ k. h (Contains-append_right (m ∷ []) names n k)))
     refl
 
--- a name that is in the table is not put in again
+-- Inserting a name that is in the table leaves it unchanged.
 pub insert_name-there : (names : NameTable) (n : Bytes) (l : ℕ) → slice_get names l ≡ Some n → insert_name names n ≡ names
 insert_name-there names n l at =
     rw (contains_name-Contains names n (l, slice_get_within names l n at, get_or_from_slice_get names l n n at)) refl
 
--- a name that is not in the table is put last
+-- Inserting a new name appends it.
 pub insert_name-new : (names : NameTable) (n : Bytes) → (Contains names n → ⊥) → insert_name names n ≡ names ++ n ∷ []
 insert_name-new names n fresh = rw (contains_name-not names n fresh) refl
 
--- a name has the index at which it stands, where each name stands once
+-- A name has the index at which it is, in a table without duplicates.
 pub position_of_name-at : (names : NameTable) (n : Bytes) (l : ℕ)
     → IsDuplicateFree names
     → slice_get names l ≡ Some n
@@ -158,7 +158,7 @@ position_of_name-at (m ∷ names) n (suc l) once at =
     once.0 (l, slice_get_within names l m (at ∙ ap Some (sym e)), get_or_from_slice_get names l m m (at ∙ ap Some (sym e))) in
     rw (other_bytes m n other) (ap (λ (k : ℕ). 1 + k) (position_of_name-at names n l once.1 at) ∙ omega arith)
 
--- the name at an index is found at that index
+-- The name at an index is found at that index.
 pub position_of_name-again : (names : NameTable)
     → IsDuplicateFree names
     → (x : ℕ)
@@ -166,7 +166,7 @@ pub position_of_name-again : (names : NameTable)
     → position_of_name names (get_or names x []) ≡ x
 position_of_name-again names once x h = position_of_name-at names (get_or names x []) x once (slice_get-get_or names x [] h)
 
--- a new name gets the index behind the last
+-- A new name gets the index after the last.
 pub position_of_name-new : (names : NameTable) (n : Bytes)
     → (Contains names n → ⊥)
     → position_of_name (names ++ n ∷ []) n ≡ length names
@@ -175,17 +175,17 @@ position_of_name-new (m ∷ names) n fresh =
     rw (other_bytes m n (λ e. fresh (0, omega arith, e)))
     (ap (λ (k : ℕ). 1 + k) (position_of_name-new names n (λ k. fresh (Contains-append_right (m ∷ []) names n k))) ∙ omega arith)
 
--- the name stands at some index of the table
+-- The name is at some index of the table.
 abbrev pub IsInTable : NameTable → Bytes → Type 0
 IsInTable names n = (l : ℕ) × (slice_get names l ≡ Some n)
 
--- a table that has all of some names already stays as it is when they are put in
+-- Inserting names that a table has already leaves it unchanged.
 pub insert_names-there : (names ns : NameTable) → AllByRecursion (IsInTable names) ns → insert_names names ns ≡ names
 insert_names-there names [] h = refl
 insert_names-there names (n ∷ ns) h =
     ap (λ (t : NameTable). insert_names t ns) (insert_name-there names n h.0.0 h.0.1) ∙ insert_names-there names ns h.1
 
--- where each name stands once, a name is none of those before it
+-- A name of a list without duplicates is none of those before it.
 not_before : (before ns : NameTable) (n : Bytes) → IsDuplicateFree (before ++ (n ∷ ns)) → Contains before n → ⊥
 not_before [] ns n once there = let k : there.0 < 0 = there.1 in absurd (omega arith)
 not_before (b ∷ before) ns n once there = at there.0 there.1 there.2 (not_before before ns n once.1)
@@ -196,7 +196,7 @@ not_before (b ∷ before) ns n once there = at there.0 there.1 there.2 (not_befo
         (Contains-append_right before (n ∷ ns) n (0, omega arith, refl)))
     at (suc k) lt e further = further (k, omega (arith, lt), e)
 
--- names that each appear once are put last one by one
+-- Inserting new names without duplicates appends them.
 insert_names-new : (before ns : NameTable) → IsDuplicateFree (before ++ ns) → insert_names before ns ≡ before ++ ns
 insert_names-new before [] once = sym (append-nil before)
 insert_names-new before (n ∷ ns) once =
@@ -205,6 +205,6 @@ insert_names-new before (n ∷ ns) once =
     ∙ insert_names-new (before ++ n ∷ []) ns (subst IsDuplicateFree e once)
     ∙ sym e
 
--- the names of a table, put in one by one, make that table
+-- Inserting the names of a table into an empty one gives the table.
 pub insert_names-again : (names : NameTable) → IsDuplicateFree names → insert_names [] names ≡ names
 insert_names-again names once = insert_names-new [] names once

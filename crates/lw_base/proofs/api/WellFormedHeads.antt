@@ -1,15 +1,15 @@
--- A head is as well-formed with a longer table of locations.
+-- A longer table of locations preserves that a head is well-formed.
 use Rattle.lw_base.proofs.Common.{ℕ, zero, suc, ◌-◌, ◌≤◌, List, [], ◌∷◌, ◌++◌, length, arith, length-append}
 use Rattle.lw_base.proofs.Common.{replicate, AllByRecursion, length-replicate, Seen, Register, Location}
 use Rattle.lw_base.proofs.Common.{Formula, Word_is, Not, And, Or, TestHead, set_location_names, IsNameTable}
 use Rattle.lw_base.proofs.Common.{IsSeenInRange, IsWordNumber, MentionsOnly, IsWellFormedHead}
 
--- a register or location of a test is one of it with a longer table of locations, too
+-- A longer table of locations preserves that a register or location is in range.
 seen_more : (threads few more : ℕ) → few ≤ more → (s : Seen) → IsSeenInRange threads few s → IsSeenInRange threads more s
 seen_more threads few more le (Register t r) h = h
 seen_more threads few more le (Location x) h = omega (arith, h)
 
--- registers and locations of a test, in a list, are so with a longer table of locations, too
+-- A longer table of locations preserves that registers and locations in a list are in range.
 all_seen_more : (threads few more : ℕ)
     → few ≤ more
     → (ss : List Seen)
@@ -18,7 +18,7 @@ all_seen_more : (threads few more : ℕ)
 all_seen_more threads few more le [] h = tt
 all_seen_more threads few more le (s ∷ ss) h = (seen_more _ few _ le s h.0, all_seen_more _ few _ le ss h.1)
 
--- a formula that speaks of so many threads and locations only does so where there are more locations, too
+-- More locations preserve that a formula mentions only existing threads and locations.
 speaks_more : (threads few more : ℕ) → few ≤ more → (p : Formula) → MentionsOnly threads few p → MentionsOnly threads more p
 speaks_more threads few more le (Word_is x n) h = (omega (arith, h.0), h.1)
 speaks_more threads few more le (Not p) h = speaks_more threads few more le p h
@@ -26,13 +26,13 @@ speaks_more threads few more le (And p q) h = (speaks_more _ few _ le p h.0, spe
 speaks_more threads few more le (Or p q) h = (speaks_more _ few _ le p h.0, speaks_more _ few more le q h.1)
 speaks_more threads few more le _ h = h
 
--- words, and zeros behind them, are words
+-- Words followed by zeros are words.
 words_more : (ws : List ℕ) (n : ℕ) → AllByRecursion IsWordNumber ws → AllByRecursion IsWordNumber (ws ++ replicate n 0)
 words_more [] zero h = tt
 words_more [] (suc n) h = (omega arith, words_more [] n tt)
 words_more (w ∷ ws) n h = (h.0, words_more ws n h.1)
 
--- the head of a test with a longer table, and 0 for each location that is new, is well-formed
+-- The head of a test with a longer table, and 0 for each new location, is well-formed.
 pub set_location_names-well_formed : (head : TestHead) (names : List (List ℕ))
     → IsWellFormedHead head
     → IsNameTable names

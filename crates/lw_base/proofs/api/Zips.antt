@@ -1,8 +1,8 @@
--- Items of two lists side by side, and of a list of images.
+-- Items of two lists at the same index, and of a list of images.
 use Rattle.lw_base.proofs.Common.{◌≡◌, ℕ, zero, suc, Bool, true, List, [], ◌∷◌, length, map, Some, refl, sym}
 use Rattle.lw_base.proofs.Common.{ap₂, ◌∙◌, arith, slice_get, zip, list_all, and_parts, and_from}
 
--- an item of a list of images is the image of an item
+-- An item of a list of images is the image of an item.
 pub get-map : {X Y : Type 0} (f : X → Y) (xs : List X) (k : ℕ) (y : Y)
     → slice_get (map f xs) k ≡ Some y
     → (x : X) × (slice_get xs k ≡ Some x) × (y ≡ f x)
@@ -10,7 +10,7 @@ get-map f [] k y at = absurd cc
 get-map f (x ∷ xs) zero y at = (x, refl, cc)
 get-map f (x ∷ xs) (suc k) y at = get-map f xs k y at
 
--- if two lists are of one length, and each item's image by f is its fellow's by g, their lists of images are equal
+-- If two lists have one length, and each item's image by f is its fellow's by g, their lists of images are equal.
 pub same_maps : {X Y Z : Type 0} (f : X → Z) (g : Y → Z) (xs : List X) (ys : List Y)
     → length xs ≡ length ys
     → ((k : ℕ) (x : X) (y : Y) → slice_get xs k ≡ Some x → slice_get ys k ≡ Some y → f x ≡ g y)
@@ -20,7 +20,7 @@ same_maps f g (x ∷ xs) (y ∷ ys) as_many alike =
     ap₂ (λ z zs. z ∷ zs) (alike 0 x y refl refl) (same_maps f g xs ys (omega arith) (λ k a b at and. alike (suc k) a b at and))
 same_maps f g _ _ as_many alike = absurd (omega arith)
 
--- if each two fellows of two lists pass a test, so does the whole list of pairs
+-- If each two fellows of two lists pass a test, so does the whole list of pairs.
 pub zip_pass : {X Y : Type 0} (test : X × Y → Bool) (xs : List X) (ys : List Y)
     → ((k : ℕ) (x : X) (y : Y) → slice_get xs k ≡ Some x → slice_get ys k ≡ Some y → test (x, y) ≡ true)
     → list_all test (zip xs ys) ≡ true
@@ -29,7 +29,7 @@ zip_pass test (x ∷ xs) (y ∷ ys) each =
     (zip_pass test xs ys (λ k a b at and. each (suc k) a b at and))
 zip_pass test _ _ each = refl
 
--- if the whole list of pairs of two lists passes a test, so do each two fellows
+-- If the whole list of pairs of two lists passes a test, so do each two fellows.
 pub zip_passes : {X Y : Type 0} (test : X × Y → Bool) (xs : List X) (ys : List Y) (k : ℕ) (x : X) (y : Y)
     → list_all test (zip xs ys) ≡ true
     → slice_get xs k ≡ Some x

@@ -3,7 +3,7 @@ use Rattle.lw_base.proofs.Common.{◌≤◌, ◌∙◌, ℕ, List, MatchOption, 
 use Rattle.lw_base.proofs.Common.{refl, sym, slice_get_read}
 use Rattle.lw_base.proofs.sequence.Sequence.get.Goals as goal
 
--- What a look-up gives of a list, by what is known of it where it finds an item and where it finds none.
+-- The result of a look-up in a list, from its two clauses, for an item and for none.
 looked_up : {X : Type 0} (read : Option (Bor X)) (xs : List X) (i : ℕ)
     → IfSome read (λ x. x.now ≡ get_or xs i x.now)
     → MatchOption read (length xs ≤ i) (λ x. (i < length xs) × HoldsAt (λ y. x.now ≡ y) xs i)
