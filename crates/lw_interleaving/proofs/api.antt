@@ -1,3 +1,3 @@
--- What proofs of other crates cite: runs of source tests, and exchanges of their steps.
+-- Lemmas for the proofs of other crates: runs of source tests, and commuting steps.
 pub mod Runs
 pub mod Commutation

@@ -1,2 +1,2 @@
--- What proofs of other crates cite: what a strictly sorted list of outcomes has.
+-- Lemmas for the proofs of other crates: strictly sorted lists of outcomes.
 pub mod Listings

@@ -1,20 +1,20 @@
--- How many states make the proposition true, and how many do not.
+-- Counting the states in which the proposition is true, and those in which it is false.
 use Rattle.lw_report.proofs.Common.{◌≡◌, ℕ, suc, ◌+◌, ◌-◌, ◌<◌, ◌≤◌, Bool, true, false, List, [], ◌∷◌, length}
 use Rattle.lw_report.proofs.Common.{map, take, get_or, refl, sym, ap, ◌∙◌, cond, arith, filter, take_all}
 use Rattle.lw_report.proofs.Common.{from_bool, length-map, length-filter_both, length-filter_more, positive}
 use Rattle.lw_report.proofs.Common.{negative, ProjectedState, ListedState, projection_of}
 
--- a truth value counts as one at most
+-- A truth value counts as at most one.
 pub one_at_most : (b : Bool) (n : ℕ) → n ≡ from_bool b → n ≤ 1
 one_at_most true n e = omega (arith, e)
 one_at_most false n e = omega (arith, e)
 
--- a truth value counts as one if it is true, and else as none
+-- A truth value counts as one if it is true, and as zero otherwise.
 number_of : (b : Bool) → from_bool b ≡ cond b 1 0
 number_of true = refl
 number_of false = refl
 
--- where of the first k states those were counted in which the proposition is true, and then the one at k, k + 1 were
+-- Counting the state at k extends the count of the first k states to k + 1.
 pub counted_more : {s : ListedState} {b : Bool} {count n : ℕ} (states : List ListedState) (k : ℕ)
     → k < length states
     → s ≡ get_or states k s
@@ -28,7 +28,7 @@ counted_more {s} {n} states k lt is is_b before added =
     ∙ ap (λ (m : ℕ). length (filter (λ (t : ListedState). t.holds) (take k states)) + m) one
     ∙ sym (length-filter_more (λ (t : ListedState). t.holds) states k s lt)
 
--- of listed states, and of what a report shows of them, as many make the proposition true
+-- The proposition is true in as many listed states as in the same states without their indices.
 counted : (states : List ListedState)
     → length (filter (λ (s : ListedState). s.holds) states) ≡ positive (map projection_of states)
 counted [] = refl
@@ -41,7 +41,7 @@ counted (s ∷ states) =
       | false ↦ counted states
     ]
 
--- where all states were counted, the count is of those that make the proposition true
+-- When all states are counted, the count is the number of those in which the proposition is true.
 pub shown_counted : (states : List ListedState) (k count : ℕ)
     → length states ≤ k
     → count ≡ length (filter (λ (t : ListedState). t.holds) (take k states))
@@ -49,7 +49,7 @@ pub shown_counted : (states : List ListedState) (k count : ℕ)
 shown_counted states k count le is =
     is ∙ ap (λ l. length (filter (λ (t : ListedState). t.holds) l)) (take_all k states le) ∙ counted states
 
--- where so many states make the proposition true, the others are as many as do not
+-- The proposition is false in all states in which it is not true.
 pub others_counted : (states : List ListedState) (count : ℕ)
     → count ≡ positive (map projection_of states)
     → length states - count ≡ negative (map projection_of states)

@@ -1,4 +1,4 @@
--- Of states in order, the first of those with the same words.
+-- Removing duplicates from sorted states: the first of those with the same words remains.
 use Rattle.lw_report.proofs.Common.{◌≡◌, ℕ, suc, ◌+◌, ◌≤◌, ◌⊎◌, inl, inr, Bool, true, false, List, [], ◌∷◌}
 use Rattle.lw_report.proofs.Common.{get_or, refl, sym, ap, ◌∙◌, subst, arith, All, Contains, nat_eq, IsSorted}
 use Rattle.lw_report.proofs.Common.{nat_cmp, is_lt, Ordering, Less, Equal, Greater, lt-ltb, slice_cmp}
@@ -13,21 +13,21 @@ use Rattle.lw_report.proofs.Common.{pointwise, Contains-cons}
 use Rattle.std.specs.List.Sorted.{IsStrictlySortedBy}
 use Rattle.lw_report.proofs.api.OneList.{not_below_itself}
 
--- ---- the order
+-- ---- The order.
 
--- the order of states by their words
+-- The order of states by their words.
 abbrev words_cmp : ListedState → ListedState → Ordering
 words_cmp s t = slice_cmp nat_cmp s.words t.words
 
--- whether two states have the same words
+-- Tests whether two states have the same words.
 abbrev pub same_words : ListedState → ListedState → Bool
 same_words s t = pointwise nat_eq s.words t.words
 
--- a state is before another, or at it: its words are below the other's, or they are the same and its number is no larger
+-- A state is not greater than another: its words are less, or they are the same and its index is not greater.
 abbrev NotAbove : ListedState → ListedState → Type 0
 NotAbove s t = (words_cmp s t ≡ Less) ⊎ ((s.words ≡ t.words) × (s.entry ≤ t.entry))
 
--- a state that is not sorted behind another is before it, or at it
+-- A state that is not sorted after another is not greater.
 not_above : (s t : ListedState) → is_lt (state_cmp t s) ≡ false → NotAbove s t
 not_above s t h = go (words_cmp t s) refl
   where
@@ -45,33 +45,33 @@ not_above s t h = go (words_cmp t s) refl
     )
     go Greater e = inl (nat_list_cmp_total.antisymm s.words t.words ∙ ap ordering_reverse e)
 
--- of two states with the same words, the one before has no larger index of an outcome
+-- Of two states with the same words, the one before has the smaller or the same index of an outcome.
 smaller_entry : (s t : ListedState) → NotAbove s t → t.words ≡ s.words → s.entry ≤ t.entry
 smaller_entry s t (inl less) e =
     absurd (not_below_itself s.words (subst (λ (w : List ℕ). slice_cmp nat_cmp s.words w ≡ Less) e less))
 smaller_entry s t (inr p) e = p.1
 
--- the order by words is total
+-- The order by words is total.
 words_total : IsTotalOrder words_cmp
 words_total = on_total (λ (s : ListedState). s.words) nat_list_cmp_total
 
--- the order of states, by their words and then by the index of their outcome, is total
+-- The order of states, by their words and then by the index of their outcome, is total.
 state_cmp_total : IsTotalOrder state_cmp
 state_cmp_total =
     then_total words_total (then_total (on_total (λ (s : ListedState). s.entry) nat_cmp_total) (on_total _ bool_cmp_total))
 
--- where states go up, their words do not go down
+-- If states are ascending, their words are.
 words_up : (o r : Ordering) → is_lt (ordering_then o r) ≡ false → is_lt o ≡ false
 words_up Less r h = h
 words_up _ r h = refl
 
--- ---- the first of those with the same words has the smallest number
+-- ---- The first state with its words has the smallest index.
 
--- of all states with its words, this one has the smallest index of an outcome
+-- This state has the smallest index of an outcome among all states with its words.
 abbrev IsSmallest : List ListedState → ListedState → Type 0
 IsSmallest all s = (t : ListedState) → Contains all t → t.words ≡ s.words → s.entry ≤ t.entry
 
--- of sorted states of which only the first with the same words are left, each has the smallest index of those with its words
+-- If only the first of those with the same words remain of sorted states, each has the smallest index among those with its words.
 smallest_from : (k : ListedState) (xs : List ListedState)
     → All (NotAbove k) xs
     → AllPairs NotAbove xs
@@ -108,7 +108,7 @@ smallest_from k (x ∷ xs) first rest = elim (cases_Bool (same_words x k)) [
       | inr there ↦ smaller_entry k t (All-contains (NotAbove k) (x ∷ xs) t first there) e
     ]
 
-    -- x, whose words are those of k, is behind it
+    -- The state x has the words of k and is removed.
     passed : x.words ≡ k.words → (s : ListedState) → IsSmallest (k ∷ xs) s → IsSmallest (k ∷ x ∷ xs) s
     passed same s old t h e = elim (Contains-cons k t (x ∷ xs) h) [
       | inl is ↦ old t (0, omega arith, is) e
@@ -121,7 +121,7 @@ smallest_from k (x ∷ xs) first rest = elim (cases_Bool (same_words x k)) [
       ]
     ]
 
-    -- one behind k, where the words go up
+    -- A state after k remains if its words are greater.
     kept : (x.words ≡ k.words → ⊥)
         → (s : ListedState)
         → Contains (dedup_from same_words x xs) s
@@ -148,14 +148,14 @@ smallest_from k (x ∷ xs) first rest = elim (cases_Bool (same_words x k)) [
         above (inl less) (inl more) = nat_list_cmp_total.trans k.words x.words k.words less more
         above (inr p) (inl more) = absurd (other (sym p.0))
 
--- states whose words go up one by one do so in all pairs
+-- States whose words are ascending step by step are ascending in all pairs.
 strictly : (ks : List ListedState) → IsStrictlySortedBy words_cmp ks → AllPairs (λ s t. words_cmp s t ≡ Less) ks
 unfolding IsStrictlySortedBy
 strictly [] h = λ i j d lt within. absurd (omega (arith, within))
 strictly (k ∷ ks) h =
     AllPairs-cons (λ s t. words_cmp s t ≡ Less) k ks (All-from_recursion (λ t. words_cmp k t ≡ Less) ks h.0) (strictly ks h.1)
 
--- of sorted states, where only the first of those with the same words are left, these are the first states with each words
+-- Removing all except the first of those with the same words from sorted states leaves the first states.
 pub are_firsts : (all : List ListedState) → IsSorted state_cmp all → AreFirstStates all (dedup same_words all)
 are_firsts all up = record {
   sorted =

@@ -1,4 +1,4 @@
--- That the lines of a report, which are written part by part, are those of the definitions.
+-- The lines of a report, written part by part, are those of the definitions.
 use Rattle.lw_report.proofs.Common.{◌≡◌, ℕ, suc, slice_get, Some, ◌<◌, ◌≤◌, ◌+◌, List, [], ◌∷◌, ◌++◌, length}
 use Rattle.lw_report.proofs.Common.{map, min, take, drop, get_or, refl, sym, ap, ◌∙◌, append_assoc, codes}
 use Rattle.lw_report.proofs.Common.{length-take, arith, zip, flat_map, decimal, take_all, length-map}
@@ -10,12 +10,12 @@ use Rattle.lw_report.proofs.Common.{verdict_of, kind_text, verdict_text, word_te
 use Rattle.lw_report.proofs.Common.{count_line, observation_line, claim_line, judgement_lines, report_text}
 use Rattle.lw_report.proofs.Common.{Claim, observed, ProjectedState, ListedState, projection_of}
 
--- a label and its word are the text of the name with its word
+-- A label and its word are the text of the name with its word.
 label_told : (head : TestHead) (before : Bytes) (s : Seen) (w : ℕ)
     → labelled_word (label head before s, w) ≡ before ++ word_text head (s, w)
 label_told head before s w = simp append_assoc
 
--- the words behind the first, each behind a space, as they are written
+-- The words after the first, each after a space, as they are written.
 next_told : (head : TestHead) (names : List Seen) (words : List ℕ)
     → flat_map labelled_word (zip (map (label head (codes " ")) names) words)
     ≡ flat_map (λ next. codes " " ++ next) (map (word_text head) (zip names words))
@@ -24,7 +24,7 @@ next_told head (s ∷ names) (w ∷ words) =
     ∙ ap (λ t. (codes " " ++ word_text head (s, w)) ++ t) (next_told head names words)
 next_told head _ _ = refl
 
--- all words of a state behind their labels are its words between spaces
+-- All words of a state after their labels are its words separated by spaces.
 words_told : (head : TestHead) (names : List Seen) (words : List ℕ)
     → labelled_words (labels head names) words ≡ joined (codes " ") (map (word_text head) (zip names words))
 words_told head (s ∷ names) (w ∷ words) =
@@ -32,14 +32,14 @@ words_told head (s ∷ names) (w ∷ words) =
     ∙ ap (λ t. word_text head (s, w) ++ t) (next_told head names words)
 words_told head _ _ = refl
 
--- a state's line, by its labels
+-- The line of a state, from its labels.
 pub line_told : (head : TestHead) (names : List Bytes) (words : List ℕ)
     → names ≡ labels head (observed head)
     → labelled_words names words ++ codes "\n" ≡ state_line head words
 line_told head names words are =
     ap (λ ns. labelled_words ns words ++ codes "\n") are ∙ ap (λ t. t ++ codes "\n") (words_told head _ words)
 
--- a state's line, written label by label, is the line of its words
+-- The line of a state, written label by label, is the line of its words.
 pub state_written : (head : TestHead) (names : List Bytes) (ws words : List ℕ) (out new : Bytes)
     → new ≡ out ++ (labelled_words names ws ++ codes "\n")
     → names ≡ labels head (observed head)
@@ -48,9 +48,9 @@ pub state_written : (head : TestHead) (names : List Bytes) (ws words : List ℕ)
 state_written head names ws words out new written are same =
     written ∙ ap (λ t. out ++ t) (line_told head names ws are ∙ ap (state_line head) same)
 
--- ---- a label's text
+-- ---- The text of a label.
 
--- the label of a register, as `0:EAX=`
+-- The label of a register, as in `0:EAX=`.
 pub register_told : {register : Bytes} {index cpu reg : ℕ} {name : Seen} (head : TestHead) (before : Bytes)
     → index ≡ cpu
     → register ≡ register_name head.arch reg
@@ -62,7 +62,7 @@ register_told {register} {cpu} {reg} head before is_index is_register is =
     ∙ ap (λ (t : Bytes). before ++ t) (sym (append_assoc (decimal cpu) (codes ":" ++ register_name head.arch reg) (codes "=")))
     ∙ ap (label head before) (sym is)
 
--- the label of a location, as `x=`
+-- The label of a location, as in `x=`.
 pub location_told : {text : Bytes} {loc : ℕ} {name : Seen} (head : TestHead) (before : Bytes)
     → slice_get head.locs loc ≡ Some text
     → name ≡ Location loc
@@ -71,16 +71,16 @@ location_told {text} {loc} head before at is =
     ap (λ (t : Bytes). before ++ (t ++ codes "=")) (sym (get_or_from_slice_get head.locs loc text [] at))
     ∙ ap (label head before) (sym is)
 
--- ---- the labels, one more
+-- ---- One more label.
 
--- the labels of names with one more behind them are those of the names, and then that of the one
+-- The labels of names with one more are those of the names, followed by its label.
 labels_pushed : (head : TestHead) (names : List Seen) (x : Seen)
     → labels head (names ++ x ∷ []) ≡ labels head names ++ label head (gap (length names)) x ∷ []
 labels_pushed head [] x = refl
 labels_pushed head (s ∷ names) x =
     ap (λ (ts : List Bytes). label head [] s ∷ ts) (map-append (label head (codes " ")) names (x ∷ []))
 
--- The label of the k-th name was made, and put behind these texts.
+-- The label of the k-th name was rendered and appended to these texts.
 pub record LabelMade (head : TestHead) (names : List Seen) (k : ℕ) (texts new : List Bytes) : Type 0 where
   pub name : Seen
   pub space : Bytes
@@ -91,7 +91,7 @@ pub record LabelMade (head : TestHead) (names : List Seen) (k : ℕ) (texts new 
   pub is_label : text ≡ label head space name
   pub pushed : new ≡ texts ++ text ∷ []
 
--- where the labels of the first k names were made, and then that of the name at k, those of the first k + 1 were
+-- Appending the label of the name at k extends the labels of the first k names to k + 1.
 pub label_more : (head : TestHead) (names : List Seen) (k : ℕ) (texts new : List Bytes)
     → LabelMade head names k texts new
     → texts ≡ labels head (take k names)
@@ -106,20 +106,20 @@ label_more head names k texts new one made =
     ∙ ap (λ (t : Bytes). labels head (take k names) ++ t ∷ []) here
     ∙ sym (ap (labels head) more ∙ labels_pushed head (take k names) x)
 
--- where as many labels were made as there are names, all were
+-- When as many labels are appended as there are names, they are the labels of all names.
 pub label_all : (head : TestHead) (names : List Seen) (k : ℕ) (texts : List Bytes)
     → length names ≤ k
     → texts ≡ labels head (take k names)
     → texts ≡ labels head names
 label_all head names k texts le made = made ∙ ap (labels head) (take_all k names le)
 
--- a space stands before each label but the first
+-- A space is before each label except the first.
 pub next_gap : (k : ℕ) → codes " " ≡ gap (k + 1)
 next_gap k = let next : suc k ≡ k + 1 = omega arith in ap gap next
 
--- ---- the words of a line, one more
+-- ---- One more word of a line.
 
--- The k-th word was written behind its label, and that behind the text so far.
+-- The k-th word was written after its label, and both after the text so far.
 pub record WordWritten (names : List Bytes) (words : List ℕ) (k : ℕ) (out new : Bytes) : Type 0 where
   pub end : ℕ
   pub name : Bytes
@@ -130,7 +130,7 @@ pub record WordWritten (names : List Bytes) (words : List ℕ) (k : ℕ) (out ne
   pub is_text : text ≡ name
   pub written : new ≡ out ++ (text ++ (decimal (get_or words k 0) ++ codes ";"))
 
--- with one more word written, what is written and what is still to come is the same line
+-- Writing one more word preserves that what is written, followed by the remaining words, is the line.
 pub labelled_more : (names : List Bytes) (words : List ℕ) (k : ℕ) (out new whole : Bytes)
     → WordWritten names words k out new
     → out ++ flat_map labelled_word (drop k (zip names words)) ≡ whole
@@ -145,7 +145,7 @@ labelled_more names words k out new whole one before =
     (omega (arith, length-zip names words, one.within, one.least)) is
     (one.written ∙ ap (λ t. out ++ (t ++ (decimal w ++ codes ";"))) one.is_text)
 
--- where as many words were written as the line has, the whole line was
+-- When as many words are written as the line has, the whole line is written.
 pub labelled_all : (names : List Bytes) (words : List ℕ) (k end : ℕ) (out goal : Bytes)
     → end ≤ k
     → end ≡ min (length names) (length words)
@@ -154,9 +154,9 @@ pub labelled_all : (names : List Bytes) (words : List ℕ) (k end : ℕ) (out go
 labelled_all names words k end out goal le least before =
     items_all labelled_word (zip names words) k out goal before (omega (arith, length-zip names words, le, least))
 
--- ---- what is told of all states
+-- ---- The lines of all states.
 
--- the first lines of a report, as they are written: the title, and how many states
+-- The first lines of a report, as they are written: the title, and the number of states.
 pub title_told : (head : TestHead) (name kind : Bytes) (n : ℕ)
     → name ≡ head.name
     → kind ≡ kind_text head.quant
@@ -164,7 +164,7 @@ pub title_told : (head : TestHead) (name kind : Bytes) (n : ℕ)
     ≡ title_line head ++ count_line n
 title_told head name kind n is_name is_kind = rw (is_name, is_kind) (simp append_assoc)
 
--- the line of the observation, as it is written
+-- The line of the observation, as it is written.
 pub observation_told : {name n word w claimed line : Bytes} (p q : ℕ)
     → name ≡ n
     → word ≡ w
@@ -175,7 +175,7 @@ pub observation_told : {name n word w claimed line : Bytes} (p q : ℕ)
     ++ (n ++ (codes " " ++ (w ++ (codes " " ++ (decimal p ++ (codes " " ++ (decimal q ++ codes "\n")))))))) ++ line
 observation_told p q is_name is_word is_line = rw (is_name, is_word, is_line) (simp append_assoc)
 
--- the lines behind the states, as they are written: the verdict, the numbers and the condition
+-- The lines after the states, as they are written: the verdict, the numbers and the condition.
 pub judgement_told : (head : TestHead) (claim : Claim) (p q : ℕ) (verdict condition : Bytes)
     → verdict ≡ verdict_text (verdict_of claim head.quant p q)
     → condition ≡ condition_text head
@@ -186,14 +186,14 @@ pub judgement_told : (head : TestHead) (claim : Claim) (p q : ℕ) (verdict cond
     ≡ judgement_lines head claim p q
 judgement_told head claim p q verdict condition is_verdict is_condition = rw (is_verdict, is_condition) (simp append_assoc)
 
--- the lines of states that are listed are those of what is shown of them
+-- The lines of listed states are those of the states without their indices.
 pub lines_shown : (head : TestHead) (states : List ListedState)
     → flat_map (λ (s : ListedState). state_line head s.words) states
     ≡ flat_map (λ (s : ProjectedState). state_line head s.words) (map projection_of states)
 lines_shown head [] = refl
 lines_shown head (s ∷ states) = ap (λ t. state_line head s.words ++ t) (lines_shown head states)
 
--- The parts of a report, one behind the other: from nothing up to its title, its lines and its end.
+-- The parts of a report in sequence: from nothing to its title, its lines and its end.
 pub record ReportParts (head : TestHead) (claim : Claim) (states : List ListedState) (end : Bytes) : Type 0 where
   pub first : Bytes
   pub title : Bytes
@@ -209,7 +209,7 @@ pub record ReportParts (head : TestHead) (claim : Claim) (states : List ListedSt
   pub is_positive : p ≡ positive (map projection_of states)
   pub is_negative : q ≡ negative (map projection_of states)
 
--- the parts of a report, one behind the other, are the report
+-- The parts of a report in sequence are the report.
 pub report_written : (head : TestHead) (claim : Claim) (states : List ListedState) (end : Bytes)
     → ReportParts head claim states end
     → end ≡ report_text head claim (map projection_of states)

@@ -1,4 +1,4 @@
--- The states of a list of outcomes, gathered one for each.
+-- The states of a list of outcomes, one for each.
 use Rattle.lw_report.proofs.Common.{◌≡◌, ℕ, ◌+◌, ◌<◌, inl, inr, List, [], ◌∷◌, ◌++◌, length, map, get_or}
 use Rattle.lw_report.proofs.Common.{refl, sym, ap, ◌∙◌, subst, arith, All, Contains, Some, slice_get}
 use Rattle.lw_report.proofs.Common.{IsPermutation, AllPairs, nat_cmp, Less, slice_cmp, cases_lt, get_or-map}
@@ -11,9 +11,9 @@ use Rattle.lw_report.proofs.Common.{observed_words, ProjectedState, ListedState,
 use Rattle.lw_report.proofs.Common.{IsFirstWithWords, AreListedStates, is_true}
 use Rattle.lw_report.proofs.Truths.{words_agree}
 
--- ---- the outcomes of entries
+-- ---- The outcomes of entries.
 
--- where all outcomes of a listing have the test's threads and locations, so has the one at an index
+-- If all outcomes of a listing have the test's threads and locations, so does the one at an index.
 pub outcome_of_entry : (head : TestHead) (entries : OutcomeEntries) (k : ℕ) (o : FinalState)
     → All (HasOutcomeShape head.threads (length head.locs)) (outcomes_of entries)
     → slice_get (outcomes_of entries) k ≡ Some o
@@ -22,10 +22,10 @@ outcome_of_entry head entries k o each at =
     let P : FinalState → Type 0 = HasOutcomeShape head.threads (length head.locs) in
     subst P (get_or_from_slice_get _ k o o at) (All-get_or P _ k o (slice_get_within _ k o at) each)
 
--- ---- one for each
+-- ---- One state for each outcome.
 
 module _ (head : TestHead) (outcomes : List FinalState) where
-  -- where the states of the first `count` outcomes were gathered, and then that of the next, those of one outcome more were
+  -- Adding the state of the next outcome extends the states of the first `count` outcomes by one.
   pub states_more : (count : ℕ) (states after : List ListedState) (o : FinalState)
       → AreStatesOfFirst head outcomes count states
       → slice_get outcomes count ≡ Some o
@@ -52,7 +52,7 @@ module _ (head : TestHead) (outcomes : List FinalState) where
             subst (Contains (states ++ state_at head count o ∷ [])) whole (Contains-push states _)
       ]
 
-  -- the states of the first `count` outcomes are still that when they are sorted
+  -- Sorting preserves that states are those of the first `count` outcomes.
   pub states_in_order : (count : ℕ) (states sorted : List ListedState)
       → IsPermutation states sorted
       → AreStatesOfFirst head outcomes count states
@@ -62,16 +62,16 @@ module _ (head : TestHead) (outcomes : List FinalState) where
     each = λ i o lt e. Contains-permutation states sorted (state_at head i o) p (are.each i o lt e);
   }
 
--- ---- what is shown of them
+-- ---- The states without their indices.
 
 module _ (states : List ListedState) where
-  -- what is shown of a state in the list is in the list of what is shown
+  -- A state in the list is among the states without their indices.
   shown_there : (s : ListedState) → Contains states s → Contains (map projection_of states) (projection_of s)
   shown_there s h =
       let within : h.0 < length (map projection_of states) = omega (arith, h.1, length-map states projection_of) in
       (h.0, within, get_or-map projection_of states h.0 s (projection_of s) h.1 ∙ ap projection_of h.2)
 
-  -- what is in the list of what is shown is shown of a state in the list
+  -- A state without its index comes from a state in the list.
   there_of_shown : (s : ProjectedState)
       → Contains (map projection_of states) s
       → (t : ListedState) × Contains states t × (projection_of t ≡ s)
@@ -80,7 +80,7 @@ module _ (states : List ListedState) where
       let within : h.0 < length states = omega (arith, h.1, length-map states projection_of) in
       (get_or states h.0 d, Contains-get_or _ h.0 d within, sym (get_or-map _ states h.0 d s within) ∙ h.2)
 
-  -- where states are sorted by their words, so is what is shown of them
+  -- If states are sorted by their words, so are the states without their indices.
   shown_in_order : AllPairs (λ (first later : ListedState). slice_cmp nat_cmp first.words later.words ≡ Less) states
       → AllPairs (λ (first later : ProjectedState). slice_cmp nat_cmp first.words later.words ≡ Less) (map projection_of states)
   shown_in_order up i j d less lt =
@@ -89,12 +89,12 @@ module _ (states : List ListedState) where
       rw (get_or-map projection_of states i e d (omega (arith, less, within)), get_or-map projection_of states j e d within)
       (up i j e less within)
 
--- ---- the first of each
+-- ---- The first state with its words.
 
 module _ (head : TestHead) (outcomes : List FinalState) (all states : List ListedState)
     (speaks : MentionsOnly head.threads (length head.locs) head.condition)
     (are : AreStatesOfFirst head outcomes (length outcomes) all) (firsts : AreFirstStates all states) where
-  -- what each outcome shows is shown of one of the first states
+  -- The state of each outcome is that of one of the first states.
   each_there : (o : FinalState) → Contains outcomes o → Contains (map projection_of states) (project_state head o)
   each_there o h =
       let at : slice_get outcomes h.0 ≡ Some o = slice_get-get_or outcomes h.0 o h.1 ∙ ap Some h.2 in
@@ -139,7 +139,7 @@ module _ (head : TestHead) (outcomes : List FinalState) (all states : List Liste
             omega (arith, le, before);
       }
 
-  -- the first states with each words, of those of all outcomes, are the states of the outcomes that are listed
+  -- The first states with their words, of those of all outcomes, are the states of the listed outcomes.
   pub listed_states : AreListedStates head outcomes states
   listed_states = record {
     are = record {

@@ -1,5 +1,4 @@
--- The observed names of a test are registers and locations that it has; and how they, and what is made of each, are put together
--- one by one.
+-- The observed names of a test are registers and locations of it; and how they, and their labels, are listed one by one.
 use Rattle.lw_report.proofs.Common.{◌≡◌, ℕ, zero, suc, ◌+◌, ◌<◌, ◌≤◌, Bool, List, [], ◌∷◌, ◌++◌, length, map}
 use Rattle.lw_report.proofs.Common.{take, get_or, sym, ap, ◌∙◌, append_assoc, zero-add, length-take}
 use Rattle.lw_report.proofs.Common.{get_or-take, arith, flat_map, All, filter, append-nil, take_all}
@@ -8,7 +7,7 @@ use Rattle.lw_report.proofs.Common.{filter-append, get_or-range_with_len, map-ra
 use Rattle.lw_report.proofs.Common.{most_threads, IsSeenInRange, Seen, thread_registers, all_registers}
 use Rattle.lw_report.proofs.Common.{locations, all_filter, all_seen, is_observed, observed}
 
--- each observed name is a register or a location of the test
+-- Each observed name is a register or a location of the test.
 pub all_there : (head : TestHead) (names : List Seen)
     → names ≡ observed head
     → All (IsSeenInRange head.threads (length head.locs)) names
@@ -17,11 +16,11 @@ all_there head names e =
     All-same (IsSeenInRange head.threads (length head.locs)) names (observed head) e
     (All-from_recursion _ (observed head) (all_filter _ (is_observed head) seen (all_seen head.threads (length head.locs))))
 
--- ---- the observed names, as they are put one behind another
+-- ---- Listing the observed names.
 
 module _ (p : Seen → Bool) (f : ℕ → Seen) (k : ℕ) (start names : List Seen)
     (before : names ≡ start ++ filter p (map f (range_with_len 0 k))) where
-  -- where of the first k registers or locations those that pass p were put, and then the one at k if it passes, k + 1 were
+  -- Appending the one at k, if it passes p, extends the list of those of the first k registers or locations that pass p to k + 1.
   pub put_more : (len : ℕ) (all : List ℕ) (x d : ℕ) (new : List Seen)
       → all ≡ range_with_len 0 len
       → k < len
@@ -38,12 +37,12 @@ module _ (p : Seen → Bool) (f : ℕ → Seen) (k : ℕ) (start names : List Se
       ∙ ap (λ (y : ℕ). start ++ (done ++ filter p (f y ∷ []))) number
       ∙ ap (λ l. start ++ l) (sym more)
 
-  -- where k is n, of all n registers or locations those that pass p were put
+  -- When k is n, all of the n registers or locations that pass p are listed.
   pub put_all : (n : ℕ) → k ≤ n → n ≤ k → names ≡ start ++ filter p (map f (range_with_len 0 n))
   put_all n most least =
       let is : k ≡ n = omega (arith, most, least) in before ∙ ap (λ (m : ℕ). start ++ filter p (map f (range_with_len 0 m))) is
 
--- the registers of n + 1 threads are those of n threads, and then those of one more
+-- The registers of n + 1 threads are those of n threads, followed by those of one more.
 registers_from : (a n : ℕ)
     → flat_map thread_registers (range_with_len a (suc n))
     ≡ flat_map thread_registers (range_with_len a n) ++ thread_registers (a + n)
@@ -55,7 +54,7 @@ registers_from a (suc n) =
     ∙ sym (append_assoc (thread_registers a) done (thread_registers (a + 1 + n)))
     ∙ ap (λ t. (thread_registers a ++ done) ++ thread_registers t) is
 
--- where as many of all processors are taken as there are threads, the one at k is processor k
+-- The k-th of the first processors is processor k.
 pub number_is : (cpus : List ℕ) (threads k cpu : ℕ)
     → cpus ≡ range_with_len 0 most_threads
     → k < length (take threads cpus)
@@ -70,7 +69,7 @@ number_is cpus threads k cpu all lt is =
     ∙ get_or-range_with_len 0 most_threads k cpu (omega (arith, lt, many, length-take threads cpus))
     ∙ zero-add k
 
--- where of the first k threads the registers that pass p were put, and then those of thread k, those of k + 1 threads were
+-- Appending the registers of thread k that pass p extends those of the first k threads to k + 1.
 pub registers_more : (p : Seen → Bool) (k cpu : ℕ) (names new : List Seen)
     → cpu ≡ k
     → names ≡ filter p (all_registers k)
@@ -85,7 +84,7 @@ registers_more p k cpu names new number before added =
     ∙ ap (λ (t : ℕ). filter p (all_registers k) ++ filter p (thread_registers t)) number
     ∙ sym (ap (filter p) more ∙ filter-append p _ _)
 
--- of all processors as many are taken as there are threads, and k is behind the last of them: it is the number of threads
+-- If as many processors are listed as there are threads, and k is past the last of them, k is the number of threads.
 pub number_of_all : (cpus : List ℕ) (threads k : ℕ)
     → cpus ≡ range_with_len 0 most_threads
     → threads ≤ most_threads
@@ -95,7 +94,7 @@ pub number_of_all : (cpus : List ℕ) (threads k : ℕ)
 number_of_all cpus threads k all few most least =
     let many : length cpus ≡ most_threads = ap length all in omega (arith, few, many, most, least, length-take threads cpus)
 
--- when the observed registers of all threads and then the observed locations were put, these are the observed names
+-- The observed registers of all threads, followed by the observed locations, are the observed names.
 pub observed_all : (head : TestHead) (k : ℕ) (names new : List Seen)
     → k ≡ head.threads
     → names ≡ filter (is_observed head) (all_registers k)
@@ -108,10 +107,10 @@ observed_all head k names new is before added =
     (before ∙ ap (λ (n : ℕ). filter p (all_registers n)) is)
     ∙ sym (filter-append p _ _)
 
--- ---- what is made of each name, one more, and of all
+-- ---- A value for each name.
 
 module _ {Y : Type 0} (f : Seen → Y) (names : List Seen) (k : ℕ) (made : List Y) (before : made ≡ map f (take k names)) where
-  -- where f of the first k names was made, and then f of the name at k, f of the first k + 1 names was
+  -- Appending the value of f for the name at k extends the values for the first k names to k + 1.
   pub made_more : (s : Seen) (x : Y) (new : List Y)
       → k < length names
       → s ≡ get_or names k s
@@ -125,6 +124,6 @@ module _ {Y : Type 0} (f : Seen → Y) (names : List Seen) (k : ℕ) (made : Lis
       ∙ ap (λ l. l ++ f s ∷ []) before
       ∙ sym (ap (map f) more ∙ map-append f (take k names) (s ∷ []))
 
-  -- where as much was made as there are names, f of all names was
+  -- When as many values are appended as there are names, they are the values of f for all names.
   pub made_all : length names ≤ k → made ≡ map f names
   made_all le = before ∙ ap (map f) (take_all k names le)

@@ -9,20 +9,20 @@ use Rattle.lw_report.proofs.Common.{scheduled_lines, count_line, schedule_list_t
 use Rattle.lw_report.proofs.Common.{IsFirstWithWords, AreListedStates}
 use Rattle.lw_report.proofs.Lines.{line_told}
 
--- the index of the outcome that a state shows first is below the length of the listing
+-- The index of a state's first outcome is below the length of the listing.
 entry_within : (head : TestHead) (entries : OutcomeEntries) (s : ListedState)
     → IsFirstWithWords head (outcomes_of entries) s
     → s.entry < length entries
 entry_within head entries s first =
     omega (arith, slice_get_within (outcomes_of entries) s.entry first.outcome first.at, length-keys_of entries)
 
--- the indices of the outcomes that states show first are all below the length of the listing
+-- The indices of all states' first outcomes are below the length of the listing.
 pub entries_within : (head : TestHead) (entries : OutcomeEntries) (states : List ListedState)
     → AreListedStates head (outcomes_of entries) states
     → All (λ (s : ListedState). s.entry < length entries) states
 entries_within head entries states are = All-weaker _ _ (λ s. entry_within head entries s) states are.entries
 
--- where the indices of all states are below a length, so is that of the state at k
+-- If all states' indices are below a length, so is that of the state at k.
 pub state_within : (len : ℕ) (states : List ListedState) (k : ℕ) (s : ListedState)
     → All (λ (t : ListedState). t.entry < len) states
     → k < length states
@@ -31,7 +31,7 @@ pub state_within : (len : ℕ) (states : List ListedState) (k : ℕ) (s : Listed
 state_within len states k s all lt is =
     subst (λ (t : ListedState). t.entry < len) (sym is) (All-get_or (λ (t : ListedState). t.entry < len) states k s lt all)
 
--- where all schedules of a listing speak of the test's locations, so does the one at an index
+-- If all schedules of a listing name only the test's locations, so does the one at an index.
 pub schedule_there : (head : TestHead) (entries : OutcomeEntries) (k : ℕ) (events : List Event)
     → All (AllByRecursion (IsEvent head.locs)) (schedules_of entries)
     → slice_get (schedules_of entries) k ≡ Some events
@@ -40,7 +40,7 @@ schedule_there head entries k events all at =
     let P : List Event → Type 0 = AllByRecursion (IsEvent head.locs) in
     subst P (get_or_from_slice_get _ k _ _ at) (All-get_or P _ k events (slice_get_within _ k events at) all)
 
--- What the two lines of a listed state are written of: its words, and the text of the schedule of its entry.
+-- What the two lines of a listed state are written from: its words, and the text of its entry's schedule.
 pub record ScheduledParts (names : NameTable) (schedules : List (List Event)) (s : ListedState) (words : List ℕ)
     (text : Bytes) : Type 0 where
   pub entry : ℕ
@@ -50,7 +50,7 @@ pub record ScheduledParts (names : NameTable) (schedules : List (List Event)) (s
   pub at : slice_get schedules entry ≡ Some events
   pub is_text : text ≡ schedule_text names events
 
--- a state's line and that of its schedule, as they are written
+-- The line of a state and that of its schedule, as they are written.
 pub both_told : (names : NameTable) (schedules : List (List Event)) (labels : List Bytes) (s : ListedState) (words : List ℕ)
     (text : Bytes)
     → ScheduledParts names schedules s words text

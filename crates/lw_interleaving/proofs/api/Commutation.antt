@@ -1,4 +1,4 @@
--- Steps of the threads: what each of them moves, where it leads, and which can be exchanged.
+-- Steps of the threads: what each of them changes, where it leads, and which of them commute.
 use Rattle.lw_interleaving.proofs.Common.{◌≡◌, ◌≢◌, ℕ, ◌+◌, Bool, true, false, ◌||◌, ◌&&◌, if◌then◌else◌}
 use Rattle.lw_interleaving.proofs.Common.{List, Option, Some, None, Ok, refl, sym, ap, ap₂, ◌∙◌, subst, inl}
 use Rattle.lw_interleaving.proofs.Common.{inr, ◌⊎◌, slice_get, slice_set, option_map, option_and_then, eq-eqb}
@@ -11,15 +11,15 @@ use Rattle.lw_interleaving.proofs.Common.{words_after, State, state_after_step, 
 use Rattle.lw_interleaving.proofs.Common.{IsFlowSuccessor, FollowsFlow, thread_position, next_statement}
 use Rattle.lw_interleaving.proofs.Common.{StepsCommute, is_same_location, operations_conflict}
 
--- A state by its threads and its memory.
+-- A state, from its threads and its memory.
 abbrev pub state_of : List Thread → List ℕ → State
 state_of threads m = record { threads = threads; words = m }
 
--- the state s after an operation of its thread t, which is th
+-- The state s after an operation of its thread t, which is th.
 abbrev pub state_after : ℕ → Thread → Operation → State → State
 state_after t th o s = state_of (slice_set s.threads t (thread_after o th s.words)) (words_after o th s.words)
 
--- What a step did: its thread's statement was carried out on the thread and on memory.
+-- The effect of a step: its thread's statement was executed on the thread and on memory.
 pub record Stepped (program : List (List Stmt)) (t : ℕ) (s mid : State) : Type 0 where
   pub thread : Thread
   pub stmt : Stmt
@@ -27,7 +27,7 @@ pub record Stepped (program : List (List Stmt)) (t : ℕ) (s mid : State) : Type
   pub at : slice_get (thread_code program t) thread.position ≡ Some stmt
   pub is : mid ≡ state_after t thread (source_operation stmt) s
 
--- a step that is carried out is its thread's statement, carried out
+-- A step that is enabled executes its thread's statement.
 pub step-decompose : (program : List (List Stmt)) (t : ℕ) (s mid : State)
     → source_step program t s ≡ Ok mid
     → Stepped program t s mid
@@ -45,21 +45,21 @@ step-decompose program t s mid a = found (slice_get s.threads t) refl a
     found None e a = absurd cc
     found (Some th) e a = acted th (slice_get (thread_code program t) th.position) e refl a
 
--- the memory with this word at a location, if one is named
+-- The memory with this word at a location, if one is given.
 abbrev put : Option ℕ → ℕ → List ℕ → List ℕ
 put None w m = m
 put (Some x) w m = slice_set m x w
 
--- the word that a change makes of this one, and this one where there is no change
+-- The word after a change, or the same word if there is no change.
 abbrev left_by : Option Change → ℕ → ℕ
 left_by None w = w
 left_by (Some change) w = changed_word change w
 
--- the word that a thread's operation leaves at its location, where it finds this one
+-- The word that a thread's operation leaves at its location, from the word before.
 abbrev left_word : Operation → Thread → ℕ → ℕ
 left_word o th w = left_by (written_change o th.regs) w
 
--- of the memory an operation changes the word at its location alone, and none if it does not write
+-- An operation changes only the word at its location, and none if it does not write.
 words_left : (o : Operation) (th : Thread) (m : List ℕ)
     → words_after o th m ≡ put (location_of o) (left_word o th (word_or_zero (location_of o) m)) m
 words_left o th m = go (location_of o) (written_change o th.regs)
@@ -69,7 +69,7 @@ words_left o th m = go (location_of o) (written_change o th.regs)
     go (Some x) None = sym (set-get_or m x 0)
     go (Some x) (Some change) = refl
 
--- an operation that writes nothing leaves the memory as it is
+-- An operation that does not write leaves the memory unchanged.
 words_stay : (o : Operation) (th : Thread) (m : List ℕ) → writes o ≡ false → words_after o th m ≡ m
 words_stay o th m e = go (location_of o) (written_change o th.regs) (no_change o th.regs e)
   where
@@ -78,42 +78,42 @@ words_stay o th m e = go (location_of o) (written_change o th.regs) (no_change o
     go (Some x) None none = refl
     go (Some x) (Some change) none = absurd cc
 
--- a thread reads nothing but the word at its operation's location
+-- A thread reads only the word at its operation's location.
 thread_reads : (o : Operation) (th : Thread) (m n : List ℕ)
     → word_or_zero (location_of o) m ≡ word_or_zero (location_of o) n
     → thread_after o th m ≡ thread_after o th n
 thread_reads o th m n e = ap (thread_with o th) e
 
--- an operation without a location leads its thread to the same whatever is in memory
+-- The thread after an operation without a location does not depend on memory.
 pub thread_alone : (o : Operation) (th : Thread) (m n : List ℕ) → location_of o ≡ None → thread_after o th m ≡ thread_after o th n
 thread_alone o th m n none = thread_reads o th m n (ap (λ l. word_or_zero l m) none ∙ sym (ap (λ l. word_or_zero l n) none))
 
--- an operation without a location leaves the memory as it is
+-- An operation without a location leaves the memory unchanged.
 pub words_alone : (o : Operation) (th : Thread) (m : List ℕ) → location_of o ≡ None → words_after o th m ≡ m
 words_alone o th m none = words_left o th m ∙ ap (λ l. put l (left_word o th (word_or_zero l m)) m) none
 
--- two locations differ, or one of them is not named
+-- Two locations differ, or one of them is not given.
 abbrev Apart : Option ℕ → Option ℕ → Type 0
 Apart (Some x) (Some y) = x ≢ y
 Apart _ _ = Unit {0}
 
--- two operations do not conflict: neither writes, or they work at different locations
+-- Two operations do not conflict: neither writes, or they access different locations.
 abbrev AreFree : Operation → Operation → Type 0
 AreFree o p = ((writes o ≡ false) × (writes p ≡ false)) ⊎ Apart (location_of o) (location_of p)
 
--- being apart is mutual
+-- `Apart` is symmetric.
 turned : (x y : Option ℕ) → Apart x y → Apart y x
 turned None None apart = tt
 turned None (Some y) apart = tt
 turned (Some x) None apart = tt
 turned (Some x) (Some y) apart = λ e. apart (sym e)
 
--- being free of each other is mutual
+-- `AreFree` is symmetric.
 free_turned : (o p : Operation) → AreFree o p → AreFree p o
 free_turned o p (inl neither) = inl (neither.1, neither.0)
 free_turned o p (inr apart) = inr (turned (location_of o) (location_of p) apart)
 
--- statements that do not conflict have operations that are free of each other
+-- The operations of statements that do not conflict do not conflict.
 are_free : (a b : Stmt)
     → operations_conflict source_language (Some a) (Some b) ≡ false
     → AreFree (source_operation a) (source_operation b)
@@ -128,24 +128,24 @@ are_free a b none =
     go (Some x) (Some y) true w e = inr (λ same. let e' = rw (eq-eqb x y same) at e in absurd cc)
     go (Some x) (Some y) false true e = inr (λ same. let e' = rw (eq-eqb x y same) at e in absurd cc)
 
--- what is written at another location leaves the word at this one
+-- Writing at another location leaves the word at this one unchanged.
 put_apart : (x y : Option ℕ) (w : ℕ) (m : List ℕ) → Apart x y → word_or_zero x (put y w m) ≡ word_or_zero x m
 put_apart (Some x) (Some y) w m apart = get_or-set_other m y x w 0 apart
 put_apart _ _ w m apart = refl
 
--- words at different locations can be written in either sequence
+-- Words at different locations can be written in either order.
 put_exchanged : (x y : Option ℕ) (v w : ℕ) (m : List ℕ) → Apart x y → put x v (put y w m) ≡ put y w (put x v m)
 put_exchanged (Some x) (Some y) v w m apart = set_comm m y x w v (λ e. apart (sym e))
 put_exchanged _ _ v w m apart = refl
 
--- behind an operation p that is free of it, an operation o finds at its location the word that it finds before p
+-- An operation o finds the same word at its location before and after an operation p that does not conflict with it.
 same_found : (o p : Operation) (tp : Thread) (m : List ℕ)
     → AreFree o p
     → word_or_zero (location_of o) (words_after p tp m) ≡ word_or_zero (location_of o) m
 same_found o p tp m (inl neither) = ap (word_or_zero (location_of o)) (words_stay p tp m neither.1)
 same_found o p tp m (inr apart) = ap (word_or_zero (location_of o)) (words_left p tp m) ∙ put_apart _ _ _ m apart
 
--- two operations that are free of each other leave the same memory, whichever is first
+-- Two operations that do not conflict leave the same memory in either order.
 same_left : (o p : Operation) (to tp : Thread) (m : List ℕ)
     → AreFree o p
     → words_after o to (words_after p tp m) ≡ words_after p tp (words_after o to m)
@@ -167,17 +167,17 @@ same_left o p to tp m (inr apart) =
         words_left a ta (words_after b tb m)
         ∙ ap₂ (λ w n. put (location_of a) (left_word a ta w) n) (same_found a b tb m free) (words_left b tb m)
 
--- the position of a thread that is there is found in the state
+-- The position of a thread of the state is found.
 pub positioned : (s : State) (t : ℕ) (th : Thread) → slice_get s.threads t ≡ Some th → thread_position s t ≡ Some th.position
 positioned s t th was = slice_get-map _ s.threads t ∙ ap (λ o. option_map (λ (x : Thread). x.position) o) was
 
--- a thread's position tells its next statement
+-- A thread's position determines its next statement.
 pub next_is : (program : List (List Stmt)) (s : State) (t j : ℕ)
     → thread_position s t ≡ Some j
     → next_statement program s t ≡ slice_get (thread_code program t) j
 next_is program s t j e = ap (λ (o : Option ℕ). option_and_then (λ k. slice_get (thread_code program t) k) o) e
 
--- a step moves no other thread
+-- A step does not change another thread.
 pub others_stay : (program : List (List Stmt)) (t u : ℕ) (s mid : State)
     → t ≢ u
     → source_step program t s ≡ Ok mid
@@ -185,7 +185,7 @@ pub others_stay : (program : List (List Stmt)) (t u : ℕ) (s mid : State)
 others_stay program t u s mid ne a =
     let d = step-decompose program t s mid a in ap (λ (x : State). slice_get x.threads u) d.is ∙ get-set_other s.threads t u _ ne
 
--- after a step every other thread is where it was
+-- A step does not change another thread's position.
 pub others_placed : (program : List (List Stmt)) (t u : ℕ) (s mid : State)
     → t ≢ u
     → source_step program t s ≡ Ok mid
@@ -195,7 +195,7 @@ others_placed program t u s mid ne a =
     ∙ (ap (λ (o : Option Thread). option_map (λ (x : Thread). x.position) o) (others_stay program t u s mid ne a)
     ∙ sym (slice_get-map (λ (x : Thread). x.position) s.threads u))
 
--- an operation leads its thread to a successor
+-- An operation takes its thread to a successor of its position.
 pub leads : (o : Operation) (th : Thread) (m : List ℕ) → IsSuccessor o th.position (thread_after o th m).position
 leads (Branch Always to) th m = inr refl
 leads (Branch c to) th m = go (guard_holds c th.regs false)
@@ -205,7 +205,7 @@ leads (Branch c to) th m = go (guard_holds c th.regs false)
     go false = inl (refl, refl)
 leads o th m = inl (refl, refl)
 
--- a step leads to a successor of where it began
+-- A step takes its thread to a successor of its position.
 pub moved : (program : List (List Stmt)) (t : ℕ) (s mid : State) → source_step program t s ≡ Ok mid → FollowsFlow program t s mid
 moved program t s mid a =
     let d = step-decompose program t s mid a in
@@ -220,7 +220,7 @@ moved program t s mid a =
       now = positioned mid t next (ap (λ x. slice_get x.threads t) d.is ∙ get-set_same _ t next _ d.was);
     }
 
--- steps of two threads whose statements do not conflict lead to the same whichever is first
+-- Steps of two threads whose statements do not conflict commute.
 pub exchange : (program : List (List Stmt)) (t u : ℕ) (s : State)
     → t ≢ u
     → operations_conflict source_language (next_statement program s t) (next_statement program s u) ≡ false
@@ -266,7 +266,7 @@ exchange program t u s ne none mid end step_t step_u = (other, first, second)
     was_t : slice_get other.threads t ≡ Some a.thread
     was_t = get-set_other s.threads u t y (λ e. ne (sym e)) ∙ a.was
 
-    -- the threads go on as they did in the other sequence
+    -- The threads are the same in either order.
     threads_are : (state_after t a.thread o other).threads ≡ (state_after u b.thread p after).threads
     threads_are =
         ap (slice_set other.threads t) (thread_reads o a.thread other.words s.words (same_found o p b.thread s.words free))

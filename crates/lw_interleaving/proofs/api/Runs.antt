@@ -1,4 +1,4 @@
--- Runs and replays of a source test, one event further: what is answered, what is kept, and what is read of a state.
+-- Runs and replays of a source test, one event further: results, invariants, and reading a state.
 use Rattle.lw_interleaving.proofs.Common.{◌≡◌, ℕ, suc, ◌<◌, ◌≤◌, ◌+◌, List, [], ◌∷◌, ◌++◌, length, map, take}
 use Rattle.lw_interleaving.proofs.Common.{drop, get_or, refl, sym, ap, ◌∙◌, subst, Result, Ok, Err, arith}
 use Rattle.lw_interleaving.proofs.Common.{MatchResult, length-set, take-suc, All, ◌^◌, slice_set, slice_get}
@@ -15,11 +15,11 @@ use Rattle.lw_interleaving.proofs.Common.{state_after_step, thread_step, drop_mo
 use Rattle.lw_interleaving.proofs.Common.{map_more, set_at, slice_get-map, slice_get_within, at_index}
 use Rattle.lw_base.specs.declared.stop.End.TheVariants as at
 
--- A call for an event answered so and left the state `end`, where r is what the event gives: its state, or a refusal, and then Q.
+-- A call for an event returned this answer and left the state `end`, where r is the event's result. If it is a refusal, Q holds.
 abbrev pub Told : Type 0 → Result State Stop → Result (Unit {0}) Stop → State → Type 0
 Told Q r answer end = MatchResult r (λ next. (answer ≡ Ok tt) × (end ≡ next)) (λ stop. (answer ≡ Err stop) × Q)
 
--- if a call for an event answered Ok, the event was possible, and led to the state that the call left
+-- If a call for an event returned Ok, the event was enabled, and the call left its next state.
 pub possible : (Q : Type 0) (r : Result State Stop) (answer : Result (Unit {0}) Stop) (u : Unit {0}) (end : State)
     → Told Q r answer end
     → answer ≡ Ok u
@@ -27,7 +27,7 @@ pub possible : (Q : Type 0) (r : Result State Stop) (answer : Result (Unit {0}) 
 possible Q (Ok next) answer u end told ok = ap Ok (sym told.1)
 possible Q (Err stop) answer u end told ok = let e : answer ≡ Err stop = told.0 in absurd cc
 
--- if a call for an event answered a refusal, the event is refused so, and Q holds, which says what state was left
+-- If a call for an event returned a refusal, the event is rejected for this cause, and Q holds, which says which state was left.
 refusal : (Q : Type 0) (r : Result State Stop) (answer : Result (Unit {0}) Stop) (stop : Stop) (end : State)
     → Told Q r answer end
     → answer ≡ Err stop
@@ -38,7 +38,7 @@ refusal Q (Err s) answer stop end told failed =
     let same : s ≡ stop = cc in
     (ap Err same, told.1)
 
--- The first events led to `mid`, and there the next one, e, is refused: it was called, answered so, and left the state as it was.
+-- The first events lead to `mid`, and there the next one, e, is rejected: it was called, returned this, and left the state unchanged.
 pub record MeetsRefusal (Q : Type 0) (program : List (List Stmt)) (events : List Event) (s : State) (done : ℕ) (stop : Stop)
     (end : State) : Type 0 where
   pub e : Event
@@ -51,7 +51,7 @@ pub record MeetsRefusal (Q : Type 0) (program : List (List Stmt)) (events : List
   pub failed : answer ≡ Err stop
   pub kept : Q → end ≡ mid
 
--- a replay whose next event is refused stops there
+-- A replay whose next event is rejected stops there.
 pub stopped : (Q : Type 0) (program : List (List Stmt)) (events : List Event) (s : State) (done : ℕ) (stop : Stop) (end : State)
     → MeetsRefusal Q program events s done stop end
     → IsSourceReplay program events s (record { done = done; end = at.Stopped stop }) end
@@ -69,7 +69,7 @@ stopped Q program events s done stop end meets =
       );
     }
 
--- a replay that carries out all events has replayed them, and ends as its last state does
+-- A replay that carries out all events ends as its last state does.
 pub replayed_all : (program : List (List Stmt)) (events : List Event) (k : ℕ) (s last : State) (end : End)
     → length events ≤ k
     → SourceRunsTo program (take k events) s last
@@ -83,7 +83,7 @@ replayed_all program events k s last end done ran ends = record {
   ends = ends;
 }
 
--- a drain is refused in a source test, whose threads have no store buffers
+-- A drain is rejected in a source test, whose threads have no store buffers.
 pub drained : (Q : Type 0) (answer : Result (Unit {0}) Stop) (s : State) (t n : ℕ)
     → t < n
     → answer ≡ Err BufferEmpty
@@ -91,26 +91,26 @@ pub drained : (Q : Type 0) (answer : Result (Unit {0}) Stop) (s : State) (t n : 
     → Told Q (if nat_lt t n then Err BufferEmpty else Err NoCpu) answer s
 drained Q answer s t n within failed same = rw (lt-ltb t n within) (failed, same)
 
--- a change at a location leaves as many words, whether one is made or not
+-- A change at a location preserves the number of words, whether there is one or not.
 pub changed_length : (x : Option ℕ) (change : Option Change) (words : List ℕ)
     → length (apply_change_if_some x change words) ≡ length words
 changed_length (Some x) (Some change) words = length-set words x _
 changed_length _ _ words = refl
 
--- an operation keeps the number of words
+-- An operation preserves the number of words.
 pub words_kept : (o : Operation) (th : Thread) (words : List ℕ) → length (words_after o th words) ≡ length words
 words_kept o th words = changed_length (location_of o) (written_change o th.regs) words
 
--- as many threads, and as many words
+-- The states have the same numbers of threads and words.
 abbrev pub SameSize : State → State → Type 0
 SameSize s end = (length end.threads ≡ length s.threads) × (length end.words ≡ length s.words)
 
--- what is refused in either case leads to no state
+-- A rejection for either of two causes leads to no state.
 refused : (b : Bool) (x y : Stop) (mid : State) → (if b then Err x else Err y) ≡ Ok mid → ⊥
 refused true x y mid e = absurd cc
 refused false x y mid e = absurd cc
 
--- an event keeps the number of threads and the number of words
+-- An event preserves the numbers of threads and words.
 pub event_kept : (program : List (List Stmt)) (e : Event) (s mid : State)
     → source_event_result program e s ≡ Ok mid
     → SameSize s mid
@@ -137,7 +137,7 @@ event_kept program (Evict t x) s mid e = go (nat_lt t (length s.threads)) e
     go true e = absurd (refused (nat_lt x (length s.words)) NotHeld NoLocation mid e)
     go false e = absurd cc
 
--- what is read of a list at an index stands there in an equal list
+-- The item that is read at an index is the item of an equal list at an equal index.
 pub found_at : {X : Type 0} (xs ys : List X) (i j : ℕ) (d : X)
     → ys ≡ xs
     → j ≡ i
@@ -145,7 +145,7 @@ pub found_at : {X : Type 0} (xs ys : List X) (i j : ℕ) (d : X)
     → slice_get xs i ≡ Some (get_or ys j d)
 found_at xs ys i j d same index within = rw (same, index) (at_index xs i d within)
 
--- what is read at an index of a list of images is the image of what stands there
+-- The image that is read at an index of a list of images is the image of the item there.
 pub read_at : {X Y : Type 0} (f : X → Y) (xs ys : List X) (i j : ℕ) (d : X)
     → ys ≡ xs
     → j ≡ i
@@ -153,7 +153,7 @@ pub read_at : {X Y : Type 0} (f : X → Y) (xs ys : List X) (i j : ℕ) (d : X)
     → slice_get (map f xs) i ≡ Some (f (get_or ys j d))
 read_at f xs ys i j d same index within = slice_get-map f xs i ∙ ap (option_map f) (found_at xs ys i j d same index within)
 
--- the images of one item more of a list are made
+-- One more item's image extends the images of the first items.
 pub mapped_on : {X Y : Type 0} {xs ys : List X} {out next : List Y} (f : X → Y) (i : ℕ) (d : X)
     → ys ≡ xs
     → i < length ys
@@ -163,7 +163,7 @@ pub mapped_on : {X Y : Type 0} {xs ys : List X} {out next : List Y} (f : X → Y
 mapped_on {ys} f i d same within so_far pushed =
     let last : suc i ≡ i + 1 = omega arith in pushed ∙ rw (so_far, ← same, ← last, (take-suc ys i d within), map-append) refl
 
--- the code that is read for a thread that is there is its code
+-- The code that is read for an existing thread is its code.
 the_code : (program : List (List Stmt)) (t : ℕ) (code : List Stmt)
     → t < length program
     → code ≡ get_or program t code
@@ -173,13 +173,13 @@ the_code program t code within is =
     let f = at_index program t [] within in
     cc
 
--- Of a program's threads the one of this number is th, and its code is `code`.
+-- The thread of a program with this number is th, and its code is `code`.
 pub record IsAtCode (threads : List Thread) (program : List (List Stmt)) (t : ℕ) (th : Thread) (code : List Stmt) : Type 0 where
   pub many : length threads ≡ length program
   pub is_thread : Some th ≡ slice_get threads t
   pub is_code : code ≡ get_or program t code
 
--- the next statement of a thread that is at its code is on the test's locations, and stands among at most 16
+-- The next statement of a thread is on the test's locations, and is one of at most 16.
 pub next_statement : {words locs : ℕ} {program : List (List Stmt)} {code : List Stmt} {stmt : Stmt} (threads : List Thread)
     (t : ℕ) (th : Thread)
     → IsAtCode threads program t th code
@@ -197,21 +197,21 @@ next_statement {locs} {code} {stmt} threads t th at is_stmt same whole =
       omega (arith, inside, here.short),
     )
 
--- states with the same threads and the same memory are one
+-- States with equal threads and equal memories are equal.
 pub made : (a b : List Thread) (u v : List ℕ)
     → a ≡ b
     → u ≡ v
     → (let s : State = record { threads = a; words = u } in s) ≡ record { threads = b; words = v }
 made a b u v e f = rw (e, f) refl
 
--- the code of a thread that is at its code is the program's
+-- The code of a thread is the program's.
 code_at : (threads : List Thread) (program : List (List Stmt)) (t : ℕ) (th : Thread) (code : List Stmt)
     → IsAtCode threads program t th code
     → thread_code program t ≡ code
 code_at threads program t th code at =
     the_code program t code (omega (arith, slice_get_within threads t th (sym at.is_thread), at.many)) at.is_code
 
--- A thread carries out its next statement, which changes the thread and the words.
+-- A thread executes its next statement, which changes the thread and the words.
 pub record CarriesOut (before : SourceRunState) (t : ℕ) (end : State) : Type 0 where
   pub th : Thread
   pub code : List Stmt
@@ -221,7 +221,7 @@ pub record CarriesOut (before : SourceRunState) (t : ℕ) (end : State) : Type 0
   pub threads : end.threads ≡ slice_set before.state.threads t (thread_after (source_operation stmt) th before.state.words)
   pub words : end.words ≡ words_after (source_operation stmt) th before.state.words
 
--- a step that is carried out is answered so, and leads to the state that is told
+-- A step that is enabled returns this answer, and leaves its next state.
 pub stepped : (Q : Type 0) (answer : Result (Unit {0}) Stop) (before run : SourceRunState) (t : ℕ) (end : State)
     → before ≡ run
     → answer ≡ Ok tt
@@ -231,7 +231,7 @@ stepped Q answer before run t end same ok c =
     let at_code = code_at before.state.threads before.program t c.th c.code c.at in
     rw (← same) (rw (← c.at.is_thread) (rw (at_code, ← c.is_stmt) (ok, made _ _ _ _ c.threads c.words)))
 
--- a step of a thread that is not there is refused
+-- A step of a thread that does not exist is rejected.
 pub no_thread : (Q : Type 0) (answer : Result (Unit {0}) Stop) (before run : SourceRunState) (t : ℕ)
     → before ≡ run
     → answer ≡ Err NoCpu
@@ -240,14 +240,14 @@ pub no_thread : (Q : Type 0) (answer : Result (Unit {0}) Stop) (before run : Sou
     → Told Q (source_step run.program t run.state) answer run.state
 no_thread Q answer before run t same failed is_thread kept = rw (← same) (rw (← is_thread) (failed, kept))
 
--- A thread is behind the last statement of its code.
+-- A thread is past the last statement of its code.
 pub record IsAtEnd (before : SourceRunState) (t : ℕ) : Type 0 where
   pub th : Thread
   pub code : List Stmt
   pub at : IsAtCode before.state.threads before.program t th code
   pub is_stmt : None ≡ slice_get code th.position
 
--- a step of a thread at its end is refused
+-- A step of a terminated thread is rejected.
 pub no_statement : (Q : Type 0) (answer : Result (Unit {0}) Stop) (before run : SourceRunState) (t : ℕ)
     → before ≡ run
     → answer ≡ Err Ended
@@ -258,7 +258,7 @@ no_statement Q answer before run t same failed end kept =
     let at_code = code_at before.state.threads before.program t end.th end.code end.at in
     rw (← same) (rw (← end.at.is_thread) (rw (at_code, ← end.is_stmt) (failed, kept)))
 
--- when the images of all items are made, they are the list's images
+-- The images of all items are the list's images.
 pub mapped_all : {X Y : Type 0} {xs ys : List X} {out : List Y} (f : X → Y) (i : ℕ)
     → ys ≡ xs
     → length ys ≤ i
@@ -266,14 +266,14 @@ pub mapped_all : {X Y : Type 0} {xs ys : List X} {out : List Y} (f : X → Y) (i
     → out ≡ map f xs
 mapped_all {xs} f i same end so_far = so_far ∙ ap (map f) (take_all i xs (omega (arith, end, ap length same)))
 
--- the outcome of a state, of which all registers are listed
+-- The outcome of a state, all of whose registers are listed.
 pub outcome_is : (regs : List (List ℕ)) (words : List ℕ) (s : State)
     → regs ≡ map (λ t. t.regs) s.threads
     → words ≡ s.words
     → (let o : FinalState = record { regs = regs; words = words } in o) ≡ source_outcome s
 outcome_is regs words s listed same = rw (listed, same) refl
 
--- one image more is written, at index i: then the first i + 1 items of the list are images, and behind them stand the old ones
+-- If one more image is written, at index i, the first i + 1 items of the list are images, and the old ones follow.
 pub written_on : {X Z : Type 0} {items ys : List X} {xs : List Z} (f : X → Z) (old : List Z) (i : ℕ) (d : X)
     → items ≡ ys
     → xs ≡ map f (take i ys) ++ drop i old

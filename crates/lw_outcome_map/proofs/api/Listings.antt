@@ -1,4 +1,5 @@
--- Outcomes as keys of a map: `==` is an equivalence and `cmp` a total order of them, so a sorted list of them goes up strictly.
+-- Outcomes as keys of a map: `==` is an equivalence and `cmp` a total order of them, so a sorted list without duplicates is strictly
+-- ascending.
 use Rattle.std.proofs.Common.{◌≡◌, ◌≢◌, ◌↔◌, refl, sym, ap, ◌∙◌, ℕ, Bool, true, false, true≢false, ◌&&◌, ◌<◌}
 use Rattle.std.proofs.Common.{⊎_elim, List, [], ◌∷◌, ◌++◌, nat_eq, get_or, slice_get, position, is_some}
 use Rattle.std.proofs.Common.{Contains, MatchOption, IsTrue, arith, Option, None, Some, IsPermutation}
@@ -25,15 +26,15 @@ use Rattle.lw_base.specs.Outcomes.{FinalState, final_state_cmp}
 use Rattle.lw_base.specs.declared.event.Event.{Event}
 use Rattle.lw_outcome_map.specs.Listings.{OutcomeEntries, outcomes_of, IsStrictlySorted}
 
--- the test that `==` of outcomes is
+-- The test of `==` on outcomes.
 abbrev pub final_eq : FinalState → FinalState → Bool
 final_eq o p = pointwise (pointwise nat_eq) o.regs p.regs && pointwise nat_eq o.words p.words
 
--- outcomes with the same registers and the same words are one
+-- Outcomes with equal registers and equal words are equal.
 joined : (o p : FinalState) → o.regs ≡ p.regs → o.words ≡ p.words → o ≡ p
 joined o p e f = λ i. record { regs = e i; words = f i }
 
--- `==` of outcomes answers whether they are one outcome
+-- `==` decides equality of outcomes.
 pub final_eq_decides : (o p : FinalState) → Decides (final_eq o p) (o ≡ p)
 final_eq_decides o p =
     let row : (xs ys : List ℕ) → Decides (pointwise nat_eq xs ys) (xs ≡ ys) = pointwise_decides unsigned_Decides in
@@ -48,39 +49,39 @@ final_eq_decides o p =
           && (row o.words p.words).1 (ap (λ (f : FinalState). f.words) e) i,
     )
 
--- `==` of outcomes is an equivalence, as a map's keys need
+-- `==` of outcomes is an equivalence, as a map's keys require.
 pub final_equiv : IsEquivalence final_eq
 final_equiv =
     and_equiv (on_equiv (λ (f : FinalState). f.regs) (lists_equiv nat_list_eq_equiv))
     (on_equiv (λ (f : FinalState). f.words) nat_list_eq_equiv)
 
--- `cmp` of outcomes is a total order
+-- `cmp` of outcomes is a total order.
 pub final_total : IsTotalOrder final_state_cmp
 final_total =
     then_total (on_total (λ (f : FinalState). f.regs) (lists_total nat_list_cmp_total))
     (on_total (λ (f : FinalState). f.words) nat_list_cmp_total)
 
--- `==` holds of the outcomes that `cmp` does not tell apart
+-- `==` holds of the outcomes that `cmp` reports as equal.
 pub final_ties : (o p : FinalState) → final_eq o p ≡ is_eq (final_state_cmp o p)
 final_ties o p =
     let row : (xs ys : List ℕ) → pointwise nat_eq xs ys ≡ is_eq (slice_cmp nat_cmp xs ys) = lists_ties nat_cmp unsigned_ties in
     both_tied _ _ _ _ (lists_ties (slice_cmp nat_cmp) row o.regs p.regs) (row o.words p.words)
 
--- where a look-up by `==` finds an outcome among the keys, it is listed
+-- If a look-up by `==` finds an outcome among the keys, it is listed.
 known : (es : OutcomeEntries) (o : FinalState) → is_some (lookup (final_eq o) es) ≡ true → Contains (outcomes_of es) o
 known es o h = Contains-keys_from_lookup (λ x y. (final_eq_decides x y).0) o es h
 
--- where a look-up by `==` finds no such key, the outcome isn't listed
+-- If a look-up by `==` finds no such key, the outcome is not listed.
 unknown : (es : OutcomeEntries) (o : FinalState) → is_some (lookup (final_eq o) es) ≡ false → Contains (outcomes_of es) o → ⊥
 unknown es o h i = true≢false (sym (IsSome-lookup_from_Contains final_equiv o es i) ∙ h)
 
--- the answer b, whether a look-up finds the outcome, says whether it is listed
+-- The result b of a look-up of the outcome says whether it is listed.
 pub found : (es : OutcomeEntries) (o : FinalState) (b : Bool)
     → b ≡ is_some (lookup (final_eq o) es)
     → IsTrue b ↔ Contains (outcomes_of es) o
 found es o b e = ((λ t. known es o (sym e ∙ t)), (λ i. e ∙ IsSome-lookup_from_Contains final_equiv o es i))
 
--- the answer r of a search is the index at which the outcome stands, or `None` where it isn't listed
+-- The result r of a search is the index of the outcome, or `None` if it is not listed.
 pub placed : (es : OutcomeEntries) (o : FinalState) (r : Option ℕ)
     → r ≡ position (final_eq o) (outcomes_of es)
     → is_some r ≡ is_some (lookup (final_eq o) es)
@@ -90,12 +91,12 @@ placed es o (Some i) h s =
     let p = position-Some (final_eq o) (outcomes_of es) i o (sym h) in
     slice_get-get_or (outcomes_of es) i o p.0 ∙ ap Some (sym ((final_eq_decides o (get_or (outcomes_of es) i o)).0 p.1))
 
--- an option that holds nothing is `None`
+-- An option without a value is `None`.
 absent : {X : Type 0} (o : Option X) → (is_some o ≡ true → ⊥) → o ≡ None
 absent None h = refl
 absent (Some x) h = absurd (h refl)
 
--- where an outcome wasn't listed, to insert it with its schedule puts it at the end of the list
+-- Inserting an outcome that is not listed appends it with its schedule.
 pub added : (es fs : OutcomeEntries) (o : FinalState) (s : List Event)
     → (Contains (outcomes_of es) o → ⊥)
     → fs ≡ insert_entry final_eq es o s
@@ -103,13 +104,13 @@ pub added : (es fs : OutcomeEntries) (o : FinalState) (s : List Event)
 added es fs o s new e =
     e ∙ insert_entry-new final_eq (hash_map es (tt {0}) 0) o s (absent (lookup (final_eq o) es) (λ h. new (known es o h)))
 
--- an outcome that is neither above another nor the same is below it
+-- An outcome that is neither greater than another nor equal to it is less.
 below : (o p : FinalState) (c : Ordering) → c ≡ final_state_cmp o p → is_lt (ordering_reverse c) ≡ false → o ≢ p → c ≡ Less
 below o p Less e up other = refl
 below o p Equal e up other = absurd (other ((final_eq_decides o p).0 (final_ties o p ∙ sym (ap is_eq e))))
 below o p Greater e up other = absurd (true≢false up)
 
--- where no outcome stands twice, a list sorted by `cmp` goes up strictly
+-- A list sorted by `cmp`, without duplicates, is strictly ascending.
 pub goes_up : (es : OutcomeEntries)
     → IsSorted final_state_cmp (outcomes_of es)
     → IsDistinct final_eq (outcomes_of es)
@@ -124,7 +125,7 @@ goes_up es sorted once i j d lt within =
     below first later (final_state_cmp first later) refl turned
     (AllPairs-from_IsDistinct final_eq_decides (outcomes_of es) once i j d lt within)
 
--- A list and the same list in another order have the same outcomes: sorting loses none and makes none.
+-- A permutation of a list has the same outcomes.
 pub stays_listed : (es fs : OutcomeEntries) (o : FinalState)
     → IsPermutation es fs
     → Contains (outcomes_of es) o ↔ Contains (outcomes_of fs) o
@@ -132,7 +133,7 @@ stays_listed es fs o same =
     let keys : IsPermutation (outcomes_of es) (outcomes_of fs) = IsPermutation-map (λ e. e.0) es fs same in
     (Contains-permutation _ _ o keys, Contains-permutation _ _ o (IsPermutation-sym _ _ keys))
 
--- in a list that goes up strictly, what stands at an index doesn't stand at a later one
+-- In a strictly ascending list an outcome does not occur again at a later index.
 not_later : (es : OutcomeEntries) (i j : ℕ) (o : FinalState)
     → IsStrictlySorted es
     → slice_get (outcomes_of es) i ≡ Some o
@@ -146,7 +147,7 @@ not_later es i j o sorted at to lt =
     sym (λ k. final_state_cmp (first k) (later k)) ∙ sorted i j o lt (slice_get_within (outcomes_of es) j o to) in
     true≢false (ap is_lt (sym less ∙ tied_itself final_total o))
 
--- in a list that goes up strictly an outcome stands at one index
+-- In a strictly ascending list an outcome is at one index.
 pub stands_once : (es : OutcomeEntries) (i j : ℕ) (o : FinalState)
     → IsStrictlySorted es
     → slice_get (outcomes_of es) i ≡ Some o
