@@ -1,17 +1,17 @@
--- Lists of one item for each processor: what stands at each index, and how one of them is replaced.
+-- Lists with one item for each processor: the item at an index, and the list after one item is replaced.
 use Rattle.lw_mesi.proofs.Common.{◌≡◌, ◌≢◌, ℕ, ◌<◌, List, length, set, get_or, sym, ◌∙◌, arith, zero-add}
 use Rattle.lw_mesi.proofs.Common.{length-set, get_or-set_same, get_or-set_other, length-map-range_with_len}
 use Rattle.lw_mesi.proofs.Common.{get_or-map-range_with_len, fill_by_all, most_threads, at_each, at_index}
 
--- A list of one item for each processor has as many items as there may be processors.
+-- A list with one item for each processor has `most_threads` items.
 pub at_each_long : {A : Type 0} (f : ℕ → A) → length (at_each f) ≡ most_threads
 at_each_long f = length-map-range_with_len f 0 most_threads
 
--- At a processor's index stands what the function says of it.
+-- The item at a processor's index is the function's value there.
 pub at_each_get : {A : Type 0} (f : ℕ → A) (t : ℕ) (d : A) → t < most_threads → get_or (at_each f) t d ≡ f t
 at_each_get f t d lt = get_or-map-range_with_len f 0 most_threads t t d lt (zero-add t)
 
--- What f gives at all processors is the list xs with a put in at t, where f gives a at t, and elsewhere what stands in xs.
+-- If f gives a at t, and xs' item at every other processor, then the list of f's values is xs with a at index t.
 pub at_each_put : {A : Type 0} (f : ℕ → A) (xs : List A) (t : ℕ) (a d : A)
     → length xs ≡ most_threads
     → t < most_threads
@@ -23,7 +23,7 @@ at_each_put f xs t a d long lt here there =
     (at_index t _ (λ within. get_or-set_same xs t a d (omega (arith, long, lt)) ∙ sym here)
     (λ u ne within. get_or-set_other xs t u a d (λ e. ne (sym e)) ∙ sym (there u within (λ e. ne (sym e))))))
 
--- What a function gives at all processors is what another gives, set at the one where they differ.
+-- If f and g differ only at t, and f gives a there, then the list of f's values is that of g's with a at index t.
 pub at_each_set : {A : Type 0} (f g : ℕ → A) (t : ℕ) (a : A)
     → t < most_threads
     → f t ≡ a

@@ -1,4 +1,4 @@
--- What each processor's copy is in a packed cache line, and what all of them are together: its content, and whether some cache holds it.
+-- The copies that a packed cache line represents, one by one; and, of all together, the content and whether some cache holds the line.
 use Rattle.lw_mesi.proofs.Common.{◌≡◌, ℕ, zero, suc, ◌<◌, Option, Some, None, Bool, true, false, inl, inr}
 use Rattle.lw_mesi.proofs.Common.{List, [], ◌∷◌, refl, sym, ap, ap₂, ◌∙◌, subst, arith, if◌then◌else◌}
 use Rattle.lw_mesi.proofs.Common.{slice_index_or, eqb-true, eq-eqb, cases_lt, or_left, or_right, get_or_past}
@@ -10,45 +10,45 @@ use Rattle.lw_mesi.proofs.IndexLemmas.{at_each_long, at_each_get}
 
 -- ---- one processor's copy
 
--- A copy, by whether its processor is the owner, whether the owner's copy is dirty and in O, and whether the processor is a sharer.
+-- The copy of a processor, from four bits: the processor is the owner, the owner is dirty, the owner is in O, the processor is a sharer.
 abbrev pub copy_by : Bool → Bool → Bool → Bool → ℕ → Copy
 copy_by own d b s w = if own then owner_copy d b w else sharer_copy s w
 
--- A processor's copy in the unpacked cache line is the one that the packed one says.
+-- A processor's copy in the unpacked cache line is the copy that the packed line represents.
 pub copy_there : (p : Inside) (t : ℕ) → t < most_threads → copy_of (unpacked p) t ≡ copy_at p t
 copy_there p t lt = at_each_get (copy_at p) t Invalid lt
 
--- The processor that is the owner is found to be it.
+-- `is_owner` is true of the owner.
 pub own_true : (owner : Option ℕ) (o : ℕ) → owner ≡ Some o → is_owner owner o ≡ true
 own_true owner o own = ap (λ (x : Option ℕ). is_owner x o) own ∙ eq-eqb o o refl
 
--- A processor that is found to be the owner is the owner.
+-- A processor for which `is_owner` is true is the owner.
 pub own_is : (owner : Option ℕ) (t : ℕ) → is_owner owner t ≡ true → owner ≡ Some t
 own_is None t h = cc
 own_is (Some o) t h = ap (λ (x : ℕ). Some x) (eqb-true o t h)
 
--- Who has no copy is not the owner.
+-- A processor without a copy is not the owner.
 pub not_held : (own d b s : Bool) (w : ℕ) → copy_by own d b s w ≡ Invalid → own ≡ false
 not_held true true true s w e = cc
 not_held true true false s w e = cc
 not_held true false b s w e = cc
 not_held false d b s w e = refl
 
--- Who has a copy in S is not the owner.
+-- A processor whose copy is in S is not the owner.
 pub not_shared : (own d b s : Bool) (w : ℕ) → copy_state (copy_by own d b s w) ≡ S → own ≡ false
 not_shared true true true s w e = cc
 not_shared true true false s w e = cc
 not_shared true false b s w e = cc
 not_shared false d b s w e = refl
 
--- Who has a dirty copy is the owner, and the packed cache line says that the owner is dirty.
+-- A processor with a dirty copy is the owner, and the packed line is marked dirty.
 pub dirty_owner : (own d b s : Bool) (w : ℕ) → IsDirty (copy_by own d b s w) → (own ≡ true) × (d ≡ true)
 dirty_owner true true b s w h = (refl, refl)
 dirty_owner true false b s w h = absurd h
 dirty_owner false d b true w h = absurd h
 dirty_owner false d b false w h = absurd h
 
--- Who has a copy in M or E is the owner, and not in O.
+-- A processor whose copy is in M or E is the owner, and the packed line is not marked as in O.
 pub only_owner : (own d b s : Bool) (w : ℕ)
     → (d ≡ false → b ≡ false)
     → IsOnlyCopy (copy_by own d b s w)
@@ -59,17 +59,17 @@ only_owner true false b s w h only = (refl, h refl)
 only_owner false d b true w h only = absurd only
 only_owner false d b false w h only = absurd only
 
--- Who is no owner and is a sharer has a copy in S.
+-- A sharer that is not the owner has a copy in S.
 pub sharer_is : (own d b s : Bool) (w : ℕ) → own ≡ false → s ≡ true → copy_by own d b s w ≡ Shared w
 sharer_is own d b s w e f = ap₂ (λ (x y : Bool). copy_by x d b y w) e f
 
--- An owner holds the cache line, in whichever state.
+-- The owner holds the cache line, whatever its state.
 pub owner_held : (d b : Bool) (w : ℕ) → is_held (copy_state (owner_copy d b w)) ≡ true
 owner_held true true w = refl
 owner_held true false w = refl
 owner_held false b w = refl
 
--- A dirty owner's copy is dirty, in M or in O.
+-- A dirty owner's copy is dirty: it is in M or in O.
 pub owner_dirty : (b : Bool) (w : ℕ) → IsDirty (owner_copy true b w)
 owner_dirty true w = tt
 owner_dirty false w = tt
@@ -98,7 +98,7 @@ owner_at p o lt own =
     copy_there p o lt
     ∙ ap (λ (x : Bool). copy_by x p.is_dirty p.is_owned (slice_index_or p.sharers o false) p.word) (own_true p.owner o own)
 
--- In the unpacked cache line an owner that is dirty and in O has a copy in O, with the word.
+-- In the unpacked cache line a dirty owner in O has a copy in O with the line's word.
 pub owned_at : (p : Inside) (o : ℕ)
     → o < most_threads
     → p.owner ≡ Some o
@@ -107,14 +107,14 @@ pub owned_at : (p : Inside) (o : ℕ)
     → copy_of (unpacked p) o ≡ Owned p.word
 owned_at p o lt own d b = owner_at p o lt own ∙ ap₂ (λ (x y : Bool). owner_copy x y p.word) d b
 
--- Every dirty copy is a dirty owner's.
+-- A processor with a dirty copy in the unpacked line is the owner, and the packed line is marked dirty.
 pub dirty_at : (p : Inside) (t : ℕ) → IsDirty (copy_in (unpacked p).copies t) → (is_owner p.owner t ≡ true) × (p.is_dirty ≡ true)
 dirty_at p t h = elim (cases_lt t most_threads) [
   | inl lt ↦ dirty_owner _ p.is_dirty p.is_owned _ p.word (subst IsDirty (copy_there p t lt) h)
   | inr past ↦ absurd (subst IsDirty (get_or_past (unpacked p).copies t Invalid (omega (arith, at_each_long (copy_at p)))) h)
 ]
 
--- The content of the unpacked cache line is the packed one's word.
+-- The content of the unpacked cache line is the packed line's word.
 pub content_is : (p : Inside) → IsPacked p → coherent_word (unpacked p) ≡ p.word
 content_is p ok = go p.is_dirty refl p.owner refl
   where
@@ -127,7 +127,7 @@ content_is p ok = go p.is_dirty refl p.owner refl
         (ap copy_word at ∙ owner_word p.is_owned p.word)
         (λ u ne h. let e : p.owner ≡ Some u = own_is p.owner u (dirty_at p u h).0 in ne (let same : o ≡ u = cc in same))
 
--- Where a given processor holds the cache line, `is_held_anywhere` says that some processor does.
+-- If a processor holds the cache line, `is_held_anywhere` is true.
 pub held_somewhere : (copies : List Copy) (t : ℕ)
     → is_held (copy_state (copy_in copies t)) ≡ true
     → is_held_anywhere copies ≡ true
@@ -135,16 +135,16 @@ held_somewhere [] t h = cc
 held_somewhere (c ∷ copies) zero h = or_left (is_held (copy_state c)) (is_held_anywhere copies) h
 held_somewhere (c ∷ copies) (suc t) h = or_right _ (is_held_anywhere copies) (held_somewhere copies t h)
 
--- Where there is an owner, some processor holds the unpacked cache line.
+-- If the packed line has an owner, `is_held_anywhere` is true of the unpacked copies.
 pub held_by : (p : Inside) (o : ℕ) → o < most_threads → p.owner ≡ Some o → is_held_anywhere (unpacked p).copies ≡ true
 held_by p o lt own =
     held_somewhere (unpacked p).copies o
     (ap (λ (c : Copy). is_held (copy_state c)) (owner_at p o lt own) ∙ owner_held p.is_dirty p.is_owned p.word)
 
--- The cache line of these copies and memory's word.
+-- Builds a cache line from the copies and memory's word.
 abbrev pub cache_line_of : List Copy → ℕ → CacheLine
 cache_line_of copies memory = record { copies = copies; memory = memory }
 
--- Who has no copy in the unpacked cache line is not its owner.
+-- A processor without a copy in the unpacked cache line is not its owner.
 pub not_owner : (p : Inside) (t : ℕ) → t < most_threads → copy_of (unpacked p) t ≡ Invalid → is_owner p.owner t ≡ false
 not_owner p t lt free = not_held _ p.is_dirty p.is_owned _ p.word (sym (copy_there p t lt) ∙ free)

@@ -1,4 +1,4 @@
--- What a GetS, the bus transaction of a load without a copy, leaves of a packed cache line.
+-- The packed cache line after a GetS, the bus transaction of a load that has no copy.
 use Rattle.lw_mesi.proofs.Common.{◌≡◌, ◌≢◌, ℕ, suc, ◌<◌, Option, Some, None, Bool, true, false, inl, inr}
 use Rattle.lw_mesi.proofs.Common.{List, [], ◌∷◌, length, map, set, refl, sym, ap, ap₂, ◌∙◌, subst, arith}
 use Rattle.lw_mesi.proofs.Common.{length-set, get_or-set_same, get_or-set_other, ◌==◌, slice_index_or}
@@ -15,14 +15,14 @@ use Rattle.lw_mesi.proofs.PackedCopies.{cache_line_of, not_owner}
 
 -- ---- one processor's copy
 
--- What a GetS makes of another processor's copy under MOESI, where the owner is dirty and goes to O, or stays there.
+-- Under MOESI, if the owner is dirty, a GetS of another processor moves the owner to O or leaves it there, and changes no other copy.
 moesi_dirty : (own b s : Bool) (w : ℕ) → copy_by own true true s w ≡ moesi_on_other_get_s (copy_by own true b s w)
 moesi_dirty true true s w = refl
 moesi_dirty true false s w = refl
 moesi_dirty false b true w = refl
 moesi_dirty false b false w = refl
 
--- What a GetS makes of another processor's copy where the owner, if there is one, becomes a sharer.
+-- A GetS of another processor turns an owner that is not in O into a sharer, and leaves sharers as they are.
 to_sharer : (q : Protocol) (own d s new : Bool) (w : ℕ)
     → (q ≡ Moesi → d ≡ false)
     → (own ≡ true → new ≡ true)
@@ -47,7 +47,7 @@ mesi_unowned p ok states = go p.owner refl p.is_dirty refl p.is_owned refl
     go None eo true ed true eb = ok.owned (ok.unowned eo)
     go (Some o) eo true ed true eb = absurd (subst (IsProtocolState Mesi) (owned_at p o (ok.in_range o eo) eo ed eb) (states o))
 
--- Under MESI, and under MOESI where the owner is clean, no owner is in O.
+-- No owner is in O under MESI, nor under MOESI if the owner is clean.
 pub unowned_then : (p : Inside) (q : Protocol)
     → IsPacked p
     → HasProtocolStates q (unpacked p)
@@ -56,7 +56,7 @@ pub unowned_then : (p : Inside) (q : Protocol)
 unowned_then p Mesi ok states clean = mesi_unowned p ok states
 unowned_then p Moesi ok states clean = ok.owned (clean refl)
 
--- A packed cache line that nobody owns, with memory's word, is packed well.
+-- A packed cache line without an owner is well formed if its word is memory's.
 pub no_owner : (w : ℕ) (b : Bool) (xs : List Bool)
     → b ≡ false
     → length xs ≡ most_threads
@@ -73,14 +73,14 @@ no_owner w b xs e long = record {
 
 -- ---- a cache line that has an owner, and any
 
--- A processor that is there reads a packed cache line, and has no copy of it.
+-- A processor in range reads a packed cache line, and has no copy of it.
 pub record IsReader (p : Inside) (t : ℕ) : Type 0 where
   pub packed : IsPacked p
   pub cpu : t < most_threads
   pub without : copy_of (unpacked p) t ≡ Invalid
 
--- What a GetS leaves of p, copy by copy, is q: the requestor's, where the cache line is held or not, and those of the others, which
--- are as the table says.
+-- q results from p by a GetS of processor t, copy by copy: t gets its copy by whether the line was held, and the other copies change as the
+-- table says.
 record IsGotten (p q : Inside) (t : ℕ) (table : ProtocolTable) (held : Bool) : Type 0 where
   invalid : table.on_other_get_s Invalid ≡ Invalid
   holds : is_held_anywhere (unpacked p).copies ≡ held
@@ -88,7 +88,7 @@ record IsGotten (p q : Inside) (t : ℕ) (table : ProtocolTable) (held : Bool) :
   mine : copy_at q t ≡ copy_from held p.word
   others : (u : ℕ) → u < most_threads → u ≢ t → copy_at q u ≡ table.on_other_get_s (copy_at p u)
 
--- Where the packed cache line q is what a GetS leaves of p, it is, unpacked, the cache line after the load.
+-- If q results from p by a GetS, then q unpacked is the cache line after the load.
 got : (p q : Inside) (t : ℕ) (table : ProtocolTable) (held : Bool)
     → IsReader p t
     → IsGotten p q t table held
@@ -107,7 +107,7 @@ got p q t table held reader gotten =
     gotten.memory)
     ∙ sym (ap (λ (c : Copy). on_load table c t line) reader.without)
 
--- A reader without a copy takes the packed cache line's word.
+-- A reader without a copy gets the packed cache line's word.
 pub read_word : (p : Inside) (t : ℕ) (table : ProtocolTable)
     → IsReader p t
     → Some p.word ≡ copy_word (copy_of (cache_line_to_read table t (unpacked p)) t)
@@ -121,7 +121,7 @@ read_word p t table reader =
     ∙ ap copy_word (put_here others t mine (let lt = reader.cpu in omega (arith, long, lt)))
     ∙ from_word (is_held_anywhere line.copies) (coherent_word line))
 
--- A GetS under MOESI where the owner is dirty: that goes to O, or stays there, and the reader becomes a sharer.
+-- A GetS under MOESI from a dirty owner: the owner moves to O or stays there, and the reader becomes a sharer.
 pub dirty_shared : (p : Inside) (t o : ℕ)
     → IsReader p t
     → p.owner ≡ Some o
@@ -143,7 +143,7 @@ dirty_shared p t o reader own dirty =
           ∙ ap (λ (d : Bool). moesi_on_other_get_s (copy_by (is_owner p.owner u) d p.is_owned s p.word)) (sym dirty);
     })
 
--- A GetS where the owner is clean, or under MESI: the owner and the reader become sharers, and memory has the word.
+-- A GetS from an owner that is clean, or under MESI: the owner and the reader become sharers, and memory gets the word.
 pub owner_shared : (p : Inside) (t o : ℕ) (q : Protocol)
     → IsReader p t
     → p.owner ≡ Some o
@@ -166,7 +166,7 @@ owner_shared p t o q reader own unowned clean =
     ok : IsPacked p
     ok = reader.packed
 
-    -- the sharers with the owner that was
+    -- The sharers, with the former owner among them.
     mid : List Bool
     mid = set p.sharers o true
 
@@ -195,14 +195,14 @@ owner_shared p t o q reader own unowned clean =
 
 -- ---- a cache line without an owner
 
--- Where no processor has a copy, the cache line is held nowhere.
+-- If no processor has a copy, `is_held_anywhere` is false.
 nowhere_held : (copies : List Copy) → ((t : ℕ) → copy_in copies t ≡ Invalid) → is_held_anywhere copies ≡ false
 nowhere_held [] h = refl
 nowhere_held (c ∷ copies) h =
     or_from (is_held (copy_state c)) (is_held_anywhere copies) (ap (λ (x : Copy). is_held (copy_state x)) (h 0))
     (nowhere_held copies (λ t. h (suc t)))
 
--- Who has no copy is not a sharer.
+-- A processor without a copy is not a sharer.
 not_sharer : (s : Bool) (w : ℕ) → sharer_copy s w ≡ Invalid → s ≡ false
 not_sharer true w e = cc
 not_sharer false w e = refl
@@ -227,7 +227,7 @@ module _ (p : Inside) (t : ℕ) (q : Protocol) (reader : IsReader p t) (own : p.
   memory_stays Mesi = content_is p ok ∙ sym (ok.clean (ok.unowned own))
   memory_stays Moesi = refl
 
-  -- A GetS of a cache line that nobody holds: the reader becomes its owner, in E.
+  -- A GetS of a cache line that no processor holds: the reader becomes its owner, in E.
   pub first_reader : p.sharers ≡ empty_cpu_set
       → unpacked (record p { owner = Some t }) ≡ cache_line_to_read (table_of q) t (unpacked p)
   first_reader alone = got p (record p { owner = Some t }) t (table_of q) false reader (record {

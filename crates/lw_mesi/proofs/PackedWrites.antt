@@ -1,4 +1,4 @@
--- What a write and an eviction leave of a packed cache line.
+-- The packed cache line after a write, and after an eviction.
 use Rattle.lw_mesi.proofs.Common.{◌≡◌, ◌≢◌, ◌⊎◌, ℕ, ◌<◌, Option, Some, None, Bool, true, false, inl, inr}
 use Rattle.lw_mesi.proofs.Common.{List, length, map, set, refl, sym, ap, ap₂, ◌∙◌, subst, arith, length-set}
 use Rattle.lw_mesi.proofs.Common.{get_or-set_same, get_or-set_other, slice_index_or, eq-eqb, ne_eqb}
@@ -11,11 +11,11 @@ use Rattle.lw_mesi.proofs.IndexLemmas.{at_each_long, at_each_get, at_each_put}
 use Rattle.lw_mesi.proofs.PackedCopies.{copy_by, copy_there, own_is, not_shared, only_owner, has_word}
 use Rattle.lw_mesi.proofs.PackedCopies.{content_is, cache_line_of}
 
--- The packed cache line after a write: the writer is the one holder, in M; by the writer, its word and memory's.
+-- The packed cache line after a write: processor t is the only holder, in M, with word w; memory has the word m.
 abbrev one_holder : ℕ → ℕ → ℕ → Inside
 one_holder t w m = record { owner = Some t; is_dirty = true; is_owned = false; sharers = empty_cpu_set; word = w; memory = m }
 
--- Beside the only copy there is no other.
+-- If one processor's copy is in M or E, every other copy is invalid.
 no_other : (p : Inside) (t u : ℕ) → IsPacked p → IsOnlyCopy (copy_at p t) → u < most_threads → u ≢ t → copy_at p u ≡ Invalid
 no_other p t u ok only within ne =
     let o = only_owner (is_owner p.owner t) p.is_dirty p.is_owned _ p.word ok.owned only in
@@ -25,13 +25,13 @@ no_other p t u ok only within ne =
     let other = ap (λ (x : Option ℕ). is_owner x u) own ∙ ne_eqb t u (λ e. ne (sym e)) in
     ap₂ (λ (x s : Bool). copy_by x p.is_dirty p.is_owned s p.word) other none
 
--- The cache line into which a writer puts its word has as many copies as before, whatever the writer's copy was.
+-- A write preserves the number of copies.
 write_long : (c : Copy) (t : ℕ) (line : CacheLine) → length (on_write c t line).copies ≡ length line.copies
 write_long (Modified v) t line = refl
 write_long (Exclusive v) t line = refl
 write_long _ t line = length-set (map (λ c. Invalid) line.copies) t _ ∙ length-map line.copies (λ c. Invalid)
 
--- The cache line into which a writer puts its word has memory's word as before, whatever the writer's copy was.
+-- A write preserves memory's word.
 write_memory : (c : Copy) (t : ℕ) (line : CacheLine) → (on_write c t line).memory ≡ line.memory
 write_memory (Modified v) t line = refl
 write_memory (Owned v) t line = refl
@@ -67,7 +67,7 @@ module _ (p : Inside) (t : ℕ) (ok : IsPacked p) (lt : t < most_threads) where
   write_others (Exclusive v) e u within ne = kept_alone (Exclusive v) e tt u within ne
   write_others _ e u within ne = given_up u ne
 
--- A writer finds the cache line's word.
+-- A writer gets the cache line's word.
 pub write_word : (p : Inside) (t : ℕ)
     → IsPacked p
     → t < most_threads
@@ -97,7 +97,7 @@ write_word p t ok lt = go (copy_of (unpacked p) t) refl
     go (Exclusive v) e = kept (Exclusive v) v e refl
     go _ e = brought
 
--- The writer as the one holder, unpacked, is the cache line after a write.
+-- The packed line whose only holder is the writer is, unpacked, the cache line after the write.
 pub write_only : (p : Inside) (t w : ℕ)
     → IsPacked p
     → t < most_threads
@@ -113,14 +113,14 @@ write_only p t w ok lt =
     ∙ sym (write_others p t ok lt (copy_of line t) refl u within ne)) in
     ap₂ cache_line_of copies (sym (write_memory (copy_of line t) t line))
 
--- An eviction of a copy in S takes that copy away, and leaves memory as it is.
+-- The eviction of a copy in S removes that copy and preserves memory's word.
 shared_case : (c : Copy) (t : ℕ) (line : CacheLine)
     → copy_state c ≡ S
     → on_evict c t line ≡ record { copies = set line.copies t Invalid; memory = line.memory }
 shared_case (Shared w) t line e = refl
 shared_case _ t line e = cc
 
--- A packed cache line without a sharer of it is, unpacked, the cache line after that sharer's eviction.
+-- The packed line without the sharer is, unpacked, the cache line after the sharer's eviction.
 pub sharer_gone : (p : Inside) (t : ℕ)
     → IsPacked p
     → t < most_threads
@@ -137,7 +137,7 @@ sharer_gone p t ok lt shared =
     ∙ sym (copy_there p u within)) in
     ap (λ (cs : List Copy). cache_line_of cs p.memory) copies ∙ sym (shared_case _ t (unpacked p) shared)
 
--- A packed cache line whose owner is taken away, unpacked, is the one without the owner's copy.
+-- The packed line without its owner is, unpacked, the cache line without the owner's copy.
 owner_gone : (p : Inside) (t m : ℕ) (d b : Bool)
     → IsPacked p
     → t < most_threads
@@ -154,7 +154,7 @@ owner_gone p t m d b ok lt own =
     ∙ sym (copy_there p u within)) in
     ap (λ (cs : List Copy). cache_line_of cs m) copies
 
--- Who has a copy in M or O is the owner, and its eviction takes the word to memory.
+-- A processor whose copy is in M or O is the owner, and its eviction writes the word to memory.
 dirty_case : (own d b s : Bool) (w t : ℕ) (line : CacheLine)
     → (copy_state (copy_by own d b s w) ≡ M) ⊎ (copy_state (copy_by own d b s w) ≡ O)
     → (own ≡ true) × (on_evict (copy_by own d b s w) t line ≡ cache_line_of (set line.copies t Invalid) w)
@@ -167,7 +167,7 @@ dirty_case false d b true w t line (inr h) = cc
 dirty_case false d b false w t line (inl h) = cc
 dirty_case false d b false w t line (inr h) = cc
 
--- Who has a copy in E is the owner, and its eviction leaves memory as it is.
+-- A processor whose copy is in E is the owner, and its eviction preserves memory's word.
 clean_case : (own d b s : Bool) (w t : ℕ) (line : CacheLine)
     → copy_state (copy_by own d b s w) ≡ E
     → (own ≡ true) × (on_evict (copy_by own d b s w) t line ≡ cache_line_of (set line.copies t Invalid) line.memory)
@@ -177,7 +177,7 @@ clean_case true false b s w t line h = (refl, refl)
 clean_case false d b true w t line h = cc
 clean_case false d b false w t line h = cc
 
--- An owner in M or O that is taken away, its word in memory, unpacked is the cache line after its eviction.
+-- The packed line without its owner in M or O, and with its word in memory, is, unpacked, the cache line after the owner's eviction.
 pub dirty_gone : (p : Inside) (t : ℕ)
     → IsPacked p
     → t < most_threads
@@ -192,7 +192,7 @@ dirty_gone p t ok lt h =
     ∙ sym row.1
     ∙ ap (λ (c : Copy). on_evict c t (unpacked p)) (sym (copy_there p t lt))
 
--- An owner in E that is taken away, unpacked, is the cache line after its eviction.
+-- The packed line without its owner in E is, unpacked, the cache line after the owner's eviction.
 pub clean_gone : (p : Inside) (t : ℕ)
     → IsPacked p
     → t < most_threads

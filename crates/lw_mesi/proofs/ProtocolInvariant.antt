@@ -1,4 +1,4 @@
--- Caches go on keeping their protocol, cache line by cache line.
+-- Each call preserves the protocol's invariant, cache line by cache line.
 use Rattle.lw_mesi.proofs.Common.{Vec, vec_len, map, Option, get_or-map, HasProtocolStates, cache_line_at}
 use Rattle.lw_mesi.proofs.Common.{ProtocolTable, ProtocolTransition, answer_to, cache_line_after_access}
 use Rattle.lw_mesi.proofs.Common.{Access, Ask, ◌≡◌, ℕ, suc, zero, ◌<◌, ◌≤◌, List, [], ◌∷◌, length, set}
@@ -8,17 +8,17 @@ use Rattle.lw_mesi.proofs.Common.{Protocol, CacheLine, Caches, unheld_cache_line
 use Rattle.lw_mesi.proofs.Common.{coherent_word, coherent_words, cache_line_evicted, LineSatisfiesProtocol}
 use Rattle.lw_mesi.proofs.Common.{SatisfiesProtocol, set_kept, kept_cache_line, evict_kept}
 
--- Within a list it makes no difference what is said to stand past its end.
+-- At an index in range, a list's item does not depend on the default.
 any_default : {A : Type 0} (xs : List A) (i : ℕ) (c d : A) → i < length xs → get_or xs i c ≡ get_or xs i d
 any_default [] i c d lt = absurd (omega arith)
 any_default (x ∷ xs) zero c d lt = refl
 any_default (x ∷ xs) (suc i) c d lt = any_default xs i c d (omega arith)
 
--- A location of the caches, and its index among the cache lines in memory.
+-- A location x of the caches `now`, and its index i among the cache lines in memory.
 module _ {Z : Type 0} (now : Caches) (cpus : ℕ) (lines : Vec CacheLine Z) (x i : ℕ)
     (same : (let m : Caches = record { cpus = cpus; cache_lines = lines.items } in m) ≡ now) (index : i ≡ x)
     (loc : x < length (coherent_words now)) where
-  -- A cache line stands at the index.
+  -- The index is in range.
   pub line_there : i < vec_len lines
   line_there =
       omega (
@@ -30,7 +30,7 @@ module _ {Z : Type 0} (now : Caches) (cpus : ℕ) (lines : Vec CacheLine Z) (x i
         length-map lines.items coherent_word,
       )
 
-  -- What is read of the cache line at the index is what the caches have at the location.
+  -- A function of the cache line at the index has the same value on the cache line of the location.
   pub line_is : {Y : Type 0} (f : CacheLine → Y) (line : CacheLine)
       → line ≡ get_or lines.items i line
       → f line ≡ f (cache_line_at now.cache_lines x)
@@ -39,7 +39,7 @@ module _ {Z : Type 0} (now : Caches) (cpus : ℕ) (lines : Vec CacheLine Z) (x i
       let whole = ap (λ (m : Caches). cache_line_at m.cache_lines x) same in
       ap f (found ∙ any_default lines.items i line (unheld_cache_line 0) there ∙ rw index whole)
 
-  -- The word that is read of the cache line at the index is the location's among all words of its kind.
+  -- The word that a function reads in the cache line at the index is the location's among the words that it reads in all lines.
   pub word_is : (word : CacheLine → ℕ) (line : CacheLine)
       → line ≡ get_or lines.items i line
       → word line ≡ get_or (map word now.cache_lines) x 0
@@ -48,8 +48,8 @@ module _ {Z : Type 0} (now : Caches) (cpus : ℕ) (lines : Vec CacheLine Z) (x i
       ∙ sym (get_or-map word now.cache_lines x (unheld_cache_line 0) 0
       (omega (arith, loc, length-map now.cache_lines coherent_word)))
 
--- Caches m, which are those of now, keep a protocol; and a processor t that is there borrows the cache line of location x, at the index
--- i: it is `before`.
+-- The caches m, equal to `now`, satisfy a protocol, and a processor t in range borrows the cache line of location x, at the index i: it is
+-- `before`.
 pub record Borrowed (p : Protocol) (m now : Caches) (t x i : ℕ) (before : CacheLine) : Type 0 where
   pub same : m ≡ now
   pub kept : SatisfiesProtocol p m
@@ -72,17 +72,17 @@ module _ (p : Protocol) (m now : Caches) (t x i : ℕ) (before : CacheLine) (bor
   cpu_there : t < most_threads
   cpu_there = omega (arith, borrowed.cpu, borrowed.kept.coherent.few, ap (λ (k : Caches). k.cpus) borrowed.same)
 
-  -- It is a kept cache line.
+  -- The borrowed cache line satisfies the protocol.
   before_kept : LineSatisfiesProtocol p before
   before_kept =
       subst (LineSatisfiesProtocol p) (any_default m.cache_lines i (unheld_cache_line 0) before index_there ∙ sym borrowed.found)
       (kept_cache_line p m i borrowed.kept index_there)
 
-  -- The borrowed cache line is in states of the protocol.
+  -- The borrowed cache line's states belong to the protocol.
   pub before_states : HasProtocolStates p before
   before_states = before_kept.states
 
-  -- An access of the location that is served in the borrowed cache line is served by the caches.
+  -- If an access changes the borrowed cache line as the table says, the caches make the protocol's transition for that access.
   pub served : (table : ProtocolTable) (access : Access) (a : Option ℕ) (after : CacheLine)
       → a ≡ answer_to table t access before
       → after ≡ cache_line_after_access table t access before
@@ -99,7 +99,7 @@ module _ (p : Protocol) (m now : Caches) (t x i : ℕ) (before : CacheLine) (bor
         cache_lines = rw (is, was, borrowed.index, borrowed.same) refl;
       }
 
-  -- Where `after`, which the borrowed cache line becomes, keeps the protocol, so do the caches with that in its place.
+  -- If the changed cache line satisfies the protocol, so do the caches with that line at the index.
   pub still_kept : (after : CacheLine)
       → (t < most_threads → LineSatisfiesProtocol p before → LineSatisfiesProtocol p after)
       → (length (set m.cache_lines i after) ≤ most_locations)
@@ -109,13 +109,13 @@ module _ (p : Protocol) (m now : Caches) (t x i : ℕ) (before : CacheLine) (bor
     set_kept p m i after borrowed.kept index_there (keeps cpu_there before_kept),
   )
 
--- What an eviction that is answered so makes of a cache line: processor t's copy is given up if it is held, and else all stays.
+-- The result r of an eviction: it succeeds if processor t holds the line, and then t's copy is gone; otherwise the line is unchanged.
 pub record EvictedIfHeld {E : Type 0} (r : Result (Unit {0}) E) (t : ℕ) (before after : CacheLine) : Type 0 where
   pub held : is_ok r ≡ is_held (copy_state (copy_of before t))
   pub ok : OnOk r (after ≡ cache_line_evicted t before)
   pub err : OnErr r (after ≡ before)
 
--- A cache line that keeps a protocol keeps it after an eviction, whether that succeeds or is refused.
+-- A cache line that satisfies a protocol satisfies it after an eviction, whether that succeeds or fails.
 pub still_evicted : {E : Type 0} (p : Protocol) (r : Result (Unit {0}) E) (t : ℕ) (before after : CacheLine)
     → t < most_threads
     → LineSatisfiesProtocol p before

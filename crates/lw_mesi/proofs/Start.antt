@@ -1,4 +1,4 @@
--- Caches that hold nothing: coherent, in states of each protocol, and with memory's words as their content.
+-- Empty caches are coherent, have only states of each protocol, and their content is memory.
 use Rattle.lw_mesi.proofs.Common.{◌≡◌, ℕ, zero, suc, ◌<◌, ◌≤◌, List, [], ◌∷◌, length, map, replicate, get_or}
 use Rattle.lw_mesi.proofs.Common.{refl, sym, ap, subst, arith, most_threads, Protocol, Invalid}
 use Rattle.lw_mesi.proofs.Common.{unheld_cache_line, empty_caches, copy_of, cache_line_at, coherent_word}
@@ -10,20 +10,20 @@ pub empty_content : (cpus : ℕ) (words : List ℕ) → coherent_words (empty_ca
 empty_content n [] = refl
 empty_content n (w ∷ ws) = ap (λ r. w ∷ r) (empty_content n ws)
 
--- A list of one thing has it at every index, and past its end too, where nothing else is said to stand there.
+-- A list that repeats one item has it at every index, and past its end if the item is the default.
 everywhere : {A : Type 0} (a : A) (n t : ℕ) → get_or (replicate n a) t a ≡ a
 everywhere a (suc n) (suc t) = everywhere a n t
 everywhere a _ _ = refl
 
--- In a cache line that nobody holds each copy is invalid.
+-- In a cache line that no processor holds every copy is invalid.
 unheld : (w t : ℕ) → copy_of (unheld_cache_line w) t ≡ Invalid
 unheld w t = everywhere Invalid most_threads t
 
--- A cache line that nobody holds has states of each protocol.
+-- The states of a cache line that no processor holds belong to each protocol.
 unheld_states : (p : Protocol) (w : ℕ) → HasProtocolStates p (unheld_cache_line w)
 unheld_states p w = λ t. subst (IsProtocolState p) (sym (unheld w t)) (invalid_state p)
 
--- A cache line that nobody holds keeps each protocol.
+-- A cache line that no processor holds satisfies each protocol.
 unheld_kept : (p : Protocol) (w : ℕ) → LineSatisfiesProtocol p (unheld_cache_line w)
 unheld_kept p w = record {
   coherent = record {
@@ -35,7 +35,7 @@ unheld_kept p w = record {
   states = unheld_states p w;
 }
 
--- Each cache line of empty caches keeps each protocol.
+-- Each cache line of empty caches satisfies each protocol.
 each : (p : Protocol) (words : List ℕ) (x : ℕ)
     → x < length (map unheld_cache_line words)
     → LineSatisfiesProtocol p (cache_line_at (map unheld_cache_line words) x)
@@ -43,7 +43,7 @@ each p [] x lt = absurd (omega arith)
 each p (w ∷ ws) zero lt = unheld_kept p w
 each p (w ∷ ws) (suc x) lt = each p ws x (omega arith)
 
--- Empty caches keep each protocol.
+-- Empty caches satisfy each protocol.
 pub empty_kept : (p : Protocol) (cpus : ℕ) (words : List ℕ) → cpus ≤ most_threads → SatisfiesProtocol p (empty_caches cpus words)
 empty_kept p cpus words few = record {
   coherent = record { few = few; cache_lines = λ x lt. (each p words x lt).coherent };

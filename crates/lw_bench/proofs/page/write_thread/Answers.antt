@@ -16,7 +16,7 @@ loop-reg-preserved g c =
     let word = ap (slice_index c.args.regs.now) (c.index-in-loop-reg.ensures.value ∙ is) in
     AllWritten-step c.loop-reg.invariant _ _ _ (register_at c.args.arch k c.loop-reg-test.true)
     (ap (λ n. named (λ _. decimal (slice_index c.args.regs.now c.index-in-loop-reg.result)) 0 n) name
-    ∙ ap (λ w. named (λ _. decimal w) 0 (register_name c.args.arch k)) word) c.in_ok-write_named.ensures
+    ∙ ap (λ w. named (λ _. decimal w) 0 (register_name c.args.arch k)) word) c.in_ok-write_assignment.ensures
 
 pub returns : goal.returns
 returns g c =

@@ -3,7 +3,7 @@ use Rattle.lw_mesi.proofs.Common.{LineState}
 use Rattle.lw_mesi.proofs.PackedWrites.{sharer_gone, dirty_gone, clean_gone}
 use Rattle.lw_mesi.proofs.cache_line.PackedCacheLine.evict.Goals as goal
 
--- The state that was found is that of the processor's copy of the packed cache line.
+-- The state found is that of the processor's copy in the packed cache line.
 state_is : (p : Inside) {line : CacheLine} (t : ℕ) {found : LineState}
     → unpacked p ≡ line
     → found ≡ copy_state (copy_of line t)

@@ -24,7 +24,7 @@ invariant_of-self-in_default c =
     (rw (c.insert-in_default-2.ensures, c.insert-in_default.ensures)
     (length-set _ _ _ ∙ (length-set _ _ _ ∙ c.self.invariant.as_many)))
 
--- The cache line that is read is the packed one, so the processor has no copy of that.
+-- The packed cache line is the line read, so the processor has no copy of it.
 reader : (p : Inside) {line : CacheLine} {t : ℕ}
     → unpacked p ≡ line
     → IsPacked p
@@ -34,7 +34,7 @@ reader : (p : Inside) {line : CacheLine} {t : ℕ}
 reader p {t = t} is packed cpu without =
     record { packed = packed; cpu = cpu; without = subst (λ l. copy_of l t ≡ Invalid) (sym is) without }
 
--- Whoever owns the cache line, its word is brought.
+-- Whichever processor owns the cache line, the reader gets its word.
 brought : (p : Inside) {line : CacheLine} {t : ℕ} (q : Protocol)
     → unpacked p ≡ line
     → IsPacked p

@@ -5,7 +5,7 @@ use Rattle.lw_mesi.proofs.Common.{coherent_words, SatisfiesProtocol}
 use Rattle.lw_mesi.proofs.Start.{empty_content, empty_kept}
 use Rattle.lw_mesi.proofs.caches.SnoopingCachesMemorySystem.restart.Goals as goal
 
--- the caches after the last cache line
+-- After the last cache line is emptied, the caches are the empty caches over the words.
 emptied : (before : Caches) (cache_lines old : List CacheLine) (cpus was k : ℕ) (words : List ℕ)
     → (let m : Caches = record { cpus = was; cache_lines = old } in m) ≡ before
     → cpus ≡ was

@@ -1,7 +1,7 @@
 use Rattle.lw_mesi.proofs.Common.{◌≡◌, length, map, take, unheld_cache_line}
 use Rattle.lw_mesi.proofs.caches.SnoopingCachesMemorySystem.restart.Given as goal
 
--- the cache lines so far hold nothing but their words
+-- The cache lines before the index are unheld, and have their words.
 abbrev pub invariant-loop-index : goal.invariant-loop-index
 invariant-loop-index g l = record {
   cpus : l.self-inside.cpus ≡ l.initial.self-inside.cpus;

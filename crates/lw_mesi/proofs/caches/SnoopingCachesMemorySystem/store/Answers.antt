@@ -5,7 +5,7 @@ use Rattle.lw_mesi.proofs.caches.SnoopingCachesMemorySystem.store.Given.{Over}
 use Rattle.lw_mesi.proofs.caches.SnoopingCachesMemorySystem.store.Goals.{After-index_mut-line}
 use Rattle.lw_mesi.proofs.caches.SnoopingCachesMemorySystem.store.Goals as goal
 
--- the cache line that is written to, as it was
+-- The cache line, before the store.
 borrowed : (g : Over) (c : After-index_mut-line g)
     → (let m : Caches = record { cpus = c.self.inside.cpus; cache_lines = c.self.inside.cache_lines.items } in
     Borrowed g.P.ProtocolType.protocol m c.args.self.now c.args.cpu c.args.loc c.index.result c.index_mut-line.result.now)
