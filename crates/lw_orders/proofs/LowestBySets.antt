@@ -1,4 +1,4 @@
--- The lowest order, as the code finds it by sets of bits: turn by turn, a search for the lowest free item; and the tables for it.
+-- The lowest order as the code computes it with sets of bits: in each turn it searches for the lowest minimal item. Then the tables used.
 use Rattle.lw_orders.proofs.Common.{most_items, ℕ, zero, suc, ◌≡◌, ◌+◌, ◌-◌, ◌^◌, ◌<◌, ◌≤◌, List, [], ◌∷◌}
 use Rattle.lw_orders.proofs.Common.{◌++◌, length, get_or, set, take, ap, sym, ◌∙◌, refl, subst, inl, inr}
 use Rattle.lw_orders.proofs.Common.{arith, Bool, true, false, not, ◌&&◌, ◌||◌, eqb, ltb, Option, Some, None}
@@ -14,7 +14,7 @@ use Rattle.lw_orders.proofs.LowestOrder.{is_in}
 use Rattle.lw_orders.proofs.Walks.{joins_gives, joins_from, closes_step}
 use Rattle.lw_orders.proofs.Bits.{not_both, none_both}
 
--- ---- the numbers from k up that p holds of
+-- ---- the numbers from k up that satisfy p
 module _ (p : ℕ → Bool) where
   is_in-indices : (k n i : ℕ) → k ≤ i → i < k + n → is_in (filter p (indices k n)) i ≡ p i
   is_in-indices k zero i a b = absurd (omega arith)
@@ -39,7 +39,7 @@ module _ (p : ℕ → Bool) where
   filter_same q k zero same = refl
   filter_same q k (suc n) same = grind (arith, same k, filter_same q (suc k) n (λ i a b. same i (omega arith) (omega arith)))
 
-  -- one that is cleared is taken out
+  -- To clear one number's bit is to remove that number from the list.
   filter-without : (q : ℕ → Bool) (x k n : ℕ)
       → p x ≡ true
       → ((i : ℕ) → k ≤ i → i < k + n → q i ≡ (not (eqb i x) && p i))
@@ -50,7 +50,7 @@ module _ (p : ℕ → Bool) where
     | inr ne ↦ grind (arith, nat_tests, same k, filter-without q x (suc k) n e (λ i a b. same i (omega arith) (omega arith)))
   ]
 
-  -- the first that passes a test
+  -- The first number of the list that passes a test, if no lower one passes it.
   find_lowest : (test : ℕ → Bool) (k n i : ℕ)
       → k ≤ i
       → i < k + n
@@ -67,11 +67,11 @@ module _ (p : ℕ → Bool) where
   find_none test k zero none = refl
   find_none test k (suc n) none = grind (arith, none k, find_none test (suc k) n (λ j l. none j (omega arith)))
 
--- ---- the candidates: what is reached from a candidate that waits is no candidate more
+-- ---- the candidates: what a blocked candidate reaches is no longer a candidate
 module _ {len : ℕ} {predecessors reach : List ℕ} {left old mid : ℕ} (new item : ℕ) (few : len ≤ most_items) (l : item < len)
     (n : Narrowed len predecessors reach left old mid) (there : has mid item ≡ true)
     (says : (k : ℕ) → k < most_items → has new k ≡ (has mid k && not (has (get_or reach item 0) k))) where
-  -- where the candidate `item` waits, it may be dropped from the candidates, with all that is reached from it
+  -- If the candidate `item` is blocked, it may be dropped from the candidates together with all that it reaches.
   pub Narrowed-more : IsBlocked predecessors left item → Narrowed len predecessors reach left old new
   Narrowed-more w = record {
     kept = λ k lk h. n.kept k lk (grind (arith, says k lk));
@@ -81,7 +81,7 @@ module _ {len : ℕ} {predecessors reach : List ℕ} {left old mid : ℕ} (new i
     ];
   }
 
-  -- the lowest candidate after that is higher than `item`, which is reached from itself and so was dropped: the search ends
+  -- The next lowest candidate is higher than `item`, since that reaches itself and was dropped: so the search ends.
   pub lowest_rises : (next width : ℕ)
       → len ≤ width
       → ((k : ℕ) → k < item → has mid k ≡ false)
@@ -92,12 +92,12 @@ module _ {len : ℕ} {predecessors reach : List ℕ} {left old mid : ℕ} (new i
 
 -- ---- the items of a set
 
--- the items of a set below a number, the lowest first
+-- The items of a set below a bound, in ascending order.
 abbrev pub members : ℕ → ℕ → List ℕ
 members len left = filter (has left) (indices 0 len)
 
--- what holds before a turn of the loop: the first of `items`, one for each turn so far, are those taken, in sequence; the others
--- are left. Those left are candidates, or they wait; and what is reached from one that is left is left
+-- The loop's invariant: `items` starts with the items taken, one for each turn, in sequence, and `left` has the rest. Every item left is a
+-- candidate or blocked; and every item that an item left reaches is left.
 pub record Searching (pairs : List (ℕ × ℕ)) (len : ℕ) (predecessors reach items : List ℕ)
     (left candidates turn : ℕ) : Type 0 where
   pub so_far : lowest_order len pairs
@@ -106,7 +106,7 @@ pub record Searching (pairs : List (ℕ × ℕ)) (len : ℕ) (predecessors reach
   pub waiting : (k : ℕ) → k < len → has left k ≡ true → has candidates k ≡ false → IsBlocked predecessors left k
   pub closed : (i j : ℕ) → i < len → j < len → has left i ≡ true → reaches_in reach i j ≡ true → has left j ≡ true
 
--- before the first turn all items are left, and all are candidates
+-- Before the first turn every item is left and a candidate.
 pub Searching-start : {len : ℕ} {predecessors reach items : List ℕ} (pairs : List (ℕ × ℕ)) (left : ℕ)
     → len ≤ most_items
     → ((k : ℕ) → k < most_items → has left k ≡ ltb k len)
@@ -122,7 +122,7 @@ Searching-start {len = len} pairs left few below =
       closed = λ i j li lj h r. below j (omega arith) ∙ lt-ltb j len lj;
     }
 
--- an item put before a list that follows, and that behind `front`, is `front` with the item at its end, and then the list
+-- To put x before a list and `front` before both is to put `front ++ [x]` before the list.
 pushed : (front : List ℕ) (x : ℕ) (more : List ℕ) (o : Option (List ℕ))
     → more ≡ front ++ x ∷ []
     → option_map (λ xs. front ++ xs) (option_map (λ xs. x ∷ xs) o) ≡ option_map (λ xs. more ++ xs) o
@@ -133,7 +133,7 @@ module _ {pairs : List (ℕ × ℕ)} {len : ℕ} {predecessors reach neighbours 
     (few : len ≤ most_items) (fits : left < 2 ^ most_items) (l : turn < len)
     (d : AreGraphTables len pairs predecessors reach neighbours)
     (so : Searching pairs len predecessors reach items left candidates turn) where
-  -- an item is free where its set and the set of those left are apart
+  -- No item that is left is a predecessor of i: i is minimal.
   abbrev NoneLeads : ℕ → Type 0
   NoneLeads i = (j : ℕ) → j < len → Contains pairs (j, i) → has left j ≡ true → ⊥
 
@@ -172,7 +172,7 @@ module _ {pairs : List (ℕ × ℕ)} {len : ℕ} {predecessors reach neighbours 
   free_is_apart : (i : ℕ) → i < len → is_minimal pairs (members len left) i ≡ are_disjoint (get_or predecessors i 0) left
   free_is_apart i li = same_from_decides _ _ (free_tells i) (apart_tells i li)
 
-  -- so what is reached from one that is left waits, be it another or one that waits
+  -- An item that another item left reaches is blocked; so is one that a blocked item reaches.
   waits_behind : (m i k : ℕ)
       → i < len
       → Walk pairs m i k
@@ -188,7 +188,7 @@ module _ {pairs : List (ℕ × ℕ)} {len : ℕ} {predecessors reach neighbours 
       (false_from_ne_true (are_disjoint (get_or predecessors h 0) left) (λ a. (apart_tells h lh).0 a i li c there)))
 
   module _ {narrow : ℕ} (narrowed : Narrowed len predecessors reach left candidates narrow) where
-    -- those that are no candidate wait, still
+    -- An item left that is no candidate is still blocked.
     waits_still : (k : ℕ) → k < len → has left k ≡ true → has narrow k ≡ false → IsBlocked predecessors left k
     waits_still k lk there gone = elim (cases_Bool (has candidates k)) [
       | inl e ↦
@@ -213,12 +213,12 @@ module _ {pairs : List (ℕ × ℕ)} {len : ℕ} {predecessors reach neighbours 
         (option_and_then (λ x. option_map (λ xs. x ∷ xs) (greedy_order (len - (turn + 1)) pairs (without (members len left) x)))
         f)) e)
 
-    -- where no candidate is found, no item is free, so there is no order
+    -- If no candidate is found, no item is minimal, so there is no order.
     pub Searching-none : IsFound len predecessors left narrow None → lowest_order len pairs ≡ None
     Searching-none none = one_turn None (find_none (has left) (is_minimal pairs (members len left)) 0 len
         (λ k lk there. free_is_apart k (omega arith) ∙ waits_still k (omega arith) there (none k (omega arith))))
 
-    -- where a candidate is found, it is the lowest free item, and the turn takes it
+    -- If a candidate is found, it is the lowest minimal item, and the turn takes it.
     module _ (item : ℕ) (found : IsFound len predecessors left narrow (Some item)) (room : length items ≡ most_items) (next : ℕ)
         (cleared : (k : ℕ) → k < most_items → has next k ≡ (not (eqb k item) && has left k)) where
       there : has left item ≡ true
@@ -238,7 +238,7 @@ module _ {pairs : List (ℕ × ℕ)} {len : ℕ} {predecessors reach neighbours 
           ∙ ap (λ xs. option_map (λ ys. take (turn + 1) (set items turn item) ++ ys) (greedy_order (len - (turn + 1)) pairs xs))
           (sym (filter-without (has left) (has next) item 0 len there (λ k a b. cleared k (omega (arith, b, few))))))
 
-      -- one that is no neighbour of the item that was taken waits as it did
+      -- An item that is no neighbour of the item taken is still blocked.
       waits_on : (k : ℕ)
           → k < len
           → IsBlocked predecessors left k
@@ -277,7 +277,7 @@ module _ {pairs : List (ℕ × ℕ)} {len : ℕ} {predecessors reach neighbours 
             grind (arith, nat_tests, cleared j (omega (arith, lj, few))));
       }
 
--- the predecessors' sets of one list of pairs, with the pairs of a second list added, are those of both
+-- If each predecessor set is joined with the predecessors by further pairs, the sets are those of both lists of pairs.
 pub sets_with : (n : ℕ) (first second : List ℕ) (xs ys : List (ℕ × ℕ))
     → ArePredecessors n xs first
     → ((i j : ℕ) → i < n → j < most_items → has (get_or second i 0) j ≡ (has (get_or first i 0) j || has_edge ys j i))
@@ -285,11 +285,11 @@ pub sets_with : (n : ℕ) (first second : List ℕ) (xs ys : List (ℕ × ℕ))
 sets_with n first second xs ys are more i j li lj =
     more i j li lj ∙ (ap (λ x. x || has_edge ys j i) (are i j li lj) ∙ sym (list_any-append (λ p. eqb p.0 j && eqb p.1 i) xs ys))
 
--- empty sets are the predecessors' sets of no pairs
+-- Empty sets are the predecessor sets of no pairs.
 pub no_sets : (none : List ℕ) → ((i : ℕ) → i < most_items → get_or none i 0 ≡ 0) → ArePredecessors most_items [] none
 no_sets none zero' i j li lj = ap (λ n. has n j) (zero' i li) ∙ ap (λ n. eqb n 1) (bit_at-zero j)
 
--- a set that is copied to the front of a table is found there
+-- A set copied to the front of a table is read at its index.
 pub copied_set : (len i : ℕ) (before front behind : List ℕ)
     → i < len
     → len ≤ length before

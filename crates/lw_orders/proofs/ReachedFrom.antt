@@ -1,4 +1,4 @@
--- What is reached from an item, by what is reached from those to which a step leads from it.
+-- The items that an item reaches, from those that its successors reach.
 use Rattle.lw_orders.proofs.Common.{most_items, ℕ, zero, suc, ◌≡◌, ◌<◌, ◌≤◌, List, sym, ◌∙◌, inl, inr, ◌⊎◌}
 use Rattle.lw_orders.proofs.Common.{arith, or_left, or_right, and_parts, ne_eqb, eq-eqb, refl, true, false}
 use Rattle.lw_orders.proofs.Common.{not, ◌&&◌, ◌||◌, eqb, Decides, cases_eq, or_cases, nat_tests}
@@ -6,8 +6,8 @@ use Rattle.lw_orders.proofs.Common.{All-contains, AreAscending, Walk, has, has_e
 use Rattle.lw_orders.proofs.Common.{IsReachedFrom}
 use Rattle.lw_orders.proofs.Walks.{joins_gives, joins_from}
 
--- What holds in the loop that finds what an item reaches: `set` has what is found so far. Of the item's steps (those to which a
--- pair leads from it) the ones in `left` are still to be taken, the lowest of which is `next`.
+-- The invariant of the loop that computes what an item reaches: `set` has what was found so far. The item's successors in `left` are still
+-- to be visited; the lowest of them is `next`.
 pub record IsReaching (item len steps : ℕ) (sets : List ℕ) (set left next : ℕ) : Type 0 where
   pub itself : has set item ≡ true
   pub all : (k j : ℕ)
@@ -24,7 +24,7 @@ pub record IsReaching (item len steps : ℕ) (sets : List ℕ) (set left next : 
   pub below : (k : ℕ) → k < next → has left k ≡ false
   pub lowest : next < most_items → has left next ≡ true
 
--- before the first step an item has reached itself alone, and all its steps are to be taken
+-- Before the first successor, the set has only the item itself, and every successor is still to be visited.
 pub reaching_start : {len steps : ℕ} {sets : List ℕ} (item set none next : ℕ)
     → item < most_items
     → ((k : ℕ) → k < most_items → has set k ≡ (eqb k item || has none k))
@@ -43,7 +43,7 @@ reaching_start item set none next l with empty below lowest = record {
 
 module _ {item len steps : ℕ} {sets : List ℕ} {set left next : ℕ} (few : len ≤ most_items) (low : item < most_items)
     (r : IsReaching item len steps sets set left next) where
-  -- when no step is left to be taken, the set is all that the item reaches
+  -- When no successor is left, the set has all that the item reaches.
   pub reaching_end : len ≤ next → IsReachedFrom item len steps sets set
   reaching_end end = record {
     itself = r.itself;
@@ -55,7 +55,7 @@ module _ {item len steps : ℕ} {sets : List ℕ} {set left next : ℕ} (few : l
       (join : (k : ℕ) → k < most_items → has more k ≡ (has set k || reaches_in sets next k))
       (drop_next : (k : ℕ) → k < most_items → has rest k ≡ (not (eqb k next) && has left k))
       (below : (k : ℕ) → k < further → has rest k ≡ false) (lowest : further < most_items → has rest further ≡ true) where
-    -- when the step `next` is taken, and its set joined to what is found, this holds of the steps that are left
+    -- When the successor `next` is visited and its set joined, the invariant holds of the remaining successors.
     pub reaching_more : IsReaching item len steps sets more rest further
     reaching_more = record {
       itself = join item low ∙ or_left _ _ r.itself;
@@ -75,11 +75,11 @@ module _ {item len steps : ℕ} {sets : List ℕ} {set left next : ℕ} (few : l
       lowest = lowest;
     }
 
-    -- the step that is then the next is higher: so the loop ends
+    -- The following successor is higher than `next`: so the loop ends.
     pub goes_further : next < further
     goes_further = grind (arith, eq-eqb further next, drop_next further, r.below further)
 
--- the set that is found for an item has exactly those to which a walk leads from it, if the sets of the items above it are so
+-- The set computed for an item has exactly the items to which a walk leads, if this holds of the sets of higher items.
 pub set_of_steps : {item len set_of steps : ℕ} {sets : List ℕ} (fixed : List (ℕ × ℕ))
     → AreAscending len fixed
     → len ≤ most_items

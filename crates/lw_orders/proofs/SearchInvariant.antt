@@ -1,4 +1,4 @@
--- Where the search stands: where it begins, one step of it, and how many directions one call tries.
+-- The search's invariant: its start, one step, and the number of directions that one call tries.
 use Rattle.lw_orders.proofs.Common.{most_items, ℕ, zero, suc, ◌≡◌, ◌+◌, ◌-◌, ◌*◌, ◌<◌, ◌≤◌, List, [], ◌∷◌}
 use Rattle.lw_orders.proofs.Common.{◌++◌, length, get_or, take, replicate, ap, sym, ◌∙◌, refl, subst, inl}
 use Rattle.lw_orders.proofs.Common.{inr, arith, ◌⊎◌, All, Bool, true, false, cond, Option, Some, None}
@@ -16,10 +16,9 @@ use Rattle.lw_orders.proofs.Walks.{closes_anti}
 use Rattle.lw_orders.proofs.GrowingClosure.{closes_start, IsAcyclicClosure-more, cycle_none, closed_has_order}
 use Rattle.lw_orders.proofs.api.Complete.{All-parts, IsWithin, IsUp, keeps_parts}
 
--- How many directions one call has tried, with k open pairs: never more than 3 * k. At first it may go up, from one turned
--- pair that closes a cycle to another before it, so that one direction was tried for each pair that it left. From the
--- first direction taken it goes down, and tries at most two for each pair: where the first closes a cycle, the other
--- doesn't.
+-- The number of directions that one call tries is at most 3 k, for k unordered pairs. At first the call may go up, from a reversed pair
+-- that closes a cycle to the pair before it, and tries one direction for each pair that it leaves. After the first direction taken it goes
+-- down, and tries at most two for each pair: if the first closes a cycle, the second does not.
 abbrev pub Phase : List (ℕ × ℕ) → SearchState → Option ℕ → ℕ → Type 0
 Phase undecided s None tried = tried ≤ 3 * length undecided
 Phase undecided s (Some level) tried =
@@ -28,7 +27,7 @@ Phase undecided s (Some level) tried =
     × (get_or s.ways level false ≡ true
     → reach s.saved level (get_or undecided level (0, 0)).1 (get_or undecided level (0, 0)).0 ≡ true))
 
--- ---- behind some ways
+-- ---- after some ways
 module _ (ways : List Bool) (ps : List (ℕ × ℕ)) (long : length ways ≡ length ps) where
   way_more : (k : ℕ) (w : Bool) → k < length ps → get_or ways k false ≡ w → take (k + 1) ways ≡ take k ways ++ w ∷ []
   way_more k w l e = take_more ways k false (omega (arith, long)) ∙ ap (λ v. take k ways ++ v ∷ []) e
@@ -37,17 +36,17 @@ module _ (ways : List Bool) (ps : List (ℕ × ℕ)) (long : length ways ≡ len
   long_upto k l = length-take-le k ways (omega (arith, long))
 
 module _ (n : ℕ) (g ps : List (ℕ × ℕ)) (ways : List Bool) (long : length ways ≡ length ps) where
-  -- the orders that come behind those that begin with the first k ways
+  -- The orders that come after those whose first k ways are these.
   abbrev behind : ℕ → List (List ℕ)
   behind k = after_ways n g ps (take k ways)
 
-  -- behind a pair that is turned comes what comes behind the pairs before it
+  -- After a reversed pair come the orders that come after the pairs before it.
   behind_turned : (k : ℕ) → k < length ps → get_or ways k false ≡ true → behind (k + 1) ≡ behind k
   behind_turned k l on =
       ap (after_ways n g ps) (way_more ways ps long k true l on)
       ∙ after-true n g ps (take k ways) (omega (arith, long_upto ways ps long k (omega arith)))
 
-  -- and so with d pairs that are turned
+  -- After d reversed pairs come the orders that come after the pairs before them.
   after_turned : (d from upto : ℕ)
       → from + d ≡ upto
       → upto ≤ length ps
@@ -58,8 +57,8 @@ module _ (n : ℕ) (g ps : List (ℕ × ℕ)) (ways : List Bool) (long : length 
       after_turned d (from + 1) upto (omega arith) l (λ k a b. all k (omega arith) b)
       ∙ behind_turned from (omega arith) (all from (omega arith) (omega arith))
 
-  -- When of the first `upto` ways the last that is not turned is turned, the orders still to come are those that came behind all
-  -- that begin with these ways: the ways behind it were turned.
+  -- If the last pair not yet reversed, among the first `upto`, is reversed, the remaining orders are those that come after all orders with
+  -- these first ways: the later pairs were reversed already.
   pub left_on : (next : List Bool) (upto : ℕ) (found : Option ℕ)
       → upto ≤ length ps
       → TurnedLast ways next upto found
@@ -75,9 +74,9 @@ module _ (n : ℕ) (g ps : List (ℕ × ℕ)) (ways : List Bool) (long : length 
       after_turned (upto - (i + 1)) (i + 1) upto (omega (arith, li)) l (λ k a b. on k (omega arith) b) in
       ap (from_ways n g ps) now ∙ (sym other_way ∙ (sym (ap (after_ways n g ps) was) ∙ sym rest_turned))
 
--- ---- the search stands
+-- ---- the search state
 
--- the first directed pairs are those of the first ways
+-- The first i oriented pairs are oriented by the first i ways.
 take-oriented : (i : ℕ) (ps : List (ℕ × ℕ)) (ws : List Bool) → oriented ps (take i ws) ≡ take i (oriented ps ws)
 take-oriented zero [] ws = refl
 take-oriented zero (p ∷ ps) ws = refl
@@ -85,7 +84,7 @@ take-oriented (suc i) [] ws = refl
 take-oriented (suc i) (p ∷ ps) [] = refl
 take-oriented (suc i) (p ∷ ps) (w ∷ ws) = ap (λ xs. reverse_if w p ∷ xs) (take-oriented i ps ws)
 
--- what holds of each pair both ways round holds of the pairs as they are directed
+-- What holds of each pair in both directions holds of the oriented pairs.
 All-oriented : (P : ℕ × ℕ → Type 0) (ps : List (ℕ × ℕ)) (ws : List Bool)
     → All (λ p. P p × P (p.1, p.0)) ps
     → All P (oriented ps ws)
@@ -99,7 +98,7 @@ All-oriented P (p ∷ ps) (w ∷ ws) all =
     one false h = h.0
     one true h = h.1
 
--- when the last way that is not turned is turned, the ways before it stay as they were, and all are as many
+-- Reversing the last pair not yet reversed preserves the ways before it and their number.
 turned_upto : (ways next : List Bool) (upto : ℕ) (found : Option ℕ)
     → TurnedLast ways next upto found
     → (length next ≡ length ways)
@@ -111,7 +110,7 @@ turned_upto ways next upto (Some i) (li, off, is, on) =
 
 module _ {len : ℕ} {fixed undecided : List (ℕ × ℕ)} {s : SearchState} {level : ℕ}
     (st : IsSearchState len fixed undecided s level) where
-  -- when the last way that is not turned is turned, the search stands at that pair
+  -- After the last pair not yet reversed is reversed, the search is at that pair.
   pub IsSearchState-on : (next : List Bool) (upto : ℕ) (found : Option ℕ)
       → upto ≤ level + 1
       → TurnedLast s.ways next upto found
@@ -133,7 +132,7 @@ module _ {len : ℕ} {fixed undecided : List (ℕ × ℕ)} {s : SearchState} {le
         closed = λ k lk. st.closed k (omega (arith, lk, low));
       }
 
-  -- at a leaf all directions are chosen: there is the one order, and then what comes behind it
+  -- At a leaf every pair has its direction: the only order there comes first, and then those after it.
   module _ (leaf : level ≡ length undecided) where
     all_chosen : take level s.chosen ≡ s.chosen
     all_chosen = take_all level s.chosen (omega (arith, st.chosen_long, leaf))
@@ -170,7 +169,7 @@ module _ {len : ℕ} {fixed undecided : List (ℕ × ℕ)} {s : SearchState} {le
               (ap (λ cs. lowest_order len (fixed ++ cs)) (sym chosen_directed) ∙ h)),
         )
 
-  -- at a pair
+  -- At a pair the search tries a direction.
   module _ (below : level < length undecided) where
     abbrev p : ℕ × ℕ
     p = pair_at undecided s.ways level
@@ -189,7 +188,7 @@ module _ {len : ℕ} {fixed undecided : List (ℕ × ℕ)} {s : SearchState} {le
     graph_is : fixed ++ oriented undecided (take (level + 1) s.ways) ≡ (fixed ++ take level s.chosen) ++ p ∷ []
     graph_is = ap (λ ds. fixed ++ ds) way_chosen ∙ sym (append_assoc fixed (take level s.chosen) (p ∷ []))
 
-    -- a direction that closes a cycle: no order has both, and nothing is under it
+    -- A direction that closes a cycle has no orders, so the search skips it.
     pub given_up : reach s.saved level p.1 p.0 ≡ true
         → from_ways len fixed undecided (take (level + 1) s.ways) ≡ after_ways len fixed undecided (take (level + 1) s.ways)
     given_up back =
@@ -208,7 +207,7 @@ module _ {len : ℕ} {fixed undecided : List (ℕ × ℕ)} {s : SearchState} {le
             cycle_none p.0 p.1 p_within.0 p_within.1 here back o graph pair
 
     module _ {next : SearchState} (taken : IsTaken len p level s next) where
-      -- a direction that closes none: the search stands at the next pair
+      -- After a direction that closes no cycle, the search is at the next pair.
       pub IsSearchState-down : reach s.saved level p.1 p.0 ≡ false → IsSearchState len fixed undecided next (level + 1)
       IsSearchState-down free = record {
         can = st.can;
@@ -249,7 +248,7 @@ module _ {len : ℕ} {fixed undecided : List (ℕ × ℕ)} {s : SearchState} {le
             ∙ (sym (take_all (level + 1) next.ways (omega (arith, st.ways_long, taken.long))) ∙ taken.before)))
       ]
 
-    -- ---- the count of what was tried: not both ways round close a cycle
+    -- ---- the count of directions tried: at most one direction of a pair closes a cycle
     both_closed : reach s.saved level (get_or undecided level (0, 0)).1 (get_or undecided level (0, 0)).0 ≡ true
         → reach s.saved level (get_or undecided level (0, 0)).0 (get_or undecided level (0, 0)).1 ≡ true
         → ⊥
@@ -288,7 +287,7 @@ module _ {len : ℕ} {fixed undecided : List (ℕ × ℕ)} {s : SearchState} {le
           → Phase undecided next (Some (level + 1)) (tried + 1)
       phase_down next off = inr (rw off (elim ph [ inl a ↦ omega (arith, a.1) | inr b ↦ grind (arith, b.0) ]), λ t. cc (off, t))
 
-  -- a call has tried at most three directions for each open pair
+  -- A call tries at most three directions for each unordered pair.
   pub tried_le : (tried : ℕ) → Phase undecided s (Some level) tried → tried ≤ 3 * length undecided
   tried_le tried (inl a) = omega (arith, a.1)
   tried_le tried (inr b) = elim (cases_lt level (length undecided)) [
@@ -296,9 +295,9 @@ module _ {len : ℕ} {fixed undecided : List (ℕ × ℕ)} {s : SearchState} {le
     | inr ge ↦ omega (arith, rw (get_or_past s.ways level false (omega (arith, st.ways_long))) at b.0, st.level_in)
   ]
 
--- ---- where it begins
+-- ---- the start
 
--- before the first step all orders of the search are to come
+-- Before the first step all orders of the search remain.
 pub start_left : (n : ℕ) (fixed undecided : List (ℕ × ℕ)) (ways : List Bool)
     → length ways ≡ length undecided
     → get_or ways 0 false ≡ false
@@ -309,12 +308,12 @@ start_left n fixed [] (w ∷ ways) long off = refl
 start_left n fixed (p ∷ ps) (w ∷ ways) long off =
     ap (λ v. from_ways n fixed (p ∷ ps) (v ∷ [])) off ∙ sym (from-down n fixed (p ∷ ps) [] (omega arith))
 
--- of ways that are all not turned the first is not
+-- If no pair is reversed, the first is not.
 pub none_turned : (n : ℕ) → get_or (replicate n false) 0 false ≡ false
 none_turned zero = refl
 none_turned (suc n) = refl
 
--- at its beginning the search stands at the first pair, none of them turned
+-- At the start the search is at the first pair, and no pair is reversed.
 pub IsSearchState-start : {len : ℕ} {fixed undecided : List (ℕ × ℕ)} {s : SearchState} (sets : List ℕ) (k : ℕ)
     → CanBeSearched len fixed undecided
     → k ≡ length undecided
@@ -337,8 +336,8 @@ IsSearchState-start {len = len} {fixed = fixed} {undecided = undecided} {s = s} 
     first : get_or s.saved 0 [] ≡ sets
     first = ap (λ xs. get_or xs 0 []) sv ∙ get_or-replicate (k + 1) 0 sets [] (omega arith)
 
--- How the code makes the tables of a search: two copies of `sets`, the predecessors by the fixed pairs; and of `all`, the
--- neighbours by the fixed and the open pairs, those of the first `len` items.
+-- How the code fills the tables of a search: with two copies of `sets`, the predecessors by the fixed pairs; and with the first `len` sets
+-- of `all`, the neighbours by the fixed and the unordered pairs.
 pub record TablesAreMade (len : ℕ) (fixed undecided : List (ℕ × ℕ)) (tables : List (List ℕ))
     (neighbours sets all : List ℕ) : Type 0 where
   pub copies : tables ≡ replicate 2 sets
@@ -348,7 +347,7 @@ pub record TablesAreMade (len : ℕ) (fixed undecided : List (ℕ × ℕ)) (tabl
   pub into : EdgesAreIn fixed all
   pub both : AreNeighbours undecided all
 
--- tables that are made so are those with which a search can begin
+-- A search can start with tables that are filled so.
 pub Tabled-start : {len : ℕ} {fixed undecided : List (ℕ × ℕ)} {tables : List (List ℕ)} {neighbours : List ℕ} (sets all : List ℕ)
     → CanBeSearched len fixed undecided
     → TablesAreMade len fixed undecided tables neighbours sets all

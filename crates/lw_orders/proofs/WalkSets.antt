@@ -1,4 +1,4 @@
--- The sets of the closure, what is reached from each item: what they leave open, and how they grow by a pair.
+-- The sets of the closure, one for each item: which conflicts they leave unordered, and how they grow by a pair.
 use Rattle.lw_orders.proofs.Common.{most_items, ℕ, ◌≡◌, ◌+◌, ◌<◌, ◌≤◌, List, [], ◌∷◌, ◌++◌, length, set}
 use Rattle.lw_orders.proofs.Common.{get_or, get_or_append_left, ap, sym, ◌∙◌, refl, inl, inr, arith, true}
 use Rattle.lw_orders.proofs.Common.{false, not, ◌&&◌, ◌||◌, length-set, filter, get_or-set_same}
@@ -7,7 +7,7 @@ use Rattle.lw_orders.proofs.Common.{Constraints, IsWellFormed, AreAscending, is_
 use Rattle.lw_orders.proofs.Common.{has, reaches_in, Reaches}
 use Rattle.lw_orders.proofs.Walks.{decided_walk, walk_decided}
 
--- the conflicts that the sets of the closure do not decide are the open ones
+-- The conflicts that the sets of the closure do not order are the unordered ones.
 pub open_is : (t : Constraints)
     → IsWellFormed t
     → (sets : List ℕ)
@@ -27,7 +27,7 @@ open_is t are sets walks = kept t.conflicts are.conflicts_up
         let rest = kept ps (All-tail (λ p. (p.0 < p.1) × (p.1 < t.len)) p ps up) in
         cc
 
--- to write the first element of `back` is to write it in both parts together, where it stands behind all of `front`
+-- To write the first element of `back` is to write it in the whole list, at the length of `front`.
 written : {X : Type 0} (front back : List X) (v d : X)
     → 0 < length back
     → front ++ set back 0 v ≡ set (front ++ back) (length front) (get_or (front ++ set back 0 v) (length front) d)
@@ -35,7 +35,7 @@ written [] [] v d l = absurd (omega arith)
 written [] (b ∷ back) v d l = refl
 written (f ∷ front) back v d l = ap (λ xs. f ∷ xs) (written front back v d l)
 
--- to write the first element of `back`, where xs is split at n into `front` and `back`, is to write it in xs, at n
+-- If xs is split at n into `front` and `back`, to write the first element of `back` is to write xs at n.
 pub written_behind : {X : Type 0} (xs front back : List X) (n : ℕ) (v d : X)
     → xs ≡ front ++ back
     → length front ≡ n
@@ -44,12 +44,12 @@ pub written_behind : {X : Type 0} (xs front back : List X) (n : ℕ) (v d : X)
 written_behind xs front back n v d e long l = rw (e, ← long) (written front back v d l)
 
 module _ (xs front back : List (List ℕ)) (level : ℕ) (e : xs ≡ front ++ back) (long : length front ≡ level + 1) where
-  -- the table of a level, the last of the front part, is read as in the whole list
+  -- The table of a level, the last of the front part, is the one in the whole list.
   pub read_in_front : get_or front level [] ≡ get_or xs level []
   read_in_front = rw e (sym (get_or_append_left front back [] level (omega (arith, long))))
 
-  -- where `more` is the table of a level grown by a pair, and is written to the first of the back part, the whole list has it
-  -- behind the table of that level
+  -- If `more`, the table of a level extended by a pair, is written to the first of the back part, then the whole list has it after the
+  -- table of that level.
   pub grown_behind : {len : ℕ} (from to : ℕ) (more : List ℕ)
       → 0 < length back
       → ((i j : ℕ)
@@ -70,8 +70,8 @@ module _ (xs front back : List (List ℕ)) (level : ℕ) (e : xs ≡ front ++ ba
       read_behind [] (b ∷ back) l = refl
       read_behind (f ∷ front) back l = read_behind front back l
 
--- what holds in the loop that grows `sets` by a pair, item by item: the sets of those below `item` have what is reached with the
--- pair, the others are as they were
+-- The invariant of the loop that extends `sets` by a pair, item by item: the sets of the items below `item` are extended, the others
+-- unchanged.
 pub record IsGrowing (sets more : List ℕ) (len from to item : ℕ) : Type 0 where
   pub room : length more ≡ most_items
   pub kept : (i : ℕ) → item ≤ i → i < len → get_or more i 0 ≡ get_or sets i 0
@@ -82,7 +82,7 @@ pub record IsGrowing (sets more : List ℕ) (len from to item : ℕ) : Type 0 wh
 
 module _ {sets more : List ℕ} {len from to item : ℕ} (few : len ≤ most_items) (l : item < len)
     (is : IsGrowing sets more len from to item) where
-  -- where an item reaches the new pair's first, its set is joined with that of the second
+  -- If an item reaches the new pair's first item, its set is joined with the second item's.
   pub joined_set : (set' : ℕ)
       → ((j : ℕ) → j < most_items → has set' j ≡ (reaches_in sets item j || reaches_in sets to j))
       → reaches_in sets item from ≡ true
@@ -96,7 +96,7 @@ module _ {sets more : List ℕ} {len from to item : ℕ} (few : len ≤ most_ite
     ];
   }
 
-  -- where an item does not reach the new pair's first, its set stays as it is
+  -- If an item does not reach the new pair's first item, its set is unchanged.
   pub kept_set : reaches_in sets item from ≡ false → IsGrowing sets more len from to (item + 1)
   kept_set off = record {
     room = is.room;

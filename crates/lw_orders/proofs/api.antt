@@ -1,5 +1,5 @@
--- What proofs of other crates cite: indices in orders, what exchanges keep, that the orders given are complete, which lists of pairs
--- decide the same, and which conflicts are open.
+-- Lemmas that other crates use: indices in orders, what swaps preserve, completeness of the orders, lists of pairs with the same closure,
+-- and the unordered conflicts.
 pub mod Indices
 pub mod SwapInvariance
 pub mod Complete

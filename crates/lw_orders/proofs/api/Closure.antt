@@ -1,28 +1,27 @@
--- Two lists of pairs decide the same where along each pair of the one a walk along the other leads; and then they leave as many
--- conflicts open.
+-- Two lists of pairs order the same items if each pair of one is a walk along the other; then they leave the same conflicts unordered.
 use Rattle.lw_orders.proofs.Common.{◌≡◌, ℕ, zero, suc, ◌^◌, Bool, true, false, not, List, length, filter}
 use Rattle.lw_orders.proofs.Common.{refl, sym, ap, ◌∙◌, All, get_or, Contains-get_or, All-contains}
 use Rattle.lw_orders.proofs.Common.{Constraints, Walk, IsOrderedByPath, is_ordered, unordered_conflicts}
 use Rattle.lw_orders.proofs.Common.{orientation_count, AreAscending, filter_agree}
 use Rattle.lw_orders.proofs.Walks.{Walk-join, decided_walk, walk_decided}
 
--- a walk of at least one step leads from i to j
+-- A walk of at least one step leads from i to j.
 abbrev pub Leads : List (ℕ × ℕ) → ℕ → ℕ → Type 0
 Leads pairs i j = (n : ℕ) × Walk pairs (suc n) i j
 
--- LeadsAlong pairs others: along each pair of others a walk along pairs leads
+-- Each pair of `others` is a walk along `pairs`.
 abbrev pub LeadsAlong : List (ℕ × ℕ) → List (ℕ × ℕ) → Type 0
 LeadsAlong pairs others = All (λ p. Leads pairs p.0 p.1) others
 
--- two walks, one behind the other, are a walk
+-- Two walks in sequence are a walk.
 pub leads_on : (pairs : List (ℕ × ℕ)) (i j k : ℕ) → Leads pairs i j → Leads pairs j k → Leads pairs i k
 leads_on pairs i j k (n, (h, c, w)) (m, v) = (let (l, u) = Walk-join pairs n h j w k (suc m) v in (l, (h, c, u)))
 
--- along each pair of a list leads the pair itself
+-- Each pair of a list is a walk along the list.
 pub leads_itself : (pairs : List (ℕ × ℕ)) → LeadsAlong pairs pairs
 leads_itself pairs k d l = (0, ((get_or pairs k d).1, Contains-get_or pairs k d l, refl))
 
--- where each pair of the others has a walk along these pairs, so has each walk along the others
+-- If each pair of the others is a walk along these pairs, so is each walk along the others.
 walk_along : (pairs others : List (ℕ × ℕ))
     → LeadsAlong pairs others
     → (n i j : ℕ)
@@ -34,7 +33,7 @@ walk_along pairs others along (suc n) i j (k, c, w) =
     let (l, u) = walk_along pairs others along n k j w in
     Walk-join pairs (suc m) i k v j l u
 
--- where a walk along `pairs` leads along each of the others, what the others decide `pairs` decide
+-- If each pair of the others is a walk along `pairs`, then `pairs` orders what the others order.
 pub decided_along : (pairs others : List (ℕ × ℕ))
     → LeadsAlong pairs others
     → (p : ℕ × ℕ)
@@ -42,13 +41,13 @@ pub decided_along : (pairs others : List (ℕ × ℕ))
     → IsOrderedByPath pairs p
 decided_along pairs others along p (n, w) = walk_along pairs others along n p.0 p.1 w
 
--- two tests that pass together are the same
+-- Two tests of which each implies the other are equal.
 same_test : (a b : Bool) → (a ≡ true → b ≡ true) → (b ≡ true → a ≡ true) → a ≡ b
 same_test true b forth back = sym (forth refl)
 same_test false true forth back = back refl
 same_test false false forth back = refl
 
--- constraints with the same conflicts leave as many ways to take them
+-- Two constraints with the same conflicts, and fixed pairs of the same closure, have the same number of orientations.
 module _ (t u : Constraints) (t_up : AreAscending t.len t.fixed) (u_up : AreAscending u.len u.fixed)
     (forth : LeadsAlong u.fixed t.fixed) (back : LeadsAlong t.fixed u.fixed) where
   same_decided : (p : ℕ × ℕ) → is_ordered t.fixed p ≡ is_ordered u.fixed p
@@ -57,12 +56,12 @@ module _ (t u : Constraints) (t_up : AreAscending t.len t.fixed) (u_up : AreAsce
       (λ e. walk_decided u.len u.fixed p u_up (decided_along u.fixed t.fixed forth p (decided_walk t.fixed p e)))
       (λ e. walk_decided t.len t.fixed p t_up (decided_along t.fixed u.fixed back p (decided_walk u.fixed p e)))
 
-  -- two lists of pairs that decide the same leave the same conflicts open
+  -- Two lists of pairs with the same closure leave the same conflicts unordered.
   pub same_open : t.conflicts ≡ u.conflicts → unordered_conflicts t ≡ unordered_conflicts u
   same_open same =
       filter_agree (λ p. not (is_ordered t.fixed p)) (λ p. not (is_ordered u.fixed p)) (λ p. ap not (same_decided p)) t.conflicts
       ∙ ap (filter (λ p. not (is_ordered u.fixed p))) same
 
-  -- as many orders are counted by the one list as by the other
+  -- Two lists of pairs with the same closure have the same number of orientations.
   pub same_count : t.conflicts ≡ u.conflicts → orientation_count t ≡ orientation_count u
   same_count same = ap (λ (pairs : List (ℕ × ℕ)). 2 ^ length pairs) (same_open same)

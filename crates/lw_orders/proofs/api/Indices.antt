@@ -1,39 +1,39 @@
--- Where items stand in a list, in the list without one of them, among n numbers from k on, and in an order.
+-- Indices of items in a list, in the list without one of them, in a range of numbers, and in an order.
 use Rattle.lw_orders.proofs.Common.{ℕ, zero, suc, ◌≡◌, ◌+◌, ◌<◌, ◌≤◌, List, [], ◌∷◌, ◌++◌, length, eqb, ap}
 use Rattle.lw_orders.proofs.Common.{sym, subst, refl, inl, inr, arith, eq-eqb, ne_eqb, All, get_or}
 use Rattle.lw_orders.proofs.Common.{length-append, cond-true, cond-false, cases_eq, cases_lt, nat_tests}
 use Rattle.lw_orders.proofs.Common.{All-head, All-tail, index_in, Before, AreDistinct, IsOrder, without}
 use Rattle.lw_orders.proofs.Common.{indices}
 
--- the first item stands at index 0
+-- The first item has index 0.
 pub index_in-same : (x : ℕ) (xs : List ℕ) (i : ℕ) → x ≡ i → index_in (x ∷ xs) i ≡ 0
 index_in-same x xs i e = cond-true (eqb x i) 0 (suc (index_in xs i)) (eq-eqb x i e)
 
--- any other item stands one index further than in the list behind the first
+-- Any other item has an index one greater than in the tail.
 pub index_in-other : (x : ℕ) (xs : List ℕ) (i : ℕ) → (x ≡ i → ⊥) → index_in (x ∷ xs) i ≡ suc (index_in xs i)
 index_in-other x xs i ne = cond-false (eqb x i) 0 (suc (index_in xs i)) (ne_eqb x i ne)
 
--- two items that stand at one index are one
+-- Two items with the same index are equal.
 pub same_index : (xs : List ℕ) (i j : ℕ) → index_in xs i ≡ index_in xs j → index_in xs i < length xs → i ≡ j
 same_index [] i j e l = absurd (omega arith)
 same_index (x ∷ xs) i j e l = grind (arith, nat_tests, same_index xs i j)
 
--- the list without an item that stands in it is one shorter
+-- Removing an item that is in the list makes it one shorter.
 pub length-without : (xs : List ℕ) (y : ℕ) → index_in xs y < length xs → suc (length (without xs y)) ≡ length xs
 length-without [] y l = absurd (omega arith)
 length-without (x ∷ xs) y l = grind (arith, nat_tests, length-without xs y)
 
--- what stands before another in the list without y stands so in the list, if neither is y
+-- If i precedes j in the list without y, and neither is y, then i precedes j in the list.
 pub before-without : (xs : List ℕ) (y i j : ℕ) → (y ≡ i → ⊥) → (y ≡ j → ⊥) → Before (without xs y) i j → Before xs i j
 before-without [] y i j ni nj b = b
 before-without (x ∷ xs) y i j ni nj b = grind (arith, nat_tests, before-without xs y i j ni nj)
 
--- what stands in the list without y stands in the list
+-- An item of the list without y is in the list.
 pub stands-with : (xs : List ℕ) (y i : ℕ) → index_in (without xs y) i < length (without xs y) → index_in xs i < length xs
 stands-with [] y i l = l
 stands-with (x ∷ xs) y i l = grind (arith, nat_tests, stands-with xs y i)
 
--- an item that stands in a list stands in it without y, if it is not y
+-- An item of the list other than y is in the list without y.
 pub stands-without : (xs : List ℕ) (y i : ℕ)
     → (i ≡ y → ⊥)
     → index_in xs i < length xs
@@ -41,22 +41,22 @@ pub stands-without : (xs : List ℕ) (y i : ℕ)
 stands-without [] y i ne l = l
 stands-without (x ∷ xs) y i ne l = grind (arith, nat_tests, stands-without xs y i)
 
--- where no item stands twice, none does in the list without one
+-- Removing an item from a list without duplicates leaves one without duplicates.
 pub AreDistinct-without : (xs : List ℕ) (y : ℕ) → AreDistinct xs → AreDistinct (without xs y)
 AreDistinct-without [] y o = tt
 AreDistinct-without (x ∷ xs) y o = grind (arith, nat_tests, AreDistinct-without xs y o.1, stands-with xs y x)
 
--- an item that is taken out of a list in which each stands once is in it no more
+-- An item removed from a list without duplicates is no longer in it.
 pub gone-without : (xs : List ℕ) (y : ℕ) → AreDistinct xs → length (without xs y) ≤ index_in (without xs y) y
 gone-without [] y o = omega arith
 gone-without (x ∷ xs) y o = grind (arith, nat_tests, gone-without xs y o.1)
 
--- taking an item out makes a list shorter by one at most
+-- Removing an item makes a list at most one shorter.
 pub length-without_le : (xs : List ℕ) (y : ℕ) → length xs ≤ suc (length (without xs y))
 length-without_le [] y = omega arith
 length-without_le (x ∷ xs) y = grind (arith, nat_tests, length-without_le xs y)
 
--- a list in which each of some different items stands is at least as long as they are many
+-- A list that contains all of some distinct items is at least as long.
 pub room : (some xs : List ℕ)
     → AreDistinct some
     → ((i : ℕ) → index_in some i < length some → index_in xs i < length xs)
@@ -68,7 +68,7 @@ room (s ∷ some) xs o f =
     stands-without xs s i ne (f i (omega (arith, index_in-other s some i (λ e. ne (sym e)))))) in
     omega (arith, length-without xs s (f s (omega (arith, index_in-same s some s refl))))
 
--- a list that has all of a list of different items, and is no longer, has none twice
+-- A list that contains all of some distinct items, and is no longer, has no duplicates.
 pub AreDistinct-from_room : (xs some : List ℕ)
     → AreDistinct some
     → ((i : ℕ) → index_in some i < length some → index_in xs i < length xs)
@@ -91,37 +91,37 @@ AreDistinct-from_room (x ∷ xs) some o f l =
           (omega (arith, length-without_le some x)),
     )
 
--- each number from k on, below k + n, stands among n numbers from k on
+-- Each number from k up to `k + n` is in the range.
 pub index_in-indices : (k n i : ℕ) → k ≤ i → i < k + n → index_in (indices k n) i < length (indices k n)
 index_in-indices k zero i a b = absurd (omega arith)
 index_in-indices k (suc n) i a b = grind (arith, nat_tests, index_in-indices (suc k) n i)
 
--- only the numbers from k to k + n stand among them
+-- Only the numbers from k up to `k + n` are in the range.
 pub index_in-indices_within : (k n i : ℕ) → index_in (indices k n) i < length (indices k n) → (k ≤ i) × (i < k + n)
 index_in-indices_within k zero i l = absurd (omega arith)
 index_in-indices_within k (suc n) i l = grind (arith, nat_tests, index_in-indices_within (suc k) n i)
 
--- what stands among the numbers from 0 on is below n
+-- A number in the range from 0 is below n.
 pub below-indices : (n i : ℕ) → index_in (indices 0 n) i < length (indices 0 n) → i < n
 below-indices n i l = omega (arith, index_in-indices_within 0 n i l)
 
--- the numbers from k on are n
+-- The range from k has n numbers.
 pub length-indices : (k n : ℕ) → length (indices k n) ≡ n
 length-indices k zero = refl
 length-indices k (suc n) = ap suc (length-indices (suc k) n)
 
--- none of the numbers from k on stands twice
+-- The range from k has no duplicates.
 pub AreDistinct-indices : (k n : ℕ) → AreDistinct (indices k n)
 AreDistinct-indices k zero = tt
 AreDistinct-indices k (suc n) = grind (arith, AreDistinct-indices (suc k) n, index_in-indices_within (suc k) n k)
 
--- in an order no item stands twice
+-- An order has no duplicates.
 pub AreDistinct-order : (n : ℕ) (xs : List ℕ) → IsOrder n xs → AreDistinct xs
 AreDistinct-order n xs o =
     AreDistinct-from_room xs (indices 0 n) (AreDistinct-indices 0 n) (λ i l. omega (arith, o.1 i (below-indices n i l), o.0))
     (omega (arith, o.0, length-indices 0 n))
 
--- in an order of n items nothing but these stands
+-- An order of n items contains only these.
 pub order_below : (n : ℕ) (xs : List ℕ) → IsOrder n xs → (i : ℕ) → index_in xs i < length xs → i < n
 order_below n xs o i l = elim (cases_lt i n) [
   | inl h ↦ h
@@ -133,18 +133,18 @@ order_below n xs o i l = elim (cases_lt i n) [
       absurd (omega (arith, length-indices 0 n, length-without xs i l, o.0)))
 ]
 
--- an item behind some others is found at their number or before it
+-- The index of an item after `front` is at most the length of `front`.
 found_by : (front rest : List ℕ) (i : ℕ) → index_in (front ++ i ∷ rest) i ≤ length front
 found_by [] rest i = omega (arith, index_in-same i rest i refl)
 found_by (x ∷ front) rest i = grind (arith, nat_tests, found_by front rest i)
 
--- an item of a list in which each stands once is found behind those before it
+-- In a list without duplicates, the index of an item after `front` is the length of `front`.
 index_in-split : (front rest : List ℕ) (i : ℕ) → AreDistinct (front ++ i ∷ rest) → index_in (front ++ i ∷ rest) i ≡ length front
 index_in-split [] rest i o = index_in-same i rest i refl
 index_in-split (x ∷ front) rest i o =
     grind (arith, nat_tests, index_in-split front rest i o.1, found_by front rest i, length-append front (i ∷ rest))
 
--- in an order, an item stands behind as many as stand in front of it
+-- In an order, the index of an item after `front` is the length of `front`.
 pub order_split : (n i : ℕ) (front rest : List ℕ)
     → IsOrder n (front ++ i ∷ rest)
     → (i < n) × (index_in (front ++ i ∷ rest) i ≡ length front)
@@ -153,7 +153,7 @@ order_split n i front rest o = (
   index_in-split front rest i (AreDistinct-order n (front ++ i ∷ rest) o),
 )
 
--- what holds of all that stands in a list holds of what is found there
+-- What holds of every item of a list holds of an item found in it.
 pub All-stands : (P : ℕ → Type 0) (xs : List ℕ) (i : ℕ) → All P xs → index_in xs i < length xs → P i
 All-stands P [] i all l = absurd (omega arith)
 All-stands P (x ∷ xs) i all l = elim (cases_eq x i) [
@@ -161,7 +161,7 @@ All-stands P (x ∷ xs) i all l = elim (cases_eq x i) [
   | inr ne ↦ All-stands P xs i (All-tail P x xs all) (omega (arith, index_in-other x xs i ne))
 ]
 
--- items below n, each of them there and none twice, are an order
+-- A list without duplicates that contains exactly the items below n is an order.
 pub order_from : (n : ℕ) (xs : List ℕ)
     → All (λ i. i < n) xs
     → AreDistinct xs
@@ -175,12 +175,12 @@ order_from n xs below once there =
     let long : length xs ≡ n = omega (arith, length-indices 0 n, least, most) in
     (long, λ i l. omega (arith, there i l, long))
 
--- an item that is read from a list at an index is found there or before
+-- The index of an item read at k is at most k.
 index_in_le_index : (xs : List ℕ) (k d : ℕ) → k < length xs → index_in xs (get_or xs k d) ≤ k
 index_in_le_index [] k d l = absurd (omega arith)
 index_in_le_index (x ∷ xs) zero d l = omega (arith, index_in-same x xs x refl)
 index_in_le_index (x ∷ xs) (suc k) d l = grind (arith, nat_tests, index_in_le_index xs k d)
 
--- each item of an order is one of the n
+-- Each item of an order is below n.
 pub order_items : (n : ℕ) (xs : List ℕ) → IsOrder n xs → All (λ i. i < n) xs
 order_items n xs o k d l = order_below n xs o (get_or xs k d) (omega (arith, index_in_le_index xs k d l))

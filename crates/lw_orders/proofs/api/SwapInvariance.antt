@@ -1,4 +1,4 @@
--- What exchanges of neighbours that aren't tied keep of an order; and alike orders are joined by them.
+-- What swaps of adjacent independent items preserve; and such swaps connect trace-equivalent orders.
 use Rattle.lw_orders.proofs.Common.{ℕ, zero, suc, ◌≡◌, ◌<◌, List, [], ◌∷◌, ◌++◌, length, ◌∙◌, subst, refl}
 use Rattle.lw_orders.proofs.Common.{Bool, inl, arith, length-append, nat_tests, Contains-append_left}
 use Rattle.lw_orders.proofs.Common.{Contains-get_or, Constraints, index_in, Before, IsLinearExtension}
@@ -6,7 +6,7 @@ use Rattle.lw_orders.proofs.Common.{AreTraceEquivalent, AreAscending, AreDepende
 use Rattle.lw_orders.proofs.Common.{AreConnectedBySwaps, AreConnected, IsSwapInvariant}
 use Rattle.lw_orders.proofs.Exchanges.{Steps, alike_orders_are_led}
 
--- two items but the two that change places stand as they did
+-- A swap preserves the order of every two items except the two swapped.
 still_before : (front rest : List ℕ) (x y i j : ℕ)
     → (i ≡ x → j ≡ y → ⊥)
     → Before (front ++ x ∷ y ∷ rest) i j
@@ -14,14 +14,14 @@ still_before : (front rest : List ℕ) (x y i j : ℕ)
 still_before [] rest x y i j apart b = grind (arith, nat_tests)
 still_before (z ∷ front) rest x y i j apart b = grind (arith, nat_tests, still_before front rest x y i j apart)
 
--- an exchange of neighbours takes no item out of a list
+-- A swap preserves the items of a list.
 still_there : (front rest : List ℕ) (x y i : ℕ)
     → index_in (front ++ x ∷ y ∷ rest) i < length (front ++ x ∷ y ∷ rest)
     → index_in (front ++ y ∷ x ∷ rest) i < length (front ++ y ∷ x ∷ rest)
 still_there [] rest x y i l = grind (arith, nat_tests)
 still_there (z ∷ front) rest x y i l = grind (arith, nat_tests, still_there front rest x y i)
 
--- an exchange of neighbours that aren't tied leaves an order that keeps the fixed pairs
+-- A swap of adjacent independent items preserves that an order respects the fixed pairs.
 still_extends : (t : Constraints) (front rest : List ℕ) (x y : ℕ)
     → ¬ AreDependent t x y
     → IsLinearExtension t (front ++ x ∷ y ∷ rest)
@@ -36,7 +36,7 @@ still_extends t front rest x y free ((long, there), keeps) =
           (keeps k d l),
     )
 
--- along exchanges of neighbours that aren't tied all orders keep the fixed pairs
+-- Along swaps of adjacent independent items all orders respect the fixed pairs.
 orders_along : (t : Constraints) (n : ℕ) (xs ys : List ℕ)
     → IsLinearExtension t xs
     → Steps (AreDependent t) n xs ys
@@ -46,7 +46,7 @@ orders_along t (suc n) xs ys is (mid, e, j) =
     let on : IsLinearExtension t mid = rw e.new (still_extends t e.front e.rest e.x e.y e.free (rw e.old at is)) in
     (mid, e, on, orders_along t n mid ys on j)
 
--- the law: alike orders that keep the fixed pairs are joined by exchanges of neighbours that aren't tied
+-- Trace-equivalent orders that respect the fixed pairs are connected by swaps of adjacent independent items.
 pub alike_orders_are_joined : (t : Constraints)
     → AreAscending t.len t.conflicts
     → (xs ys : List ℕ)
@@ -57,7 +57,7 @@ pub alike_orders_are_joined : (t : Constraints)
 alike_orders_are_joined t up xs ys (ox, kx) (oy, ky) alike =
     let (n, steps) = alike_orders_are_led t up xs ys ox oy kx ky alike in (n, orders_along t n xs ys (ox, kx) steps)
 
--- what each exchange keeps of an order, P, is kept from an order to each that it is joined with
+-- A property P that every swap preserves holds of all orders connected with one that has it.
 pub kept_along : (t : Constraints) (P : List ℕ → Type 0)
     → ((xs ys : List ℕ) → IsLinearExtension t xs → IsLinearExtension t ys → IsAdjacentSwap (AreDependent t) xs ys → P xs → P ys)
     → (xs ys : List ℕ)
@@ -71,7 +71,7 @@ kept_along t P step xs ys is joined = go joined.0 xs is joined.1
     go zero xs is e p = subst P e p
     go (suc n) xs is (mid, e, m, j) p = go n mid m j (step xs mid is m e p)
 
--- alike orders agree on each test that exchanges keep
+-- A test that every swap preserves has the same value on trace-equivalent orders.
 pub alike_orders_agree : (t : Constraints)
     → AreAscending t.len t.conflicts
     → (test : List ℕ → Bool)

@@ -2,7 +2,7 @@ use Rattle.lw_orders.proofs.Common.{◌||◌, arith, ap, ◌∙◌, has, has_edg
 use Rattle.lw_orders.proofs.LowestBySets.{sets_with, copied_set}
 use Rattle.lw_orders.proofs.adjacency.fill_predecessors.Goals as goal
 
--- the sets of the fixed pairs are copied, and the chosen pairs put into them
+-- The fixed pairs' sets are copied, and the chosen pairs added to them.
 pub returns : goal.returns
 returns c fixed are =
     sets_with c.args.len _ _ fixed c.args.chosen.now (λ i j li lj. are i j (omega (arith, li, c.requires.few)) lj) (λ i j li lj.

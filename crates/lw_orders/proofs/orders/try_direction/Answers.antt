@@ -14,7 +14,7 @@ tried_from len level undecided old new found q b e f h =
     subst (λ (p : ℕ × ℕ). TriedAs (reach old.saved level p.1 p.0) len p level old new found) e
     (subst (λ (c : Bool). TriedAs c len q level old new found) (sym f) h)
 
--- the way at an index, if it is there, is put back, and the others stay
+-- The way at the index, if in range, is reset, and the others are unchanged.
 put_back : (ways now : List Bool) (k : ℕ)
     → ((k < length ways) × (now ≡ set ways k false)) ⊎ ((length ways ≤ k) × (now ≡ ways))
     → (length now ≡ length ways) × (take k now ≡ take k ways) × (get_or now k false ≡ false)

@@ -7,7 +7,7 @@ use Rattle.lw_orders.proofs.reach.reach_more.Goals.{After-is_disjoint, then-not-
 use Rattle.lw_orders.proofs.reach.reach_more.Goals.{else-not-is_disjoint}
 use Rattle.lw_orders.proofs.reach.reach_more.Goals as goal
 
--- the set of an item is apart from the pair's first where that isn't reached from the item
+-- The item's set is disjoint from the pair's first item if and only if the item does not reach it.
 leads : (g : Over) (c : After-is_disjoint g) → not c.is_disjoint.result ≡ reaches_in c.args.sets.now c.loop-item.item c.args.from
 leads g c =
     ap not
