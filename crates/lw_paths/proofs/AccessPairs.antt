@@ -1,4 +1,4 @@
--- The conflicts of items are those of the items that access a location; and one turn of each loop that lists these.
+-- The conflicts of items are those of the items that access a location. Then one turn of each loop that lists them.
 use Rattle.lw_paths.proofs.Common.{◌≡◌, ℕ, zero, suc, ◌+◌, ◌<◌, drop, drop-cons, get_or, Bool, false}
 use Rattle.lw_paths.proofs.Common.{if◌then◌else◌, List, [], ◌∷◌, ◌++◌, length, map, Option, Some, None, refl}
 use Rattle.lw_paths.proofs.Common.{sym, ap, ap₂, ◌∙◌, inl, inr, arith, filter, option_to_list, flat_map}
@@ -7,13 +7,13 @@ use Rattle.lw_paths.proofs.Common.{filter_agree, indices, Access, Item, is_confl
 use Rattle.lw_paths.proofs.Common.{conflicts_among, access_by, accesses_from, Language, item_at, pairs_from}
 use Rattle.lw_paths.proofs.Common.{statement_of, conflict_by, constraints_of}
 
--- whether two items that may have accesses conflict
+-- Tests whether two items conflict, from their accesses. An item without an access conflicts with none.
 abbrev both : Option Access → Option Access → Bool
 both (Some a) (Some b) = is_conflict a b
 both (Some a) None = false
 both None b = false
 
--- ---- pair by pair of items that may have accesses, each with its number
+-- ---- conflicts of items, each with its index and its access if it has one
 module _ (acc : ℕ → Option Access) (numbered : (i : ℕ) (a : Access) → acc i ≡ Some a → a.index ≡ i) where
   abbrev conflict : ℕ × ℕ → Bool
   conflict p = both (acc p.0) (acc p.1)
@@ -21,7 +21,7 @@ module _ (acc : ℕ → Option Access) (numbered : (i : ℕ) (a : Access) → ac
   abbrev pair : ℕ → ℕ → ℕ × ℕ
   pair k j = (k, j)
 
-  -- the accesses of d items from number m on
+  -- The accesses of the d items from index m on.
   abbrev from : ℕ → ℕ → List Access
   from m d = flat_map (λ i. option_to_list (acc i)) (indices m d)
 
@@ -69,7 +69,7 @@ module _ {S : Type 0} (language : Language S) (program : List (List S)) where
   access_numbered : (n : ℕ) (d : Bool) (s : Option S) (a : Access) → access_by language n d s ≡ Some a → a.index ≡ n
   access_numbered n d s a e = grind arith
 
-  -- pair by pair of the accesses
+  -- ---- conflicts of the accesses only
   module _ (items : List Item) where
     abbrev access_at : ℕ → Option Access
     access_at i = access_by language i (item_at items i).is_drain (statement_of language program (item_at items i))
@@ -94,14 +94,14 @@ module _ {S : Type 0} (language : Language S) (program : List (List S)) where
         (statement_of language program (item_at items p.0)) (statement_of language program (item_at items p.1))))
         (pairs_from 0 (length items)))
 
--- Of a list of items `item` is the one with the number n, and `o` is its access, if it has one.
+-- The item at index n of the list, and its access, if it has one.
 pub record Accesses {S : Type 0} (language : Language S) (program : List (List S)) (items : List Item) (n : ℕ) (item : Item)
     (o : Option Access) : Type 0 where
   pub within : n < length items
   pub item_is : item ≡ get_or items n item
   pub access_is : o ≡ access_by language n item.is_drain (statement_of language program item)
 
--- when the access of item n, if it has one, is pushed, `whole` is still what is found and the accesses from the next on
+-- Pushing the access of item n, if it has one, preserves that `whole` is the accesses found and those of the remaining items.
 pub access_pushed : {S : Type 0} {item : Item} {o : Option Access} {new whole : List Access} (language : Language S)
     (program : List (List S)) (items : List Item) (n : ℕ) (found : List Access)
     → Accesses language program items n item o
@@ -116,7 +116,8 @@ access_pushed {item = item} {o = o} {whole = whole} language program items n fou
     rw (x.access_is, ← so_far, split, ← plus) refl in
     rw (pushed, append_assoc) whole_is
 
--- when the conflict of access a with the later one at n, if they conflict, is pushed, `whole` is still those found and a's others
+-- Pushing the conflict of access a with the later one at n, if they conflict, preserves that `whole` is the conflicts found and those that
+-- remain.
 pub conflict_pushed : {b : Access} {new whole : List (ℕ × ℕ)} (a : Access) (later : List Access) (n : ℕ) (found : List (ℕ × ℕ))
     → n < length later
     → b ≡ get_or later n b

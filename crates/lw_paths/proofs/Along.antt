@@ -1,4 +1,4 @@
--- All choices, as they are visited one after another: which are still to come where a path has been followed up to a position.
+-- The path assignments in the order in which they are visited: which remain after a path has been followed up to a position.
 use Rattle.lw_paths.proofs.Common.{◌≡◌, ℕ, zero, suc, ◌+◌, ◌-◌, ◌<◌, ◌≤◌, ◌==◌, true, false, List, [], ◌∷◌}
 use Rattle.lw_paths.proofs.Common.{◌++◌, map, length, drop, Option, Some, None, refl, sym, ap, ◌∙◌, subst}
 use Rattle.lw_paths.proofs.Common.{inl, inr, slice_get, arith, append_assoc, append-nil, length-append}
@@ -11,7 +11,7 @@ use Rattle.lw_base.proofs.api.Lists.{drop_all}
 use Rattle.lw_paths.proofs.api.Successors.{led_within}
 use Rattle.lw_paths.proofs.FlatMaps.{flat_map-same, over_flat_map, map_of_flat_map}
 
--- ---- visits of choices, one after another
+-- ---- visits of path assignments in sequence
 module _ {V E : Type 0} (R : V → List (List ℕ) → V → Type 0) (F : V → List (List ℕ) → E → Type 0) where
   VisitResult-append : (cs ds : List (List (List ℕ))) (v m w : V) (r : Result (Unit {0}) E)
       → VisitsAll R cs v m
@@ -26,21 +26,21 @@ module _ {V E : Type 0} (R : V → List (List ℕ) → V → Type 0) (F : V → 
   VisitFails-append (c ∷ cs) ds v e (inl h) = inl h
   VisitFails-append (c ∷ cs) ds v e (inr (m, one, h)) = inr (m, one, VisitFails-append cs ds m e h)
 
-  -- a run of visits that ends well has visited all choices
+  -- A sequence of visits that succeeds has visited every path assignment.
   pub done_ok : (cs : List (List (List ℕ))) (v w : V) (r : Result (Unit {0}) E)
       → VisitResult R F cs v r w
       → OnOk r (VisitsAll R cs v w)
   done_ok cs v w (Ok u) d = d
   done_ok cs v w (Err e) d = tt
 
-  -- a run of visits that ends with a cause was refused at one of the choices
+  -- A sequence of visits that fails has failed at one of the path assignments.
   pub done_err : (cs : List (List (List ℕ))) (v w : V) (r : Result (Unit {0}) E)
       → VisitResult R F cs v r w
       → IfErr r (VisitFails R F cs v)
   done_err cs v w (Ok u) d = tt
   done_err cs v w (Err e) d = d
 
-  -- one choice
+  -- A sequence of one visit succeeds or fails as that visit does.
   done_one : (c : List (List ℕ)) (v w : V) (r : Result (Unit {0}) E)
       → OnOk r (R v c w)
       → IfErr r (F v c)
@@ -60,7 +60,7 @@ module _ {S : Type 0} (language : Language S) where
         go (Some s) e = ap (map (λ p. j ∷ p)) (flat_map-same f g (successors language s j)
             (λ k c. (let (up, within) = led_within language code j k s is e c in h k up within)))
 
-    -- a bound that is large enough makes no difference
+    -- The bound on the number of steps does not matter, if it is large enough.
     bound_same : (n m j : ℕ)
         → length code ≤ j + n
         → length code ≤ j + m
@@ -86,7 +86,7 @@ module _ {S : Type 0} (language : Language S) where
   paths-end code zero at e = ap (λ o. paths_through language (λ k. []) o at) e
   paths-end code (suc n) at e = ap (λ o. paths_through language (λ k. paths_from language n code k) o at) e
 
-  -- of a program with threads, the choices still to come at the first position of its first thread are all its choices
+  -- If a program has threads, the path assignments that remain at the first position of its first thread are all of them.
   pub start_with_some : (program : List (List S)) (choice : List (List ℕ)) (path : List ℕ)
       → false ≡ (length program == 0)
       → choice ≡ []
@@ -98,7 +98,7 @@ module _ {S : Type 0} (language : Language S) where
       (ap (λ n. flat_map (λ p. map (λ paths. p ∷ paths) (path_assignments language program)) (paths_from language n code 0))
       (omega arith))
 
-  -- a program without threads has the one choice of no paths
+  -- A program without threads has exactly one path assignment: the empty one.
   pub start_with_none : (program : List (List S)) (choice : List (List ℕ))
       → true ≡ (length program == 0)
       → choice ≡ []
@@ -117,7 +117,7 @@ module _ {S : Type 0} {language : Language S} {program : List (List S)} {choice 
   own_short : length here ≤ 32
   own_short = can.visitable.short (length choice) [] can.thread
 
-  -- what is read at the position, of the thread that the next path is of, is what stands in that thread's code
+  -- The statement read at the position is the one in the code of the thread whose path is being extended.
   pub found_here : {code : List S} {n : ℕ} {o : Option S}
       → code ≡ get_or program n code
       → n ≡ length choice
@@ -128,7 +128,7 @@ module _ {S : Type 0} {language : Language S} {program : List (List S)} {choice 
       slice_get_read program (length program) n code refl (omega (arith, len, can.thread)) is in
       rw (← len, get_or_from_slice_get program n code [] there) (sym e)
 
-  -- where a statement stands at the position, a path has room for it: 32 is the most that a thread can have
+  -- If there is a statement at the position, the path has room for it: a thread has at most 32 statements.
   pub path_within_limits : {s : S} → slice_get here at ≡ Some s → (at < 32) × (length path < 32)
   path_within_limits {s = s} e =
       let l : at < length here = slice_get_within here at s e in
@@ -137,7 +137,7 @@ module _ {S : Type 0} {language : Language S} {program : List (List S)} {choice 
   one_more : {more : List (List ℕ)} → more ≡ choice ++ path ∷ [] → length more ≡ suc (length choice)
   one_more grown = omega (arith, ap length grown, length-append choice (path ∷ []))
 
-  -- behind a whole path the walk goes on with the next thread, at its first position
+  -- After a complete path the walk continues at the first position of the next thread.
   pub next_thread : {more : List (List ℕ)} {none : List ℕ}
       → more ≡ choice ++ path ∷ []
       → none ≡ []
@@ -154,7 +154,7 @@ module _ {S : Type 0} {language : Language S} {program : List (List S)} {choice 
     one_more grown,
   )
 
-  -- behind a position the walk goes on at any that may follow it, which stands further on
+  -- After a position the walk continues at each of its successors, which are later in the code.
   pub goes_on : {s : S} {longer : List ℕ} (k : ℕ)
       → slice_get here at ≡ Some s
       → longer ≡ path ++ at ∷ []
@@ -174,7 +174,7 @@ module _ {S : Type 0} {language : Language S} {program : List (List S)} {choice 
       )
 
   module _ {V E : Type 0} (R : V → List (List ℕ) → V → Type 0) (F : V → List (List ℕ) → E → Type 0) (v w : V) where
-    -- at a statement: the choices that go on at its first successor, and then those that go on at the other, if there is one
+    -- At a statement the path assignments through its first successor come first, and then those through the second, if there is one.
     module _ {s : S} {longer : List ℕ} (e : slice_get here at ≡ Some s) (grown : longer ≡ path ++ at ∷ []) (first : ℕ) where
       step_is : (others : List ℕ)
           → (first ∷ others) ≡ successors language s at
@@ -209,13 +209,13 @@ module _ {S : Type 0} {language : Language S} {program : List (List S)} {choice 
       first_refused others f led_is h =
           rw (step_is others led_is) (VisitFails-append R F (choices_along language program choice longer first) _ v f h)
 
-    -- at the end of the path it is a whole one
+    -- At the end of the code the path is complete.
     end_is : slice_get here at ≡ None
         → choices_along language program choice path at
         ≡ map (λ later. choice ++ path ∷ later) (path_assignments language (drop (suc (length choice)) program))
     end_is end = rw (paths-end language here (length here - at) at end) (simp append-nil)
 
-    -- at the end of the last thread: the one choice is visited
+    -- At the end of the last thread, the only path assignment is visited.
     pub last_done : (more : List (List ℕ)) (r : Result (Unit {0}) E)
         → slice_get here at ≡ None
         → more ≡ choice ++ path ∷ []
@@ -228,7 +228,7 @@ module _ {S : Type 0} {language : Language S} {program : List (List S)} {choice 
         end_is end ∙ rw (drop_all program (suc (length choice)) (omega (arith, one_more grown, all)), grown) refl in
         subst (λ cs. VisitResult R F cs v r w) (sym is) (done_one R F more v w r ok err)
 
-    -- at the end of a thread before the last: the choices along the next thread are visited
+    -- At the end of an earlier thread, the path assignments along the next thread are visited.
     pub next_done : (more : List (List ℕ)) (none : List ℕ) (r : Result (Unit {0}) E)
         → slice_get here at ≡ None
         → more ≡ choice ++ path ∷ []

@@ -1,27 +1,27 @@
--- Among the items of a choice each drain stands right behind its store.
+-- Among the items of a path assignment each drain comes immediately after its store.
 use Rattle.lw_paths.proofs.Common.{◌≡◌, ℕ, zero, suc, ◌<◌, true, false, true≢false, List, [], ◌∷◌, ◌++◌}
 use Rattle.lw_paths.proofs.Common.{length, Option, Some, None, refl, sym, arith, slice_get, option_map_or}
 use Rattle.lw_paths.proofs.Common.{Item, Language, drained_location, item_at, items_at, path_items}
 use Rattle.lw_paths.proofs.Common.{items_from, items_of}
 use Rattle.lw_paths.proofs.api.Numbering.{item}
 
--- a is the store whose drain b is
+-- Item a is the store whose entry item b drains.
 pub record IsStoreOf (a b : Item) : Type 0 where
   pub thread : a.thread ≡ b.thread
   pub position : a.position ≡ b.position
   pub statement : a.is_drain ≡ false
 
--- items that stand behind a, each drain of them right behind its store
+-- In the items that follow a, each drain comes immediately after its store.
 abbrev Follow : Item → List Item → Type 0
 Follow a [] = Unit {0}
 Follow a (b ∷ items) = (b.is_drain ≡ true → IsStoreOf a b) × Follow b items
 
--- lists with each drain right behind its store are together one, if the second is one behind any item: it begins with no drain
+-- The property of `Follow` holds of a concatenation, if the second list does not start with a drain.
 follow_append : (a : Item) (xs ys : List Item) → Follow a xs → ((b : Item) → Follow b ys) → Follow a (xs ++ ys)
 follow_append a [] ys xs_follow ys_follow = ys_follow a
 follow_append a (b ∷ xs) ys xs_follow ys_follow = (xs_follow.0, follow_append b xs ys xs_follow.1 ys_follow)
 
--- a drain in such a list has its store right before it
+-- A drain in such a list comes immediately after its store.
 follow_at : (a : Item) (items : List Item)
     → Follow a items
     → (j : ℕ)

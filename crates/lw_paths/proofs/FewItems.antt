@@ -1,4 +1,4 @@
--- A source test never has too many items for a list: its threads are short, and none of its stores has a drain.
+-- No path assignment of a source test has too many items: its threads are short, and none of its stores has a drain.
 use Rattle.lw_paths.proofs.Common.{◌≡◌, ℕ, suc, ◌+◌, ◌*◌, ◌≤◌, false, true, Option, Some, None, List, [], ◌∷◌}
 use Rattle.lw_paths.proofs.Common.{length, slice_get, refl, arith, length-append, All, option_map_or}
 use Rattle.lw_paths.proofs.Common.{All-head, All-tail, IsFlowPathFrom, Language, most_statements}
@@ -17,7 +17,7 @@ module _ {S : Type 0} (language : Language S) (undrained : (s : S) → drained_l
       go None e = omega arith
       go (Some x) e = absurd (cc)
 
-  -- at most one for each position that is passed
+  -- A path has at most one item for each position that it passes.
   path_few : (t : ℕ) (code : List S) (at : ℕ) (path : List ℕ)
       → JumpsForward language code
       → IsFlowPathFrom language code at path
@@ -49,7 +49,7 @@ module _ {S : Type 0} (language : Language S) (undrained : (s : S) → drained_l
           choice_few (suc t) program paths (All-tail (IsWellFormedThread language locs) code program all) c.1,
         )
 
--- no choice of a well-formed source test has too many items
+-- No path assignment of a well-formed source test has too many items.
 pub few_items : (s : SourceTest) → IsWellFormedSource s → HasTooManyItems source_language s.threads → ⊥
 few_items s is (paths, choice, many) = omega (
   arith,

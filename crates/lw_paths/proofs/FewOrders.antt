@@ -1,4 +1,4 @@
--- Where no statement accesses a location each choice has one order, and there are at most twice as many choices for each branch.
+-- If no statement accesses a location, each path assignment has one order, and each branch at most doubles the number of path assignments.
 use Rattle.lw_paths.proofs.Common.{◌≡◌, inl, inr, ℕ, zero, suc, ◌+◌, ◌*◌, ◌^◌, ◌<◌, ◌≤◌, ◌==◌, ◌&&◌, ◌||◌}
 use Rattle.lw_paths.proofs.Common.{Bool, true, false, cond, Option, Some, None, List, [], ◌∷◌, ◌++◌, length}
 use Rattle.lw_paths.proofs.Common.{map, drop, refl, ap, ◌∙◌, slice_get, length-append, arith, All, filter}
@@ -13,14 +13,14 @@ use Rattle.lw_paths.proofs.Common.{orders_of, total_of, is_drained, location_by,
 use Rattle.lw_paths.proofs.Common.{items_conflict, statement_of, items_of, item_at, pairs_from}
 use Rattle.lw_paths.proofs.Common.{constraints_of, branches, code_has_no_access, has_no_access}
 
--- lists of at most m elements, one for each element of a list, have together at most m for each of these
+-- If each element's list has at most m elements, the concatenation has at most m for each element.
 flat_few : {X Y : Type 0} (f : X → List Y) (m : ℕ) (xs : List X)
     → ((x : X) → length (f x) ≤ m)
     → length (flat_map f xs) ≤ length xs * m
 flat_few f m [] few = omega arith
 flat_few f m (x ∷ xs) few = omega (arith, flat_few f m xs few, few x, length-append (f x) (flat_map f xs), suc-mul (length xs) m)
 
--- from a later index on, no more elements of a list pass a test than from an earlier one
+-- From a later index on, at most as many elements pass a test as from an earlier one.
 fewer_behind : {X : Type 0} (p : X → Bool) (xs : List X) (j k : ℕ) → j ≤ k → count_by p (drop k xs) ≤ count_by p (drop j xs)
 fewer_behind p [] j k l = rw (drop-nil k, drop-nil j) (omega arith)
 fewer_behind p (x ∷ xs) zero zero l = omega arith
@@ -29,13 +29,13 @@ fewer_behind p (x ∷ xs) zero (suc k) l =
 fewer_behind p (x ∷ xs) (suc j) zero l = absurd (omega arith)
 fewer_behind p (x ∷ xs) (suc j) (suc k) l = fewer_behind p xs j k (omega arith)
 
--- where no element passes a test, a filter by it leaves none
+-- If no element passes a test, the filtered list is empty.
 none_filtered : {X : Type 0} (p : X → Bool) (xs : List X) → ((x : X) → p x ≡ false) → filter p xs ≡ []
 none_filtered p [] none = refl
 none_filtered p (x ∷ xs) none = rw (none x) (none_filtered p xs none)
 
 module _ {S : Type 0} (language : Language S) where
-  -- the branches from a position on
+  -- The number of branches from a position on.
   abbrev behind : List S → ℕ → ℕ
   behind code j = branches language (drop j code)
 
@@ -107,7 +107,7 @@ module _ {S : Type 0} (language : Language S) where
   few_paths (suc n) code forward j =
       on_few _ forward j (paths_from language n code) (λ k l. few_paths n _ forward k) (slice_get code j) refl
 
-  -- ---- choices
+  -- Each branch at most doubles the number of path assignments.
   few_choices : (program : List (List S))
       → All (JumpsForward language) program
       → length (path_assignments language program) ≤ 2 ^ sum_by (branches language) program
@@ -131,7 +131,7 @@ module _ {S : Type 0} (language : Language S) where
 
   -- ---- orders
 
-  -- a statement that accesses no location
+  -- A statement whose operation accesses no location has no access, executed or drained.
   no_location : (d : Bool) (s : S) → location_of (language.operation_of s) ≡ None → location_by language d s ≡ None
   no_location true s is = cond_both (is_drained language s) _ _ (λ o. o ≡ None) (λ _. is) (λ _. refl)
   no_location false s is = cond_both (is_drained language s) _ _ (λ o. o ≡ None) (λ _. refl) (λ _. is)
@@ -163,7 +163,7 @@ module _ {S : Type 0} (language : Language S) where
         is_none_at _
         (rw (get_or_from_slice_get code j s s at) at (AllPass-from_list_all _ code all j s (slice_get_within code j s at)))
 
-    -- nothing conflicts
+    -- If no statement accesses a location, no two items conflict.
     pub no_conflicts : (items : List Item) → (constraints_of language program items).conflicts ≡ []
     no_conflicts items =
         none_filtered (λ (p : ℕ × ℕ). items_conflict language program (item_at items p.0) (item_at items p.1))

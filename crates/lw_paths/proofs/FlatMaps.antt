@@ -1,9 +1,9 @@
--- Lists made by `flat_map`: of functions that agree, and of a `flat_map`.
+-- Laws of `flat_map`.
 use Rattle.lw_paths.proofs.Common.{◌≡◌, List, [], ◌∷◌, ◌++◌, map, refl, ap, ap₂, ◌∙◌, Contains, flat_map}
 use Rattle.lw_paths.proofs.Common.{flat_map-append, map-append}
 use Rattle.lw_paths.proofs.api.Members.{Contains-head, Contains-tail}
 
--- functions that agree on all elements of a list make the same `flat_map` of it
+-- Functions that agree on all elements of a list give the same `flat_map`.
 pub flat_map-same : {X Y : Type 0} (f g : X → List Y) (xs : List X)
     → ((x : X) → Contains xs x → f x ≡ g x)
     → flat_map f xs ≡ flat_map g xs
@@ -11,13 +11,13 @@ flat_map-same f g [] h = refl
 flat_map-same f g (x ∷ xs) h =
     ap₂ (λ a b. a ++ b) (h x (Contains-head x x xs refl)) (flat_map-same f g xs (λ y c. h y (Contains-tail x y xs c)))
 
--- a `flat_map` of a `flat_map` is one `flat_map`
+-- A `flat_map` of a `flat_map` is a single `flat_map`.
 pub over_flat_map : {X Y Z : Type 0} (f : Y → List Z) (g : X → List Y) (xs : List X)
     → flat_map f (flat_map g xs) ≡ flat_map (λ x. flat_map f (g x)) xs
 over_flat_map f g [] = refl
 over_flat_map f g (x ∷ xs) = flat_map-append f _ _ ∙ ap (λ b. flat_map f (g x) ++ b) (over_flat_map f g xs)
 
--- to change all that a `flat_map` gives is to change it where it is given
+-- A `map` of a `flat_map` is a `flat_map`.
 pub map_of_flat_map : {X Y Z : Type 0} (f : Y → Z) (g : X → List Y) (xs : List X)
     → map f (flat_map g xs) ≡ flat_map (λ x. map f (g x)) xs
 map_of_flat_map f g [] = refl

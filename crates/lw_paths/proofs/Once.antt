@@ -1,4 +1,4 @@
--- Each path, and each choice, is listed once.
+-- The lists of paths and of path assignments have no duplicates.
 use Rattle.lw_paths.proofs.Common.{◌≡◌, ℕ, zero, suc, ◌<◌, ◌≤◌, List, [], ◌∷◌, ◌++◌, map, length, Option}
 use Rattle.lw_paths.proofs.Common.{Some, None, refl, sym, ◌∙◌, subst, inl, inr, slice_get, Contains, All}
 use Rattle.lw_paths.proofs.Common.{flat_map, All-head, All-tail, Contains-append_cases, IsDuplicateFree}
@@ -9,7 +9,7 @@ use Rattle.lw_paths.proofs.api.Members.{from_flat_map}
 use Rattle.lw_paths.proofs.api.Successors.{led_within, led_to-once}
 use Rattle.lw_paths.proofs.api.Enumerated.{paths-only}
 
--- a list that has each element once has each once after a change of all of them, of different ones to different ones
+-- An injective function maps a list without duplicates to one without.
 once_map : {X Y : Type 0} (f : X → Y) (xs : List X)
     → ((x y : X) → f x ≡ f y → x ≡ y)
     → IsDuplicateFree xs
@@ -18,7 +18,7 @@ once_map f [] inj o = tt
 once_map f (x ∷ xs) inj o =
     (λ c. (let m = from_map f xs (f x) c in o.0 (subst (λ y. Contains xs y) (inj m.0 x m.2) m.1)), once_map f xs inj o.1)
 
--- two lists that have each element once, and none in common, have each once together
+-- The concatenation of two disjoint lists without duplicates has none.
 once_append : {X : Type 0} (xs ys : List X)
     → IsDuplicateFree xs
     → IsDuplicateFree ys
@@ -30,8 +30,7 @@ once_append (x ∷ xs) ys a b apart = (
   once_append xs ys a.1 b (λ y c. apart y (Contains-tail x y xs c)),
 )
 
--- the lists made for the elements of a list, which has each once, have each of theirs once together, if each of these lists does
--- and no two have one in common
+-- A `flat_map` has no duplicates if the list has none, no element's list has any, and different elements' lists are disjoint.
 once_flat_map : {X Y : Type 0} (f : X → List Y) (xs : List X)
     → IsDuplicateFree xs
     → ((x : X) → Contains xs x → IsDuplicateFree (f x))
@@ -45,12 +44,12 @@ once_flat_map f (x ∷ xs) o each apart =
     (let g = from_flat_map f xs z d in
     o.0 (subst (λ w. Contains xs w) (sym (apart x g.0 z (Contains-head x x xs refl) (Contains-tail x g.0 xs g.1) c g.2)) g.1)))
 
--- lists that are the same with one element before them are the same
+-- Prepending an element is injective.
 cons_same : {X : Type 0} (x : X) (xs ys : List X) → x ∷ xs ≡ x ∷ ys → xs ≡ ys
 cons_same x xs ys e = cc
 
 module _ {S : Type 0} (language : Language S) where
-  -- a path tells where it begins
+  -- A path determines the position where it starts.
   one_start : (code : List S) (j k : ℕ) (path : List ℕ)
       → IsFlowPathFrom language code j path
       → IsFlowPathFrom language code k path
@@ -79,7 +78,7 @@ module _ {S : Type 0} (language : Language S) where
     paths-once (suc n) j =
         on_once (λ k. paths_from language n code k) j (λ k a b. paths-once n k) (λ k p l c. paths-only language code is n k p l c)
 
-  -- where jumps lead forward, the list of a program's choices has each of them once
+  -- If jumps go forward, the list of a program's path assignments has no duplicates.
   pub choices_differ : (program : List (List S))
       → All (JumpsForward language) program
       → IsDuplicateFree (path_assignments language program)

@@ -1,5 +1,4 @@
--- One turn of each loop that lists the items or their reduced pairs: with what is then still to come, the list is the same
--- `whole` as before.
+-- One turn of each loop that lists the items or their reduced pairs: what is listed, followed by what remains, is still `whole`.
 use Rattle.lw_paths.proofs.Common.{take-append_seam, take, ap, Result, Ok, Err, OnErr, ◌≡◌, ℕ, suc, ◌+◌, ◌<◌}
 use Rattle.lw_paths.proofs.Common.{Bool, false, ◌||◌, List, [], ◌∷◌, ◌++◌, length, map, drop, get_or}
 use Rattle.lw_paths.proofs.Common.{slice_get, Option, Some, None, SomeIff, refl, sym, ◌∙◌, ◌^◌, arith, IsSome}
@@ -8,26 +7,26 @@ use Rattle.lw_paths.proofs.Common.{orientation_count, is_ordered, drop_more, Ite
 use Rattle.lw_paths.proofs.Common.{edge_from, fixed_at, record_last, last_of_thread, items_at, path_items}
 use Rattle.lw_paths.proofs.Common.{items_from, needs_earlier_drains, fixed_from}
 
--- the pairs that are pushed for an item are its reduced ones
+-- The pairs pushed for an item are its reduced pairs.
 fixed_is : (d w : Bool) (last : LastItems) (n : ℕ)
     → edge_from last.statement n ++ (if d || w then edge_from last.drain n else []) ≡ fixed_at d w last n
 fixed_is false false last n = append-nil (edge_from last.statement n)
 fixed_is _ _ last n = refl
 
--- what holds in any case holds behind a refusal
+-- A property holds after a failure if it holds in every case.
 pub of_refusal : {T E P : Type 0} (r : Result T E) → P → OnErr r P
 of_refusal (Ok x) p = tt
 of_refusal (Err e) p = p
 
--- `new`, and behind it `rest` and `more`, are all items, however these are grouped
+-- Concatenation of new, `rest` and `more` is associative.
 pub is_front : (new rest more : List Item) {all : List Item} → new ++ rest ++ more ≡ all → new ++ (rest ++ more) ≡ all
 is_front new rest more e = sym (append_assoc new rest more) ∙ e
 
--- what stands in front of all items is as many of the first of them
+-- A list to which `rest` is appended to give all items is the first of them.
 pub first_of : (new rest : List Item) {all : List Item} → new ++ rest ≡ all → (filled : ℕ) × (new ≡ take filled all)
 first_of new rest e = (length new, sym (take-append_seam new rest) ∙ ap (take (length new)) e)
 
--- where an answer can be n alone, and it is m, m is n
+-- If an optional result can only be n, and it is m, then m is n.
 pub some_is : (P : Type 0) (o : Option ℕ) (n m : ℕ) → SomeIff o P n → o ≡ Some m → m ≡ n
 some_is P None n m s e = absurd (let bad : None ≡ Some m = e in cc)
 some_is P (Some x) n m s e =
@@ -35,13 +34,13 @@ some_is P (Some x) n m s e =
     let same : x ≡ m = cc in
     sym same ∙ s.1)
 
--- where an answer is there exactly if n is below the most, and n is, it is there
+-- A result that is present if and only if n is below the bound is present, since n is.
 pub some_there : (o : Option ℕ) (n most : ℕ) → SomeIff o (n < most) n → n < most → IsSome o
 some_there None n most s lt = absurd (s lt)
 some_there (Some x) n most s lt = refl
 
 module _ {S : Type 0} (language : Language S) where
-  -- when the items of the statement at index i of a path are pushed, the list and the items of the rest of the path are `whole`
+  -- Pushing the items of the statement at index i of a path preserves that `whole` is the items listed and those of the rest of the path.
   pub path_pushed : {s : Option S} {new whole : List Item} (t : ℕ) (code : List S) (path : List ℕ) (i d : ℕ) (old : List Item)
       → i < length path
       → s ≡ slice_get code (get_or path i d)
@@ -50,13 +49,13 @@ module _ {S : Type 0} (language : Language S) where
       → new ++ path_items language t code (drop (i + 1) path) ≡ whole
   path_pushed t code path i d old l e n h = rw (n, e, append_assoc) (rw (drop_more path i d l) at h)
 
-  -- where no path is left, no items are
+  -- No paths have no items.
   pub no_paths : (t : ℕ) (codes : List (List S)) → items_from language t codes [] ≡ []
   no_paths t [] = refl
   no_paths t (c ∷ codes) = refl
 
   module _ {P : Type 0} (view : P → List ℕ) (program : List (List S)) (paths : List P) where
-    -- when the items of thread t are pushed, the list and the items of the threads behind it are `whole`
+    -- Pushing the items of thread t preserves that `whole` is the items listed and those of the later threads.
     pub thread_pushed : {code : List S} {path : P} {new whole : List Item} (t : ℕ) (old : List Item)
         → t < length program
         → t < length paths
@@ -69,7 +68,7 @@ module _ {S : Type 0} (language : Language S) where
         let plus : t + 1 ≡ suc t = omega arith in
         rw (n, append_assoc, plus) (rw (drop_more program t code lp, drop_more paths t path lq, ← ec, ← ep, plus) at h)
 
-  -- when the reduced pairs of item n are pushed, the list and the reduced pairs of the items behind it are `whole`
+  -- Pushing the reduced pairs of item n preserves that `whole` is the pairs listed and those of the later items.
   pub fixed_pushed : {last next : LastItems} {a : Item} {waits : Bool} {new whole : List (ℕ × ℕ)} (program : List (List S))
       (items : List Item) (n t : ℕ) (before : LastItems) (old : List (ℕ × ℕ))
       → n < length items
@@ -95,7 +94,7 @@ module _ {S : Type 0} (language : Language S) where
         plus,
       ) (rw (drop_more items n a l, ← ea, plus) at h)
 
--- where nothing conflicts, there is one order
+-- If nothing conflicts, there is exactly one order.
 pub one_order : (t : Constraints) → length t.conflicts ≡ 0 → 1 ≡ orientation_count t
 one_order t none = go t.conflicts none
   where

@@ -1,4 +1,5 @@
--- The most items of paths and of choices, as the code finds them: by a table of the most from each position, from the end on.
+-- The maximal number of items of paths and of path assignments, as the code computes it: with a table of maxima for each position, filled
+-- from the end of the code.
 use Rattle.lw_paths.proofs.Common.{◌≡◌, ◌⊎◌, inl, inr, ℕ, suc, ◌+◌, ◌<◌, ◌≤◌, Option, Some, None, List, []}
 use Rattle.lw_paths.proofs.Common.{◌∷◌, length, refl, sym, ap, ap₂, ◌∙◌, slice_get, length-append, arith}
 use Rattle.lw_paths.proofs.Common.{Contains, slice_index, slice_set, length-set, get_or-set_same}
@@ -9,9 +10,9 @@ use Rattle.lw_paths.proofs.Common.{items_from, IsMost, statement_size, path_size
 use Rattle.lw_paths.proofs.api.Successors.{successors-has, successors-only, led_within}
 use Rattle.lw_paths.proofs.api.Members.{of_one, Contains-head, Contains-tail, Contains-cons}
 
--- ---- the largest of one or two
+-- ---- the maximum over one or two successors
 
--- the larger of what f says of two positions is the most that it says of the list of both
+-- The larger of f's values at two positions is the maximum of f over the list of both.
 pub most_of_two : (f : ℕ → ℕ) (xs : List ℕ) (a b m : ℕ)
     → xs ≡ a ∷ b ∷ []
     → f a ≤ m
@@ -29,11 +30,11 @@ most_of_two f xs a b m are first second reached =
           record { none_more = more; one = b; is_one = Contains-tail a b (b ∷ []) (Contains-head b b [] refl); reached = sym e }
     ])
 
--- a list that is made of a first position, and maybe a second, has the first
+-- A list of a first position and an optional second one contains the first.
 pub first_behind : (xs : List ℕ) (a : ℕ) (o : Option ℕ) → (a ∷ option_to_list o) ≡ xs → Contains xs a
 first_behind xs a o are = rw (← are) (Contains-head a a (option_to_list o) refl)
 
--- a list that is made of a first position, and maybe a second, has the second if there is one
+-- A list of a first position and an optional second one contains the second, if it is present.
 pub second_behind : (xs : List ℕ) (a b : ℕ) (o : Option ℕ) → (a ∷ option_to_list o) ≡ xs → o ≡ Some b → Contains xs b
 second_behind xs a b o are is = rw (← are, is) (Contains-tail a b (b ∷ []) (Contains-head b b [] refl))
 
@@ -45,7 +46,7 @@ module _ {S : Type 0} (language : Language S) where
   two_at_most : (s : S) → statement_size language s ≤ 2
   two_at_most s = grind arith
 
-  -- a path has the items of its first statement and those of the rest
+  -- The items of a path are those of its first statement and those of the rest.
   longer : (code : List S) (j : ℕ) (path : List ℕ) (s : S)
       → slice_get code j ≡ Some s
       → path_size language code (j ∷ path) ≡ statement_size language s + path_size language code path
@@ -53,13 +54,13 @@ module _ {S : Type 0} (language : Language S) where
       length-append (items_at language 0 j (slice_get code j)) (path_items language 0 code path)
       ∙ ap (λ n. n + path_size language code path) (ap (λ o. length (items_at language 0 j o)) at ∙ item_size 0 j s)
 
--- `most` is the most items that a path from position j has; and that is at most two for each position from there on
+-- `most` is the maximal number of items of a path from position j, and is at most two for each position from there on.
 pub record IsKnown {S : Type 0} (language : Language S) (code : List S) (j most : ℕ) : Type 0 where
   pub is_most : IsMost (IsFlowPathFrom language code j) (path_size language code) most
   pub few : most + (j + j) ≤ length code + length code
 
 module _ {S : Type 0} {language : Language S} {code : List S} where
-  -- the end of a thread
+  -- At the end of the code the maximum is 0.
   known_at_end : IsKnown language code (length code) 0
   known_at_end = record { is_most = record { none_more = more; one = []; is_one = refl; reached = refl }; few = omega arith }
     where
@@ -67,7 +68,7 @@ module _ {S : Type 0} {language : Language S} {code : List S} where
       more [] is = omega arith
       more (j ∷ path) (same, next, follows, rest) = absurd (rw (slice_get_past code (length code) (omega arith)) at follows)
 
-  -- a position, where the most behind it is known
+  -- At a position, given the maximum over its successors.
   module _ {at behind : ℕ} {s : S} (most : ℕ → ℕ) (is : slice_get code at ≡ Some s) (forward : JumpsForward language code)
       (later : (k : ℕ) → at < k → k ≤ length code → IsKnown language code k (most k))
       (largest : IsMost (Contains (successors language s at)) most behind) where
@@ -107,13 +108,13 @@ module _ {S : Type 0} {language : Language S} {code : List S} where
               largest.none_more next c,
             )
 
--- The table `most` has for each position from k to the end of the code the most items that a path from there has.
+-- For each position from k to the end of the code, the table `most` has the maximal number of items of a path from there.
 pub record AreKnownFrom {S : Type 0} (language : Language S) (code : List S) (k : ℕ) (most : List ℕ) : Type 0 where
   pub room : length most ≡ 33
   pub each : (j : ℕ) → k ≤ j → j ≤ length code → IsKnown language code j (slice_index most j)
 
 module _ {S : Type 0} {language : Language S} {code : List S} {most : List ℕ} where
-  -- before the loop the table is right at the end of the code alone, from where paths have no items
+  -- Before the loop the table is right at the end of the code, from where paths have no items.
   pub known_at_first : (k : ℕ)
       → length most ≡ 33
       → k ≡ length code
@@ -131,7 +132,7 @@ module _ {S : Type 0} {language : Language S} {code : List S} {most : List ℕ} 
     known_here =
         known_at (λ n. slice_index most n) is forward (λ n up within. known.each n (omega (arith, up, next)) within) largest
 
-    -- so many items are behind a position
+    -- The sum of the statement's items and the maximum over its successors does not overflow.
     pub few_behind : statement_size language s + behind ≤ 66
     few_behind = omega (arith, known_here.few, short)
 
@@ -145,7 +146,7 @@ module _ {S : Type 0} {language : Language S} {code : List S} {most : List ℕ} 
       ];
     }
 
--- ---- choices
+-- ---- path assignments
 module _ {S : Type 0} (language : Language S) where
   path_items_alike : (t u : ℕ) (code : List S) (path : List ℕ)
       → length (path_items language t code path) ≡ length (path_items language u code path)
@@ -174,7 +175,7 @@ module _ {S : Type 0} (language : Language S) where
       length-append (path_items language 0 code path) (items_from language 1 program paths)
       ∙ ap (λ n. path_size language code path + n) (items_from_alike 1 0 program paths)
 
-  -- the most items of a path of the first thread and of a choice of the others are together the most of a choice of all threads
+  -- The maximum for a program is that of its first thread's paths plus that of the other threads' path assignments.
   pub most_of_more : (program : List (List S)) (code : List S) (others : List (List S)) (m n : ℕ)
       → program ≡ code ∷ others
       → IsMost (IsFlowPathFrom language code 0) (path_size language code) m
@@ -194,7 +195,7 @@ module _ {S : Type 0} (language : Language S) where
       more (path ∷ paths) is =
           omega (arith, together code others path paths, first.none_more path is.0, rest.none_more paths is.1)
 
-  -- a program without threads has one choice, which has no items
+  -- A program without threads has exactly one path assignment, which has no items.
   pub most_of_none : (program : List (List S))
       → length program ≡ 0
       → IsMost (IsPathAssignment language program) (items_at_choice language program) 0
@@ -207,11 +208,11 @@ module _ {S : Type 0} (language : Language S) where
 
   module _ (program : List (List S)) (code : List S) (others : List (List S)) (are : program ≡ code ∷ others)
       (is : IsVisitable language program) where
-    -- the first thread
+    -- The first thread can be visited.
     pub visitable_first : (length code ≤ most_instructions) × JumpsForward language code
     visitable_first = let all = rw are at is in (all.short 0 [] (omega arith), all.forward 0 [] (omega arith))
 
-    -- the threads behind the first
+    -- The threads after the first can be visited.
     pub visitable_rest : IsVisitable language others × (length others < length program)
     visitable_rest =
         let all = rw are at is in (

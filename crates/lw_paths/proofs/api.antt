@@ -1,4 +1,4 @@
--- What proofs of other crates cite: what is on the lists of choices and items, their numbers and pairs, and where statements lead.
+-- Lemmas that other crates use: members of the lists of path assignments and items, their indices and pairs, and successors of statements.
 pub mod Members
 pub mod Successors
 pub mod Enumerated

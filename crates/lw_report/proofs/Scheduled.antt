@@ -62,7 +62,7 @@ both_told names schedules labels s words text parts =
     (parts.is_text ∙ ap (schedule_text names) (sym (get_or_from_slice_get schedules parts.entry parts.events [] parts.at)))
     ∙ ap (λ e. (labelled_words labels s.words ++ codes "\n") ++ schedule_line names schedules e) parts.is_entry
 
--- the two lines of a state, by the labels
+-- The two lines of a state, written from the labels, are those of the definitions.
 pub scheduled_told : (head : TestHead) (schedules : List (List Event)) (names : List Bytes) (s : ListedState) (out new : Bytes)
     → names ≡ labels head (observed head)
     → new ≡ out ++ ((labelled_words names s.words ++ codes "\n") ++ schedule_line head.locs schedules s.entry)
@@ -70,7 +70,7 @@ pub scheduled_told : (head : TestHead) (schedules : List (List Event)) (names : 
 scheduled_told head schedules names s out new are written =
     written ∙ ap (λ t. out ++ (t ++ schedule_line head.locs schedules s.entry)) (line_told head names _ are)
 
--- the lines of all states with their schedules, state by state
+-- The lines of all states with their schedules, state by state, are the lines of the scheduled states.
 lines_scheduled : (head : TestHead) (schedules : List (List Event)) (states : List ListedState)
     → flat_map (λ (s : ListedState). scheduled_lines head (scheduled schedules s)) states
     ≡ flat_map (scheduled_lines head) (map (scheduled schedules) states)
@@ -78,7 +78,7 @@ lines_scheduled head schedules [] = refl
 lines_scheduled head schedules (s ∷ states) =
     ap (λ t. scheduled_lines head (scheduled schedules s) ++ t) (lines_scheduled head schedules states)
 
--- the first lines of a list of schedules, as they are written: the test's name, and how many states
+-- The first lines of a list of schedules, as they are written: the test's name, and the number of states.
 pub head_told : (name : Bytes) (n : ℕ) (h : Bytes) (m : ℕ)
     → name ≡ h
     → n ≡ m
@@ -86,11 +86,11 @@ pub head_told : (name : Bytes) (n : ℕ) (h : Bytes) (m : ℕ)
     ≡ (codes "Test " ++ (h ++ codes "\n")) ++ count_line m
 head_told name n h m is_name is_number = rw (is_name, is_number) (simp append_assoc)
 
--- five parts that were written one behind the other, each before all that stands behind it
+-- Concatenation of five parts is associative.
 regroup : (a b c d e : Bytes) → ((a ++ (b ++ c)) ++ d) ++ e ≡ a ++ (b ++ (c ++ (d ++ e)))
 regroup a b c d e = simp append_assoc
 
--- The parts of the list, one behind the other: from nothing up to its title and its end.
+-- The parts of the list in sequence: from nothing to its title and its end.
 pub record ListParts (head : TestHead) (schedules : List (List Event)) (states : List ListedState) (end : Bytes) : Type 0 where
   pub first : Bytes
   pub title : Bytes
@@ -102,7 +102,7 @@ pub record ListParts (head : TestHead) (schedules : List (List Event)) (states :
   pub is_name : name ≡ head.name
   pub is_count : count ≡ length states
 
--- the parts of a list of schedules, one behind the other, are that list
+-- The parts of a list of schedules in sequence are that list.
 pub list_written : (head : TestHead) (schedules : List (List Event)) (states : List ListedState) (end : Bytes)
     → ListParts head schedules states end
     → end ≡ schedule_list_text head (map (scheduled schedules) states)

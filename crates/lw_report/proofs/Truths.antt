@@ -1,5 +1,5 @@
--- Outcomes with the same words of the observed names make a test's proposition true alike; and how the truth of a proposition
--- follows from that of its parts.
+-- Outcomes with the same observed words give the proposition the same truth value; and the truth of a proposition follows from that of its
+-- parts.
 use Rattle.lw_report.proofs.Common.{◌≡◌, ℕ, ◌⊎◌, inl, inr, Bool, true, false, List, [], ◌∷◌, ◌++◌, length}
 use Rattle.lw_report.proofs.Common.{map, ◌||◌, refl, sym, ap, ◌∙◌, subst, filter, not, ◌==◌, ◌&&◌}
 use Rattle.lw_report.proofs.Common.{slice_index, slice_index_or, true≢false, cases_Bool, or_cases, or_right}
@@ -9,7 +9,7 @@ use Rattle.lw_report.proofs.Common.{has_seen, same_seen_is, same_seen_itself, ha
 use Rattle.lw_report.proofs.Common.{has_register, has_location, is_named, is_observed, observed_words}
 use Rattle.lw_report.proofs.Common.{final_word, is_true}
 
--- where two functions of names give the same words for all names that pass a test, they agree at each of these names
+-- If two functions give the same words for all names that pass a test, they agree on each of these names.
 same_word : (f g : Seen → ℕ) (p : Seen → Bool) (us : List Seen) (s : Seen)
     → map f (filter p us) ≡ map g (filter p us)
     → has_seen us s ≡ true
@@ -61,7 +61,7 @@ module _ (threads locs : ℕ) (o p : FinalState) where
       rw ((same_truth phi speaks.0 (λ s h k. same s h (rw k refl))), right) refl
   same_truth _ speaks same = refl
 
--- outcomes with the same words of the observed names make the proposition true alike
+-- Outcomes with the same observed words give the proposition the same truth value.
 pub words_agree : (head : TestHead) (o p : FinalState)
     → MentionsOnly head.threads (length head.locs) head.condition
     → observed_words head o ≡ observed_words head p
@@ -70,31 +70,31 @@ words_agree head o p speaks e = same_truth head.threads (length head.locs) o p h
     same_word (final_word o) (final_word p) (is_observed head) (all_registers head.threads ++ locations (length head.locs)) s e h
     (rw k refl))
 
--- where p is true, so is `p or q`
+-- If p is true, so is `p or q`.
 pub or_left_is : (b p q : Bool) → b ≡ true → b ≡ p → b ≡ (p || q)
 or_left_is true true q e h = refl
 or_left_is true false q e h = absurd (true≢false h)
 or_left_is false p q e h = absurd (true≢false (sym e))
 
--- where p is not true, `p or q` is what q is
+-- If p is false, `p or q` equals q.
 pub or_right_is : (b a p q : Bool) → a ≡ false → a ≡ p → b ≡ q → b ≡ (p || q)
 or_right_is b false false q e h is = is
 or_right_is b false true q e h is = absurd (true≢false (sym h))
 or_right_is b true p q e h is = absurd (true≢false e)
 
--- where p is true, `p and q` is what q is
+-- If p is true, `p and q` equals q.
 pub and_right_is : (b a p q : Bool) → a ≡ true → a ≡ p → b ≡ q → b ≡ (p && q)
 and_right_is b true true q e h is = is
 and_right_is b true false q e h is = absurd (true≢false h)
 and_right_is b false p q e h is = absurd (true≢false (sym e))
 
--- where p is not true, neither is `p and q`
+-- If p is false, so is `p and q`.
 pub and_left_is : (a p q : Bool) → a ≡ false → a ≡ p → a ≡ (p && q)
 and_left_is false false q e h = refl
 and_left_is false true q e h = absurd (true≢false (sym h))
 and_left_is true p q e h = absurd (true≢false e)
 
--- whether a register has this word, as the proposition asks it
+-- The code's test of a register's word is the truth of the equation.
 pub register_is : {regs : List (List ℕ)} {i j t r : ℕ} (o : FinalState) (n : ℕ)
     → regs ≡ o.regs
     → i ≡ t
@@ -102,7 +102,7 @@ pub register_is : {regs : List (List ℕ)} {i j t r : ℕ} (o : FinalState) (n :
     → (slice_index (slice_index_or regs i []) j == n) ≡ is_true (Reg_is t r n) o
 register_is o n are is_thread is_register = rw (are, is_thread, is_register) refl
 
--- whether a location has this word, as the proposition asks it
+-- The code's test of a location's word is the truth of the equation.
 pub location_is : {words : List ℕ} {i x : ℕ} (o : FinalState) (n : ℕ)
     → words ≡ o.words
     → i ≡ x

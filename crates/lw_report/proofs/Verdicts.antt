@@ -1,4 +1,4 @@
--- What the numbers of states say of all outcomes.
+-- The verdict, computed from the numbers of states, is a statement about all outcomes.
 use Rattle.lw_report.proofs.Common.{not-true, ◌↔◌, ◌≡◌, ℕ, suc, ◌⊎◌, inl, inr, Bool, true, false, List, []}
 use Rattle.lw_report.proofs.Common.{◌∷◌, length, refl, sym, ap, ◌∙◌, arith, filter, not, ◌==◌, Contains}
 use Rattle.lw_report.proofs.Common.{eqb-true, cases_Bool, TestHead, FinalState, positive, negative, OkMeans}
@@ -6,23 +6,23 @@ use Rattle.lw_report.proofs.Common.{verdict_of, ProjectedState, project_state, E
 use Rattle.lw_report.proofs.Common.{Exact, AreStatesOf, is_true, Contains-head, Contains-tail, Contains-cons}
 use Rattle.lw_report.specs.declared.judgement.Verdict.TheVariants as verdict
 
--- Of what a set has, nothing passes a test.
+-- No element of a set passes a test.
 abbrev NonePasses : {X : Type 0} → (X → Type 0) → (X → Bool) → Type 0
 NonePasses {X} Has p = (x : X) → Has x → p x ≡ false
 
--- Of what a set has, something passes a test.
+-- Some element of a set passes a test.
 abbrev SomePasses : {X : Type 0} → (X → Type 0) → (X → Bool) → Type 0
 SomePasses {X} Has p = (x : X) × Has x × (p x ≡ true)
 
--- A number tells whether something of a set passes a test: nothing does where it is 0, and something where it is not.
+-- The number is 0 if and only if no element of the set passes the test.
 abbrev TellsIfAny : {X : Type 0} → (X → Type 0) → (X → Bool) → ℕ → Type 0
 TellsIfAny Has p n = ((n == 0) ≡ true) × NonePasses Has p ⊎ ((n == 0) ≡ false) × SomePasses Has p
 
--- a number above 0 is not 0
+-- A successor is not 0.
 not_zero : (n : ℕ) → (suc n == 0) ≡ false
 not_zero n = elim (cases_Bool (suc n == 0)) [ inl e ↦ absurd (omega (arith, eqb-true (suc n) 0 e)) | inr e ↦ e ]
 
--- how many elements of a list pass a test tells whether any does
+-- The number of a list's elements that pass a test is 0 if and only if none does.
 filter_decides : {X : Type 0} (p : X → Bool) (xs : List X) → TellsIfAny (Contains xs) p (length (filter p xs))
 filter_decides {X} p [] = inl (refl, λ x h. absurd (let lt = h.1 in omega arith))
 filter_decides {X} p (x ∷ xs) = go (cases_Bool (p x)) (filter_decides p xs)
@@ -35,7 +35,7 @@ filter_decides {X} p (x ∷ xs) = go (cases_Bool (p x)) (filter_decides p xs)
         inl (rw t nothing.0, λ y h. elim (Contains-cons x y xs h) [ inl e ↦ ap p (sym e) ∙ t | inr k ↦ nothing.1 y k ])
     go (inr t) (inr some) = inr (rw t some.0, (some.1.0, Contains-tail x some.1.0 xs some.1.1, some.1.2))
 
--- how many states of a set of outcomes pass a test tells whether any outcome does
+-- The number of states whose truth value passes a test is 0 if and only if no outcome's does.
 counted : (head : TestHead) (Has : FinalState → Type 0) (states : List ProjectedState)
     → AreStatesOf head Has states
     → (p : Bool → Bool)
@@ -51,27 +51,27 @@ counted head Has states are p = go (filter_decides (λ (s : ProjectedState). p s
         let (o, has, is) = (are.exactly some.1.0).0 some.1.1 in
         inr (some.0, (o, has, ap (λ (s : ProjectedState). p s.holds) is ∙ some.1.2))
 
--- what is not false is true
+-- A truth value that is not false is true.
 not_false : (b : Bool) → not b ≡ false → b ≡ true
 not_false true e = refl
 not_false false e = absurd cc
 
--- What an `Ok` says, where the states are all: p of them make the proposition true, and q do not.
+-- The meaning of `Ok` if the states are complete: the proposition is true in p of them, and false in q.
 module _ {Has : FinalState → Type 0} {holds : FinalState → Bool} (p q : ℕ) where
   not_both : NonePasses Has holds → SomePasses Has holds → ⊥
   not_both none (o, has, is) = let f = none o has in cc
 
-  -- `exists`: some outcome makes it true
+  -- For `exists`, `Ok` means that the proposition is true in some outcome.
   exists_some : TellsIfAny Has holds p → verdict_of Exact Exists p q ≡ verdict.Ok ↔ SomePasses Has holds
   exists_some (inl none) = rw none.0 (λ e. absurd cc, λ some. absurd (not_both none.1 some))
   exists_some (inr some) = rw some.0 (λ e. some.1, λ _. refl)
 
-  -- `~exists`: no outcome does
+  -- For `~exists`, `Ok` means that it is true in none.
   exists_none : TellsIfAny Has holds p → verdict_of Exact NotExists p q ≡ verdict.Ok ↔ NonePasses Has holds
   exists_none (inl none) = rw none.0 (λ e. none.1, λ _. refl)
   exists_none (inr some) = rw some.0 (λ e. absurd cc, λ none. absurd (not_both none some.1))
 
-  -- `forall`: each does
+  -- For `forall`, `Ok` means that it is true in all.
   all_pass : TellsIfAny Has (λ o. not (holds o)) q
       → verdict_of Exact Forall p q ≡ verdict.Ok ↔ ((o : FinalState) → Has o → holds o ≡ true)
   all_pass (inl none) = rw none.0 (λ e o has. not_false (holds o) (none.1 o has), λ _. refl)
@@ -83,7 +83,7 @@ module _ {Has : FinalState → Type 0} {holds : FinalState → Bool} (p q : ℕ)
         cc),
   )
 
--- what an `Ok` says of all outcomes, by the numbers of all their states
+-- The meaning of `Ok` for all outcomes, by the numbers of their states.
 pub means_of_all : (head : TestHead) (Has : FinalState → Type 0) (states : List ProjectedState)
     → AreStatesOf head Has states
     → OkMeans head Has (positive states) (negative states)

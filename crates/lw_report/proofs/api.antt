@@ -1,2 +1,2 @@
--- What proofs of other crates cite: that a set of outcomes has one list of states and one report.
+-- Lemmas that other crates use: a set of outcomes determines its list of states and its report.
 pub mod OneList

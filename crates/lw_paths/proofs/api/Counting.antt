@@ -1,4 +1,4 @@
--- The orders of all choices are counted, choice by choice; and what a refusal on the way tells.
+-- The orders of all path assignments are counted, one assignment after another; and a failure states a cause that holds.
 use Rattle.lw_paths.proofs.Common.{◌^◌, ◌-◌, ◌≡◌, ℕ, ◌+◌, ◌<◌, ◌≤◌, List, [], ◌∷◌, length, min, refl, ◌∙◌}
 use Rattle.lw_paths.proofs.Common.{inl, inr, arith, All, Contains, orientation_count, most_items, most_orders}
 use Rattle.lw_paths.proofs.Common.{ListFault, TooManyItems, TooManyOrders, Memory, Item, JumpsForward}
@@ -11,8 +11,8 @@ use Rattle.lw_paths.proofs.api.Members.{Contains-head, Contains-tail, Contains-c
 use Rattle.lw_paths.proofs.api.Reduced.{same_ways}
 use Rattle.lw_paths.proofs.api.Totals.{total_is}
 
--- A visitor of choices, as the proofs see it: its program, how many orders it has counted, and what its visits and its refusals
--- tell.
+-- A visitor of path assignments, as the proofs see it: its program, the number of orders that it has counted, and what its visits and
+-- failures mean.
 pub record VisitorView (S V : Type 0) : Type 1 where
   pub program : V → List (List S)
   pub count : V → ℕ
@@ -20,7 +20,7 @@ pub record VisitorView (S V : Type 0) : Type 1 where
   pub refuses : V → List (List ℕ) → ListFault → Type 0
 
 module _ {S : Type 0} (language : Language S) where
-  -- a visit of a choice adds its orders to the total, of the same program, within the limits
+  -- A visit adds the orders of its path assignment to the total, preserves the program, and stays within the limits.
   abbrev pub Counts : List (List S) → ℕ → List (List ℕ) → List (List S) → ℕ → Type 0
   Counts program before paths after_program after =
       (after_program ≡ program)
@@ -28,8 +28,8 @@ module _ {S : Type 0} (language : Language S) where
       × (after ≡ before + orders_at_choice language program paths)
       × (after ≤ most_orders)
 
-  -- What is done at a choice: its items are made, and are few; the ways of their conflicts are counted, and added up to where a
-  -- sum would wrap.
+  -- What happens at a path assignment: its items are listed, and are within the limit; its orientations are counted, and added with
+  -- saturation.
   pub record Counted (program : List (List S)) (before : ℕ) (paths : List (List ℕ)) (after : ℕ) : Type 0 where
     pub items : List Item
     pub orders : ℕ
@@ -39,7 +39,7 @@ module _ {S : Type 0} (language : Language S) where
     pub total : after ≡ min (before + orders) (2 ^ 64 - 1)
     pub within : after ≤ most_orders
 
-  -- A total within the limit was not cut off, so it is the sum.
+  -- A total within the limit was not saturated, so it is the sum.
   pub choice_counted : (program : List (List S)) (before : ℕ) (paths : List (List ℕ)) (after : ℕ)
       → Counted program before paths after
       → Counts program before paths program after
@@ -47,8 +47,7 @@ module _ {S : Type 0} (language : Language S) where
       let same : c.orders ≡ orders_at_choice language program paths = rw (← c.made) c.ways in
       (refl, rw c.made at c.few, omega (arith, c.total, c.within, same), c.within)
 
-  -- If the items of a choice are made, the ways of their conflicts are counted, and these with those before pass the limit where a
-  -- sum would wrap, then the orders of the choice with those before pass it.
+  -- If the saturated sum of a path assignment's orders and those before passes the limit, so does the exact sum.
   pub too_many_orders : (program : List (List S)) (before : ℕ) (paths : List (List ℕ)) {items : List Item} {orders total : ℕ}
       → items ≡ items_of language program paths
       → orders ≡ orientation_count (constraints_of language program items)
@@ -58,7 +57,7 @@ module _ {S : Type 0} (language : Language S) where
   too_many_orders program before paths {orders = orders} made ways sum over =
       let same : orders ≡ orders_at_choice language program paths = rw (← made) ways in omega (arith, sum, over, same)
 
-  -- why one of some choices was refused, where those before them have so many orders
+  -- The cause with which one of some path assignments failed, after `before` orders, holds.
   abbrev Tells : List (List S) → ℕ → List (List (List ℕ)) → ListFault → Type 0
   Tells program before choices TooManyItems =
       (paths : List (List ℕ)) × Contains choices paths × (most_items < items_at_choice language program paths)
@@ -81,14 +80,14 @@ module _ {S : Type 0} (language : Language S) where
   tells_there program before after paths choices TooManyOrders l h = omega (arith, l, h)
   tells_there program before after paths choices Memory l h = tt
 
-  -- where the list of choices is complete
+  -- ---- the list of path assignments is complete
   module _ (program : List (List S)) (forward : All (JumpsForward language) program) where
     tells_all : (e : ListFault) → Tells program 0 (path_assignments language program) e → LimitFaultOfChoices language program e
     tells_all TooManyItems (paths, c, h) = (paths, (choices_are_all language program paths forward).0 c, h)
     tells_all TooManyOrders h = omega (arith, h)
     tells_all Memory h = tt
 
-    -- where each choice on the list has few items, none has too many
+    -- If no path assignment on the list has too many items, none has.
     pub none_too_many : ((paths : List (List ℕ))
         → Contains (path_assignments language program) paths
         → items_at_choice language program paths ≤ most_items)
@@ -100,31 +99,31 @@ module _ {S : Type 0} (language : Language S) where
         omega arith
 
   module _ {V : Type 0} (view : VisitorView S V) where
-    -- What a visitor's refusals tell of the choices that it was led through:
+    -- What a visitor's failures mean for the path assignments visited.
     pub record GivesReasons : Type 0 where
-      -- a visit leaves it its program,
+      -- A visit preserves the program.
       pub keeps : (v : V) (paths : List (List ℕ)) (w : V) → view.visits v paths w → view.program w ≡ view.program v
-      -- and counts no more orders than the choice has,
+      -- A visit counts at most the orders of its path assignment.
       pub at_most : (v : V) (paths : List (List ℕ)) (w : V)
           → view.visits v paths w
           → view.count w ≤ view.count v + orders_at_choice language (view.program v) paths
-      -- and a refusal tells why this choice is too much, behind so many orders.
+      -- The cause of a failure holds of this path assignment, after the orders counted before.
       pub why : (v : V) (paths : List (List ℕ)) (e : ListFault)
           → view.refuses v paths e
           → LimitFaultOfChoice language (view.program v) (view.count v) paths e
 
-    -- A visitor that counts what it is led through:
+    -- A visitor that counts the orders of the path assignments.
     pub record IsCounter : Type 0 where
-      -- a visit adds the orders of the choice, which are few,
+      -- A visit adds the orders of its path assignment, within the limits.
       pub each : (v : V) (paths : List (List ℕ)) (w : V)
           → view.visits v paths w
           → Counts (view.program v) (view.count v) paths (view.program w) (view.count w)
-      -- and a refusal tells why this choice is too much.
+      -- The cause of a failure holds of this path assignment.
       pub why : (v : V) (paths : List (List ℕ)) (e : ListFault)
           → view.refuses v paths e
           → LimitFaultOfChoice language (view.program v) (view.count v) paths e
 
-    -- so a counter gives reasons
+    -- A counter states causes that hold.
     reasons_of : IsCounter → GivesReasons
     reasons_of counter = record {
       keeps = λ v paths w h. (let (same, items, orders, within) = counter.each v paths w h in same);
@@ -133,7 +132,7 @@ module _ {S : Type 0} (language : Language S) where
     }
 
     module _ (program : List (List S)) where
-      -- where one of some choices was refused, the cause is right of them all
+      -- If one of some path assignments failed, the cause holds of them all.
       refused : GivesReasons
           → (choices : List (List (List ℕ))) (v : V) (e : ListFault)
           → view.program v ≡ program
@@ -145,7 +144,7 @@ module _ {S : Type 0} (language : Language S) where
           tells_there program _ _ paths choices e (rw is at (reasons.at_most v paths mid one))
           (refused reasons choices mid e (reasons.keeps v paths mid one ∙ is) rest)
 
-      -- where some choices were counted, each has few items, and all have few orders
+      -- If some path assignments were counted, each has few items, and all together few orders.
       counted : IsCounter
           → (choices : List (List (List ℕ))) (v w : V)
           → view.program v ≡ program
@@ -162,7 +161,7 @@ module _ {S : Type 0} (language : Language S) where
           )
 
       module _ (forward : All (JumpsForward language) program) where
-        -- all choices were counted
+        -- If all path assignments were counted, the program is within the limits.
         pub all_counted : IsCounter
             → (v w : V)
             → view.program v ≡ program
@@ -173,7 +172,7 @@ module _ {S : Type 0} (language : Language S) where
             let all = counted counter (path_assignments language program) v w is (omega (arith, none)) h in
             (none_too_many program forward all.0, omega (arith, all.1, none))
 
-        -- a visitor that is refused tells why not all choices can be visited
+        -- The cause with which a visitor fails is a reason why not all path assignments can be visited.
         pub visit_refused : GivesReasons
             → (v : V) (e : ListFault)
             → view.program v ≡ program
@@ -183,7 +182,7 @@ module _ {S : Type 0} (language : Language S) where
         visit_refused reasons v e is none h =
             tells_all program forward e (rw none at (refused reasons (path_assignments language program) v e is h))
 
-        -- so does a counter
+        -- The same holds of a counter.
         pub count_refused : IsCounter
             → (v : V) (e : ListFault)
             → view.program v ≡ program
@@ -192,7 +191,7 @@ module _ {S : Type 0} (language : Language S) where
             → LimitFaultOfChoices language program e
         count_refused counter = visit_refused (reasons_of counter)
 
-  -- why the orders of a choice's items are refused is why the choice is, as a first one
+  -- The cause for which a path assignment's items are rejected is a cause for the first path assignment.
   pub given_refused : (program : List (List S)) (paths : List (List ℕ)) (e : ListFault)
       → TellsOfGiven language program (items_of language program paths) e
       → LimitFaultOfChoice language program 0 paths e
@@ -200,7 +199,7 @@ module _ {S : Type 0} (language : Language S) where
   given_refused program paths TooManyOrders h = omega (arith, h, same_ways language program paths)
   given_refused program paths Memory h = tt
 
--- where no choice has too many items, why a visit of all choices is refused is why the list is: too many orders, or no memory
+-- If no path assignment has too many items, the cause with which a visit fails is the list's: too many orders, or no memory.
 pub limit_told : {S : Type 0} (language : Language S) (program : List (List S))
     → All (JumpsForward language) program
     → (HasTooManyItems language program → ⊥)
@@ -211,7 +210,7 @@ limit_told language program forward few TooManyItems h = h
 limit_told language program forward few TooManyOrders h = (few, (total_of language program, total_is language program forward, h))
 limit_told language program forward few Memory h = tt
 
--- where no choice has too many items, and the total of orders is within its limit, the program is within the limits
+-- If no path assignment has too many items, and the total of orders is within its limit, the program is within the limits.
 pub limit_kept : {S : Type 0} (language : Language S) (program : List (List S))
     → All (JumpsForward language) program
     → (HasTooManyItems language program → ⊥)

@@ -1,4 +1,4 @@
--- The lists of all paths and of all choices have each of them, and nothing else.
+-- The lists of paths and of path assignments contain exactly these.
 use Rattle.lw_paths.proofs.Common.{◌≡◌, ℕ, zero, suc, ◌+◌, ◌<◌, ◌≤◌, List, [], ◌∷◌, map, length, Option, Some}
 use Rattle.lw_paths.proofs.Common.{None, refl, inl, inr, slice_get, arith, Contains, All, ◌↔◌, flat_map}
 use Rattle.lw_paths.proofs.Common.{cases_lt, slice_get_past, All-head, All-tail, get_some, Language}
@@ -49,7 +49,7 @@ module _ {S : Type 0} (language : Language S) where
             let (up, within) = led_within language code j k s is e leads in
             rw (← is_path) (refl, k, successors-only language _ s j k e leads, more k p up within goes)
 
-    -- the list has each path from a position on, where it goes on for enough steps
+    -- The list contains each path from a position, if the bound on its steps is large enough.
     pub paths-has : (n j : ℕ) (path : List ℕ)
         → length code ≤ j + n
         → IsFlowPathFrom language code j path
@@ -57,7 +57,7 @@ module _ {S : Type 0} (language : Language S) where
     paths-has zero j path l goes = on-has (λ k. []) j path goes (λ k p a b g. absurd (omega arith))
     paths-has (suc n) j path l goes = on-has _ j path goes (λ k p a b g. paths-has n k p (omega arith) g)
 
-    -- and all on it are such paths
+    -- The list contains only such paths.
     pub paths-only : (n j : ℕ) (path : List ℕ)
         → j ≤ length code
         → Contains (paths_from language n code j) path
@@ -93,7 +93,7 @@ module _ {S : Type 0} (language : Language S) where
         choices-only program (All-tail (JumpsForward language) code program all) others rest,
       )
 
-  -- where jumps lead forward, the list has `paths` exactly if they are a choice of the program
+  -- If jumps go forward, the list contains `paths` if and only if they are a path assignment of the program.
   pub choices_are_all : (program : List (List S)) (paths : List (List ℕ))
       → All (JumpsForward language) program
       → Contains (path_assignments language program) paths ↔ IsPathAssignment language program paths

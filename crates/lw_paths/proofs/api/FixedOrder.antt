@@ -1,6 +1,5 @@
--- What the fixed pairs of a choice's items order: of two items of a thread the first stands before the second where it is a
--- statement, or where the second is a drain or waits for drains. And an order in which all these stand so keeps the fixed pairs.
--- Both hold of any relation that goes on from item to item.
+-- What the fixed pairs order: of two items of a thread the first precedes the second if it is a statement, or if the second is a drain or
+-- waits for drains. And an order with all these pairs respects the fixed pairs. Both hold of every transitive relation.
 use Rattle.lw_paths.proofs.Common.{◌≡◌, ℕ, ◌<◌, ◌==◌, ◌⊎◌, inl, inr, List, length, Bool, true, false}
 use Rattle.lw_paths.proofs.Common.{true≢false, refl, sym, ◌∙◌, arith, All, cases_eq, cases_Bool, and_parts}
 use Rattle.lw_paths.proofs.Common.{eqb-true, eq-eqb, All-contains, Before, Respects, Item, Language, item_at}
@@ -10,11 +9,11 @@ use Rattle.lw_paths.proofs.api.FixedPairs.{fixed_there}
 use Rattle.lw_paths.proofs.api.PairRanges.{In, All-passing, pairs_up}
 
 module _ {S : Type 0} (language : Language S) (program : List (List S)) where
-  -- Of two items of a thread the first is put before the second: it is a statement, or the second is a drain or waits for drains.
+  -- Of two items of a thread the first is ordered before the second: it is a statement, or the second is a drain or waits for drains.
   abbrev pub AreOrdered : Item → Item → Type 0
   AreOrdered a b = a.is_drain ≡ true → (b.is_drain ≡ true) ⊎ (needs_earlier_drains language program b ≡ true)
 
-  -- R relates the numbers of any two items of a list, of one thread, that are `AreOrdered`
+  -- R relates the indices of any two items of one thread that are `AreOrdered`.
   abbrev pub HasOrdered : (ℕ → ℕ → Type 0) → List Item → Type 0
   HasOrdered R items =
       (i j : ℕ)
@@ -24,7 +23,7 @@ module _ {S : Type 0} (language : Language S) (program : List (List S)) where
       → AreOrdered (item_at items i) (item_at items j)
       → R i j
 
-  -- ---- two items that are fixed
+  -- ---- two items
   module _ (a b : Item) where
     fixed_ordered : is_preserved language program a b ≡ true → (a.thread ≡ b.thread) × AreOrdered a b
     fixed_ordered e =
@@ -50,7 +49,7 @@ module _ {S : Type 0} (language : Language S) (program : List (List S)) where
         → is_preserved language program a b ≡ true
     waiting_fixed same d e waits = rw (eq-eqb a.thread b.thread same, d, e, waits) refl
 
-  -- ---- the items of a choice
+  -- ---- the items of a path assignment
   module _ (paths : List (List ℕ)) where
     abbrev items : List Item
     items = items_of language program paths
@@ -58,7 +57,7 @@ module _ {S : Type 0} (language : Language S) (program : List (List S)) where
     abbrev at : ℕ → Item
     at i = item_at items i
 
-    -- a relation R that goes on from item to item, and has the fixed pairs of a choice's items
+    -- R is transitive, and relates the fixed pairs of the items.
     module _ (R : ℕ → ℕ → Type 0) (go_on : (i j k : ℕ) → R i j → R j k → R i k)
         (has : All (λ p. R p.0 p.1) (constraints_of language program items).fixed) where
       related : (i j : ℕ) → i < j → j < length items → is_preserved language program (at i) (at j) ≡ true → R i j
@@ -89,15 +88,15 @@ module _ {S : Type 0} (language : Language S) (program : List (List S)) where
                 (statements_fixed (at i) (at m) (same ∙ sym store.thread) d store.statement)) own
           ]
 
-      -- such a relation has all the items so ordered
+      -- A transitive relation that relates the fixed pairs relates all ordered items.
       pub has_ordered : HasOrdered R items
       has_ordered i j = by_kinds (at i).is_drain (at j).is_drain i j refl refl
 
-    -- what the fixed pairs order
+    -- An order that respects the fixed pairs has all ordered items in order.
     pub kept : (order : List ℕ) → Respects (constraints_of language program items).fixed order → HasOrdered (Before order) items
     kept order keeps = has_ordered (Before order) (λ i j k a b. omega (arith, a, b)) keeps
 
-  -- a relation of numbers that has all ordered items of a list (`HasOrdered`) has the fixed pairs
+  -- A relation of indices that relates all ordered items relates the fixed pairs.
   pub has_fixed : (R : ℕ → ℕ → Type 0) (items : List Item)
       → HasOrdered R items
       → All (λ p. R p.0 p.1) (constraints_of language program items).fixed
@@ -107,7 +106,7 @@ module _ {S : Type 0} (language : Language S) (program : List (List S)) where
       (let (same, ordered) = fixed_ordered (item_at items p.0) (item_at items p.1) fixed in
       has p.0 p.1 within.1 (omega (arith, within.2)) same ordered))
 
-  -- an order in which all ordered items of a list stand so keeps the fixed pairs
+  -- An order that has all ordered items in order respects the fixed pairs.
   pub keeps_all : (items : List Item) (order : List ℕ)
       → HasOrdered (Before order) items
       → Respects (constraints_of language program items).fixed order

@@ -1,5 +1,5 @@
--- The fixed pairs and the conflicts of items, in either language: each pair goes up, and each that goes up and passes the test is
--- there. And the items with them are well-formed.
+-- The fixed pairs and the conflicts of items, in either language: each pair is ascending, and each ascending pair that passes the test is
+-- listed. And items with these pairs are well-formed.
 use Rattle.lw_paths.proofs.Common.{◌≡◌, Bool, true, ℕ, ◌<◌, ◌≤◌, List, length, filter, arith, Contains}
 use Rattle.lw_paths.proofs.Common.{AreSorted, AreAscending, most_items, Item, Language, item_at, pairs_from}
 use Rattle.lw_paths.proofs.Common.{is_preserved, items_conflict, constraints_of, IsWellFormed}
@@ -13,7 +13,7 @@ module _ {S : Type 0} (language : Language S) (program : List (List S)) where
   abbrev conflict_at : List Item → ℕ × ℕ → Bool
   conflict_at items p = items_conflict language program (item_at items p.0) (item_at items p.1)
 
-  -- a pair that goes up and is fixed is among the fixed ones
+  -- An ascending pair of items in preserved order is among the fixed pairs.
   pub fixed_there : (items : List Item) (i j : ℕ)
       → i < j
       → j < length items
@@ -23,7 +23,7 @@ module _ {S : Type 0} (language : Language S) (program : List (List S)) where
       Contains-filter (fixed_at items) (pairs_from 0 (length items)) (i, j)
       (pairs_have 0 (length items) i j (omega arith) less (omega arith)) f
 
-  -- a pair that goes up, of items that conflict, is among the conflicts
+  -- An ascending pair of conflicting items is among the conflicts.
   pub conflict_there : (items : List Item) (i j : ℕ)
       → i < j
       → j < length items
@@ -33,27 +33,27 @@ module _ {S : Type 0} (language : Language S) (program : List (List S)) where
       Contains-filter (conflict_at items) (pairs_from 0 (length items)) (i, j)
       (pairs_have 0 (length items) i j (omega arith) less (omega arith)) c
 
-  -- each goes up
+  -- Each listed pair is ascending.
   all_up : (test : ℕ × ℕ → Bool) (n : ℕ) → AreAscending n (filter test (pairs_from 0 n))
   all_up test n =
       All-passing test (In 0 n) (λ p. (p.0 < p.1) × (p.1 < n)) (pairs_from 0 n) (pairs_up 0 n)
       (λ p h e. (h.1, omega (arith, h.2)))
 
-  -- in each fixed pair the lower number stands first
+  -- Each fixed pair is ascending.
   pub fixed_up : (items : List Item) → AreAscending (length items) (constraints_of language program items).fixed
   fixed_up items = all_up (fixed_at items) (length items)
 
-  -- in each conflict the lower number stands first
+  -- Each conflict is ascending.
   pub conflicts_up : (items : List Item) → AreAscending (length items) (constraints_of language program items).conflicts
   conflicts_up items = all_up (conflict_at items) (length items)
 
-  -- the conflicts are sorted, each once
+  -- The conflicts are sorted, without duplicates.
   pub conflicts_sorted : (items : List Item) → AreSorted (constraints_of language program items).conflicts
   conflicts_sorted items =
       Rises-sorted (constraints_of language program items).conflicts
       (Rises-filter (conflict_at items) (pairs_from 0 (length items)) (pairs_rise 0 (length items)))
 
-  -- items that aren't too many are well-formed with their pairs
+  -- Items within the limit are well-formed with their pairs.
   pub constraints_well_formed : (items : List Item)
       → length items ≤ most_items
       → IsWellFormed (constraints_of language program items)

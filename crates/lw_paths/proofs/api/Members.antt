@@ -1,14 +1,14 @@
--- Membership in lists: of a list of one, of a `map` and of a `flat_map`. What lw_base has of membership is passed on.
+-- Membership in singletons, in a `map` and in a `flat_map`. The lemmas of `lw_base` about membership are exported again.
 use Rattle.lw_paths.proofs.Common.{◌≡◌, List, [], ◌∷◌, map, refl, sym, ap, subst, inl, inr, arith, Contains}
 use Rattle.lw_paths.proofs.Common.{flat_map, Contains-append_left, Contains-append_right}
 use Rattle.lw_paths.proofs.Common.{Contains-append_cases}
 pub use Rattle.lw_base.proofs.api.Members.{not-Contains-nil, Contains-head, Contains-tail, Contains-cons}
 
--- a list of one has that one alone
+-- A singleton contains only its element.
 pub of_one : {X : Type 0} (x y : X) → Contains (x ∷ []) y → y ≡ x
 of_one x y c = elim (Contains-cons x y [] c) [ inl e ↦ sym e | inr r ↦ absurd (not-Contains-nil y r) ]
 
--- the image of an element is among the images
+-- The image of an element is among the images.
 pub Contains-map : {X Y : Type 0} (f : X → Y) (xs : List X) (x : X) → Contains xs x → Contains (map f xs) (f x)
 Contains-map f [] x (k, l, e) = absurd (omega arith)
 Contains-map f (z ∷ xs) x c = elim (Contains-cons z x xs c) [
@@ -16,7 +16,7 @@ Contains-map f (z ∷ xs) x c = elim (Contains-cons z x xs c) [
   | inr r ↦ Contains-tail (f z) (f x) (map f xs) (Contains-map f xs x r)
 ]
 
--- each image is that of an element of the list
+-- Each image is that of an element of the list.
 pub from_map : {X Y : Type 0} (f : X → Y) (xs : List X) (y : Y) → Contains (map f xs) y → (x : X) × Contains xs x × (f x ≡ y)
 from_map f [] y (k, l, e) = absurd (omega arith)
 from_map f (z ∷ xs) y c = elim (Contains-cons (f z) y (map f xs) c) [
@@ -24,7 +24,7 @@ from_map f (z ∷ xs) y c = elim (Contains-cons (f z) y (map f xs) c) [
   | inr r ↦ (let g = from_map f xs y r in (g.0, Contains-tail z g.0 xs g.1, g.2))
 ]
 
--- what the list made for an element has, the lists made for all elements, one behind another, have too
+-- What the list of an element contains, the `flat_map` contains.
 pub Contains-flat_map : {X Y : Type 0} (f : X → List Y) (xs : List X) (x : X) (y : Y)
     → Contains xs x
     → Contains (f x) y
@@ -35,7 +35,7 @@ Contains-flat_map f (z ∷ xs) x y c h = elim (Contains-cons z x xs c) [
   | inr r ↦ Contains-append_right (f z) (flat_map f xs) y (Contains-flat_map f xs x y r h)
 ]
 
--- what a `flat_map` gives is in the list that it gives for some element
+-- What the `flat_map` contains, the list of some element contains.
 pub from_flat_map : {X Y : Type 0} (f : X → List Y) (xs : List X) (y : Y)
     → Contains (flat_map f xs) y
     → (x : X) × Contains xs x × Contains (f x) y

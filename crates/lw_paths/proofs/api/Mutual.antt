@@ -1,9 +1,9 @@
--- Conflicts are mutual.
+-- Conflict is a symmetric relation.
 use Rattle.lw_paths.proofs.Common.{◌≡◌, ℕ, Bool, ◌&&◌, Option, Some, None, refl, sym, ap₂, ◌∙◌, inl, inr}
 use Rattle.lw_paths.proofs.Common.{eq-eqb, ne_eqb, or_comm, cases_eq, is_same_location, Language, location_by}
 use Rattle.lw_paths.proofs.Common.{writes_by, conflict_by}
 
--- two locations are one and the same whichever of them is named first
+-- Equality of locations is symmetric.
 one_sym : (o p : Option ℕ) → is_same_location o p ≡ is_same_location p o
 one_sym None None = refl
 one_sym None (Some y) = refl
@@ -13,7 +13,7 @@ one_sym (Some x) (Some y) = elim (cases_eq x y) [
   | inr ne ↦ ne_eqb x y ne ∙ sym (ne_eqb y x (λ e. ne (sym e)))
 ]
 
--- whether two items conflict does not depend on which is named first
+-- Conflict of two items is symmetric.
 pub conflict_mutual : {S : Type 0} (language : Language S) (d e : Bool) (a b : Option S)
     → conflict_by language d e a b ≡ conflict_by language e d b a
 conflict_mutual language d e None None = refl

@@ -1,5 +1,5 @@
--- The items of a choice of paths: the statements on them and the drains of their stores, thread by thread, and how their numbers
--- go along the paths.
+-- The items of a path assignment: the statements on its paths and the drains of their stores, thread by thread; and how their indices
+-- increase along the paths.
 use Rattle.lw_paths.proofs.Common.{◌≡◌, ℕ, zero, suc, ◌+◌, ◌<◌, ◌≤◌, ◌⊎◌, inl, inr, List, [], ◌∷◌, ◌++◌}
 use Rattle.lw_paths.proofs.Common.{length, Option, Some, None, Bool, true, false, refl, sym, ap, ◌∙◌, subst}
 use Rattle.lw_paths.proofs.Common.{arith, slice_get, All, Contains, true≢false, option_map_or, cases_eq}
@@ -16,12 +16,12 @@ abbrev pub IsMember : ℕ → List ℕ → Type 0
 IsMember x [] = ⊥
 IsMember x (y ∷ ys) = (y ≡ x) ⊎ IsMember x ys
 
--- each item is related to all behind it
+-- Each item is related to all after it.
 abbrev pub Pairwise : (Item → Item → Type 0) → List Item → Type 0
 Pairwise R [] = Unit {0}
 Pairwise R (a ∷ items) = All (R a) items × Pairwise R items
 
--- what holds pairwise in two lists, and from the first to the second, holds pairwise in both together
+-- What holds pairwise in two lists, and from the first to the second, holds pairwise in the concatenation.
 pairwise_append : (R : Item → Item → Type 0) (xs ys : List Item)
     → Pairwise R xs
     → Pairwise R ys
@@ -31,7 +31,7 @@ pairwise_append R [] ys h g a = g
 pairwise_append R (x ∷ xs) ys h g a =
     (All-append (R x) xs ys h.0 (a 0 x (omega arith)), pairwise_append R xs ys h.1 g (λ k d l. a (suc k) d (omega arith)))
 
--- what holds of any two items of a kind holds pairwise in a list of that kind
+-- What holds of any two items with P holds pairwise in a list of items with P.
 pairwise_all : (R : Item → Item → Type 0) (P : Item → Type 0)
     → ((a b : Item) → P a → P b → R a b)
     → (xs : List Item)
@@ -42,7 +42,7 @@ pairwise_all R P f (x ∷ xs) h =
     let rest : All P xs = All-tail P x xs h in
     (All-weaker P (R x) (λ b. f x b (All-head P x xs h)) xs rest, pairwise_all R P f xs rest)
 
--- what holds pairwise holds of the items at two indices
+-- What holds pairwise holds of the items at two ascending indices.
 pairwise_at : (R : Item → Item → Type 0) (xs : List Item) (i j : ℕ)
     → Pairwise R xs
     → i < j
@@ -52,61 +52,61 @@ pairwise_at R (x ∷ xs) zero (suc j) h less l = All-get_or (R x) xs j _ (omega 
 pairwise_at R (x ∷ xs) (suc i) (suc j) h less l = pairwise_at R xs i j h.1 (omega arith) (omega arith)
 pairwise_at R _ i _ h less l = absurd (omega arith)
 
--- an item is in the list, at some number
+-- The item has an index in the list.
 abbrev pub HasItem : List Item → Item → Type 0
 HasItem items a = (i : ℕ) × (i < length items) × (item_at items i ≡ a)
 
--- the item of thread t at position j: the statement there (false), or the drain of the store there (true)
+-- The item of thread t at position j: the statement there (false), or the drain of the store there (true).
 abbrev pub item : ℕ → ℕ → Bool → Item
 item t j b = record { thread = t; position = j; is_drain = b }
 
--- a number that goes up along a thread's items: twice the position, and one more for a drain
+-- A number that increases along a thread's items: twice the position, plus one for a drain.
 abbrev pub slot_by : Bool → ℕ → ℕ
 slot_by false j = j + j
 slot_by true j = suc (j + j)
 
--- the number by which an item stands among those of its thread: not its index in the list, for there are gaps
+-- The rank of an item among those of its thread; it is not its index in the list, since there are gaps.
 abbrev pub thread_rank : Item → ℕ
 thread_rank a = slot_by a.is_drain a.position
 
--- two items, if they are of one thread, have `thread_rank`s that go up
+-- If two items are of the same thread, the first has the lower `thread_rank`.
 abbrev IsLower : Item → Item → Type 0
 IsLower a b = a.thread ≡ b.thread → thread_rank a < thread_rank b
 
--- an item is of the same thread as another, or of one before it
+-- The thread of the first item is not after that of the second.
 abbrev IsNoLater : Item → Item → Type 0
 IsNoLater a b = a.thread ≤ b.thread
 
--- what belongs to a statement at an earlier position has the lower `thread_rank`
+-- Items of an earlier position have the lower `thread_rank`.
 pub slot_less : (b c : Bool) (j k : ℕ) → j < k → slot_by b j < slot_by c k
 slot_less b c j k l = grind arith
 
--- of one position the store has a lower `thread_rank` than its drain
+-- At the same position the store has a lower `thread_rank` than its drain.
 pub store_slot : (b c : Bool) (j k : ℕ) → b ≡ false → c ≡ true → j ≡ k → slot_by b j < slot_by c k
 store_slot b c j k e f g = rw (e, f) (omega arith)
 
--- numbers from low on, each greater than the one before
+-- The numbers are at least `low`, and strictly ascending.
 abbrev pub IsAscendingFrom : ℕ → List ℕ → Type 0
 IsAscendingFrom low [] = Unit {0}
 IsAscendingFrom low (k ∷ path) = (low ≤ k) × IsAscendingFrom (suc k) path
 
--- numbers that go up from a bound are all at least that
+-- Numbers ascending from a bound are at least that bound.
 pub IsAscendingFrom-lower_bound : (low j : ℕ) (path : List ℕ) → IsAscendingFrom low path → IsMember j path → low ≤ j
 IsAscendingFrom-lower_bound low j [] u h = absurd h
 IsAscendingFrom-lower_bound low j (k ∷ path) u (inl e) = omega (arith, u.0)
 IsAscendingFrom-lower_bound low j (k ∷ path) u (inr h) = omega (arith, u.0, IsAscendingFrom-lower_bound (suc k) j path u.1 h)
 
--- numbers that go up from a bound go up from a lower one
+-- Numbers ascending from a bound are ascending from every lower bound.
 goes_up_less : (low l : ℕ) (path : List ℕ) → l ≤ low → IsAscendingFrom low path → IsAscendingFrom l path
 goes_up_less low l [] le u = tt
 goes_up_less low l (k ∷ path) le u = (omega (arith, u.0), u.1)
 
 module _ {S : Type 0} (language : Language S) where
-  -- a store that goes by way of a store buffer, so that its entry is drained
+  -- The statement is a store into the store buffer, so its entry is drained.
   abbrev pub IsStoring : S → Type 0
   IsStoring s = (x : ℕ) × (drained_location language s ≡ Some x)
 
-  -- what holds of each statement on a path, and of the drain of each store there
+  -- P holds of each statement on a path, and of the drain of each store there.
   abbrev OnPath : (Item → Type 0) → ℕ → List S → List ℕ → Type 0
   OnPath P t code path =
       (j : ℕ) (s : S) (b : Bool) → IsMember j path → slice_get code j ≡ Some s → (b ≡ true → IsStoring s) → P (item t j b)
@@ -130,7 +130,7 @@ module _ {S : Type 0} (language : Language S) where
       All-append P _ (path_items language t code path) (each_here P t j (slice_get code j) (λ s b. f j s b (inl refl)))
       (each_thread P t code path (λ k s b h. f k s b (inr h)))
 
-  -- holds of each item
+  -- What holds of the statements and drains on the paths holds of each item.
   each_item : (P : Item → Type 0) (t : ℕ) (program : List (List S)) (paths : List (List ℕ))
       → ((k u : ℕ) → u ≡ t + k → k < length program → OnPath P u (thread_code program k) (thread_code paths k))
       → All P (items_from language t program paths)
@@ -139,7 +139,7 @@ module _ {S : Type 0} (language : Language S) where
       (each_item P (suc t) program paths (λ k u e l. f (suc k) u (omega arith) (omega arith)))
   each_item P t _ _ f = All-nil P
 
-  -- and each statement on the paths, and each drain of a store there, is an item
+  -- Each statement on the paths, and each drain of a store there, is an item.
   has_here : (t j : ℕ) (s : S) (b : Bool) → (b ≡ true → IsStoring s) → Contains (items_at language t j (Some s)) (item t j b)
   has_here t j s false store = Contains-head (item t j false) (item t j false) _ refl
   has_here t j s true store =
@@ -195,7 +195,7 @@ module _ {S : Type 0} (language : Language S) where
       each_thread (IsLower (item t j b)) t code path
       (λ k z c h f g same. slot_less b c j k (IsAscendingFrom-lower_bound (suc j) k path u.1 h))))
 
-  -- what holds along each path, and of items of different threads, holds of all
+  -- What holds pairwise along each path, and between items of different threads, holds pairwise of all items.
   all_sorted : (R : Item → Item → Type 0) (Q : List ℕ → Type 0)
       → ((t : ℕ) (code : List S) (path : List ℕ) → Q path → Pairwise R (path_items language t code path))
       → ((a b : Item) → a.thread < b.thread → R a b)
@@ -216,7 +216,7 @@ module _ {S : Type 0} (language : Language S) where
       pairwise_all IsNoLater (λ a. a.thread ≡ t) (λ a b e f. omega (arith, e, f)) _
       (each_thread (λ a. a.thread ≡ t) t code path (λ j s b h e store. refl))
 
-  -- the positions of a flow path go up
+  -- The positions of a flow path are ascending.
   pub path_up : (code : List S) (j : ℕ) (path : List ℕ)
       → JumpsForward language code
       → IsFlowPathFrom language code j path
@@ -226,7 +226,7 @@ module _ {S : Type 0} (language : Language S) where
       let w : (j < next) × (next ≤ length code) = follows_within language code j next forward follows in
       (omega arith, goes_up_less next (suc k) path (omega (arith, w.0)) (path_up code next path forward rest))
 
-  -- a choice has a path for each thread
+  -- A path assignment has a path for each thread.
   pub as_many : (program : List (List S)) (paths : List (List ℕ))
       → IsPathAssignment language program paths
       → length paths ≡ length program
@@ -251,7 +251,7 @@ module _ {S : Type 0} (language : Language S) where
     abbrev at : ℕ → Item
     at i = item_at items i
 
-    -- a statement on a thread's path is an item, and so is its drain where it stores
+    -- A statement on a thread's path is an item, and so is its drain if it is a store into the store buffer.
     pub item_there : (t j : ℕ) (s : S) (b : Bool)
         → length paths ≡ length program
         → t < length program
@@ -265,7 +265,7 @@ module _ {S : Type 0} (language : Language S) where
         let (i, li, is) = has_from 0 program paths t t j (item t j b) (omega arith) len l h there in
         (i, li, get_or_default items i _ (item t j b) li ∙ is)
 
-    -- what an item of a choice is
+    -- The item is on its thread's path: its statement, or the drain of a store.
     pub record IsItemOnPath (a : Item) : Type 0 where
       pub statement : S
       pub within : a.thread < length program
@@ -277,11 +277,11 @@ module _ {S : Type 0} (language : Language S) where
     all_real = each_item IsItemOnPath 0 _ paths (λ k u at_u l j s b h e store.
         let same : u ≡ k = omega arith in rw same (record { statement = s; within = l; on = h; at = e; store = store }))
 
-    -- each item of a choice is one on its paths
+    -- Each item of a path assignment is on its paths.
     pub IsItemOnPath-of_member : (i : ℕ) → i < length items → IsItemOnPath (at i)
     IsItemOnPath-of_member i l = All-get_or IsItemOnPath items i _ l all_real
 
-    -- the threads go up with the numbers
+    -- Threads increase with the indices.
     pub threads_up : (i j : ℕ) → i ≤ j → j < length items → (at i).thread ≤ (at j).thread
     threads_up i j le l = elim (cases_eq i j) [
       | inl e ↦ rw e (omega arith)
@@ -293,7 +293,7 @@ module _ {S : Type 0} (language : Language S) where
 
     module _ (forward : (t : ℕ) → JumpsForward language (thread_code program t))
         (choice : IsPathAssignment language program paths) where
-      -- of the items of one thread the `thread_rank`s go up with the numbers
+      -- Within a thread the `thread_rank`s increase with the indices.
       pub slot_goes_up : (i j : ℕ)
           → i < j
           → j < length items
@@ -306,7 +306,7 @@ module _ {S : Type 0} (language : Language S) where
           (λ t l. path_up (thread_code program t) 0 (thread_code paths t) (forward t) (whole program paths choice t l))) less l
           same
 
-      -- and the numbers with the `thread_rank`s
+      -- Within a thread the indices increase with the `thread_rank`s.
       pub number_less : (i j : ℕ)
           → i < length items
           → (at i).thread ≡ (at j).thread
@@ -318,7 +318,7 @@ module _ {S : Type 0} (language : Language S) where
         | inr (inr g) ↦ absurd (omega (arith, less, slot_goes_up j i g li (sym same)))
       ]
 
-      -- a thread, a position, and whether it is the drain, name one item
+      -- A thread, a position and the kind of an item determine its index.
       pub same_number : (i j : ℕ)
           → i < length items
           → j < length items
@@ -334,7 +334,7 @@ module _ {S : Type 0} (language : Language S) where
             | inr (inr g) ↦ absurd (omega (arith, slot_goes_up j i g li (sym same)))
           ]
 
-      -- the statement at an item's position is an item, and so is the drain of the store there
+      -- The statement at an item's position is an item, and so is the drain if it is a store into the store buffer.
       pub beside : (i : ℕ) (b : Bool) (l : i < length items)
           → (b ≡ true → IsStoring (IsItemOnPath-of_member i l).statement)
           → HasItem items (item (at i).thread (at i).position b)

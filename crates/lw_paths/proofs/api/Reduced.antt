@@ -1,5 +1,5 @@
--- The reduced ones of the fixed pairs of a choice's items come to the same as all: a relation that goes on from item to item has the
--- ones exactly where it has the others. So the orders that keep them are the same, and they decide the same.
+-- The transitive reduction of the fixed pairs is equivalent to them: a transitive relation has the reduced pairs if and only if it has all.
+-- So the same orders respect them, and they have the same closure.
 use Rattle.lw_paths.proofs.Common.{◌≡◌, ℕ, zero, suc, ◌<◌, ◌≤◌, ◌⊎◌, ◌↔◌, inl, inr, List, [], length, Option}
 use Rattle.lw_paths.proofs.Common.{Some, None, Bool, true, false, refl, sym, ap, ◌∙◌, arith, All, cases_eq}
 use Rattle.lw_paths.proofs.Common.{All-head, Before, IsOrderedByPath, IsLinearExtension, All-parts, Leads}
@@ -13,9 +13,9 @@ use Rattle.lw_paths.proofs.api.FixedPairs.{fixed_up}
 use Rattle.lw_paths.proofs.api.Numbering.{threads_up}
 
 module _ {S : Type 0} (language : Language S) (program : List (List S)) where
-  -- ---- a relation that has the reduced pairs has all that are ordered
+  -- ---- a transitive relation that has the reduced pairs has all ordered pairs
   module _ (R : ℕ → ℕ → Type 0) (go_on : (i j k : ℕ) → R i j → R j k → R i k) where
-    -- an item is that of a number, or is related to it
+    -- The item is the optional one, or related to it.
     abbrev Reaches : ℕ → Option ℕ → Type 0
     Reaches i None = ⊥
     Reaches i (Some m) = (i ≡ m) ⊎ R i m
@@ -28,7 +28,7 @@ module _ {S : Type 0} (language : Language S) (program : List (List S)) where
     behind_kept (Some m) n i kept (inl same) = rw same (All-head Related (m, n) [] kept)
     behind_kept (Some m) n i kept (inr h) = go_on i m n h (All-head Related (m, n) [] kept)
 
-    -- what reaches a last item is related to the next one, if that is behind it
+    -- An item that reaches a last item is related to the next item, if that comes after the last one.
     fixed_kept : (d w b : Bool) (last : LastItems) (n i : ℕ)
         → All Related (fixed_at d w last n)
         → (b ≡ true → (d ≡ true) ⊎ (w ≡ true))
@@ -45,7 +45,7 @@ module _ {S : Type 0} (language : Language S) (program : List (List S)) where
 
       module _ (up : (i j : ℕ) → i ≤ j → j < length all → (at i).thread ≤ (at j).thread)
           (has : All Related (transitive_reduction language program all).fixed) where
-        -- each item before number n, of a thread, reaches the last statement or the last drain
+        -- Each item of the thread before index n reaches the last statement or the last drain.
         abbrev Covers : ℕ → ℕ → LastItems → Type 0
         Covers n t last = (b : Bool) (i : ℕ) → i < n → (at i).thread ≡ t → (at i).is_drain ≡ b → Reaches i (last_by b last)
 
@@ -84,13 +84,13 @@ module _ {S : Type 0} (language : Language S) (program : List (List S)) where
             (reduced-at all language program Related has j l) ordered
             (covers_there j l (covers j (omega arith)) (at i).is_drain i less same refl)
 
-      -- and one that has all these has the reduced pairs
+      -- A relation that has all ordered pairs has the reduced ones.
       has_reduced : HasOrdered language program R all → All Related (transitive_reduction language program all).fixed
       has_reduced has =
           each_reduced all language program Related
           (λ b m n less l same is ordered. has m n less l same (λ drain. ordered (sym is ∙ drain)))
 
-  -- ---- of a choice
+  -- ---- a path assignment
   module _ (paths : List (List ℕ)) where
     abbrev items : List Item
     items = items_of language program paths
@@ -105,7 +105,7 @@ module _ {S : Type 0} (language : Language S) (program : List (List S)) where
           → All (λ p. R p.0 p.1) (transitive_reduction language program items).fixed
       reduced_from_all has = has_reduced R go_on items (has_ordered language program paths R go_on has)
 
-    -- the orders that keep them are the same
+    -- The same orders respect the reduced pairs and all pairs.
     pub same_orders : (order : List ℕ)
         → IsLinearExtension (transitive_reduction language program items) order
         ↔ IsLinearExtension (constraints_of language program items) order
@@ -114,7 +114,7 @@ module _ {S : Type 0} (language : Language S) (program : List (List S)) where
       λ is. (is.0, reduced_from_all (Before order) (λ i j k a b. omega (arith, a, b)) is.1),
     )
 
-    -- a walk along the ones leads along each of the others
+    -- All fixed pairs of the path assignment's items.
     abbrev fixed : List (ℕ × ℕ)
     fixed = (constraints_of language program items).fixed
 
@@ -127,18 +127,18 @@ module _ {S : Type 0} (language : Language S) (program : List (List S)) where
     reduced_lead : All (λ p. Leads reduced p.0 p.1) fixed
     reduced_lead = all_from_reduced (Leads reduced) (leads_on reduced) (leads_itself reduced)
 
-    -- they decide the same pairs, and leave as many ways
+    -- The reduced pairs have the same closure as all pairs.
     pub same_decided : (p : ℕ × ℕ) → IsOrderedByPath reduced p ↔ IsOrderedByPath fixed p
     same_decided p = (decided_along fixed reduced fixed_lead p, decided_along reduced fixed reduced_lead p)
 
-    -- so as many orders are counted by either
+    -- The reduced pairs have the same number of orientations as all pairs.
     pub same_ways : orientation_count (transitive_reduction language program items)
         ≡ orientation_count (constraints_of language program items)
     same_ways =
         same_count (transitive_reduction language program items) (constraints_of language program items)
         (reduced_up language program items) (fixed_up language program items) fixed_lead reduced_lead refl
 
-  -- as many orders are counted by reduced pairs as by all, of items that are those of a choice
+  -- The number of orientations by the reduced pairs is that by all pairs, if the items are a path assignment's.
   pub ways_given : (given : List Item) (paths : List (List ℕ))
       → given ≡ items_of language program paths
       → orientation_count (transitive_reduction language program given)

@@ -1,5 +1,5 @@
--- The reduced ones of the fixed pairs of items, in either language, item by item: each goes up along a thread. And the items with
--- them and their conflicts are well-formed.
+-- The reduced fixed pairs of items, in either language, item by item: each is ascending, within a thread. And items with these pairs and
+-- their conflicts are well-formed.
 use Rattle.lw_paths.proofs.Common.{◌≡◌, Bool, true, false, ℕ, zero, suc, ◌+◌, ◌<◌, ◌≤◌, ◌==◌, ◌⊎◌, List, []}
 use Rattle.lw_paths.proofs.Common.{◌++◌, length, drop, drop-cons, flat_map, Option, Some, None, refl, ap, ◌∙◌}
 use Rattle.lw_paths.proofs.Common.{subst, inl, inr, arith, All, eq-eqb, ne_eqb, cases_eq, cond-true}
@@ -10,15 +10,15 @@ use Rattle.lw_paths.proofs.Common.{needs_earlier_drains, fixed_from, constraints
 use Rattle.lw_paths.proofs.Common.{IsWellFormed}
 use Rattle.lw_paths.proofs.api.FixedPairs.{constraints_well_formed}
 
--- where the item before is of the same thread t, the last items up to it are the thread's
+-- If the item before is of the same thread t, its last items are the thread's.
 pub last_same : (t u : ℕ) (last : LastItems) → t ≡ u → last_of_thread t u last ≡ last
 last_same t u last e = cond-true (t == u) last none_before (eq-eqb t u e)
 
--- where the item before is of another thread, this thread has no last items yet
+-- If the item before is of another thread, this thread has no last items yet.
 pub last_other : (t u : ℕ) (last : LastItems) → (t ≡ u → ⊥) → last_of_thread t u last ≡ none_before
 last_other t u last ne = cond-false (t == u) last none_before (ne_eqb t u ne)
 
--- of a thread's last items the statement (false) or the drain (true)
+-- Of a thread's last items, the statement (false) or the drain (true).
 abbrev pub last_by : Bool → LastItems → Option ℕ
 last_by true last = last.drain
 last_by false last = last.statement
@@ -28,8 +28,7 @@ module _ (Q : ℕ × ℕ → Type 0) (n : ℕ) where
   All-edge_from None each = All-nil Q
   All-edge_from (Some m) each = All-cons Q (m, n) [] (each m refl) (All-nil Q)
 
-  -- what holds of the pair of item n with the last statement, and with the last drain where n stands behind drains, holds of all
-  -- its reduced pairs
+  -- What holds of item n's pair with the last statement, and with the last drain if n comes after drains, holds of all its reduced pairs.
   pub All-fixed_at : (d w : Bool) (last : LastItems)
       → ((m : ℕ) → last.statement ≡ Some m → Q (m, n))
       → ((d ≡ true) ⊎ (w ≡ true) → (m : ℕ) → last.drain ≡ Some m → Q (m, n))
@@ -58,21 +57,21 @@ module _ (all : List Item) where
   abbrev it : ℕ → Item
   it i = item_at all i
 
-  -- the thread of the item before number n
+  -- The thread of the item before index n.
   abbrev pub thread_upto : ℕ → ℕ
   thread_upto zero = 0
   thread_upto (suc n) = (it n).thread
 
-  -- The last statement and the last drain before number n, of the thread that the item before it is of.
+  -- The last statement and the last drain before index n, of the thread of the item before n.
   abbrev pub last_upto : ℕ → LastItems
   last_upto zero = none_before
   last_upto (suc n) = record_last (it n).is_drain (last_of_thread (thread_upto n) (it n).thread (last_upto n)) n
 
-  -- the last items of the thread of number n
+  -- The last items of the thread of item n.
   abbrev pub last_at : ℕ → LastItems
   last_at n = last_of_thread (thread_upto n) (it n).thread (last_upto n)
 
-  -- a last item stands before, on the thread, and is a statement or a drain as it is named
+  -- Each last item is before n, of the thread, and a statement or a drain as its field says.
   abbrev AreLast : ℕ → ℕ → LastItems → Type 0
   AreLast n t last = (b : Bool) (m : ℕ) → last_by b last ≡ Some m → (m < n) × ((it m).thread ≡ t) × ((it m).is_drain ≡ b)
 
@@ -115,7 +114,7 @@ module _ (all : List Item) where
     whole : (transitive_reduction language program all).fixed ≡ flat_map fixed_of (indices 0 (length all))
     whole = fixed_is (length all) 0 (omega arith)
 
-    -- what holds of all reduced pairs holds of those of item n
+    -- What holds of all reduced pairs holds of those of item n.
     pub reduced-at : (Q : ℕ × ℕ → Type 0)
         → All Q (transitive_reduction language program all).fixed
         → (n : ℕ)
@@ -123,7 +122,7 @@ module _ (all : List Item) where
         → All Q (fixed_of n)
     reduced-at Q each n l = All-index Q fixed_of 0 _ (rw whole at each) n (omega arith) (omega arith)
 
-    -- what holds of each last item of a thread with an item behind it holds of all reduced pairs
+    -- What holds of each last item of a thread with a later item holds of all reduced pairs.
     pub each_reduced : (Q : ℕ × ℕ → Type 0)
         → ((b : Bool) (m n : ℕ)
         → m < n
@@ -140,12 +139,12 @@ module _ (all : List Item) where
         (λ ordered m e. (let (less, same, is) = last true m e in each true m n less (omega (arith, l)) same is (λ _. ordered))))))
 
 module _ {S : Type 0} (language : Language S) (program : List (List S)) where
-  -- each reduced pair goes up
+  -- Each reduced pair is ascending.
   pub reduced_up : (items : List Item) → AreAscending (length items) (transitive_reduction language program items).fixed
   reduced_up items =
       each_reduced items language program (λ p. (p.0 < p.1) × (p.1 < length items)) (λ b m n less l same is ordered. (less, l))
 
-  -- items that aren't too many are well-formed with their reduced pairs
+  -- Items within the limit are well-formed with their reduced pairs.
   pub reduced_well_formed : (items : List Item)
       → length items ≤ most_items
       → IsWellFormed (transitive_reduction language program items)
@@ -153,7 +152,7 @@ module _ {S : Type 0} (language : Language S) (program : List (List S)) where
       let is : IsWellFormed (constraints_of language program items) = constraints_well_formed language program items few in
       record { few = few; fixed_up = reduced_up items; conflicts_up = is.conflicts_up; sorted = is.sorted }
 
-  -- items that aren't too many are well-formed with their reduced pairs and their conflicts
+  -- Items within the limit are well-formed with their reduced pairs and their conflicts.
   pub well_formed_with : (items : List Item) (fixed conflicts : List (ℕ × ℕ))
       → length items ≤ most_items
       → fixed ≡ fixed_from language program 0 0 none_before items

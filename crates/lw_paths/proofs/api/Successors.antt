@@ -1,4 +1,4 @@
--- Where statements lead: the list of the positions that may follow one.
+-- The list of the successors of a statement.
 use Rattle.lw_paths.proofs.Common.{◌≡◌, ℕ, ◌+◌, ◌<◌, ◌≤◌, Bool, true, false, List, [], ◌∷◌, length, Option}
 use Rattle.lw_paths.proofs.Common.{Some, None, refl, sym, ap, ◌∙◌, inl, inr, ◌⊎◌, slice_get, arith, Contains}
 use Rattle.lw_paths.proofs.Common.{eq-eqb, ne_eqb, true≢false, cases_eq, slice_get_within, same_Some}
@@ -7,7 +7,7 @@ use Rattle.lw_paths.proofs.Common.{falls_through, Operation, Branch, JumpsForwar
 use Rattle.lw_paths.proofs.Common.{successor_list, successors}
 use Rattle.lw_paths.proofs.api.Members.{not-Contains-nil, of_one, Contains-head, Contains-tail, Contains-cons}
 
--- the next position and a target are on the list of both
+-- The list of the next position and a target contains both.
 pub next_and_target-has : (next to k : ℕ) → (k ≡ to) ⊎ (k ≡ next) → Contains (next_and_target next to) k
 next_and_target-has next to k o = elim (cases_eq next to) [
   | inl e ↦ rw (eq-eqb next to e) (Contains-head next k [] (elim o [ inl h ↦ e ∙ sym h | inr h ↦ sym h ]))
@@ -17,7 +17,7 @@ next_and_target-has next to k o = elim (cases_eq next to) [
   ])
 ]
 
--- nothing but the next position and a target is on the list of both
+-- The list of the next position and a target contains only these.
 pub next_and_target-only : (next to k : ℕ) → Contains (next_and_target next to) k → (k ≡ to) ⊎ (k ≡ next)
 next_and_target-only next to k c = elim (cases_eq next to) [
   | inl e ↦ inr (of_one next k (rw (eq-eqb next to e) at c))
@@ -25,11 +25,11 @@ next_and_target-only next to k c = elim (cases_eq next to) [
       elim (Contains-cons next k (to ∷ []) (rw (ne_eqb next to ne) at c)) [ inl h ↦ inr (sym h) | inr r ↦ inl (of_one to k r) ]
 ]
 
--- a list of one position has it once
+-- A singleton has no duplicates.
 one_once : (k : ℕ) → IsDuplicateFree (k ∷ [])
 one_once k = (not-Contains-nil k, tt)
 
--- the next position and a target are each listed once
+-- The list of the next position and a target has no duplicates.
 next_and_target-once : (next to : ℕ) → IsDuplicateFree (next_and_target next to)
 next_and_target-once next to = elim (cases_eq next to) [
   | inl e ↦ rw (eq-eqb next to e) (one_once next)
@@ -38,18 +38,18 @@ next_and_target-once next to = elim (cases_eq next to) [
       (λ c. elim (Contains-cons to next [] c) [ inl h ↦ ne (sym h) | inr h ↦ not-Contains-nil next h ], one_once to)
 ]
 
--- each position that may follow is listed once, also where a jump leads to the next
+-- The list of successors has no duplicates, even if a jump targets the next position.
 pub led_to-once : (o : Option ℕ) (goes : Bool) (j : ℕ) → IsDuplicateFree (successor_list o goes j)
 led_to-once None goes j = one_once (j + 1)
 led_to-once (Some to) true j = next_and_target-once (j + 1) to
 led_to-once (Some to) false j = one_once to
 
--- an operation without a target goes on to the next statement
+-- An operation without a target falls through to the next statement.
 goes_without : (o : Operation) → branch_target o ≡ None → falls_through o ≡ true
 goes_without (Branch c to) e = absurd cc
 goes_without _ e = refl
 
--- each position that follows by the target or by going on is on the list
+-- The list contains each successor, by the target or by falling through.
 led_to-has : (o : Option ℕ) (goes : Bool) (j k : ℕ)
     → ((goes ≡ true) × (k ≡ j + 1)) ⊎ (o ≡ Some k)
     → Contains (successor_list o goes j) k
@@ -60,7 +60,7 @@ led_to-has (Some to) false j k (inl (g, e)) = absurd (true≢false (sym g))
 led_to-has (Some to) true j k (inr e) = next_and_target-has (j + 1) to k (inl (sym (same_Some to k e)))
 led_to-has (Some to) false j k (inr e) = Contains-head to k [] (same_Some to k e)
 
--- each position on the list follows by the target or by going on
+-- The list contains only successors, by the target or by falling through.
 led_to-only : (o : Option ℕ) (goes : Bool) (j k : ℕ)
     → (o ≡ None → goes ≡ true)
     → Contains (successor_list o goes j) k
@@ -71,21 +71,21 @@ led_to-only (Some to) true j k on c =
 led_to-only (Some to) false j k on c = inr (ap Some (sym (of_one to k c)))
 
 module _ {S : Type 0} (language : Language S) where
-  -- each position that may follow a statement is on its list
+  -- The list of a statement's successors contains each.
   pub successors-has : (o : Option S) (s : S) (j k : ℕ)
       → o ≡ Some s
       → IsFlowSuccessor language o j k
       → Contains (successors language s j) k
   successors-has o s j k e f = led_to-has _ (falls_through (language.operation_of s)) j k (rw e at f)
 
-  -- each position on a statement's list may follow it
+  -- The list of a statement's successors contains only these.
   pub successors-only : (o : Option S) (s : S) (j k : ℕ)
       → o ≡ Some s
       → Contains (successors language s j) k
       → IsFlowSuccessor language o j k
   successors-only o s j k e c = rw e (led_to-only _ _ j k (goes_without (language.operation_of s)) c)
 
-  -- the flow of a code whose jumps lead forward goes on, at most to the end
+  -- If jumps go forward, a successor is later in the code, at most at its end.
   pub follows_within : (code : List S) (j k : ℕ)
       → JumpsForward language code
       → IsFlowSuccessor language (slice_get code j) j k
@@ -98,7 +98,7 @@ module _ {S : Type 0} (language : Language S) where
           let h : j < length code = slice_get_within code j s e in (omega (arith, at), omega (arith, at, h))
       go (Some s) e (inr to) = is j s e k to
 
-  -- each position on a statement's list lies behind it, at most at the end of the code
+  -- Each listed successor is later in the code, at most at its end.
   pub led_within : (code : List S) (j k : ℕ) (s : S)
       → JumpsForward language code
       → slice_get code j ≡ Some s

@@ -1,4 +1,4 @@
--- The orders of all choices, as they are counted, are the total that the limits speak of; and a program has one total.
+-- The computed number of orders of all path assignments is the total of the limits' definition, which determines it.
 use Rattle.lw_paths.proofs.Common.{◌≡◌, ℕ, ◌+◌, List, [], ◌∷◌, refl, sym, ◌∙◌, subst, inl, inr, arith, All}
 use Rattle.lw_paths.proofs.Common.{Contains, ◌↔◌, IsDuplicateFree, Language, JumpsForward, HasOrderCount}
 use Rattle.lw_paths.proofs.Common.{HaveOrderCounts, IsTotalOrderCount, constraints_of, items_of}
@@ -21,7 +21,7 @@ module _ {S : Type 0} (language : Language S) (program : List (List S)) where
   have_orders (paths ∷ choices) =
       (orders_at_choice language program paths, orders_of language program choices, has_orders paths, have_orders choices, refl)
 
-  -- the sum that the code counts, `total_of`, is a total by the definition, where jumps lead forward
+  -- If jumps go forward, the computed sum `total_of` satisfies the definition of the total.
   pub total_is : All (JumpsForward language) program → IsTotalOrderCount language program (total_of language program)
   total_is forward = record {
     choices = path_assignments language program;
@@ -30,14 +30,14 @@ module _ {S : Type 0} (language : Language S) (program : List (List S)) where
     orders = have_orders (path_assignments language program);
   }
 
-  -- ---- there is one total
+  -- ---- the total is unique
   one_count : (paths : List (List ℕ)) (n m : ℕ)
       → HasOrderCount language program paths n
       → HasOrderCount language program paths m
       → n ≡ m
   one_count paths n m = ways_are_one (constraints_of language program (items_of language program paths)) n m
 
-  -- one of some choices, and the others, with their orders
+  -- One of some path assignments, and the others, with their numbers of orders.
   record Parted (one : List (List ℕ)) (choices : List (List (List ℕ))) (n : ℕ) : Type 0 where
     pub others : List (List (List ℕ))
     pub orders : ℕ
@@ -114,13 +114,13 @@ module _ {S : Type 0} (language : Language S) (program : List (List S)) where
       )) have p.others_have in
       omega (arith, sum, p.sum, first, rest)
 
-  -- a program has only one total
+  -- The definition determines a program's total.
   pub one_total : (n m : ℕ) → IsTotalOrderCount language program n → IsTotalOrderCount language program m → n ≡ m
   one_total n m a b =
       one_sum a.choices b.choices n m a.once b.once (λ c. ((λ h. (b.all c).1 ((a.all c).0 h)), λ h. (a.all c).1 ((b.all c).0 h)))
       a.orders b.orders
 
-  -- no test is both past a limit and within the limits
+  -- No test is both past a limit and within the limits.
   pub limits_part : (f : ListFault) → f ≢ Memory → LimitFaultIsTrue language program f → IsWithinLimits language program → ⊥
   limits_part TooManyItems other many within = within.0 many
   limits_part TooManyOrders other many within =

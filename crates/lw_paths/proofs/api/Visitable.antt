@@ -1,11 +1,11 @@
--- A well-formed test of either language is a program whose choices can be visited.
+-- The path assignments of a well-formed test of either language can be visited.
 use Rattle.lw_paths.proofs.Common.{◌≡◌, ℕ, ◌≤◌, inl, inr, [], Some, length, sym, subst, slice_get, arith}
 use Rattle.lw_paths.proofs.Common.{cases_lt, get_or_past, All-weaker, All-get_or, thread_code, Language, Test}
 use Rattle.lw_paths.proofs.Common.{IsWellFormedThread, JumpsForward, IsVisitable}
 use Rattle.lw_litmus.specs.WellFormed.{IsWellFormed}
 
 module _ {S : Type 0} (language : Language S) (test : Test S) (is : IsWellFormed language test) where
-  -- the threads of a well-formed test are a program whose choices can be visited
+  -- The path assignments of a well-formed test can be visited.
   pub visitable : language.most ≤ 32 → IsVisitable language test.threads
   visitable short = record {
     few = omega (arith, is.as_many, is.head.few);
@@ -15,7 +15,7 @@ module _ {S : Type 0} (language : Language S) (test : Test S) (is : IsWellFormed
     forward = All-weaker (IsWellFormedThread language (length test.head.locs)) _ (λ code t. t.forward) _ is.code;
   }
 
-  -- each thread's jumps lead forward, and so they do in the empty code past the last
+  -- The jumps of each thread go forward, and so do those of the empty code past the last thread.
   pub forward_of : (t : ℕ) → JumpsForward language (thread_code test.threads t)
   forward_of t = elim (cases_lt t (length test.threads)) [
     | inl h ↦

@@ -1,23 +1,23 @@
--- Two lists in one strict order that have the same elements are one.
+-- Two strictly sorted lists with the same elements are equal.
 use Rattle.lw_report.proofs.Common.{◌≡◌, ◌↔◌, ℕ, suc, ◌⊎◌, inl, inr, List, [], ◌∷◌, refl, sym, ap, ◌∙◌, subst}
 use Rattle.lw_report.proofs.Common.{arith, All, Contains, AllPairs, nat_cmp, Less, slice_cmp}
 use Rattle.lw_report.proofs.Common.{nat_list_cmp_total, tied_itself, All-contains, TestHead, FinalState}
 use Rattle.lw_report.proofs.Common.{IsReport, report_text, ProjectedState, AreStatesOf, Claim}
 use Rattle.lw_report.proofs.Common.{not-Contains-nil, Contains-head, Contains-tail, Contains-cons}
 
--- ---- pairs
+-- ---- lists whose elements are pairwise related
 
 module _ {X : Type 0} (R : X → X → Type 0) where
-  -- of a list whose items stand in a relation in pairs, the first does to all behind it
+  -- If a list's elements are pairwise related, the first is related to all after it.
   pub from_front : (x : X) (xs : List X) → AllPairs R (x ∷ xs) → All (R x) xs
   from_front x xs h = λ k d lt. h 0 (suc k) d (omega arith) (omega (arith, lt))
 
-  -- of a list whose items stand in a relation in pairs, so do those behind the first
+  -- If a list's elements are pairwise related, so are those of its tail.
   pub from_rest : (x : X) (xs : List X) → AllPairs R (x ∷ xs) → AllPairs R xs
   from_rest x xs h = λ i j d less lt. h (suc i) (suc j) d (omega (arith, less)) (omega (arith, lt))
 
 module _ {X : Type 0} (R : X → X → Type 0) (strict : (x y : X) → R x y → R y x → ⊥) where
-  -- what the rest of one list has, the rest of the other has
+  -- If strictly sorted lists start with the same element, the elements of one tail are in the other.
   rest_has : (x y : X) (xs ys : List X)
       → x ≡ y
       → All (R x) xs
@@ -32,7 +32,7 @@ module _ {X : Type 0} (R : X → X → Type 0) (strict : (x y : X) → R x y →
     | inr k ↦ k
   ]
 
-  -- two lists in a strict order with the same elements are one
+  -- Two strictly sorted lists with the same elements are equal.
   pub one_list : (xs ys : List X)
       → AllPairs R xs
       → AllPairs R ys
@@ -59,11 +59,11 @@ module _ {X : Type 0} (R : X → X → Type 0) (strict : (x y : X) → R x y →
 
 -- ---- states
 
--- no row of words is below itself
+-- The order of word lists is irreflexive.
 pub not_below_itself : (xs : List ℕ) → slice_cmp nat_cmp xs xs ≡ Less → ⊥
 not_below_itself xs h = let e = tied_itself nat_list_cmp_total xs in cc
 
--- of two states at most one is below the other
+-- The order of states by their words is asymmetric.
 pub strict_words : (first later : ProjectedState)
     → slice_cmp nat_cmp first.words later.words ≡ Less
     → slice_cmp nat_cmp later.words first.words ≡ Less
@@ -71,7 +71,7 @@ pub strict_words : (first later : ProjectedState)
 strict_words first later h k = not_below_itself first.words (nat_list_cmp_total.trans first.words later.words first.words h k)
 
 module _ (head : TestHead) (Has Also : FinalState → Type 0) (same : (o : FinalState) → Has o ↔ Also o) where
-  -- sets with the same outcomes have the same states
+  -- A set of outcomes determines its list of states.
   pub one_list_of_states : (states others : List ProjectedState)
       → AreStatesOf head Has states
       → AreStatesOf head Also others
@@ -81,7 +81,7 @@ module _ (head : TestHead) (Has Also : FinalState → Type 0) (same : (o : Final
       a.sorted b.sorted (λ s h. let e = (a.exactly s).0 h in (b.exactly s).1 (e.0, (same e.0).0 e.1, e.2))
       (λ s h. let e = (b.exactly s).0 h in (a.exactly s).1 (e.0, (same e.0).1 e.1, e.2))
 
-  -- sets with the same outcomes have the same report
+  -- A set of outcomes determines its report.
   pub one_report : (claim : Claim) (text other : List ℕ)
       → IsReport head Has claim text
       → IsReport head Also claim other

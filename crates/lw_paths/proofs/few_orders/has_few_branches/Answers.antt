@@ -2,7 +2,7 @@ use Rattle.lw_paths.proofs.Common.{◌≡◌, ℕ, ◌+◌, ◌-◌, ◌<◌, �
 use Rattle.lw_paths.proofs.Common.{sum_by, sum_by-cons, sum_by-take-drop, drop_more, common_steps}
 use Rattle.lw_paths.proofs.few_orders.has_few_branches.Goals as goal
 
--- the room that is left when one more is taken
+-- The remaining room after one more element's count is subtracted.
 room_left : {X : Type 0} (f : X → ℕ) (xs : List X) (i : ℕ) (x : X) (room count most : ℕ)
     → i < length xs
     → x ≡ get_or xs i x

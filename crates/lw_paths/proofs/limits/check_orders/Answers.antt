@@ -3,7 +3,7 @@ use Rattle.lw_paths.proofs.api.Counting.{VisitorView, IsCounter, Counts, all_cou
 use Rattle.lw_paths.proofs.limits.check_orders.Given.{Over}
 use Rattle.lw_paths.proofs.limits.check_orders.Goals as goal
 
--- the view of a counter
+-- The counter as a visitor.
 abbrev counting : (g : Over) → VisitorView g.row.S.Denot (Counter g.row.S.Denot g.row.A.Denot g.row.B.Denot)
 counting g = record {
   program = λ v. v.program.now;

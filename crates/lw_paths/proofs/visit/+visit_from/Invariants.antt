@@ -1,6 +1,6 @@
 use Rattle.lw_paths.proofs.Common.{suc, ◌+◌, ◌-◌, ◌*◌, length, most_threads, most_instructions, choice_of}
 use Rattle.lw_paths.proofs.visit.+visit_from.Given as goal
 
--- the threads whose paths are still to come, then the statements
+-- The threads whose paths remain, and then the remaining statements, decrease with each recursive call.
 abbrev pub decreases-visit_from : goal.decreases-visit_from
 decreases-visit_from g l = suc most_instructions * (most_threads - length (choice_of l.choice)) + (most_instructions - l.at)

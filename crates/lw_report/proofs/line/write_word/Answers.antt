@@ -2,7 +2,7 @@ use Rattle.lw_report.proofs.Common.{◌++◌, ◌∙◌, ap, sym, codes, refl, a
 use Rattle.lw_report.proofs.Common.{Bytes, then_written, pushed}
 use Rattle.lw_report.proofs.line.write_word.Goals as goal
 
--- a digit, and what ends a word
+-- The word is a single digit, followed by the character that ends it.
 pub returns-then-word-lt10 : goal.returns-then-word-lt10
 unfolding lib.Utf8.encode
 returns-then-word-lt10 g c =

@@ -3,7 +3,7 @@ use Rattle.lw_report.proofs.Truths.{or_left_is, or_right_is, and_left_is, and_ri
 use Rattle.lw_report.proofs.Truths.{location_is}
 use Rattle.lw_report.proofs.truth.+holds.Goals as goal
 
--- the indices are there, since the proposition speaks of the outcome
+-- The indices are in range, since the proposition mentions only the outcome's threads and locations.
 pub bounds-as_slice-index : goal.bounds-as_slice-index
 bounds-as_slice-index g n c = omega (
   arith,
@@ -42,7 +42,7 @@ returns-in-Neg g n c =
     ap not (c.holds.ensures ∙ ap (λ p. is_true (formula_of p) o) c.deref.ensures)
     ∙ ap (λ p. is_true (formula_of p) o) (sym c.in-Neg.is)
 
--- of both: where the left part is true, and where it isn't
+-- A conjunction, whether its left part is true or false.
 pub returns-then-holds : goal.returns-then-holds
 returns-then-holds g n c =
     let o = c.args.outcome.now in
@@ -56,7 +56,7 @@ returns-else-holds g n c =
     let left = c.holds-in-Both.ensures ∙ ap (λ p. is_true (formula_of p) o) c.deref-in-Both.ensures in
     and_left_is _ _ _ c.if-holds.false left ∙ ap (λ p. is_true (formula_of p) o) (sym c.in-Both.is)
 
--- of either: where the left part is true, and where it isn't
+-- A disjunction, whether its left part is true or false.
 pub returns-then-holds-2 : goal.returns-then-holds-2
 returns-then-holds-2 g n c =
     let o = c.args.outcome.now in
