@@ -1,4 +1,4 @@
--- Where each state that was found is looked at, all final states were found.
+-- If every state found is expanded, all reachable final states are found.
 use Rattle.lw_search.proofs.Common.{◌≡◌, ℕ, zero, suc, ◌≤◌, Some, List, [], ◌∷◌, length, sym, subst, arith}
 use Rattle.lw_search.proofs.Common.{slice_get, IsTrue, slice_get_within, Event, flat_memory, Instr}
 use Rattle.lw_search.proofs.Common.{MachineRunsTo, is_final, State, Components, Visited, IsCovered}
@@ -6,7 +6,7 @@ use Rattle.lw_search.proofs.Common.{SearchInvariant}
 
 module _ (program : List (List Instr)) (found : List State)
     (served : (i : ℕ) (s : State) → slice_get found i ≡ Some s → (e : Event) → IsCovered program found s e) where
-  -- the index of a state that was found
+  -- The state is among those found.
   abbrev pub IsFound : State → Type 0
   IsFound s = (i : ℕ) × (slice_get found i ≡ Some s)
 
@@ -23,7 +23,7 @@ module _ (program : List (List Instr)) (found : List State)
       let m = r.3 es end ran final in
       run-found n m.0 r.0 end (omega (arith, few, m.1)) (r.1, r.2) m.2 final
 
--- all final states to which events lead from the start were found
+-- Every final state reachable from the start is among those found.
 pub final_state-found : (program : List (List Instr)) (start : State) (tables : Components) (visited : Visited)
     (found : List State)
     → SearchInvariant program start tables visited found (length found)

@@ -21,10 +21,10 @@ pub item_at : {X : Type 0} (xs ys : List X) (i : ℕ) (x : X)
     → slice_get xs i ≡ Some x
 item_at xs ys i x same within is = slice_get_read xs _ i x refl within (rw (← same) is)
 
--- ---- the end of a state
+-- ---- final states
 
 module _ (program : List (List Instr)) (tables : Components) (key : List ℕ) where
-  -- the first threads of whatever state the key stands for are at their ends
+  -- In each state that the key represents, the first n threads have terminated.
   abbrev pub AreDone : ℕ → Type 0
   AreDone n =
       (t : ℕ) (code : List Instr) (p : Processor)
@@ -109,7 +109,7 @@ reaches_index-start visited zero origin at not program start tables found closed
 reaches_index-start visited (suc i) origin at not program start tables found closed s invariant there =
     let predecessor = invariant.predecessor i origin s at there in absurd (omega (arith, predecessor.before, not))
 
--- A number without a row names no events.
+-- A number without a row stands for no events.
 pub events_at-none : (runs : List (List (ℕ × Bool))) (n : ℕ) → slice_get runs n ≡ None → events_at runs n ≡ []
 events_at-none runs n none = ap events_of (get_or_past runs n [] (length-past runs n none))
 
@@ -120,7 +120,7 @@ reaches_index-past visited index none program start tables found closed s invari
     let origin = get_some visited.origins index (subst (λ n. index < n) (sym invariant.origin_count) lt) in
     absurd (let e = sym none ∙ origin.1 in cc)
 
--- The events to the parent, followed by those of the origin's run, lead to the state.
+-- The events to the parent, followed by those of the origin's run, reach the state.
 pub reaches_index-next : (visited : Visited) (index : ℕ) (origin : Origin) (more : List Event)
     → (index ≤ origin.parent → ⊥)
     → slice_get visited.origins index ≡ Some origin
@@ -201,7 +201,7 @@ module _ (program : List (List Instr)) (tables : Components) (visited : Visited)
       keys : outcomes_of fs ≡ outcomes_of es ++ o ∷ []
       keys = ap outcomes_of grown ∙ map-append _ es ((o, events) ∷ [])
 
-  -- the first states are gathered
+  -- The outcomes of the first n states are collected.
   pub record CollectsFirst (n : ℕ) (entries : OutcomeEntries) : Type 0 where
     pub covered : (start : State) (found : List State) (closed : ℕ) (i : ℕ) (s : State)
         → SearchInvariant program start tables visited found closed
@@ -227,7 +227,7 @@ module _ (program : List (List Instr)) (tables : Components) (visited : Visited)
     lead = λ start found closed invariant. here.lead start found closed invariant (first.lead start found closed invariant);
   }
 
-  -- all that is gathered is a list of all, in whatever sequence
+  -- The collected outcomes are those of all states, in any order.
   pub collects_all : (n : ℕ) (es fs : OutcomeEntries)
       → CollectsFirst n es
       → length visited.keys ≤ n

@@ -1,4 +1,4 @@
--- A search that has visited all states that it found gives a complete list.
+-- A search that has expanded all states that it found gives a complete list.
 use Rattle.lw_search.proofs.Common.{◌≡◌, ◌↔◌, List, [], ◌∷◌, length, refl, sym, subst, inl, inr, All, Event}
 use Rattle.lw_search.proofs.Common.{FinalState, flat_memory, ReplaysTo, IsMachineOutcome}
 use Rattle.lw_search.proofs.Common.{initial_machine_state, without_evictions, X86Test, Contains, All-weaker}

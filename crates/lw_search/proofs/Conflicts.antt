@@ -66,7 +66,7 @@ newest_buffered-none (e ∷ es) x none (suc k) entry at = newest_buffered-none e
 -- ---- the other threads
 
 module _ (program : List (List Instr)) (tables : Components) (key : List ℕ) (t x : ℕ) (written : Bool) where
-  -- The first n threads never conflict, thread t left out.
+  -- None of the first n threads, except t, ever conflicts with the access.
   abbrev pub FirstNeverConflict : ℕ → Type 0
   FirstNeverConflict n =
       (u : ℕ) (p : Processor)

@@ -1,4 +1,4 @@
--- Partial-order reduction: an invisible event can be put first in any run that ends, and the run gets no longer by it.
+-- Partial-order reduction: an invisible event can be moved to the front of any run to a final state, and the run becomes no longer.
 use Rattle.lw_search.proofs.Common.{◌≡◌, ◌≢◌, ℕ, suc, ◌<◌, ◌≤◌, inl, inr, ⊎_elim, Bool, true, false}
 use Rattle.lw_search.proofs.Common.{true≢false, Option, Some, None, Ok, List, [], ◌∷◌, length, refl, sym, ap}
 use Rattle.lw_search.proofs.Common.{ap₂, if◌then◌else◌, ◌∙◌, subst, arith, slice_get, slice_set, slice_index}
@@ -21,9 +21,9 @@ use Rattle.lw_search.proofs.Common.{drain_access, event_access, NeverConflicts, 
 use Rattle.lw_search.proofs.Common.{IsForward, State, Covers}
 use Rattle.lw_memory.specs.declared.request.Access.TheVariants as to
 
--- ---- acts over memory
+-- ---- effects on memory
 
--- No act changes the number of locations.
+-- No effect changes the number of locations.
 words_length : (act : EventEffect) (m n : List ℕ) (q : Processor) → EffectLeadsTo m act q n → length n ≡ length m
 words_length (LocalStep next) m n q d = ap length d.1
 words_length (MemoryAccess x to.Load next) m n q d = ap length d.1
@@ -31,7 +31,7 @@ words_length (MemoryAccess x (to.Store w) next) m n q d = ap length d.1 ∙ leng
 words_length (MemoryAccess x (to.Update change) next) m n q d = ap length d.1 ∙ length-set m x _
 words_length _ m n q d = absurd d
 
--- An act that is possible over some memory is possible over each.
+-- An effect that is enabled over some memory is enabled over each.
 possible_elsewhere : (act : EventEffect) (m n k : List ℕ) (q : Processor)
     → EffectLeadsTo m act q n
     → (r : Processor) × (l : List ℕ) × EffectLeadsTo k act r l
@@ -39,7 +39,7 @@ possible_elsewhere (LocalStep next) m n k q d = (next, k, (refl, refl))
 possible_elsewhere (MemoryAccess x access next) m n k q d = (_, _, (refl, refl))
 possible_elsewhere _ m n k q d = absurd d
 
--- A step that is possible has an instruction.
+-- A step that is enabled has an instruction.
 record HasInstr (o : Option Instr) (p q : Processor) (m n : List ℕ) : Type 0 where
   instr : Instr
   is : o ≡ Some instr
@@ -49,7 +49,7 @@ has_instr : (o : Option Instr) (p q : Processor) (m n : List ℕ) → EffectLead
 has_instr None p q m n d = absurd d
 has_instr (Some i) p q m n d = record { instr = i; is = refl; does = d }
 
--- ---- a step beside the drain of its thread
+-- ---- a step and a drain of the same thread
 
 -- A processor with one entry more in its store buffer, the oldest.
 abbrev with_oldest : ℕ × ℕ → Processor → Processor
@@ -76,7 +76,8 @@ DrainEffect-of_drain p q m n does = go p.buffer refl does
       words = d.1;
     }
 
--- An operation that is done with one entry more, which stays the oldest, changes no memory, and is done as well after the drain of it.
+-- An operation that is done while the store buffer has the entry as its oldest preserves that entry and memory, and is enabled after the
+-- drain of the entry too.
 record Passes (entry : ℕ × ℕ) (o : Operation) (behind q : Processor) (m n : List ℕ) : Type 0 where
   new : Processor
   is : q ≡ with_oldest entry new
@@ -134,7 +135,7 @@ operation-passes entry _ behind q m n range does = absurd does
 
 -- ---- accesses
 
--- The location that an act accesses is the one of its operation's access, which it writes if the access does.
+-- The location that an effect accesses is that of its operation's access, and the effect writes it only if the access does.
 operation_access-is : (o : Operation) (p : Processor) (x : ℕ)
     → accessed_location (operation_effect o p) ≡ Some x
     → operation_access o ≡ Some (x, event_writes (operation_effect o p))
@@ -163,7 +164,7 @@ eviction-accesses_none : (b : Bool) (x y : ℕ) → accessed_location (if b then
 eviction-accesses_none true x y at = cc
 eviction-accesses_none false x y at = cc
 
--- What never conflicts with a write does not access the location, and what never conflicts with a read does not write it.
+-- An operation that never conflicts with a write does not access the location, and one that never conflicts with a read does not write it.
 no_conflict : (written : Bool) (o : Operation) → ((written || writes o) ≡ true → ⊥) → (written ≡ false) × (is_locked o ≡ false)
 no_conflict true o never = absurd (never refl)
 no_conflict false o never = (refl, go (is_store o) (is_locked o) never)
@@ -186,7 +187,7 @@ module _ (program : List (List Instr)) (forward : IsForward program) where
   event_access-is locs (Drain t) p x at = drain_access-is p.buffer p x at
   event_access-is locs (Evict t y) p x at = absurd (eviction-accesses_none (nat_lt y locs) y x at)
 
-  -- ---- what never conflicts
+  -- ---- operations that never conflict
 
   -- A thread that never conflicts with an access does not conflict with it by its next event.
   never_conflicts-now : (locs : ℕ) (f : Event) (p : Processor) (x : ℕ) (written : Bool)
@@ -307,21 +308,21 @@ module _ (program : List (List Instr)) (forward : IsForward program) where
 
   -- ---- an invisible event, and another event before it
 
-  -- Events e and f, each done from the same state, to `first` and to `mid`: each is done after the other, with the same end, and e is
-  -- still invisible.
+  -- Events e and f are enabled in the same state, and lead to `first` and `mid`: each is enabled after the other, with the same end, and e
+  -- is still invisible.
   record Exchanged (e f : Event) (first mid : State) : Type 0 where
     end : State
     again : MachineTransition flat_memory program e mid (Ok tt) end
     behind : MachineTransition flat_memory program f first (Ok tt) end
     still : IsInvisible program e mid
 
-  -- The position of a thread that is to step.
+  -- The position of a thread whose next instruction is to be executed.
   stands : (e : Event) (s : State) (p : Processor) → slice_get s.processors (cpu_of e) ≡ Some p → (j : ℕ) × IsAtPosition e j s
   stands (Step t) s p at = (p.position, position_at s t at)
   stands (Drain t) s p at = (0, tt)
   stands (Evict t x) s p at = (0, tt)
 
-  -- An event is possible in each state with the same state of its thread.
+  -- An event is enabled in each state with the same state of its thread.
   possible_in : (e : Event) (s first mid : State) (p : Processor)
       → MachineTransition flat_memory program e s (Ok tt) first
       → slice_get s.processors (cpu_of e) ≡ Some p
@@ -355,7 +356,7 @@ module _ (program : List (List Instr)) (forward : IsForward program) where
     g : EventOccurrence program f s mid
     g = effect_of_event program f s mid done
 
-    -- The acts of an invisible event and of another thread's do not conflict.
+    -- The effects of an invisible event and of another thread's event do not conflict.
     apart : cpu_of f ≢ cpu_of e
         → (r p : Processor)
         → slice_get s.processors (cpu_of f) ≡ Some r
@@ -411,7 +412,7 @@ module _ (program : List (List Instr)) (forward : IsForward program) where
 
   -- ---- the step and the drain of one thread
 
-  -- The step and the drain of a thread, each done from s, lead to the same state after the other.
+  -- The step and the drain of a thread, both enabled in s, lead to the same state in either order.
   record Diamond (t : ℕ) (s stepped drained : State) : Type 0 where
     entry : ℕ × ℕ
     behind : Processor
@@ -504,7 +505,7 @@ module _ (program : List (List Instr)) (forward : IsForward program) where
       drained_is : drained ≡ state (slice_set s.processors t b.behind) written
       drained_is = y.is ∙ ap₂ (λ q m. state (slice_set s.processors t q) m) b.left b.words
 
-  -- The step is invisible, and the drain is first.
+  -- The step is invisible, and the drain comes first.
   own_drain : (t : ℕ) (s first mid : State)
       → MachineTransition flat_memory program (Step t) s (Ok tt) first
       → IsInvisible program (Step t) s
@@ -523,7 +524,7 @@ module _ (program : List (List Instr)) (forward : IsForward program) where
             (ap (λ (r : Processor). step_access (slice_get (thread_code program t) r.position)) same ∙ is));
       }
 
-  -- The drain is invisible, and the step is first.
+  -- The drain is invisible, and the step comes first.
   own_step : (t : ℕ) (s first mid : State)
       → MachineTransition flat_memory program (Drain t) s (Ok tt) first
       → IsInvisible program (Drain t) s
@@ -543,7 +544,7 @@ module _ (program : List (List Instr)) (forward : IsForward program) where
 
   -- ---- runs
 
-  -- A run that is no longer.
+  -- A run that is at most as long.
   record ShorterRun (events : List Event) (from end : State) : Type 0 where
     more : List Event
     few : length more ≤ length events
@@ -573,7 +574,7 @@ module _ (program : List (List Instr)) (forward : IsForward program) where
         let r = rest both.end both.again both.still in
         record { more = f ∷ r.more; few = omega (arith, r.few); ran = (both.end, both.behind, r.ran) }
 
-    -- The run's first event, if the rest of the run is known.
+    -- The run's first event, if the claim holds for the rest of the run.
     event-first : (e f : Event)
         → MachineTransition flat_memory program e s (Ok tt) first
         → IsInvisible program e s

@@ -26,7 +26,7 @@ slice_get-Contains (y ∷ xs) zero x at = Contains-head y x xs (same_item y x at
     same_item y x e = cc
 slice_get-Contains (y ∷ xs) (suc i) x at = Contains-tail y x xs (slice_get-Contains xs i x at)
 
--- A list whose items are at one index each has no duplicates.
+-- A list of which each item has only one index has no duplicates.
 each_once-distinct : {X : Type 0} (xs : List X) → AreDistinct xs → IsDuplicateFree xs
 each_once-distinct [] distinct = tt
 each_once-distinct (x ∷ xs) distinct = (
@@ -42,10 +42,10 @@ All-slice_get : {X : Type 0} (P : X → Type 0) (xs : List X) → ((i : ℕ) (x 
 All-slice_get P [] each = All-nil P
 All-slice_get P (x ∷ xs) each = All-cons P x xs (each 0 x refl) (All-slice_get P xs (λ i y at. each (suc i) y at))
 
--- ---- what was found
+-- ---- the states found
 
 module _ (test : X86Test) (tables : Components) (visited : Visited) (found : List State) where
-  -- whatever was visited of the found states
+  -- The states found are reachable, whatever number of them was expanded.
   pub found-are_reachable : (closed : ℕ)
       → SearchInvariant test.threads (initial_machine_state test test.head.init_words) tables visited found closed
       → AreReachable test found
@@ -56,7 +56,7 @@ module _ (test : X86Test) (tables : Components) (visited : Visited) (found : Lis
         (suc i) i s (omega arith) at);
   }
 
-  -- A search that visited each state that it found visited so many.
+  -- A search that expanded each state that it found visited that number of states.
   pub visits-found :
       SearchInvariant test.threads (initial_machine_state test test.head.init_words) tables visited found (length visited.keys)
       → Visits test (length visited.keys)

@@ -1,4 +1,4 @@
--- Tables in which each value has its index as number, without duplicates.
+-- Tables of values without duplicates, in which a value's number is its index.
 use Rattle.lw_search.proofs.Common.{◌≡◌, ℕ, zero, suc, Bool, true, false, true≢false, Option, Some, List, []}
 use Rattle.lw_search.proofs.Common.{◌∷◌, ◌++◌, refl, sym, ap, ◌∙◌, subst, not, slice_get, get_or}
 use Rattle.lw_search.proofs.Common.{if◌then◌else◌, length, ◌⊎◌, inl, inr, same_Some, position, nat_eq}
@@ -7,7 +7,7 @@ use Rattle.lw_search.proofs.Common.{second_so, pointwise, pointwise_decides, beq
 use Rattle.lw_search.proofs.Common.{list_any, position-Some, slice_get-get_or, IsPrefix, AreDistinct, Extends}
 use Rattle.lw_search.proofs.Common.{Components}
 
--- The item at the index of the first that equals x is x.
+-- The item at the position of x is x.
 pub position-item : {X : Type 0} (eq : X → X → Bool)
     → ((x y : X) → eq x y ≡ true → x ≡ y)
     → (xs : List X) (x : X) (r : Option ℕ) (i : ℕ)
@@ -18,7 +18,7 @@ position-item eq decides xs x r i found is =
     let p = position-Some (eq x) xs i x (sym found ∙ is) in
     slice_get-get_or xs i x p.0 ∙ ap Some (sym (decides x (get_or xs i x) p.1))
 
--- An item is at its index after others are appended too.
+-- Appending items preserves the item at an index.
 pub slice_get-append_left : {X : Type 0} (xs ys : List X) (i : ℕ) (x : X)
     → slice_get xs i ≡ Some x
     → slice_get (xs ++ ys) i ≡ Some x
@@ -33,7 +33,7 @@ or_false : (a b : Bool) → (a || b) ≡ false → (a ≡ false) × (b ≡ false
 or_false true b e = absurd (true≢false e)
 or_false false b e = (refl, e)
 
--- No item equals x if the test for one fails.
+-- No item equals x if `list_any` finds none.
 pub absent-any : {X : Type 0} (eq : X → X → Bool)
     → ((x y : X) → Decides (eq x y) (x ≡ y))
     → (xs : List X) (x : X)
@@ -47,7 +47,7 @@ absent-any {X} eq decides (y ∷ xs) x none zero at =
 absent-any {X} eq decides (y ∷ xs) x none (suc i) at =
     absent-any eq decides xs x (or_false (eq x y) (list_any (eq x) xs) none).1 i at
 
--- A list without duplicates has none after a new item is appended.
+-- Appending a new item preserves that a list has no duplicates.
 pub distinct-append : {X : Type 0} (xs : List X) (x : X)
     → ((i : ℕ) → slice_get xs i ≡ Some x → ⊥)
     → AreDistinct xs
@@ -60,7 +60,7 @@ distinct-append {X} xs x absent distinct i j y at and = go (get_append xs x y i 
     go (inl a) (inr b) = absurd (absent i (a ∙ ap Some (sym b.1)))
     go (inr a) (inl b) = absurd (absent j (b ∙ ap Some (sym a.1)))
 
--- A list after an item is inserted that it may have already.
+-- Inserting an item that may be present already preserves the list as a prefix.
 pub prefix-insert_if : {X : Type 0} (b : Bool) (ks new : List X) (k : X)
     → new ≡ (if b then ks else (ks ++ k ∷ []))
     → IsPrefix ks new
@@ -81,7 +81,7 @@ distinct-insert {X} eq decides ks new k is distinct = go (list_any (eq k) ks) re
 
 -- ---- states of threads
 
--- The test that `==` of states of threads is.
+-- The test that `==` of thread states computes.
 abbrev pub thread_eq : Processor → Processor → Bool
 thread_eq p q =
     nat_eq p.position q.position
@@ -118,7 +118,7 @@ thread_decides p q = (
       && (pointwise_decides entry_eq-decides p.buffer q.buffer).1 (ap (λ (z : Processor). z.buffer) e) i)),
 )
 
--- The test that `==` of runs is.
+-- The test that `==` of runs computes.
 abbrev pub run_eq : List (ℕ × Bool) → List (ℕ × Bool) → Bool
 run_eq run other = pointwise (λ x y. nat_eq x.0 y.0 && beq x.1 y.1) run other
 

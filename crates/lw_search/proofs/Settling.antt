@@ -17,7 +17,7 @@ use Rattle.lw_search.proofs.Common.{OthersNeverConflict, append_assoc}
 use Rattle.lw_search.proofs.InvisibleEvents.{covers-invisible_event}
 use Rattle.lw_search.proofs.Rows.{extends-refl, extends-trans}
 
--- Jumps of a well-formed program lead forward, and so do its other instructions.
+-- Jumps of a well-formed program go forward, and so do its other instructions.
 pub well_formed-forward : (test : X86Test) → IsWellFormedProgram test → IsForward test.threads
 well_formed-forward test formed t k j i at leads =
     ⊎_elim (λ lt.
@@ -40,7 +40,7 @@ module _ (program : List (List Instr)) where
       (b.0, omega (arith, a.1, b.1), b.2)
 
   module _ (tables : Components) (key : List ℕ) (t : ℕ) where
-    -- The other threads are represented, whatever the state of thread t and the memory are.
+    -- The other threads are represented, whatever the state of thread t and the memory.
     others-set_thread : (s : State) (q : Processor) (n : List ℕ)
         → RepresentsOthers tables key t s
         → RepresentsOthers tables key t (set_thread s t q n)
@@ -90,7 +90,7 @@ module _ (program : List (List Instr)) where
         same : set_thread mid t r o ≡ end
         same = ap (λ ps. state ps o) (set-set s.processors t q r)
 
-    -- A run that settles, and then one event more or none.
+    -- A run of invisible events, extended by at most one event.
     pub settles-more : (run : List (ℕ × Bool)) (event : Option (ℕ × Bool)) (p q r : Processor) (m n o : List ℕ)
         → Settles program tables key t (events_of run) p m q n
         → Settles program tables key t (events_of (option_to_list event)) q n r o
@@ -170,7 +170,7 @@ module _ (program : List (List Instr)) where
 -- ---- keys
 
 module _ (program : List (List Instr)) where
-  -- The loaded thread's own number makes a key of all threads.
+  -- With the loaded thread's number, the key represents all threads.
   represents-loaded : {old new : Components} (key next : List ℕ) (t : ℕ) (s : State) (p q : Processor) (n : List ℕ)
       → RepresentsOthers old key t s
       → slice_get s.processors t ≡ Some p
@@ -202,7 +202,7 @@ module _ (program : List (List Instr)) where
             ∙ extended.threads _ r (stands.threads u r ne (sym (get-set_other s.processors t u q (λ e. ne (sym e))) ∙ at))
       ]
 
-  -- What a loaded thread took, with its number in the key.
+  -- What a loaded thread did, with its number in the key.
   pub settles_from-loaded : {old new : Components} (key next : List ℕ) (t : ℕ) (p q : Processor) (m n : List ℕ)
       (run longer more : List (ℕ × Bool))
       → longer ≡ run ++ more
@@ -258,7 +258,7 @@ module _ (program : List (List Instr)) where
   settles_from-weaker From Other key m run longer weaker a =
       record { extended = a.extended; more = a.more; appended = a.appended; settled = λ s other. a.settled s (weaker s other) }
 
-  -- Where no event was taken, the key is the same.
+  -- If no event was taken, the key is the same.
   pub settles_from-unmoved : {tables : Components} (key : List ℕ) (t : ℕ) (p q : Processor) (m n : List ℕ)
       (run longer more : List (ℕ × Bool))
       → longer ≡ run ++ more

@@ -1,4 +1,4 @@
--- A search begins with the start of the program.
+-- A search starts with the initial state of the program.
 use Rattle.lw_search.proofs.Common.{◌≡◌, ◌≢◌, ℕ, zero, suc, ◌+◌, ◌<◌, ◌≤◌, Bool, inl, inr, Some, None, List}
 use Rattle.lw_search.proofs.Common.{[], ◌∷◌, length, refl, sym, ap, ◌∙◌, subst, arith, slice_get, slice_index}
 use Rattle.lw_search.proofs.Common.{cases_lt, slice_get_past, slice_get_within, same_Some, initial_processor}
@@ -7,7 +7,7 @@ use Rattle.lw_search.proofs.Common.{State, Components, Visited, Extends, Represe
 use Rattle.lw_search.proofs.Rows.{distinct-append}
 use Rattle.lw_search.proofs.ThreadStates.{slice_index-past}
 
--- The key has the memory's number and the numbers of the first n threads at their starts, followed by 0.
+-- The key has the memory's number and those of the first n threads at their initial states, followed by 0.
 pub record IsStartKey (tables : Components) (memory : ℕ) (key : List ℕ) (begins : List ℕ) (regs : List (List ℕ))
     (n : ℕ) : Type 0 where
   pub size : length key ≡ 5
@@ -90,13 +90,13 @@ start_key-represents {tables} test memory key n begun all = record {
   unused = λ t le. begun.unused t (subst (λ m. m ≤ t) (length-map test.head.init_regs initial_processor ∙ sym all) le);
 }
 
--- A list without an item at an index is no longer than that.
+-- A list without an item at index n has at most n items.
 pub length-past : {X : Type 0} (xs : List X) (n : ℕ) → slice_get xs n ≡ None → length xs ≤ n
 length-past [] n none = omega arith
 length-past (x ∷ xs) zero none = absurd cc
 length-past (x ∷ xs) (suc n) none = let h = length-past xs n none in omega arith
 
--- A search whose tables were empty has found the start.
+-- A search with empty tables has found the initial state.
 pub start-invariant : {tables : Components} (test : X86Test) (key : List ℕ) (parent : ℕ) (run : List (ℕ × Bool))
     (visited : Visited)
     → IsWellFormedProgram test

@@ -1,4 +1,4 @@
--- The invariant of a search after a state is expanded: what was found stays so, and the successors are covered.
+-- The invariant of a search after a state is expanded: all states found remain found, and the successors are covered.
 use Rattle.lw_search.proofs.Common.{◌≡◌, ℕ, zero, suc, ◌+◌, ◌<◌, ◌≤◌, ◌⊎◌, inl, inr, Some, None, Ok, List, []}
 use Rattle.lw_search.proofs.Common.{◌∷◌, ◌++◌, length, refl, sym, ap, ap₂, ◌∙◌, subst, arith, slice_get}
 use Rattle.lw_search.proofs.Common.{slice_set, slice_index, length-append, length-set, get-set_same, cases_lt}
@@ -19,7 +19,7 @@ use Rattle.lw_search.proofs.Rows.{slice_get-append_left, distinct-append, extend
 
 -- ---- keys
 
--- Lists of one length with equal items are equal.
+-- Lists of the same length with equal items are equal.
 list-ext : {X : Type 0} (xs ys : List X)
     → ((t : ℕ) (x y : X) → slice_get xs t ≡ Some x → slice_get ys t ≡ Some y → x ≡ y)
     → length xs ≡ length ys
@@ -29,13 +29,13 @@ list-ext (x ∷ xs) (y ∷ ys) same size =
     ap₂ (λ z zs. z ∷ zs) (same 0 x y refl refl) (list-ext xs ys (λ t a b at and. same (suc t) a b at and) (omega arith))
 list-ext _ _ same size = absurd (omega arith)
 
--- A number at an index of a list, read as one that is there.
+-- A number in range is the one at its index.
 slice_index-get : (xs : List ℕ) (i x : ℕ) → slice_get xs i ≡ Some x → slice_index xs i ≡ x
 slice_index-get [] i x at = absurd cc
 slice_index-get (y ∷ xs) zero x at = same_Some y x at
 slice_index-get (y ∷ xs) (suc i) x at = slice_index-get xs i x at
 
--- A key represents one state of so many threads.
+-- A key represents at most one state with a number of threads.
 represents-unique : (tables : Components) (key : List ℕ) (s r : State)
     → Represents tables key s
     → Represents tables key r
@@ -47,7 +47,7 @@ represents-unique tables key s r a b size =
     list-ext s.processors r.processors (λ t p q at and. same_Some p q (sym (a.threads t p at) ∙ b.threads t q and)) size in
     λ i. record { processors = processors i; memory = memory i }
 
--- A state has one key, since each value has one number.
+-- A state has at most one key, since each value has one number.
 key-unique : (tables : Components) (key other : List ℕ) (s : State)
     → AreDistinct tables.threads
     → AreDistinct tables.memories
@@ -121,7 +121,7 @@ module _ (program : List (List Instr)) where
     ran = came.ran;
   }
 
-  -- the same states were found, by new tables
+  -- The invariant holds with larger tables, of the same states.
   pub invariant-extended : {old new : Components} {visited : Visited} {start : State} {found : List State} {closed : ℕ}
       → Extends old new
       → SearchInvariant program start old visited found closed
@@ -140,11 +140,11 @@ module _ (program : List (List Instr)) where
     covered = invariant.covered;
   }
 
-  -- the states with one more
+  -- The states found, with one appended.
   abbrev append_state : List State → State → List State
   append_state found end = found ++ end ∷ []
 
-  -- What was found with one state more
+  -- What was found, with one more state.
   record Inserted (start : State) (new : Components) (now : Visited) (found : List State) (closed : ℕ)
       (end : State) : Type 0 where
     more : List State
@@ -210,7 +210,7 @@ module _ (program : List (List Instr)) where
       there = get-append_middle found end [] (length found) refl;
     }
       where
-        -- the state is new, since its key is
+        -- The state is new, since its key is.
         unknown : (i : ℕ) → slice_get found i ≡ Some end → ⊥
         unknown i at =
             let key = get_some visited.keys i (subst (λ n. i < n) (sym invariant.key_count) (slice_get_within found i end at)) in
@@ -287,7 +287,7 @@ module _ (program : List (List Instr)) where
     either (inl new_key) = added new_key.0 new_key.1 new_key.2
     either (inr old_key) = known_key old_key.0 old_key.1 old_key.2
 
-  -- What an event leads to, with the invisible events that follow, is found.
+  -- The state that an event, followed by invisible events, reaches is found.
   pub successor_covered : {old settled_tables new : Components} {visited now : Visited} (at t : ℕ) (e : ℕ × Bool)
       (key all next : List ℕ) (p : Processor) (m n : List ℕ) (parent : ℕ) (run : List (ℕ × Bool))
       → e.0 ≡ t
@@ -343,9 +343,9 @@ module _ (program : List (List Instr)) where
           let once = MachineTransition-deterministic program (event_of e) s mid after (Ok tt) (Ok tt) done f in
           (taken.end, a.index, a.there, subst (λ z. Covers program taken.end z) once.1 taken.covers)
 
-  -- ---- events that are not possible
+  -- ---- events that are not enabled
 
-  -- where an event is not possible, nothing more has to be found
+  -- If an event is not enabled, nothing more has to be found.
   pub covered-impossible : {tables : Components} {visited : Visited} (at : ℕ) (key : List ℕ) (e : Event) (Is : State → Type 0)
       → ((s next : State)
       → (found : List State)
@@ -363,7 +363,7 @@ module _ (program : List (List Instr)) where
         absurd (never s next found (invariant.represents at key s keyed stood) (invariant.thread_count at s stood) done);
   }
 
-  -- an event of a thread that is not there
+  -- No event of a thread out of range is enabled.
   pub no_event-without_thread : (e : Event) (s next : State)
       → length s.processors ≡ length program
       → slice_get program (cpu_of e) ≡ None
@@ -376,7 +376,7 @@ module _ (program : List (List Instr)) where
       let there = get_some program (cpu_of e) lt in
       absurd (let both = sym none ∙ there.1 in cc)
 
-  -- an event whose act is refused
+  -- No event whose effect is refused is enabled.
   pub no_event-refused : (e : Event) (s next : State) (p : Processor) (stop : Stop)
       → slice_get s.processors (cpu_of e) ≡ Some p
       → event_effect program (length s.memory) e p ≡ Refused stop
@@ -388,7 +388,7 @@ module _ (program : List (List Instr)) where
       subst (λ a. EffectLeadsTo s.memory a d.to d.words) act
       (subst (λ (r : Processor). EffectLeadsTo s.memory (event_effect program (length s.memory) e r) d.to d.words) same d.does)
 
-  -- the place that is at hand is the thread's, if it has one
+  -- The loaded thread state is the thread's.
   pub loaded_thread : {tables : Components} (key : List ℕ) (s : State) (t : ℕ) (code : List Instr) (p : Processor)
       → Represents tables key s
       → length s.processors ≡ length program
@@ -400,7 +400,7 @@ module _ (program : List (List Instr)) where
       let r = get_some s.processors t lt in
       r.1 ∙ ap Some (sym (loaded r.0 (stands.threads t r.0 r.1)))
 
-  -- an event that is done with what is at hand is one of each state with the key
+  -- An event that is enabled in the loaded thread state is enabled in each state with the key.
   pub expands-done : {old new : Components} {visited now : Visited} (at t : ℕ) (e : Event) (key : List ℕ) (code : List Instr)
       (p q : Processor) (m n : List ℕ) (act : EventEffect) (Served : State → List State → Type 0)
       → cpu_of e ≡ t
@@ -426,7 +426,7 @@ module _ (program : List (List Instr)) where
       add_successor start found closed s invariant stood keyed
       (subst (λ v. MachineTransition flat_memory program e s (Ok tt) (state (slice_set s.processors v q) n)) cpu led)
 
-  -- an event that is refused with what is at hand is refused in each state with the key
+  -- An event that is refused in the loaded thread state is refused in each state with the key.
   pub expands-refused : {tables : Components} {visited : Visited} (at t : ℕ) (e : Event) (key : List ℕ) (code : List Instr)
       (p : Processor) (stop : Stop)
       → cpu_of e ≡ t
@@ -439,9 +439,9 @@ module _ (program : List (List Instr)) where
       no_event-refused e s next p stop
       (ap (slice_get s.processors) cpu ∙ loaded_thread key s t code p stands as_many coded thread) (is (length s.memory)) done)
 
-  -- ---- one behind another
+  -- ---- events in sequence
 
-  -- what holds of what was found holds of more
+  -- What holds of the states found holds when more are found.
   abbrev pub IsMonotone : (State → List State → Type 0) → Type 0
   IsMonotone Served = (s : State) (found more : List State) → IsPrefix found more → Served s found → Served s more
 
@@ -472,7 +472,7 @@ module _ (program : List (List Instr)) where
   pub covered-monotone : (e : Event) → IsMonotone (λ s more. IsCovered program more s e)
   covered-monotone e s found more longer served = covered-prefix found more s e longer served
 
-  -- those of the first threads
+  -- The successors by the first n threads are covered.
   abbrev pub CoversThreads : ℕ → State → List State → Type 0
   CoversThreads n s more = (t : ℕ) → t < n → CoversThread program t s more
 
@@ -488,7 +488,7 @@ module _ (program : List (List Instr)) where
     | inr not ↦ let same : n ≡ t = omega arith in subst (λ u. CoversThread program u s more) same both.1
   ]
 
-  -- the events of so many threads are all, where there are no more
+  -- If there are at most n threads, all events are covered.
   covered-all : (n : ℕ) (s : State) (more : List State)
       → length program ≤ n
       → length s.processors ≡ length program
@@ -509,7 +509,7 @@ module _ (program : List (List Instr)) where
       let d : EventOccurrence program (Evict t x) s next = effect_of_event program (Evict t x) s next done in
       absurd (no_eviction program (length s.memory) t x d.from d.to s.memory d.words d.does)
 
-  -- a state is looked at
+  -- The state is expanded.
   pub state_expanded : {t0 t1 : Components} {m0 m1 : Visited} (at n : ℕ) (key : List ℕ)
       → length program ≤ n
       → slice_get m0.keys at ≡ Some key
@@ -551,7 +551,7 @@ module _ (program : List (List Instr)) where
               subst (λ z. IsCovered program a.more z e) one
               (covered-all n there.0 a.more few (invariant.thread_count at there.0 there.1) a.holds e)
 
--- what a step comes to, by the code of its thread
+-- The effect of a step, from the code of its thread.
 pub step_effect-is : (program : List (List Instr)) (t : ℕ) (code : List Instr) (p : Processor) (i : Instr) (o : Operation)
     → slice_get program t ≡ Some code
     → slice_get code p.position ≡ Some i

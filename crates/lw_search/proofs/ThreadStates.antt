@@ -1,30 +1,30 @@
--- What operations come to at a place.
+-- The effects of operations on a thread's state.
 use Rattle.lw_search.proofs.Common.{◌≡◌, ℕ, zero, suc, ◌+◌, ◌<◌, false, true≢false, List, [], ◌∷◌, ◌++◌}
 use Rattle.lw_search.proofs.Common.{length, take, drop, ◌==◌, refl, sym, ap, ◌∙◌, Stop, Processor}
 use Rattle.lw_search.proofs.Common.{EventEffect, Refused, if_buffer_empty, drain_effect, Option, Some, None}
 use Rattle.lw_search.proofs.Common.{newest_buffered, option_or, if◌then◌else◌, slice_get, slice_index, get_or}
 use Rattle.lw_search.proofs.Common.{take_more, BufferEmpty}
 
--- what waits for an empty buffer is refused while it has an entry
+-- An effect that waits for an empty buffer is refused while the buffer has an entry.
 pub if_buffer_empty-refused : (buffer : List (ℕ × ℕ)) (stop : Stop) (act : EventEffect)
     → (length buffer == 0) ≡ false
     → if_buffer_empty buffer stop act ≡ Refused stop
 if_buffer_empty-refused [] stop act full = absurd (true≢false full)
 if_buffer_empty-refused (entry ∷ newer) stop act full = refl
 
--- a drain is refused where there is no entry
+-- A drain is refused if there is no entry.
 pub drain_effect-refused : (buffer : List (ℕ × ℕ)) (p : Processor)
     → slice_get buffer 0 ≡ None
     → (stop : Stop) × (drain_effect buffer p ≡ Refused stop)
 drain_effect-refused [] p none = (BufferEmpty, refl)
 drain_effect-refused (entry ∷ newer) p none = absurd cc
 
--- Without the first item, a list that has none is the same.
+-- Removing the first item from an empty list leaves it empty.
 pub drop_one-none : {X : Type 0} (xs : List X) → slice_get xs 0 ≡ None → drop 1 xs ≡ xs
 drop_one-none [] none = refl
 drop_one-none (x ∷ xs) none = absurd cc
 
--- behind the end of a list of numbers there is 0
+-- Past the end of a list of numbers `slice_index` gives 0.
 pub slice_index-past : (xs : List ℕ) (i : ℕ) → slice_get xs i ≡ None → slice_index xs i ≡ 0
 slice_index-past [] i none = refl
 slice_index-past (x ∷ xs) zero none = absurd cc
@@ -44,7 +44,7 @@ or_assoc : (a b c : Option ℕ) → option_or (option_or a b) c ≡ option_or a 
 or_assoc None b c = refl
 or_assoc (Some w) b c = refl
 
--- the newest word of entries with one more behind them is that of this one, if it is for the location
+-- The newest word after an entry is appended is that entry's, if it is for the location.
 pub newest_buffered-append : (x : ℕ) (es : List (ℕ × ℕ)) (e : ℕ × ℕ)
     → newest_buffered (es ++ e ∷ []) x ≡ option_or (entry_word e x) (newest_buffered es x)
 newest_buffered-append x [] e = sym (or_none (entry_word e x))
@@ -52,7 +52,7 @@ newest_buffered-append x (d ∷ es) e =
     ap (λ q. option_or q (entry_word d x)) (newest_buffered-append x es e)
     ∙ or_assoc (entry_word e x) (newest_buffered es x) (entry_word d x)
 
--- the newest word of one entry more, counted from the oldest
+-- The newest word of the first `i + 1` entries, from that of the first i.
 pub newest_buffered-take : (x i : ℕ) (es : List (ℕ × ℕ)) (found now : Option ℕ)
     → i < length es
     → found ≡ newest_buffered (take i es) x

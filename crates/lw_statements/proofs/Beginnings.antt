@@ -1,4 +1,4 @@
--- With what statements begin, and behind what locations stand.
+-- The tokens with which statements start, and after which tokens a location may follow.
 use Rattle.lw_statements.proofs.Common.{◌≡◌, true, Option, Some, List, [], ◌∷◌, ◌++◌, refl, sym, subst, arith}
 use Rattle.lw_statements.proofs.Common.{codes, Contains, decimal, IsLocationName, register_name, Bytes}
 use Rattle.lw_statements.proofs.Common.{TokenList, name_by_test, decimal_is_number, Operands, Slot, Keyword}
@@ -9,7 +9,7 @@ use Rattle.lw_statements.proofs.api.Forms.{passes}
 use Rattle.lw_base.specs.declared.operand.Operand.TheVariants as operand
 
 module _ {W Form Stmt : Type 0} (spelling : Spelling W Form Stmt) where
-  -- Some token stands at each slot, so some tokens stand at any slots.
+  -- Each slot accepts some token, so any slots accept some tokens.
   stands : (slot : Slot W) → (t : Bytes) × (g : SlotValue slot) × Gives spelling t slot g
   stands (Keyword w) = (spelling.text_of w, tt, refl)
   stands Register = (register_name spelling.language.arch 0, 0, (omega arith, refl))
@@ -27,7 +27,7 @@ module _ {W Form Stmt : Type 0} (spelling : Spelling W Form Stmt) where
 
   -- ---- the first token
 
-  -- what can stand at the first slot of a form can begin a statement
+  -- A token that a form's first slot accepts can start a statement.
   pub begins : (form : Form) (t : Bytes)
       → Contains spelling.forms form
       → BeginsWith spelling (spelling.slots_of form) t
@@ -39,7 +39,7 @@ module _ {W Form Stmt : Type 0} (spelling : Spelling W Form Stmt) where
       ((here.0.0, behind.1.0), (here.1.0, behind.1.1)) in
       (behind.0, record { form = form; filling = whole.0 }, (there, whole.1))
 
-  -- what fills slots begins with a token that can stand at the first
+  -- Tokens that fill slots start with one that the first slot accepts.
   pub begun : (t : Bytes) (rest : TokenList) (slots : List (Slot W)) (f : Filling slots)
       → Fills spelling (t ∷ rest) slots f
       → BeginsWith spelling slots t
@@ -68,7 +68,7 @@ module _ {W Form Stmt : Type 0} (spelling : Spelling W Form Stmt) where
     located (t ∷ ts) (Location ∷ front) f h e = absurd (none_there front back e)
     located (t ∷ ts) (slot ∷ front) f h e = let r = located ts _ f.1 h.1 e in ((f.0, r.0), (h.0, r.1), r.2)
 
-  -- behind tokens that can stand in front of a form's location, a location may stand
+  -- After tokens that the slots before a form's location accept, a location may follow.
   pub before : (made : Form → Operands → Option Stmt)
       → IsSpelling spelling made
       → (form : Form) (front back : List (Slot W)) (ts : TokenList)

@@ -1,9 +1,9 @@
--- What the cause of a fault tells of its place, by the table `FaultClaim`: which fact for which cause, and what follows from it.
+-- What a fault's cause claims of its position, by the table `FaultClaim`: which fact for which cause, and what follows from it.
 use Rattle.lw_statements.proofs.Common.{◌≡◌, ℕ, sym, subst, arith, CellCause, Form, LabelTwice, TooMany}
 use Rattle.lw_statements.proofs.Common.{Memory, CellFault, IsMisfit, FaultClaim, Refused}
 use Rattle.lw_base.specs.declared.fault.CellCause.TheVariants.{Register}
 
--- the causes of a token that does not fit tell nothing of a place
+-- The causes of a token that does not fit claim nothing of a position.
 pub misfit_tells : {no_label second_label backward one_more : Type 0} (cause : CellCause)
     → IsMisfit cause
     → FaultClaim no_label second_label backward one_more cause
@@ -12,23 +12,23 @@ misfit_tells Register m =
     record { missing = λ e. absurd cc; twice = λ e. absurd cc; back = λ e. absurd cc; many = λ e. absurd cc }
 misfit_tells cause m = absurd m
 
--- the cause that memory ran out tells nothing of a place
+-- The cause that memory ran out claims nothing of a position.
 pub memory_tells : {no_label second_label backward one_more : Type 0} → FaultClaim no_label second_label backward one_more Memory
 memory_tells = record { missing = λ e. absurd cc; twice = λ e. absurd cc; back = λ e. absurd cc; many = λ e. absurd cc }
 
--- the cause `LabelTwice` tells what is so of a second label, and nothing else
+-- The cause `LabelTwice` claims a second label, and nothing else.
 pub twice_tells : {no_label second_label backward one_more : Type 0}
     → second_label
     → FaultClaim no_label second_label backward one_more LabelTwice
 twice_tells here = record { missing = λ e. absurd cc; twice = λ e. here; back = λ e. absurd cc; many = λ e. absurd cc }
 
--- the cause `TooMany` tells what is so of one more, and nothing else
+-- The cause `TooMany` claims one item too many, and nothing else.
 pub many_tells : {no_label second_label backward one_more : Type 0}
     → one_more
     → FaultClaim no_label second_label backward one_more TooMany
 many_tells here = record { missing = λ e. absurd cc; twice = λ e. absurd cc; back = λ e. absurd cc; many = λ e. here }
 
--- a cause that tells of second labels alone tells of them whatever follows from that
+-- A cause that can only claim a second label also claims what follows from it.
 pub twice_further : {here no_label there backward one_more : Type 0} {cause : CellCause}
     → (here → there)
     → FaultClaim ⊥ here ⊥ ⊥ cause
@@ -40,7 +40,7 @@ twice_further f t = record {
   many = λ e. absurd (t.many e);
 }
 
--- a cause that tells of one more alone tells of it whatever follows from that
+-- A cause that can only claim one item too many also claims what follows from it.
 pub many_further : {here no_label second_label backward there : Type 0} {cause : CellCause}
     → (here → there)
     → FaultClaim ⊥ ⊥ ⊥ here cause
@@ -52,7 +52,7 @@ many_further f t = record {
   many = λ e. f (t.many e);
 }
 
--- a fault because memory ran out refuses whatever was to be read, for that cause tells nothing of a place
+-- A fault because memory ran out rejects whatever was to be read, since its cause claims nothing of a position.
 pub refused_memory : {unfit : Type 0} {told : ℕ → CellCause → Type 0} {lies : ℕ → Type 0} (f : CellFault)
     → ((at : ℕ) → told at Memory)
     → f.cause ≡ Memory

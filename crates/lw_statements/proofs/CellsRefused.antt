@@ -1,4 +1,4 @@
--- Where a cell of a thread is refused, so is the thread.
+-- If a cell of a thread is rejected, so is the thread.
 use Rattle.lw_statements.proofs.Common.{◌≡◌, ℕ, ◌≤◌, ◌+◌, List, [], ◌∷◌, ◌++◌, drop, length, sym, ap, ◌∙◌}
 use Rattle.lw_statements.proofs.Common.{append_assoc, subst, arith, map-append, Contains-append_left}
 use Rattle.lw_statements.proofs.Common.{most_locations, IsDuplicateFree, insert_names, NameTable, Memory}
@@ -18,13 +18,13 @@ use Rattle.lw_statements.proofs.ResolvedNames.{names_in-append}
 use Rattle.lw_statements.proofs.TablesRead.{read_same, read_room}
 use Rattle.lw_statements.proofs.api.Zips.{Cut, zip_cut}
 
--- names that stand once each do so in the front of their list
+-- A prefix of a list without duplicates has none.
 once_front : (xs ys : List (List ℕ)) → IsDuplicateFree (xs ++ ys) → IsDuplicateFree xs
 once_front [] ys h = tt
 once_front (x ∷ xs) ys h = ((λ there. h.0 (Contains-append_left xs ys x there)), once_front xs ys h.1)
 
 module _ {Syntax Stmt : Type 0} (grammar : Grammar Syntax Stmt) where
-  -- a fault because memory ran out refuses the cells of a thread
+  -- A fault because memory ran out rejects the cells of a thread.
   pub column_out_of_memory : {A : Type 0} (names : NameTable) (cells : List (Cell A)) (f : CellFault)
       → f.cause ≡ Memory
       → f.at ≡ 0
@@ -32,10 +32,10 @@ module _ {Syntax Stmt : Type 0} (grammar : Grammar Syntax Stmt) where
   column_out_of_memory names cells f = refused_memory f (λ at table front rest threads says grown. tt)
 
   module _ (lawful : IsGrammar grammar) {D : Type 0} (draft_of : ℕ → Syntax → D) where
-    -- A cell behind those that were read, and before any others.
+    -- A cell, after those that were read and before the others.
     module _ {A : Type 0} (front : List (Cell A)) (before mid : NameTable) (column : DraftColumn D A)
         (drafted : ColumnDrafted grammar draft_of front before column mid) (cell : Cell A) (rest : List (Cell A)) where
-      -- what all of them say, and fits, begins with what was read
+      -- A parse of all cells starts with what was read.
       module _ (t : List (CellSyntax Syntax)) (fits : ColumnFits grammar before (cells_texts (front ++ cell ∷ rest)) t) where
         cut : Cut (ParsesCell grammar) (cells_texts front) (cell_texts cell) (cells_texts rest) t
         cut = zip_cut _ _ _ _ t (rw (map-append cell_texts front (cell ∷ rest)) at fits.0.says)
@@ -73,7 +73,7 @@ module _ {Syntax Stmt : Type 0} (grammar : Grammar Syntax Stmt) where
             ∙ sym (append_assoc (labels_of drafted.read.syntax) cut.here.labels (labels_of cut.below)) in
             once_front _ (labels_of cut.below) (subst IsDuplicateFree whole fits.0.once)
 
-      -- where the labels of this cell are refused, so are the thread's cells
+      -- If this cell's labels are rejected, so are the thread's cells.
       pub labels_refused : (f : CellFault)
           → LabelsRefused cell.tokens column.labels f
           → ColumnRefused grammar before (front ++ cell ∷ rest) f
@@ -94,7 +94,7 @@ module _ {Syntax Stmt : Type 0} (grammar : Grammar Syntax Stmt) where
         place = λ len within. r.place len (all_amid (EndsBefore len) front rest cell within).0;
       }
 
-      -- where what stands behind the labels of this cell is refused, so are the thread's cells
+      -- If what follows this cell's labels is rejected, so are the thread's cells.
       pub statement_refused : (f : CellFault) (next : ℕ) (after : LabelMap)
           → LabelsTaken cell.tokens column.count column.labels next after
           → (phrase : Phrase)

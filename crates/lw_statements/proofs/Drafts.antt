@@ -1,4 +1,4 @@
--- Reading the cells of a thread, from top to bottom: what holds when one more is read.
+-- Reading the cells of a thread, from top to bottom: the invariant when one more is read.
 use Rattle.lw_statements.proofs.Common.{◌≡◌, ℕ, ◌≤◌, ◌+◌, ◌*◌, Option, Some, None, ◌⊎◌, inl, inr, List, []}
 use Rattle.lw_statements.proofs.Common.{◌∷◌, ◌++◌, length, drop, sym, ap, ◌∙◌, arith, refl, is_some}
 use Rattle.lw_statements.proofs.Common.{slice_get, option_map, append-nil, option_len, ForSome, map-append}
@@ -16,7 +16,7 @@ use Rattle.lw_statements.proofs.Leads.{count-append, labels_of-append, leads_kno
 use Rattle.lw_statements.proofs.ResolvedNames.{number_stays, names_in-append}
 use Rattle.lw_statements.proofs.TablesRead.{AreIn, read_more}
 
--- what is at most so many is so with one more, if one comes only where it is not as many yet
+-- A count stays within its bound if an item is added only while the count is below it.
 pub at_most_room : {X : Type 0} (count most : ℕ) (o : Option X)
     → count ≤ most
     → ForSome o (λ x. count ≡ most → ⊥)
@@ -25,9 +25,9 @@ at_most_room count most None few room = omega (arith, few)
 at_most_room count most (Some x) few room = let free : count ≡ most → ⊥ = room x refl in omega (arith, few, free)
 
 module _ {Syntax Stmt D : Type 0} (grammar : Grammar Syntax Stmt) (draft_of : ℕ → Syntax → D) where
-  -- ---- what stands behind the labels of a cell, by its first token
+  -- ---- what follows the labels of a cell, by its first token
 
-  -- where the tokens behind the labels were read as a statement, and the thread has room for it, that is what stands there
+  -- If the tokens after the labels were read as a statement, and the thread has room for it, then this is the cell's statement.
   pub maybe_some : (above : ℕ) (ts : TokenList) (before : NameTable) (stmt : D) (after : NameTable)
       → (above ≡ grammar.language.most → ⊥)
       → StatementRead grammar draft_of ts before stmt after
@@ -37,7 +37,7 @@ module _ {Syntax Stmt D : Type 0} (grammar : Grammar Syntax Stmt) (draft_of : �
     read = record { syntax = Some r.syntax; says = r.says; names = r.names; made = ap Some r.made };
   }
 
-  -- where there are no tokens behind the labels, they say no statement
+  -- If no tokens follow the labels, the cell has no statement.
   pub maybe_none : (above : ℕ) (tokens : List Token) (names : NameTable)
       → None ≡ slice_get tokens 0
       → MaybeRead grammar draft_of above (token_texts tokens) names None names
@@ -75,7 +75,7 @@ module _ {Syntax Stmt D : Type 0} (grammar : Grammar Syntax Stmt) (draft_of : �
     surplus_told at cause full place (inl m) = misfit_tells cause m.0
     surplus_told at cause full place (inr (e, begins)) = rw e (many_tells (inl (full, (t, sym first, sym place, begins))))
 
-    -- where the thread has as many statements as it may have, and there are tokens behind the labels, the first is refused
+    -- If the thread has the maximal number of statements and tokens follow the labels, the first of them is rejected.
     pub surplus_refused : above ≡ grammar.language.most
         → f.at ≡ t.at
         → (IsMisfit f.cause × (CanBegin grammar t.text.now → ⊥)) ⊎ ((f.cause ≡ TooMany) × CanBegin grammar t.text.now)
@@ -86,20 +86,20 @@ module _ {Syntax Stmt D : Type 0} (grammar : Grammar Syntax Stmt) (draft_of : �
       place = λ len lies. omega (arith, place, all_at (λ (u : Token). u.at ≤ len) tokens 0 t (sym first) lies.0);
     }
 
-    -- where the tokens behind the labels are refused as a statement, so is what stands behind the labels
+    -- If the tokens after the labels are rejected as a statement, so is what follows the labels.
     pub maybe_refused : StatementRefused grammar names phrase f → MaybeRefused grammar above names phrase f
     maybe_refused r = record { none = λ known. only_some (r.none known); cause = many_further inr r.cause; place = r.place }
 
   -- ---- cells
 
-  -- the draft of what stands behind the labels counts as many statements as that says: one, or none
+  -- The draft of what follows the labels has as many statements as the syntax: one or none.
   pub held_by : (o : Option Syntax) (stmt : Option D) (f : Syntax → D)
       → stmt ≡ option_map f o
       → option_len stmt ≡ length (statements (bare o ∷ []))
   held_by None stmt f e = ap option_len e
   held_by (Some s) stmt f e = ap option_len e
 
-  -- the draft of a cell stays the same as the table grows, if its names are in the table
+  -- Inserting names into the table preserves the draft of a cell whose names are in it.
   pub draft_stays : (names ns : NameTable) (syntax : CellSyntax Syntax)
       → AreIn names (names_in grammar (syntax ∷ []))
       → draft_cell grammar draft_of (insert_names names ns) syntax ≡ draft_cell grammar draft_of names syntax
@@ -113,7 +113,7 @@ module _ {Syntax Stmt D : Type 0} (grammar : Grammar Syntax Stmt) (draft_of : �
       go None all = refl
       go (Some s) all = ap (λ (x : ℕ). Some (draft_of x s)) (number_stays names ns (grammar.name_of s) all)
 
-  -- a fresh column is what is read of no cells
+  -- A fresh column is the result of reading no cells.
   pub draft_none : {A : Type 0} (names : NameTable) (column : DraftColumn D A)
       → IsFresh column
       → ColumnDrafted grammar draft_of [] names column names
@@ -127,16 +127,16 @@ module _ {Syntax Stmt D : Type 0} (grammar : Grammar Syntax Stmt) (draft_of : �
 
   module _ {A : Type 0} (front : List (Cell A)) (before mid : NameTable) (column : DraftColumn D A)
       (drafted : ColumnDrafted grammar draft_of front before column mid) where
-    -- the column has no more statements than the language allows
+    -- The column has at most as many statements as the language allows.
     pub few_drafted : column.count ≤ grammar.language.most
     few_drafted = omega (arith, drafted.counted, drafted.few)
 
-    -- the column's map has the labels of these cells, and no others
+    -- The column's map has exactly the labels of these cells.
     pub drafted_knows : HasExactlyLabels column.labels (labels_of drafted.read.syntax)
     drafted_knows n = ap is_some (drafted.leads n) ∙ leads_known drafted.read.syntax 0 n
 
-    -- if the labels of the next cell were read, and what stands behind them, then the column with its draft is what is read of
-    -- all these
+    -- If the labels of the next cell and what follows them are read, then the column with its draft is the result of reading the cells up
+    -- to it.
     pub cell_read : (now : DraftColumn D A) (cell : Cell A) (next : ℕ) (after : NameTable) (stmt : Option D)
         → LabelsTaken cell.tokens column.count column.labels next now.labels
         → MaybeRead grammar draft_of column.count (token_texts (drop next cell.tokens)) mid stmt after

@@ -1,8 +1,8 @@
--- What a function owes where it returns early by `?`, in a clause for both cases.
+-- What a function must prove where it returns early with `?`, in a clause for both cases.
 use Rattle.lw_statements.proofs.Common.{◌≡◌, ◌⊎◌, inl, inr, Result, Ok, Err, IsErrAnd, MatchResult}
 use Rattle.lw_statements.proofs.Common.{MatchResult-at_ok, MatchResult-at_err, Memory, CellFault}
 
--- Memory ran out, in a clause for both cases: if what is owed of a fault holds of each such fault, the clause holds.
+-- If memory ran out, a clause for both cases holds if its error case holds of every such fault.
 pub out_of_memory : {T : Type 0} (P : T → Type 0) (Q : CellFault → Type 0) (r : Result T CellFault)
     → IsErrAnd r (λ f. (f.at ≡ 0) × (f.cause ≡ Memory))
     → ((f : CellFault) → f.cause ≡ Memory → f.at ≡ 0 → Q f)
@@ -10,8 +10,7 @@ pub out_of_memory : {T : Type 0} (P : T → Type 0) (Q : CellFault → Type 0) (
 out_of_memory P Q (Ok x) h refused = absurd h
 out_of_memory P Q (Err f) h refused = refused f h.1 h.0
 
--- If next is first, with a fact R of its value, or a fault because memory ran out, then what holds of first holds of next, with
--- that fact.
+-- If `next` is `first` with a further fact R, or fails because memory ran out, then `next` satisfies the clause of `first`, with that fact.
 pub kept_on : {T : Type 0} (P : T → Type 0) (Q : CellFault → Type 0) (R : Type 0) (first next : Result T CellFault)
     → MatchResult first P Q
     → MatchResult next (λ t. R × (first ≡ Ok t)) (λ f. (first ≡ Err f) ⊎ ((f.at ≡ 0) × (f.cause ≡ Memory)))
@@ -24,7 +23,7 @@ kept_on P Q R first (Err f) h made refused = go made
     go (inl same) = MatchResult-at_err P Q f same h
     go (inr memory) = refused f memory.1 memory.0
 
--- If the value of whole is a part of the value of last, and their faults are the same, then what holds of whole holds of last, of
+-- If the value of `whole` is a part of the value of `last`, and their faults are the same, then `last` satisfies the clause of `whole` for
 -- that part.
 pub part_of : {T U : Type 0} (P : T → Type 0) (Q : CellFault → Type 0) (S : U → Type 0) (part : U → T)
     (whole : Result T CellFault) (last : Result U CellFault)

@@ -1,4 +1,4 @@
--- The place of a cell's fault among the columns.
+-- The position of a cell's fault among the columns.
 use Rattle.lw_statements.proofs.Common.{◌≡◌, ℕ, suc, ◌+◌, inl, inr, ◌⊎◌, Some, List, [], ◌∷◌, ◌++◌, length}
 use Rattle.lw_statements.proofs.Common.{take, drop, refl, sym, ap, ◌∙◌, subst, arith, slice_get, Contains}
 use Rattle.lw_statements.proofs.Common.{codes, append_assoc, take-append-drop, AllZip, map-append, drop-map}
@@ -15,7 +15,7 @@ use Rattle.lw_statements.proofs.Common.{ColumnFaultIsTrue, FaultClaim}
 use Rattle.lw_statements.proofs.Causes.{twice_further, many_further}
 use Rattle.lw_statements.proofs.FrontLabels.{Labels-rest}
 
--- where a `:` stands behind the first token, the tokens begin with a label
+-- If a `:` follows the first token, the tokens start with a label.
 at_label : (tail front back : List Token) (t : Token)
     → tail ≡ front ++ t ∷ back
     → token_texts front ≡ []
@@ -24,7 +24,7 @@ at_label : (tail front back : List Token) (t : Token)
 at_label tail [] back t e none colon = rw e colon
 at_label tail (u ∷ front) back t e none colon = absurd cc
 
--- what a cause tells of a place by the table `FaultClaim`, of tokens in the columns, it tells of it by the rule of cells
+-- What a cause claims by the table `FaultClaim`, of tokens in the columns, it claims by the rule of cells.
 pub tells_by : {Syntax Stmt : Type 0} (grammar : Grammar Syntax Stmt) (names : NameTable) (columns : List (List PlacedCell))
     (at : ℕ) (cause : CellCause)
     → FaultClaim ((p : TokenPosition columns at) × IsMissing grammar p) ((p : TokenPosition columns at) × IsSecondLabel grammar p)
@@ -37,7 +37,7 @@ tells_by grammar names columns at Backward t = t.back refl
 tells_by grammar names columns at TooMany t = t.many refl
 tells_by grammar names columns at cause t = tt
 
--- The token t of a cell as one that stands in the columns, in its thread between others.
+-- The token t of a cell, as a token of the columns, in its thread between the others.
 abbrev pub standing : {A : Type 0} (others behind : List (List PlacedCell)) (cells above below : List (Cell A)) (cell : Cell A)
     → cells ≡ above ++ cell ∷ below
     → (at : ℕ) (front back : List Token) (t : Token)
@@ -59,11 +59,11 @@ standing {A} others behind cells above below cell whole at front back t in_cell 
   begins = begins;
 }
 
--- A cell of a thread, with what was read above it.
+-- A cell of a thread, and what was read above it.
 module _ {Syntax Stmt A : Type 0} (grammar : Grammar Syntax Stmt) (front rest : List (Cell A)) (cell : Cell A)
     (syntaxes : List (CellSyntax Syntax)) (says : AllZip (ParsesCell grammar) (cells_texts front) syntaxes) (at : ℕ)
     (cause : CellCause) where
-  -- if the cause of a fault in a cell's labels tells of a second label, it tells of that place in the columns
+  -- If a fault in a cell's labels claims a second label, it claims it at that position in the columns.
   pub labels_told : (before : NameTable) (labels : LabelMap)
       → HasExactlyLabels labels (labels_of syntaxes)
       → FaultClaim ⊥ (HasDuplicateLabelAt cell.tokens labels at) ⊥ ⊥ cause
@@ -92,7 +92,7 @@ module _ {Syntax Stmt A : Type 0} (grammar : Grammar Syntax Stmt) (front rest : 
             },
           )
 
-  -- if the cause of a fault behind a cell's labels tells of one more, it tells of that place in the columns
+  -- If a fault after a cell's labels claims one item too many, it claims it at that position in the columns.
   pub statement_told : (before mid : NameTable)
       → mid ≡ insert_names before (names_in grammar syntaxes)
       → (labels after : LabelMap) (next : ℕ)

@@ -1,4 +1,4 @@
--- The labels at the front of a cell, as they are read: what holds when one more is.
+-- Reading the labels at the start of a cell: the invariant when one more is read.
 use Rattle.lw_statements.proofs.Common.{◌≡◌, ℕ, zero, suc, ◌<◌, ◌≤◌, ◌+◌, ◌*◌, Bool, true, false, true≢false}
 use Rattle.lw_statements.proofs.Common.{◌||◌, Option, Some, None, List, [], ◌∷◌, ◌++◌, length, length-append}
 use Rattle.lw_statements.proofs.Common.{take, drop, refl, sym, ap, ◌∙◌, subst, arith, ◌↔◌, IsTrue, slice_get}
@@ -13,33 +13,33 @@ use Rattle.lw_statements.proofs.Common.{HasExactlyLabels, LabelsRead, LabelsFit,
 
 -- ---- tokens and their texts
 
--- a token's text stands at its index among the texts
+-- A token's text is at the token's index among the texts.
 pub get_text : (tokens : List Token) (k : ℕ) (t : Token)
     → slice_get tokens k ≡ Some t
     → slice_get (token_texts tokens) k ≡ Some t.text.now
 get_text tokens k t is = slice_get-map (λ u. u.text.now) tokens k ∙ ap (option_map (λ u. u.text.now)) is
 
--- what stands at index j of all texts but the first k stands at index k + j of all
+-- The text at index j after the first k is the text at index `k + j`.
 get_drop : (ts : TokenList) (k j : ℕ) → slice_get (drop k ts) j ≡ slice_get ts (k + j)
 get_drop [] zero j = refl
 get_drop [] (suc k) j = refl
 get_drop (x ∷ ts) zero j = let e : j ≡ zero + j = omega arith in ap (slice_get (x ∷ ts)) e
 get_drop (x ∷ ts) (suc k) j = let e : suc (k + j) ≡ suc k + j = omega arith in get_drop ts k j ∙ ap (slice_get (x ∷ ts)) e
 
--- the text at index j of all tokens but the first k is the text at index k + j of all
+-- The text at index j of the tokens after the first k is the text at index `k + j` of all.
 pub get_behind : (tokens : List Token) (k j : ℕ)
     → slice_get (token_texts (drop k tokens)) j ≡ slice_get (token_texts tokens) (k + j)
 get_behind tokens k j =
     ap (λ (ts : TokenList). slice_get ts j) (sym (drop-map (λ t. t.text.now) k tokens)) ∙ get_drop (token_texts tokens) k j
 
--- where a token stands at the index next + 1, there are next + 2 tokens at least
+-- If there is a token at the index `next + 1`, there are at least `next + 2` tokens.
 pub next_within : (tokens : List Token) (next : ℕ) (w : Bytes)
     → slice_get (token_texts tokens) (next + 1) ≡ Some w
     → next + 2 ≤ length tokens
 next_within tokens next w colon =
     omega (arith, slice_get_within (token_texts tokens) (next + 1) w colon, length-map tokens (λ t. t.text.now))
 
--- a comparison of the token at an index with a sign tells whether the sign stands there
+-- The comparison of the token at an index with a sign says whether the sign is there.
 pub sign_or_not : (ts : TokenList) (k : ℕ) (w sign : Bytes) (b : Bool)
     → slice_get ts k ≡ Some w
     → b ≡ bytes_eq w sign
@@ -51,7 +51,7 @@ sign_or_not ts k w sign b at is = (
 
 -- ---- names
 
--- a name that is found in a list is in it
+-- A name that is found in a list is in it.
 pub name_contained : (ns : List Bytes) (n : Bytes) → contains_name ns n ≡ true → Contains ns n
 name_contained [] n e = absurd cc
 name_contained (m ∷ ns) n e = go (bytes_eq m n) refl (name_contained ns n)
@@ -60,7 +60,7 @@ name_contained (m ∷ ns) n e = go (bytes_eq m n) refl (name_contained ns n)
     go true f further = (0, omega arith, (pointwise_decides unsigned_Decides m n).0 f)
     go false f further = Contains-append_right (m ∷ []) ns n (further (rw f at e))
 
--- of names that stand once each none is in both parts of the list
+-- No name is in both parts of a list without duplicates.
 pub once_apart : (ns ms : List Bytes) (n : Bytes) → IsDuplicateFree (ns ++ ms) → Contains ns n → Contains ms n → ⊥
 once_apart [] ms n once h there = let k : h.0 < 0 = h.1 in omega arith
 once_apart (m ∷ ns) ms n once h there = at h.0 h.1 h.2 (once_apart ns ms n once.1)
@@ -69,9 +69,9 @@ once_apart (m ∷ ns) ms n once h there = at h.0 h.1 h.2 (once_apart ns ms n onc
     at zero lt e further = once.0 (subst (λ (x : Bytes). Contains (ns ++ ms) x) (sym e) (Contains-append_right ns ms n there))
     at (suc k) lt e further = further (k, omega (arith, lt), e) there
 
--- ---- labels and what stands behind them
+-- ---- labels and what follows them
 
--- tokens that are labels alone are so with one more label, and its `:`, behind them
+-- Tokens that are only labels remain so when a label with its `:` is appended.
 Labels-more : (front : TokenList) (ls : List Bytes) (l : Bytes)
     → Labels front ls []
     → IsLocationName l
@@ -80,12 +80,12 @@ Labels-more front [] l h loc = rw h ([], refl, loc, refl)
 Labels-more front (k ∷ ls) l h loc =
     (h.0 ++ l ∷ codes ":" ∷ [], ap (λ (t : TokenList). t ++ l ∷ codes ":" ∷ []) h.1, h.2, Labels-more h.0 ls l h.3 loc)
 
--- tokens that are labels alone, with others behind them, are these labels and then the others
+-- Tokens that are only labels, followed by others, parse as these labels and then the others.
 pub Labels-rest : (front rest : TokenList) (ls : List Bytes) → Labels front ls [] → Labels (front ++ rest) ls rest
 Labels-rest front rest [] h = rw h refl
 Labels-rest front rest (k ∷ ls) h = (h.0 ++ rest, ap (λ (t : TokenList). t ++ rest) h.1, h.2, Labels-rest h.0 rest ls h.3)
 
--- if the first so many tokens are labels alone, all tokens are these labels and then the others
+-- If the first `next` tokens are only labels, all tokens parse as these labels and then the others.
 pub Labels-whole : (tokens : List Token) (next : ℕ) (ls : List Bytes)
     → Labels (token_texts (take next tokens)) ls []
     → Labels (token_texts tokens) ls (token_texts (drop next tokens))
@@ -94,7 +94,7 @@ Labels-whole tokens next ls says =
     (sym (map-append (λ t. t.text.now) (take next tokens) (drop next tokens)) ∙ ap token_texts (take-append-drop next tokens))
     (Labels-rest (token_texts (take next tokens)) (token_texts (drop next tokens)) ls says)
 
--- if tokens are labels and then rest, all labels at their front are these and those at the front of rest
+-- If tokens parse as labels and then `rest`, all labels at their start are these and those at the start of `rest`.
 Labels-cut : (ts rest mid : TokenList) (ls ks : List Bytes)
     → Labels ts ls rest
     → Labels ts ks mid
@@ -109,7 +109,7 @@ Labels-cut ts rest mid (l ∷ ls) (m ∷ ks) h k none =
     let go = Labels-cut h.0 rest mid ls ks h.3 (subst (λ (t : TokenList). Labels t ks mid) (sym same) k.3) none in
     (go.0, (let tail : ks ≡ ls ++ go.0 = go.1 in cc), go.2)
 
--- where a `:` stands behind the next token, that token is the next label
+-- If a `:` follows the next token, that token is the next label.
 Labels-next : (rest mid : TokenList) (more : List Bytes) (a : Bytes)
     → slice_get rest 0 ≡ Some a
     → slice_get rest 1 ≡ Some (codes ":")
@@ -122,7 +122,7 @@ Labels-next rest mid (m ∷ ks) a first colon h none =
     let same : m ≡ a = cc in
     (ks, ap (λ x. x ∷ ks) same, subst IsLocationName same h.2)
 
--- labels at the front of tokens, up to where no other stands, are read in one way; so is what stands behind them
+-- The maximal sequence of labels at the start of tokens is unique, and so is what follows it.
 pub Labels-unique : (ts m n : TokenList) (ls ks : List Bytes)
     → Labels ts ls m
     → Labels ts ks n
@@ -135,7 +135,7 @@ Labels-unique ts m n ls ks h k p q = let cut = Labels-cut ts m n ls ks h k q in 
     go [] same here = (sym (same ∙ append-nil ls), here)
     go (l ∷ more) same here = absurd (p (ap (λ (t : TokenList). slice_get t 1) here.1))
 
--- behind labels, which are two tokens each, stands the rest of the tokens
+-- What follows the labels is the rest of the tokens, since each label has two.
 pub labels_rest : (ts : TokenList) (ls rest : TokenList)
     → Labels ts ls rest
     → (2 * length ls ≤ length ts) × (drop (2 * length ls) ts ≡ rest)
@@ -147,7 +147,7 @@ labels_rest ts (l ∷ ls) rest h =
 
 -- ---- reading them
 
--- before anything of a cell is read, none of its tokens is read as a label
+-- Before anything is read of a cell, none of its tokens is read as a label.
 pub labels_start : (tokens : List Token) (to : ℕ) (labels : LabelMap) → LabelsRead tokens to labels 0 labels
 labels_start tokens to labels = record {
   names = [];
@@ -158,10 +158,10 @@ labels_start tokens to labels = record {
   once = λ known knows each. subst IsDuplicateFree (sym (append-nil known)) each;
 }
 
--- What was read of a cell's labels, at another that follows.
+-- What was read of a cell's labels, when another label follows.
 module _ (tokens : List Token) (to : ℕ) (labels : LabelMap) (next : ℕ) (now : LabelMap)
     (read : LabelsRead tokens to labels next now) where
-  -- the map then has the labels that the thread had before, and those that were read of the cell
+  -- The map has the labels that the thread had before, and those that were read of the cell.
   knows_more : (known : List Bytes) → HasExactlyLabels labels known → HasExactlyLabels now (known ++ read.names)
   knows_more known knows n =
       rw (read.made n, list_any-append (λ m. bytes_eq m n) known read.names, ← knows n)
@@ -175,7 +175,7 @@ module _ (tokens : List Token) (to : ℕ) (labels : LabelMap) (next : ℕ) (now 
 
   module _ (token : Token) (is : slice_get tokens next ≡ Some token)
       (colon : slice_get (token_texts tokens) (next + 1) ≡ Some (codes ":")) where
-    -- if that token is a location's name which the map lacks, it is one label more
+    -- If that token is a location's name that is not in the map, it is one more label.
     pub labels_more : (after : LabelMap)
         → IsLocationName token.text.now
         → is_some (target_by now token.text.now) ≡ false
@@ -222,7 +222,7 @@ module _ (tokens : List Token) (to : ℕ) (labels : LabelMap) (next : ℕ) (now 
         either false true o = refl
         either false false o = refl
 
-    -- all labels of the cell go on with this one
+    -- The labels of the cell continue with this one.
     pub labels_on : (ks : List Bytes) (mid : TokenList)
         → Labels (token_texts tokens) ks mid
         → (AtLabel mid → ⊥)
@@ -237,13 +237,13 @@ module _ (tokens : List Token) (to : ℕ) (labels : LabelMap) (next : ℕ) (now 
         (get_behind tokens next 1 ∙ colon) cut.2 none in
         (go.0, cut.1 ∙ ap (λ (ns : List Bytes). read.names ++ ns) go.1, go.2)
 
-    -- a label that the thread has already
+    -- A label that the thread has already.
     module _ (led : is_some (target_by now token.text.now) ≡ true) where
       label_known : (known : List Bytes) → HasExactlyLabels labels known → Contains (known ++ read.names) token.text.now
       label_known known knows =
           name_contained (known ++ read.names) token.text.now (sym (knows_more known knows token.text.now) ∙ led)
 
-      -- then no labels of the cell fit
+      -- No labels of the cell fit, then.
       pub labels_twice : (ks : List Bytes) → LabelsFit labels (token_texts tokens) ks → ⊥
       labels_twice ks fit =
           let on = labels_on ks fit.rest fit.says fit.stops in
@@ -252,7 +252,7 @@ module _ (tokens : List Token) (to : ℕ) (labels : LabelMap) (next : ℕ) (now 
           once_apart (fit.known ++ read.names) (token.text.now ∷ on.0) token.text.now (subst IsDuplicateFree row fit.once)
           (label_known fit.known fit.knows) (0, omega arith, refl)
 
-      -- then a label that the thread has already stands there
+      -- A duplicate label is at that position, then.
       pub twice_in : HasDuplicateLabelAt tokens labels token.at
       twice_in = record {
         names = read.names;

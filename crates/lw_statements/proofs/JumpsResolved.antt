@@ -1,4 +1,4 @@
--- Resolving one statement: a jump leads where its label stands.
+-- Resolving one statement: the target of a jump is where its label is.
 use Rattle.lw_statements.proofs.Common.{◌≡◌, ℕ, suc, ◌<◌, ◌+◌, true, Option, Some, None, refl, List, [], ◌∷◌}
 use Rattle.lw_statements.proofs.Common.{◌++◌, length, take, drop, sym, ap, ◌∙◌, subst, arith, Contains}
 use Rattle.lw_statements.proofs.Common.{slice_get, IfSome, option_map, ForSome, length-map, same_Some, Bytes}
@@ -14,7 +14,7 @@ use Rattle.lw_statements.proofs.Leads.{leads_there}
 use Rattle.lw_statements.proofs.api.Forms.{well_spelled}
 
 module _ {W Form Stmt : Type 0} (spelling : Spelling W Form Stmt) where
-  -- the index of the label among the tokens, of which the first has this index
+  -- The index of the label among the tokens, if the first has the index i.
   abbrev Labelled : ℕ → ℕ → TokenList → (slots : List (Slot W)) → Filling slots → Type 0
   Labelled i k ts slots f =
       (l : Bytes) × (j : ℕ) × (label_in slots f ≡ Some l) × (k ≡ i + j) × (slice_get ts j ≡ Some l) × (length ts ≡ suc j)
@@ -43,7 +43,7 @@ module _ {W Form Stmt : Type 0} (spelling : Spelling W Form Stmt) where
   label_index i k (t ∷ ts) (slot ∷ slots) (g, f) last h e =
       one_further i k t ts slots f (label_index (i + 1) k ts slots f last h.1 e)
 
-  -- no label
+  -- A form without a label's slot has no label.
   no_label_in : (i : ℕ) (slots : List (Slot W)) (f : Filling slots)
       → (bindings_of i slots f).label ≡ None
       → label_in slots f ≡ None
@@ -51,13 +51,13 @@ module _ {W Form Stmt : Type 0} (spelling : Spelling W Form Stmt) where
   no_label_in i (Label ∷ slots) (l, f) e = absurd cc
   no_label_in i (slot ∷ slots) (g, f) e = no_label_in (i + 1) slots f e
 
-  -- The draft of a statement that some tokens say.
+  -- The draft of a statement that tokens say.
   module _ (made : Form → Operands → Option Stmt) (lawful : IsSpelling spelling made) (names : NameTable) (tokens : List Token)
       (s : ParsesStatement spelling) (says : (grammar_of spelling).says (token_texts tokens) s) where
     abbrev draft : Draft Form
     draft = draft_in (grammar_of spelling) (draft_of spelling) names s
 
-    -- The token of this index is the last, and its label.
+    -- The token at this index is the last one, and is the statement's label.
     pub label_last : (k : ℕ) (token : Token)
         → draft.label ≡ Some k
         → slice_get tokens k ≡ Some token
@@ -73,7 +73,7 @@ module _ {W Form Stmt : Type 0} (spelling : Spelling W Form Stmt) where
         drop_all tokens (suc k) (omega (arith, index, l.5, length-map tokens (λ (t : Token). t.text.now))) in
         (l.2 ∙ ap Some (sym same), cut_at tokens k token stands ∙ ap (λ (ts : List Token). take k tokens ++ token ∷ ts) none)
 
-    -- where its label leads, if it has one
+    -- The target of the label, if there is one.
     target : (labels : LabelMap) (number : ℕ) (to : Option ℕ)
         → LedForward labels number tokens draft.label to
         → (at : ℕ)
@@ -99,7 +99,7 @@ module _ {W Form Stmt : Type 0} (spelling : Spelling W Form Stmt) where
                   (by, less),
             )
 
-    -- what is made of it, with such a target
+    -- The statement made from the draft with such a target.
     made_at : (at : ℕ) (to : Option ℕ)
         → to ≡ option_map (λ l. at) ((grammar_of spelling).label_of s)
         → made draft.form (with_target to draft.operands)
@@ -122,7 +122,7 @@ module _ {W Form Stmt : Type 0} (spelling : Spelling W Form Stmt) where
             (well_spelled spelling made lawful s.form says.0).1 says.1 is in
             omega (arith, l.3, l.5, length-map tokens (λ (t : Token). t.text.now))
 
-    -- the statement that is resolved
+    -- The statement made is the resolved one.
     pub is_resolved : (syntaxes : List (CellSyntax (ParsesStatement spelling))) (labels : LabelMap) (number : ℕ) (stmt : Stmt)
         → MapsLabelsAs labels syntaxes
         → IsResolved made labels number tokens draft stmt

@@ -1,4 +1,4 @@
--- Where the labels of a thread lead.
+-- The targets of the labels of a thread.
 use Rattle.lw_statements.proofs.Common.{◌≡◌, ℕ, ◌≤◌, ◌+◌, Bool, true, false, true≢false, ◌||◌, Option, Some}
 use Rattle.lw_statements.proofs.Common.{None, List, [], ◌∷◌, ◌++◌, length, length-append, refl, sym, ap, ◌∙◌}
 use Rattle.lw_statements.proofs.Common.{arith, Contains, is_some, if◌then◌else◌, bytes_eq, option_or}
@@ -9,20 +9,20 @@ use Rattle.lw_statements.proofs.Common.{label_target}
 use Rattle.lw_statements.proofs.FrontLabels.{name_contained, once_apart}
 
 module _ {Syntax : Type 0} where
-  -- the statements of two parts of a thread, one behind the other, are those of each
+  -- The statements of a concatenation are those of its parts.
   pub statements-append : (xs ys : List (CellSyntax Syntax)) → statements (xs ++ ys) ≡ statements xs ++ statements ys
   statements-append xs ys = filter_map-append (λ (syntax : CellSyntax Syntax). syntax.stmt) xs ys
 
-  -- the labels of two parts of a thread, one behind the other, are those of each
+  -- The labels of a concatenation are those of its parts.
   pub labels_of-append : (xs ys : List (CellSyntax Syntax)) → labels_of (xs ++ ys) ≡ labels_of xs ++ labels_of ys
   labels_of-append xs ys = flat_map-append (λ (syntax : CellSyntax Syntax). syntax.labels) xs ys
 
-  -- two parts of a thread, one behind the other, have as many statements as both together
+  -- The number of statements of a concatenation is the sum of its parts' numbers.
   pub count-append : (xs ys : List (CellSyntax Syntax))
       → length (statements (xs ++ ys)) ≡ length (statements xs) + length (statements ys)
   count-append xs ys = ap length (statements-append xs ys) ∙ length-append (statements xs) (statements ys)
 
-  -- if a name leads to a statement's index in these cells, that is the index which the rule of cells says, behind the k above
+  -- If a name has a target in these cells, it is the one of the rule of cells, k statements later.
   leads_as : (syntaxes : List (CellSyntax Syntax)) (k : ℕ) (n : Bytes) (to : ℕ)
       → label_target k syntaxes n ≡ Some to
       → to ≡ k + target_in syntaxes n
@@ -41,7 +41,7 @@ module _ {Syntax : Type 0} where
           rw f (omega (arith, h))
       go false f further = let h = further (rw f at e) in rw f (omega (arith, h))
 
-  -- a name leads somewhere in these cells just where it is one of their labels
+  -- A name has a target in these cells if and only if it is one of their labels.
   pub leads_known : (syntaxes : List (CellSyntax Syntax)) (k : ℕ) (n : Bytes)
       → is_some (label_target k syntaxes n) ≡ contains_name (labels_of syntaxes) n
   leads_known [] k n = refl
@@ -56,7 +56,7 @@ module _ {Syntax : Type 0} where
       go true further = refl
       go false further = further
 
-  -- a name that leads somewhere is a label, and leads to the statement that the rule of cells says
+  -- A name that has a target is a label, and its target is the one of the rule of cells.
   pub leads_there : (syntaxes : List (CellSyntax Syntax)) (n : Bytes) (to : ℕ)
       → label_target 0 syntaxes n ≡ Some to
       → Contains (labels_of syntaxes) n × (to ≡ target_in syntaxes n)
@@ -65,7 +65,7 @@ module _ {Syntax : Type 0} where
     omega (arith, leads_as syntaxes 0 n to e),
   )
 
-  -- a name that leads nowhere is no label
+  -- A name that has no target is no label.
   pub leads_nowhere : (syntaxes : List (CellSyntax Syntax)) (n : Bytes)
       → label_target 0 syntaxes n ≡ None
       → Contains (labels_of syntaxes) n
@@ -73,7 +73,7 @@ module _ {Syntax : Type 0} where
   leads_nowhere syntaxes n e there =
       true≢false (sym (contains_name-Contains (labels_of syntaxes) n there) ∙ sym (leads_known syntaxes 0 n) ∙ ap is_some e)
 
-  -- no label leads past the end of the thread
+  -- No label's target is past the end of the thread.
   pub target_within : (syntaxes : List (CellSyntax Syntax)) (n : Bytes) → target_in syntaxes n ≤ length (statements syntaxes)
   target_within [] n = omega arith
   target_within (syntax ∷ syntaxes) n = go (contains_name syntax.labels n) refl (target_within syntaxes n)
@@ -85,7 +85,7 @@ module _ {Syntax : Type 0} where
       go true e further = rw e (omega arith)
       go false e further = rw e (omega (arith, further, count-append (syntax ∷ []) syntaxes))
 
-  -- the labels of one cell more
+  -- The labels of one more cell.
   module _ (syntax : CellSyntax Syntax) (n : Bytes) where
     abbrev last : ℕ → Option ℕ
     last to = if contains_name syntax.labels n then Some to else None
@@ -108,7 +108,7 @@ module _ {Syntax : Type 0} where
             omega (arith, count-append (x ∷ []) xs) in
             further ∙ ap (λ (to : ℕ). option_or (label_target (k + length (statements (x ∷ []))) xs n) (last to)) e
 
-    -- with one cell more, its labels lead behind all statements before it, and all other names where they led
+    -- The labels of one more cell target the position after all statements before it; all other names keep their targets.
     pub leads_more : (xs : List (CellSyntax Syntax))
         → IsDuplicateFree (labels_of xs ++ syntax.labels)
         → label_target 0 (xs ++ syntax ∷ []) n

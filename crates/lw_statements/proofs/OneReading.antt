@@ -1,4 +1,4 @@
--- A cell says one thing at most, and so do the cells of a thread.
+-- A cell has at most one parse, and so have the cells of a thread.
 use Rattle.lw_statements.proofs.Common.{◌≡◌, Option, Some, None, List, refl, sym, ap, subst, slice_get}
 use Rattle.lw_statements.proofs.Common.{TokenList, Cells, Grammar, IsGrammar, CellSyntax, MaybeStatement}
 use Rattle.lw_statements.proofs.Common.{ParsesCell, Column, AtLabel}
@@ -6,7 +6,7 @@ use Rattle.lw_statements.proofs.FrontLabels.{Labels-unique}
 use Rattle.lw_statements.proofs.api.Zips.{zip_unique}
 
 module _ {Syntax Stmt : Type 0} (grammar : Grammar Syntax Stmt) (lawful : IsGrammar grammar) where
-  -- what stands behind a cell's labels, a statement or nothing, has no `:` behind its first token
+  -- What follows a cell's labels, a statement or nothing, has no `:` after its first token.
   pub no_label : (ts : TokenList) (o : Option Syntax) → MaybeStatement grammar ts o → AtLabel ts → ⊥
   no_label ts None h at = let e : slice_get ts 1 ≡ None = ap (λ (t : TokenList). slice_get t 1) h in absurd cc
   no_label ts (Some s) h at = lawful.no_label ts s h at
@@ -17,7 +17,7 @@ module _ {Syntax Stmt : Type 0} (grammar : Grammar Syntax Stmt) (lawful : IsGram
   maybe_unique ts (Some s) None h k = absurd (lawful.some ts s h k)
   maybe_unique ts (Some s) (Some t) h k = ap Some (lawful.one ts s t h k)
 
-  -- a cell says one thing at most
+  -- A cell has at most one parse.
   pub cell_unique : (cell : TokenList) (x y : CellSyntax Syntax) → ParsesCell grammar cell x → ParsesCell grammar cell y → x ≡ y
   cell_unique cell x y h k =
       let ls = Labels-unique cell h.0 k.0 x.labels y.labels h.1 k.1 (no_label h.0 x.stmt h.2) (no_label k.0 y.stmt k.2) in
@@ -30,6 +30,6 @@ module _ {Syntax Stmt : Type 0} (grammar : Grammar Syntax Stmt) (lawful : IsGram
           → (let l : CellSyntax Syntax = record { labels = a; stmt = o } in l) ≡ record { labels = b; stmt = p }
       same a b o p e f = rw (e, f) refl
 
-  -- the cells of a thread say one thing at most
+  -- The cells of a thread have at most one parse.
   pub column_unique : (cells : Cells) (s t : List (CellSyntax Syntax)) → Column grammar cells s → Column grammar cells t → s ≡ t
   column_unique cells s t h k = zip_unique (ParsesCell grammar) cell_unique cells s t h.says k.says

@@ -1,4 +1,4 @@
--- Resolving the jumps of a thread, from top to bottom: what holds when one more cell is resolved.
+-- Resolving the jumps of a thread, from top to bottom: the invariant when one more cell is resolved.
 use Rattle.lw_statements.proofs.Common.{◌≡◌, ℕ, suc, ◌<◌, ◌≤◌, ◌+◌, ◌*◌, Option, Some, None, List, [], ◌∷◌}
 use Rattle.lw_statements.proofs.Common.{◌++◌, length, length-take, get_or, map, take, drop, refl, sym, ap}
 use Rattle.lw_statements.proofs.Common.{◌∙◌, subst, arith, ◌⊎◌, inl, inr, slice_get, All, Contains, IfSome}
@@ -38,8 +38,8 @@ module _ {W Form Stmt : Type 0} (spelling : Spelling W Form Stmt) where
   abbrev Says : TokenList → CellSaid → Type 0
   Says = ParsesCell grammar
 
-  -- The statements of the cells in front are resolved, and are this code. All cells of the thread say syntaxes, where their
-  -- labels are looked up.
+  -- The statements of the cells in `front` are resolved to this code. `syntaxes` are those of all cells of the thread, in which labels are
+  -- looked up.
   pub record Resolved {A : Type 0} (names : NameTable) (syntaxes : List CellSaid) (front : List (Cell A))
       (code : List Stmt) : Type 0 where
     pub above : List CellSaid
@@ -49,7 +49,7 @@ module _ {W Form Stmt : Type 0} (spelling : Spelling W Form Stmt) where
         → slice_get (statements above) k ≡ Some s
         → LabelsLeadForward grammar syntaxes k s
 
-  -- of no cells the statements are resolved: there are none
+  -- No cells have no statements, which are resolved.
   pub resolved_none : {A : Type 0} (names : NameTable) (syntaxes : List CellSaid) → Resolved {A = A} names syntaxes [] []
   resolved_none names syntaxes = record { above = []; says = tt; made = refl; ahead = λ k s e. absurd cc }
 
@@ -65,7 +65,7 @@ module _ {W Form Stmt : Type 0} (spelling : Spelling W Form Stmt) where
     one : (cell : TokenList) (x y : CellSaid) → Says cell x → Says cell y → x ≡ y
     one = cell_unique grammar (is_grammar spelling made lawful)
 
-    -- the column has a draft for each cell
+    -- The column has a draft for each cell.
     pub as_many_rows : length column.cells ≡ length cells
     as_many_rows =
         ap length drafted.read.made
@@ -73,7 +73,7 @@ module _ {W Form Stmt : Type 0} (spelling : Spelling W Form Stmt) where
         ∙ sym (zip_length Says (cells_texts cells) syntaxes drafted.read.says)
         ∙ length-map cells cell_texts
 
-    -- if the statements of all cells are resolved, the thread's cells are read
+    -- If the statements of all cells are resolved, the thread's cells are read.
     pub column_found : (code : List Stmt)
         → Resolved after syntaxes cells code
         → ColumnRead grammar (cells_texts cells) before code after
@@ -95,7 +95,7 @@ module _ {W Form Stmt : Type 0} (spelling : Spelling W Form Stmt) where
           made = r.made ∙ ap (λ (ys : List CellSaid). map resolve (statements ys)) same;
         }
 
-    -- A cell and its draft, behind those whose statements are resolved.
+    -- A cell and its draft, after those whose statements are resolved.
     module _ (row : ℕ) (cell : Cell A) (within : row < length cells) (at_row : cell ≡ get_or cells row cell)
         (d : DraftCell (Draft Form)) (drafted_at : d ≡ get_or column.cells row d) where
       abbrev front : List (Cell A)
@@ -131,7 +131,7 @@ module _ {W Form Stmt : Type 0} (spelling : Spelling W Form Stmt) where
           ∙ ap (option_map draft)
           (ap (λ (ys : List CellSaid). slice_get ys row) cut.whole ∙ get-append_middle cut.above cut.here cut.below row long))
 
-      -- what stands behind the labels is the statement
+      -- The tokens of the statement, after the labels.
       abbrev tail : List Token
       tail = drop d.start cell.tokens
 
@@ -146,14 +146,14 @@ module _ {W Form Stmt : Type 0} (spelling : Spelling W Form Stmt) where
                 ∙ drop-map (λ (t : Token). t.text.now) d.start cell.tokens) cut.says.2,
           )
 
-      -- the labels of the cell's draft are no more tokens than it has
+      -- A draft's statement starts within the cell's tokens.
       pub start_within : d.start ≤ length cell.tokens
       start_within = behind.0
 
       drafted_as : d.stmt ≡ option_map (draft_in grammar drafting after) cut.here.stmt
       drafted_as = ap (λ (c : DraftCell (Draft Form)). c.stmt) is_draft
 
-      -- the draft of the cell's statement can be resolved
+      -- The draft of the cell's statement can be resolved.
       pub resolvable : IfSome d.stmt (IsResolvable made tail)
       resolvable = rw drafted_as (go cut.here.stmt behind.1)
         where
@@ -170,7 +170,7 @@ module _ {W Form Stmt : Type 0} (spelling : Spelling W Form Stmt) where
         as_many : length code ≡ length (statements r.above)
         as_many = ap length r.made ∙ length-map (statements r.above) resolve
 
-        -- if this cell is resolved as well, the statements of the cells up to it are resolved
+        -- If this cell is resolved, the statements of the cells up to it are resolved.
         pub resolved_further : (more : List Stmt)
             → IsCellResolved made column.labels cell d code more
             → Resolved after syntaxes (take (row + 1) cells) more
@@ -213,7 +213,7 @@ module _ {W Form Stmt : Type 0} (spelling : Spelling W Form Stmt) where
                 ahead k t forward (inl old) = r.ahead k t old
                 ahead k t forward (inr (last, one)) = rw (last, ← as_many, ← one) forward
 
-        -- A token that is the label of its jump, which is refused.
+        -- The token is the label of a jump that is rejected.
         module _ (s : ParsesStatement spelling) (jump : cut.here.stmt ≡ Some s) (token : Token)
             (label : grammar.label_of s ≡ Some token.text.now) (before_label : List Token)
             (last : cell.tokens ≡ before_label ++ token ∷ []) (f : CellFault) (begins : token.at ≡ f.at)
@@ -237,7 +237,7 @@ module _ {W Form Stmt : Type 0} (spelling : Spelling W Form Stmt) where
           not_forward Backward (to, by, less) ahead = omega (arith, less, (found to by).1, (ahead word label).1)
           not_forward cause none ahead = none
 
-          -- all jumps do not lead forward, then
+          -- Not all jumps go forward, then.
           not_all : AllForward grammar syntaxes → ⊥
           not_all all =
               let parts : statements syntaxes ≡ statements r.above ++ s ∷ statements cut.below =
@@ -306,7 +306,7 @@ module _ {W Form Stmt : Type 0} (spelling : Spelling W Form Stmt) where
                 );
           }
 
-        -- where its jump is refused, so is the thread
+        -- If a cell's jump is rejected, so is the thread.
         pub row_refused : (f : CellFault)
             → IsUnresolved column.labels (length code) cell d f
             → ColumnRefused grammar before cells f

@@ -1,4 +1,4 @@
--- Statements on a table that grows, and the threads that they make.
+-- Statements as the table grows, and the threads that they give.
 use Rattle.lw_statements.proofs.Common.{◌≡◌, ℕ, ◌<◌, ◌≤◌, Option, Some, None, List, [], ◌∷◌, ◌++◌, length}
 use Rattle.lw_statements.proofs.Common.{sym, ap, refl, ◌∙◌, subst, arith, map, slice_get, filter_map}
 use Rattle.lw_statements.proofs.Common.{option_map, AllByRecursion, cons_option, ForSome, length-map}
@@ -12,7 +12,7 @@ use Rattle.lw_statements.proofs.Elements.{mapped_some}
 use Rattle.lw_statements.proofs.Leads.{statements-append, target_within}
 use Rattle.lw_statements.proofs.TablesRead.{AreIn, all_stay}
 
--- the index of a name of the table stays the same as the table grows
+-- Inserting names preserves the index of a name in the table.
 pub number_stays : (names ns : NameTable) (o : Option Bytes)
     → AreIn names (cons_option o [])
     → location_index (insert_names names ns) o ≡ location_index names o
@@ -20,14 +20,14 @@ number_stays names ns None all = refl
 number_stays names ns (Some x) all = position_of_name-insert_names names ns x all.0
 
 module _ {Syntax Stmt : Type 0} (grammar : Grammar Syntax Stmt) where
-  -- the locations' names in two parts of a thread, one behind the other, are those in each
+  -- The locations' names in a concatenation are those in its parts.
   pub names_in-append : (xs ys : List (CellSyntax Syntax))
       → names_in grammar (xs ++ ys) ≡ names_in grammar xs ++ names_in grammar ys
   names_in-append xs ys =
       ap (filter_map grammar.name_of) (statements-append xs ys)
       ∙ filter_map-append grammar.name_of (statements xs) (statements ys)
 
-  -- a thread's code, resolved, stays the same as the table grows
+  -- Inserting names preserves the resolved code of a thread.
   pub code_stays : (names ns : NameTable) (t : List (CellSyntax Syntax))
       → AreIn names (names_in grammar t)
       → code_in grammar (insert_names names ns) t ≡ code_in grammar names t
@@ -40,13 +40,13 @@ module _ {Syntax Stmt : Type 0} (grammar : Grammar Syntax Stmt) where
           ap (λ (x : ℕ). grammar.made x (resolved_target t (grammar.label_of s)) s) (number_stays table more _ there)
 
   module _ (lawful : IsGrammar grammar) where
-    -- each of the statements is said by some tokens
+    -- Each of the statements is said by some tokens.
     abbrev pub AllSaid : List Syntax → Type 0
     AllSaid ss = AllByRecursion (λ (s : Syntax). (ts : TokenList) × grammar.says ts s) ss
 
-    -- What cells say, on a table that has its names.
+    -- The syntax of some cells, and a table that has its names.
     module _ (names : NameTable) (syntaxes : List (CellSyntax Syntax)) where
-      -- what is resolved stands on a location of the table
+      -- A resolved statement's location is in the table.
       located : (o : Option Bytes)
           → AreIn names (cons_option o [])
           → ForSome (option_map (λ n. location_index names o) o) (λ x. x < length names)
@@ -76,7 +76,7 @@ module _ {Syntax Stmt : Type 0} (grammar : Grammar Syntax Stmt) where
             all_resolved ss said.1 parts.1,
           )
 
-      -- a jump that is resolved leads to where its label stands
+      -- A resolved jump targets the position of its label, which is later.
       led-forward : (k to : ℕ) (o : Option Bytes)
           → option_map (λ l. resolved_target syntaxes o) o ≡ Some to
           → ForSome o (λ l. k < target_in syntaxes l)

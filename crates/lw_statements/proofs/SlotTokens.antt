@@ -1,4 +1,4 @@
--- What tokens at slots give, as the reader finds it.
+-- What tokens give at slots, as the reader computes it.
 use Rattle.lw_statements.proofs.Common.{◌≡◌, ℕ, zero, suc, ◌+◌, ◌<◌, ◌≤◌, Bool, true, false, true≢false, eqb}
 use Rattle.lw_statements.proofs.Common.{Option, Some, None, List, [], ◌∷◌, ◌++◌, length, take, get_or, refl}
 use Rattle.lw_statements.proofs.Common.{sym, ap, ◌∙◌, subst, arith, slice_get, MatchBool, MatchOption, IsTrue}
@@ -10,7 +10,7 @@ use Rattle.lw_statements.proofs.Common.{Spelling, SlotValue, Filling, Gives, Fil
 use Rattle.lw_statements.proofs.Common.{no_bindings, bind_slot, bindings_of, IsReach}
 use Rattle.lw_base.specs.declared.operand.Operand.TheVariants as operand
 
--- a token that is neither a register nor a number is no operand
+-- A token that is neither a register nor a number is no operand.
 pub no_operand : (arch : Arch) (w : Bytes)
     → ((r : ℕ) → IsRegisterName arch w r → ⊥)
     → ((n : ℕ) → IsNumber w n → ⊥)
@@ -20,7 +20,7 @@ pub no_operand : (arch : Arch) (w : Bytes)
 no_operand arch w reg num (operand.Register r) h = reg r h
 no_operand arch w reg num (operand.Number n) h = num n h
 
--- what was found of a token that is an allowed name, or that it is none, is what it gives at the slot of a location or a label
+-- The result for a token, whether it is an allowed name or not, is what it gives at the slot of a location or label.
 pub taken_name : (t : Bytes) (made : SlotBindings) (result : Option SlotBindings)
     → MatchOption result (IsLocationName t → ⊥) (λ all. IsLocationName t × (all ≡ made))
     → MatchOption result ((x : Bytes) → (t ≡ x) × IsLocationName x → ⊥)
@@ -29,28 +29,28 @@ taken_name t made None h = λ x is. h (subst IsLocationName (sym is.0) is.1)
 taken_name t made (Some all) h = (t, (refl, h.0), h.1)
 
 module _ {W Form Stmt : Type 0} (spelling : Spelling W Form Stmt) where
-  -- The result is what was found behind the token of this index, with what it gives at the slot; or `None`, and it cannot stand
-  -- there.
+  -- The result is what was found after the token of this index, with what the token gives at the slot; or `None`, and the slot does not
+  -- accept the token.
   abbrev pub IsTaken : (slot : Slot W) → Bytes → ℕ → SlotBindings → Option SlotBindings → Type 0
   IsTaken slot t k found result =
       MatchOption result ((g : SlotValue slot) → Gives spelling t slot g → ⊥)
       (λ all. (g : SlotValue slot) × Gives spelling t slot g × (all ≡ bind_slot k slot g found))
 
-  -- The answer is true, and all is what was found behind the token with what the token gives at the slot; or false, and it cannot
-  -- stand there.
+  -- The result is true, and `all` is what was found after the token with what the token gives at the slot; or it is false, and the slot
+  -- does not accept the token.
   abbrev pub IsAdded : (slot : Slot W) → Bytes → ℕ → SlotBindings → Bool → SlotBindings → Type 0
   IsAdded slot t k found b all =
       MatchBool b ((g : SlotValue slot) × Gives spelling t slot g × (all ≡ bind_slot k slot g found))
       ((g : SlotValue slot) → Gives spelling t slot g → ⊥)
 
-  -- The answer is true, and all is what the tokens give at the slots, the first token having this index; or false, and they do
-  -- not fill the slots.
+  -- The result is true, and `all` is what the tokens give at the slots, where the first token has this index; or it is false, and the
+  -- tokens do not fill the slots.
   abbrev pub AreTaken : TokenList → ℕ → (slots : List (Slot W)) → Bool → SlotBindings → Type 0
   AreTaken ts k slots b all =
       MatchBool b ((f : Filling slots) × Fills spelling ts slots f × (all ≡ bindings_of k slots f))
       ((f : Filling slots) → Fills spelling ts slots f → ⊥)
 
-  -- if what stands behind a token was found at the other slots, and the token is added to it, then they are taken together
+  -- If what follows a token was found at the other slots, and the token is added, then the tokens are taken together.
   pub taken_more : (rest : List (Slot W)) (slot : Slot W) (ts : TokenList) (t : Bytes) (k : ℕ) (found all : SlotBindings)
       (b : Bool)
       → (f : Filling rest) × Fills spelling ts rest f × (found ≡ bindings_of (k + 1) rest f)
@@ -60,14 +60,14 @@ module _ {W Form Stmt : Type 0} (spelling : Spelling W Form Stmt) where
   taken_more rest slot ts t k found all true (f, fills, is) (g, gives, made) =
       ((g, f), (gives, fills), made ∙ ap (bind_slot k slot g) is)
 
-  -- a comparison of a token with a keyword tells whether it stands at the keyword's slot
+  -- The comparison of a token with a keyword says whether the keyword's slot accepts it.
   pub keyword_or_not : (w : W) (t : Bytes) (b : Bool)
       → b ≡ bytes_eq (lowercase_if_x86 spelling.language.arch (spelling.text_of w)) (lowercase_if_x86 spelling.language.arch t)
       → IsTrue b ↔ Gives spelling t (Keyword w) tt
   keyword_or_not w t b is =
       let d = bytes_eq-Decides _ (lowercase_if_x86 spelling.language.arch t) in (λ yes. d.0 (sym is ∙ yes), λ same. is ∙ d.1 same)
 
-  -- with a token in front that is a keyword, at that keyword's slot, the same is found, since a keyword gives nothing
+  -- A keyword before the tokens, at its slot, does not change what is found, since a keyword gives nothing.
   pub taken_behind : (rest : List (Slot W)) (w : W) (ts : TokenList) (t : Bytes) (k : ℕ) (b : Bool) (all : SlotBindings)
       → Gives spelling t (Keyword w) tt
       → AreTaken ts (k + 1) rest b all
@@ -75,7 +75,7 @@ module _ {W Form Stmt : Type 0} (spelling : Spelling W Form Stmt) where
   taken_behind rest w ts t k false all here h = λ f s. h f.1 s.1
   taken_behind rest w ts t k true all here (f, fills, is) = ((tt, f), (here, fills), is)
 
-  -- where there are no tokens, they do not fill slots, if there is one
+  -- No tokens do not fill a list of slots that is not empty.
   pub none_filled : (rest : List (Slot W)) (slot : Slot W) (tokens : List Token)
       → length tokens ≡ 0
       → (f : Filling (slot ∷ rest))
@@ -84,7 +84,7 @@ module _ {W Form Stmt : Type 0} (spelling : Spelling W Form Stmt) where
   none_filled rest slot [] b = λ f h. h
   none_filled rest slot (t ∷ tokens) b = absurd (omega (arith, b))
 
-  -- where there are no slots, nothing is found, and the answer is whether there are no tokens either
+  -- If there are no slots, nothing is found, and the result is whether there are no tokens either.
   pub taken_none : (slots : List (Slot W)) (tokens : List Token) (k : ℕ) (b : Bool) (all : SlotBindings)
       → length slots ≡ 0
       → b ≡ eqb (length tokens) 0
@@ -96,7 +96,7 @@ module _ {W Form Stmt : Type 0} (spelling : Spelling W Form Stmt) where
   taken_none [] (t ∷ tokens) k true all a e is = absurd (omega (arith, eqb-true (length (t ∷ tokens)) 0 (sym e)))
   taken_none (slot ∷ slots) tokens k b all a e is = absurd (omega (arith, a))
 
-  -- where there are more tokens than slots, or fewer, they do not fill them
+  -- Tokens do not fill a different number of slots.
   pub not_filled : (slots : List (Slot W)) (tokens : List Token)
       → (length slots ≡ length tokens → ⊥)
       → (f : Filling slots)
@@ -107,21 +107,21 @@ module _ {W Form Stmt : Type 0} (spelling : Spelling W Form Stmt) where
   not_filled (slot ∷ slots) [] differ f h = h
   not_filled (slot ∷ slots) (t ∷ tokens) differ f h = not_filled slots tokens (λ e. differ (ap suc e)) f.1 h.1
 
-  -- a token can stand at a slot just where something is found of it there
+  -- A slot accepts a token if and only if something is found of it there.
   pub can_stand_alone : (t : Bytes) (slot : Slot W) (k : ℕ) (found : SlotBindings) (result : Option SlotBindings)
       → IsTaken slot t k found result
       → IsTrue (is_some result) ↔ CanStand spelling (t ∷ []) (slot ∷ [])
   can_stand_alone t slot k found None h = (λ e. absurd cc, λ s. absurd (h s.0.0 s.1.0))
   can_stand_alone t slot k found (Some all) h = (λ e. ((h.0, tt), (h.1, tt)), λ s. refl)
 
-  -- ---- how far statements go on
+  -- ---- how far tokens match a statement
 
-  -- where there are no slots, no token stands at one
+  -- If there are no slots, none is reached.
   pub reach_none : (slots : List (Slot W)) (ts : TokenList) → length slots ≡ 0 → IsReach spelling ts slots 0
   reach_none [] ts a = refl
   reach_none (slot ∷ slots) ts a = absurd (omega (arith, a))
 
-  -- where there are no tokens, none stands at a slot
+  -- If there are no tokens, no slot is reached.
   pub reach_end : (slots : List (Slot W)) (tokens : List Token)
       → length tokens ≡ 0
       → IsReach spelling (token_texts tokens) slots 0
@@ -129,15 +129,14 @@ module _ {W Form Stmt : Type 0} (spelling : Spelling W Form Stmt) where
   reach_end (slot ∷ slots) [] b = refl
   reach_end (slot ∷ slots) (t ∷ tokens) b = absurd (omega (arith, b))
 
-  -- with a token in front that can stand at the first slot, tokens reach one slot further than those behind it reach at the
-  -- others
+  -- With a token before them that the first slot accepts, tokens reach one slot further.
   pub reach_more : (rest : List (Slot W)) (slot : Slot W) (ts : TokenList) (t : Bytes) (k : ℕ)
       → CanStand spelling (t ∷ []) (slot ∷ [])
       → IsReach spelling ts rest k
       → IsReach spelling (t ∷ ts) (slot ∷ rest) (1 + k)
   reach_more rest slot ts t k stands h = let e : 1 + k ≡ suc k = omega arith in rw e (stands, h)
 
-  -- tokens reach no further than there are slots and tokens
+  -- Tokens reach at most as many slots as there are slots and tokens.
   pub reach_within : (slots : List (Slot W)) (ts : TokenList) (n : ℕ)
       → IsReach spelling ts slots n
       → (n ≤ length slots) × (n ≤ length ts)
@@ -146,8 +145,7 @@ module _ {W Form Stmt : Type 0} (spelling : Spelling W Form Stmt) where
   reach_within (slot ∷ slots) (t ∷ ts) zero h = (omega arith, omega arith)
   reach_within (slot ∷ slots) (t ∷ ts) (suc n) h = let r = reach_within slots ts n h.1 in (omega (arith, r.0), omega (arith, r.1))
 
-  -- The slot at this index is a location's, the tokens before it can stand at the slots before it, and the token there is a
-  -- location's name.
+  -- The slot at this index is a location's, the slots before it accept the tokens before it, and the token there is a location's name.
   abbrev pub IsReached : (slots : List (Slot W)) → TokenList → ℕ → Type 0
   IsReached slots ts k =
       (front back : List (Slot W))
@@ -155,7 +153,7 @@ module _ {W Form Stmt : Type 0} (spelling : Spelling W Form Stmt) where
       × CanStand spelling (take k ts) front
       × ((t : Bytes) → slice_get ts k ≡ Some t → IsLocationName t)
 
-  -- if tokens reach n slots, each location's slot among these is reached (IsReached)
+  -- If tokens reach n slots, each location's slot among these is reached.
   pub reached : (slots : List (Slot W)) (ts : TokenList) (n k : ℕ)
       → IsReach spelling ts slots n
       → k < n
@@ -177,7 +175,7 @@ module _ {W Form Stmt : Type 0} (spelling : Spelling W Form Stmt) where
       let r = reached slots ts n k h.1 (omega (arith, less)) e in
       (slot ∷ r.0, r.1, ap (λ (s : List (Slot W)). slot ∷ s) r.2, ((h.0.0.0, r.3.0), (h.0.1.0, r.3.1)), r.4)
 
-  -- tokens reach one number of slots only: of two such numbers neither is greater
+  -- The number of slots that tokens reach is unique: of two such numbers neither is greater.
   pub at_most : (ts : TokenList) (slots : List (Slot W)) (m n : ℕ)
       → IsReach spelling ts slots m
       → IsReach spelling ts slots n
@@ -188,21 +186,21 @@ module _ {W Form Stmt : Type 0} (spelling : Spelling W Form Stmt) where
   at_most (t ∷ ts) (slot ∷ slots) (suc m) zero h k = absurd (k h.0)
   at_most (t ∷ ts) (slot ∷ slots) (suc m) (suc n) h k = let less = at_most ts slots m n h.1 k.1 in omega (arith, less)
 
-  -- ---- what a loop over the forms has found of each: it is another, begins otherwise, or does not reach further
+  -- ---- what a loop over the forms has found of each
 
-  -- the tokens do not fill the form's slots
+  -- The tokens do not fill the form's slots.
   abbrev pub IsOther : TokenList → Form → Type 0
   IsOther ts form = (f : Filling (spelling.slots_of form)) → Fills spelling ts (spelling.slots_of form) f → ⊥
 
-  -- the token cannot stand at the form's first slot
+  -- The form's first slot does not accept the token.
   abbrev pub BeginsOtherwise : Bytes → Form → Type 0
   BeginsOtherwise t form = BeginsWith spelling (spelling.slots_of form) t → ⊥
 
-  -- no more of the tokens than so many can stand at the form's slots
+  -- The form's slots accept at most k of the tokens.
   abbrev pub ReachesTo : TokenList → ℕ → Form → Type 0
   ReachesTo ts k form = (n : ℕ) → IsReach spelling ts (spelling.slots_of form) n → n ≤ k
 
--- what holds of the first i forms, and of the next one, holds of the first i + 1
+-- What holds of the first i forms, and of the next one, holds of the first `i + 1`.
 pub form_more : {X : Type 0} (P : X → Type 0) (forms : List X) (i : ℕ) (form : X)
     → i < length forms
     → form ≡ get_or forms i form
@@ -211,7 +209,7 @@ pub form_more : {X : Type 0} (P : X → Type 0) (forms : List X) (i : ℕ) (form
     → All P (take (i + 1) forms)
 form_more P forms i form within is before here = All-more P forms i form within before (subst P is here)
 
--- what holds of the first i forms holds of each form, if there are no more than i
+-- What holds of the first i forms holds of each form, if there are at most i.
 pub forms_all : {X : Type 0} (P : X → Type 0) (forms : List X) (i : ℕ)
     → length forms ≤ i
     → All P (take i forms)

@@ -1,4 +1,4 @@
--- Tokens at slots: what they give is theirs alone, and forms whose slots differ exclude each other.
+-- What tokens give at slots is unique, and forms whose slots differ exclude each other.
 use Rattle.lw_statements.proofs.Common.{◌≡◌, ℕ, ◌<◌, Bool, true, false, true≢false, List, [], ◌∷◌, map}
 use Rattle.lw_statements.proofs.Common.{get_or, refl, sym, ap, ◌∙◌, subst, arith, inl, inr, not, ◌||◌, codes}
 use Rattle.lw_statements.proofs.Common.{bytes_eq, eqb, eqb-true, list_any, agree_below_at, cases_Bool}
@@ -14,11 +14,11 @@ use Rattle.lw_base.specs.declared.operand.Operand.TheVariants as operand
 
 -- ---- registers, numbers and names of locations
 
--- the name of a register of the source language, `r` and a digit, is reserved
+-- The name of a register of the source language, `r` and a digit, is reserved.
 numbered : (r : ℕ) → r < 6 → is_reserved (register_name Source r) ≡ true
 numbered r h = agree_below_at (λ q. is_reserved (register_name Source q)) (λ q. true) 6 r refl h
 
--- the name of a register of x86, in small letters, is on the list of them
+-- The name of a register of x86, in lower case, is on the list of them.
 x86_register_listed : (r : ℕ)
     → r < 6
     → list_any (λ k. bytes_eq (lowercase_if_x86 X86 (register_name X86 r)) k) x86_registers ≡ true
@@ -26,7 +26,7 @@ x86_register_listed r h =
     agree_below_at (λ q. list_any (λ k. bytes_eq (lowercase_if_x86 X86 (register_name X86 q)) k) x86_registers) (λ q. true) 6 r
     refl h
 
--- a token that names a register, of either language and in any case that it allows, is reserved
+-- A token that names a register, of either language and in any case allowed, is reserved.
 register_reserved : (arch : Arch) (w : Bytes) (r : ℕ) → IsRegisterName arch w r → is_reserved w ≡ true
 register_reserved Source w r h = ap is_reserved (sym h.1) ∙ numbered r h.0
 register_reserved X86 w r h =
@@ -34,25 +34,25 @@ register_reserved X86 w r h =
     (list_any (λ k. bytes_eq (map to_ascii_lowercase w) k) x86_registers)
     (ap (λ v. list_any (λ k. bytes_eq v k) x86_registers) (sym h.1) ∙ x86_register_listed r h.0)
 
--- a register names no location
+-- A register's name is no location's name.
 register_apart : (arch : Arch) (w : Bytes) (r : ℕ) → IsRegisterName arch w r → IsLocationName w → ⊥
 register_apart arch w r reg loc = true≢false (sym (register_reserved arch w r reg) ∙ loc.1)
 
--- a number names no location
+-- A number is no location's name.
 number_apart : (w : Bytes) (n : ℕ) → IsNumber w n → IsLocationName w → ⊥
 number_apart w n num loc = true≢false (sym (number_first w n num) ∙ loc.0.0.front)
 
--- the name of a register begins with no digit
+-- The name of a register does not start with a digit.
 letter_first : (arch : Arch) (r : ℕ) → r < 6 → first_byte_is is_ascii_digit (lowercase_if_x86 arch (register_name arch r)) ≡ false
 letter_first Source r h = refl
 letter_first X86 r h =
     agree_below_at (λ q. first_byte_is is_ascii_digit (lowercase_if_x86 X86 (register_name X86 q))) (λ q. false) 6 r refl h
 
--- a digit in small letters is a digit
+-- A digit in lower case is a digit.
 digit_lower : (c : ℕ) → is_ascii_digit c ≡ true → is_ascii_digit (to_ascii_lowercase c) ≡ true
 digit_lower c d = grind arith
 
--- what begins with a digit does so in small letters
+-- What starts with a digit does so in lower case.
 digit_first : (arch : Arch) (w : Bytes)
     → first_byte_is is_ascii_digit w ≡ true
     → first_byte_is is_ascii_digit (lowercase_if_x86 arch w) ≡ true
@@ -60,42 +60,42 @@ digit_first Source w d = d
 digit_first X86 [] d = absurd cc
 digit_first X86 (c ∷ w) d = digit_lower c d
 
--- no token is a register's name and a number
+-- No token is both a register's name and a number.
 register_no_number : (arch : Arch) (w : Bytes) (r n : ℕ) → IsRegisterName arch w r → IsNumber w n → ⊥
 register_no_number arch w r n reg num =
     true≢false (sym (digit_first arch w (number_first w n num))
     ∙ ap (first_byte_is is_ascii_digit) (sym reg.1)
     ∙ letter_first arch r reg.0)
 
--- a token is one operand at most
+-- A token is at most one operand.
 operand_unique : (arch : Arch) (w : Bytes) (u v : Operand) → IsOperand arch w u → IsOperand arch w v → u ≡ v
 operand_unique arch w (operand.Register r) (operand.Register q) h k = ap operand.Register (register_unique arch w r q h k)
 operand_unique arch w (operand.Register r) (operand.Number n) h k = absurd (register_no_number arch w r n h k)
 operand_unique arch w (operand.Number n) (operand.Register r) h k = absurd (register_no_number arch w r n k h)
 operand_unique arch w (operand.Number n) (operand.Number m) h k = ap operand.Number (number-unique w n m h k)
 
--- no token is an operand and a location's name
+-- No token is both an operand and a location's name.
 operand_apart : (arch : Arch) (w : Bytes) (v : Operand) → IsOperand arch w v → IsLocationName w → ⊥
 operand_apart arch w (operand.Register r) h = register_apart arch w r h
 operand_apart arch w (operand.Number n) h = number_apart w n h
 
--- texts that a comparison says to be unequal are so
+-- Texts that the comparison finds unequal are unequal.
 unequal : (u v : Bytes) → not (bytes_eq u v) ≡ true → u ≡ v → ⊥
 unequal u v e same = true≢false (sym e ∙ ap not ((bytes_eq-Decides u v).1 same))
 
--- a `:` in small letters is a `:`
+-- A `:` in lower case is a `:`.
 colon_case : (arch : Arch) → lowercase_if_x86 arch (codes ":") ≡ codes ":"
 colon_case Source = refl
 colon_case X86 = refl
 
--- a `:` is no location's name
+-- A `:` is no location's name.
 colon_location : IsLocationName (codes ":") → ⊥
 colon_location loc = true≢false (sym loc.0.0.all.0)
 
 module _ {W Form Stmt : Type 0} (spelling : Spelling W Form Stmt) where
   -- ---- one token
 
-  -- a token gives one thing at most at a slot
+  -- A token gives at most one value at a slot.
   pub given_unique : (t : Bytes) (slot : Slot W) (g h : SlotValue slot)
       → Gives spelling t slot g
       → Gives spelling t slot h
@@ -126,7 +126,7 @@ module _ {W Form Stmt : Type 0} (spelling : Spelling W Form Stmt) where
       → ⊥
   no_register t w r none word reg = true≢false (sym none ∙ ap not (named (spelling.text_of w) r reg.0 (reg.1 ∙ sym word)))
 
-  -- no token stands at two slots that differ
+  -- No token is accepted by two slots that differ.
   differ_apart : (t : Bytes) (a b : Slot W) (g : SlotValue a) (h : SlotValue b)
       → tokens_differ spelling a b ≡ true
       → Gives spelling t a g
@@ -141,7 +141,7 @@ module _ {W Form Stmt : Type 0} (spelling : Spelling W Form Stmt) where
   differ_apart t Value Location v n d x y = operand_apart _ t v x (subst IsLocationName (sym y.0) y.1)
   differ_apart t a b g h d x y = absurd cc
 
-  -- a `:` stands at no slot that is not its own
+  -- A `:` is accepted only by its own slot.
   pub colon_gives : (slot : Slot W) (slots : List (Slot W)) (g : SlotValue slot)
       → is_no_colon spelling (slot ∷ slots) ≡ true
       → Gives spelling (codes ":") slot g
@@ -154,9 +154,9 @@ module _ {W Form Stmt : Type 0} (spelling : Spelling W Form Stmt) where
   colon_gives Number slots n apart h = true≢false (sym (number_first (codes ":") n h))
   colon_gives Label slots l apart h = colon_location (subst IsLocationName (sym h.0) h.1)
 
-  -- ---- some tokens
+  -- ---- several tokens
 
-  -- tokens give one thing at most at slots
+  -- Tokens give at most one filling of slots.
   pub filling_unique : (ts : TokenList) (slots : List (Slot W)) (f g : Filling slots)
       → Fills spelling ts slots f
       → Fills spelling ts slots g
@@ -168,7 +168,7 @@ module _ {W Form Stmt : Type 0} (spelling : Spelling W Form Stmt) where
       let h = filling_unique ts slots f g a.1 b.1 in
       ap (λ (z : SlotValue slot). (z, f)) (given_unique t slot x y a.0 b.0) ∙ ap (λ (z : Filling slots). (y, z)) h
 
-  -- no tokens fill two lists of slots that are apart
+  -- No tokens fill two disjoint lists of slots.
   pub slots_apart : (ts : TokenList) (first second : List (Slot W)) (f : Filling first) (g : Filling second)
       → are_disjoint_forms spelling first second ≡ true
       → Fills spelling ts first f

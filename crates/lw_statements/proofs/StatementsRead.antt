@@ -1,4 +1,4 @@
--- A statement is read, or is refused, as its language's grammar says.
+-- A statement is read or rejected as the language's grammar says.
 use Rattle.lw_statements.proofs.Common.{◌≡◌, ℕ, suc, ◌<◌, ◌≤◌, ◌+◌, Option, Some, None, List, [], ◌∷◌, ◌++◌}
 use Rattle.lw_statements.proofs.Common.{length, take, get_or, refl, sym, ap, ◌∙◌, subst, arith, slice_get}
 use Rattle.lw_statements.proofs.Common.{Contains, IfSome, MatchOption, slice_get_within}
@@ -17,9 +17,9 @@ use Rattle.lw_statements.proofs.Beginnings.{before as before_location}
 use Rattle.lw_statements.proofs.api.Forms.{is_grammar}
 
 module _ {W Form Stmt : Type 0} (spelling : Spelling W Form Stmt) where
-  -- ---- where the name of a location stands
+  -- ---- where the name of a location is
 
-  -- the token of index k, where the first has index i, is the name that the tokens give at a location's slot
+  -- The token of index k, if the first has the index i, is the name that the tokens give at a location's slot.
   abbrev IsNamed : ℕ → ℕ → TokenList → (slots : List (Slot W)) → Filling slots → Type 0
   IsNamed i k ts slots f =
       (x : Bytes)
@@ -81,7 +81,7 @@ module _ {W Form Stmt : Type 0} (spelling : Spelling W Form Stmt) where
     abbrev found : SlotBindings
     found = bindings_of 0 (spelling.slots_of form) f
 
-    -- what is found has a name: that of the token of this index
+    -- If a name is found, it is the token of this index.
     named : (k : ℕ) → found.name ≡ Some k → IsNamed 0 k (token_texts tokens) (spelling.slots_of form) f
     named k is = name_index 0 k (token_texts tokens) (spelling.slots_of form) f fills is
 
@@ -131,7 +131,7 @@ module _ {W Form Stmt : Type 0} (spelling : Spelling W Form Stmt) where
             let n = (name_is k t is at).0 in
             record { syntax = said; says = (there, fills); names = rw n read.names; made = rw (is, n, ← read.number) made }
 
-    -- the statement is refused, if the table has no room for the location that was found in it
+    -- A statement is rejected if the table has no room for its location.
     pub refused_by_form : (made : Form → Operands → Option Stmt)
         → IsSpelling spelling made
         → (before : NameTable) (fault : CellFault)
@@ -159,8 +159,7 @@ module _ {W Form Stmt : Type 0} (spelling : Spelling W Form Stmt) where
           place = λ len lies. h.refused.place len (all_at (λ t. t.at ≤ len) tokens _ h.token h.is lies.0);
         }
 
-  -- a ninth location that stands at a location's slot, of a form whose slots the tokens reach so far, stands where a statement
-  -- may have a location
+  -- A ninth location at a slot that the tokens reach is at a position where a statement may have a location.
   pub ninth_in : (made : Form → Operands → Option Stmt)
       → IsSpelling spelling made
       → (form : Form)
@@ -181,7 +180,7 @@ module _ {W Form Stmt : Type 0} (spelling : Spelling W Form Stmt) where
         ninth = (refl, r.4 n.token.text.now (get_text tokens index n.token n.is), n.full, n.new);
       })
 
-  -- where the tokens fill no form, they say no statement that fits
+  -- Tokens that fill no form say no statement that fits.
   pub none_said : (ts : TokenList) (before : NameTable)
       → ((form : Form) (f : Filling (spelling.slots_of form))
       → Contains spelling.forms form

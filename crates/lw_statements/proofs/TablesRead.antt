@@ -1,4 +1,4 @@
--- Things that are read one after another on a table that grows by their names: one further, and other readings of the same.
+-- Reading in sequence while the table of names grows: one step, and uniqueness.
 use Rattle.lw_statements.proofs.Common.{◌≡◌, ◌≤◌, true, List, [], ◌∷◌, ◌++◌, length, map, refl, sym, ap, ◌∙◌}
 use Rattle.lw_statements.proofs.Common.{subst, arith, AllZip, AllByRecursion, map-append, contains_name}
 use Rattle.lw_statements.proofs.Common.{insert_name, insert_names, Bytes, NameTable, All-append_inv}
@@ -10,19 +10,19 @@ use Rattle.lw_statements.proofs.api.Zips.{Cut, zip_unique, zip_more}
 abbrev pub AreIn : NameTable → List Bytes → Type 0
 AreIn names ns = AllByRecursion (λ n. contains_name names n ≡ true) ns
 
--- names that were entered are in the table
+-- Inserted names are in the table.
 pub are_in : (names ns : NameTable) → AreIn (insert_names names ns) ns
 are_in names [] = tt
 are_in names (n ∷ ns) =
     (contains_name-insert_names (insert_name names n) ns n (contains_name-insert_name names n), are_in (insert_name names n) ns)
 
--- Things whose names are those of each, and of which something is made that stays as the table grows.
+-- Things with names, and a function of a table and a thing whose value is unchanged as the table grows.
 module _ {X D : Type 0} (names_by : List X → List Bytes) (make : NameTable → X → D)
     (split : (xs ys : List X) → names_by (xs ++ ys) ≡ names_by xs ++ names_by ys)
     (stays : (names ns : NameTable) (x : X)
     → AreIn names (names_by (x ∷ []))
     → make (insert_names names ns) x ≡ make names x) where
-  -- what is made of things whose names are in the table stays the same when it grows
+  -- The values for things whose names are in the table are unchanged when it grows.
   pub all_stay : (names ns : NameTable) (xs : List X)
       → AreIn names (names_by xs)
       → map (make (insert_names names ns)) xs ≡ map (make names) xs
@@ -31,10 +31,10 @@ module _ {X D : Type 0} (names_by : List X → List Bytes) (make : NameTable →
       let parts = All-append_inv _ _ (names_by xs) (subst (AreIn names) (split (x ∷ []) xs) all) in
       rw (stays names ns x parts.0, all_stay names ns xs parts.1) refl
 
-  -- What was read, and what comes next.
+  -- What was read, and what follows.
   module _ {C : Type 0} (Says : C → X → Type 0) (front : List C) (before mid : NameTable) (ds : List D)
       (read : ReadOn (AllZip Says front) names_by (λ names. map (make names)) before ds mid) (c : C) where
-    -- with the next thing, of which d is made, what was read says one thing more, and the table grew by its names
+    -- Reading the next thing adds it to what was read, and its names to the table.
     pub read_more : (x : X) (d : D) (after : NameTable)
         → Says c x
         → after ≡ insert_names mid (names_by (x ∷ []))
@@ -52,7 +52,7 @@ module _ {X D : Type 0} (names_by : List X → List Bytes) (make : NameTable →
         let table = insert_names-append before (names_by read.syntax) (names_by (x ∷ [])) in
         (zip_more Says front read.syntax c x read.says says, cc, cc)
 
-    -- what the whole says begins with what was read, and grows the table further
+    -- A parse of the whole starts with what was read, and inserts further names.
     module _ (one : (w : C) (x y : X) → Says w x → Says w y → x ≡ y) (rest : List C) (t : List X)
         (cut : Cut Says front c rest t) where
       pub read_same : cut.above ≡ read.syntax

@@ -1,4 +1,4 @@
--- Reading the threads of a test, one after another: what holds when one more is read.
+-- Reading the threads of a test in sequence: the invariant when one more is read.
 use Rattle.lw_statements.proofs.Common.{◌≡◌, ℕ, ◌<◌, ◌≤◌, ◌+◌, ◌-◌, List, [], ◌∷◌, ◌++◌, length, suc, take}
 use Rattle.lw_statements.proofs.Common.{drop, get_or, refl, sym, ap, ◌∙◌, subst, arith, All, replicate}
 use Rattle.lw_statements.proofs.Common.{append-nil, AllZip, map-append, flat_map-append, TestHead}
@@ -24,18 +24,18 @@ module _ {Syntax Stmt : Type 0} (grammar : Grammar Syntax Stmt) where
       → code_in grammar (insert_names names ns) t ≡ code_in grammar names t
   stays names ns t all = code_stays grammar _ ns t (subst (AreIn names) (append-nil (names_in grammar t)) all)
 
-  -- a fault because memory ran out refuses the cells of the threads
+  -- A fault because memory ran out rejects the cells of the threads.
   pub columns_out_of_memory : {A : Type 0} (names : NameTable) (columns : List (List (Cell A))) (f : CellFault)
       → f.cause ≡ Memory
       → f.at ≡ 0
       → ColumnsRefused grammar names columns f
   columns_out_of_memory names columns f = refused_memory f (λ at. tt)
 
-  -- A column behind those that were read.
+  -- A column, after those that were read.
   module _ {A : Type 0} (columns : List (List (Cell A))) (i : ℕ) (column : List (Cell A)) (within : i < length columns)
       (is : column ≡ get_or columns i column) (before mid : NameTable) (threads : List (List Stmt))
       (read : ColumnsRead grammar (all_texts (take i columns)) before threads mid) where
-    -- if that column is read as well, the columns up to it are
+    -- If that column is read, the columns up to it are.
     pub threads_more : (stmts : List Stmt) (after : NameTable)
         → ColumnRead grammar (cells_texts column) mid stmts after
         → ColumnsRead grammar (all_texts (take (i + 1) columns)) before (threads ++ stmts ∷ []) after
@@ -52,7 +52,7 @@ module _ {Syntax Stmt : Type 0} (grammar : Grammar Syntax Stmt) where
           made = more.2;
         }
 
-    -- where that column is refused, so are all columns
+    -- If that column is rejected, so are all columns.
     pub threads_refused : IsGrammar grammar
         → (f : CellFault)
         → ColumnRefused grammar mid column f
@@ -86,8 +86,8 @@ module _ {Syntax Stmt : Type 0} (grammar : Grammar Syntax Stmt) where
               r.place len (all_amid (All (EndsBefore len)) front rest column (subst (All (All (EndsBefore len))) whole all));
         }
 
-  -- If the threads of a frame's cells are read, the frame has a test of them: its head is the frame's, with the table as it is
-  -- then, and a 0 for each new location.
+  -- If the threads of a frame's cells are read, the frame has a test of them: its head is the frame's, with the table after reading, and a
+  -- 0 for each new location.
   pub test_found : (frame_head head : TestHead)
       → head ≡ frame_head
       → (cells : CellGrid) (threads : List (List Stmt)) (names : NameTable) (words : List ℕ)

@@ -1,4 +1,4 @@
--- Tokens say one statement at most, and what is made of it is what the rule of cells rests on.
+-- Tokens say at most one statement, and a lawful spelling is a grammar as the rule of cells requires.
 use Rattle.lw_statements.proofs.Common.{◌≡◌, ℕ, zero, suc, ◌<◌, Bool, true, Option, Some, List, [], ◌∷◌}
 use Rattle.lw_statements.proofs.Common.{length, get_or, sym, ap, ◌∙◌, subst, arith, codes, Contains}
 use Rattle.lw_statements.proofs.Common.{slice_get, AllByRecursion, list_all, ForSome, and_parts, same_Some}
@@ -11,7 +11,7 @@ use Rattle.lw_statements.proofs.Common.{registers_in, numbers_in, IsSpelling}
 use Rattle.lw_statements.proofs.Slots.{filling_unique, slots_apart, colon_gives}
 use Rattle.lw_base.specs.declared.operand.Operand.TheVariants as operand
 
--- where all elements of a list pass a test, each does
+-- If all elements of a list pass a test, each does.
 pub passes : {X : Type 0} (test : X → Bool) (xs : List X) (k : ℕ) (x : X)
     → list_all test xs ≡ true
     → k < length xs
@@ -22,7 +22,7 @@ passes test (y ∷ xs) zero x all h e = ap test (sym e) ∙ (and_parts (test y) 
 passes test (y ∷ xs) (suc k) x all h e = passes test xs k x (and_parts (test y) (list_all test xs) all).1 (omega (arith, h)) e
 
 module _ {W Form Stmt : Type 0} (spelling : Spelling W Form Stmt) where
-  -- the tokens fill the slots of one form at most
+  -- Tokens fill the slots of at most one form.
   module _ (ts : TokenList) (a b : Form) (f : Filling (spelling.slots_of a)) (g : Filling (spelling.slots_of b))
       (x : Fills spelling ts (spelling.slots_of a) f) (y : Fills spelling ts (spelling.slots_of b) g) where
     abbrev are_others : Form → Form → Bool
@@ -65,7 +65,7 @@ module _ {W Form Stmt : Type 0} (spelling : Spelling W Form Stmt) where
           (let r : ParsesStatement spelling = record { form = s.form; filling = f } in r))
           (filling_unique spelling ts (spelling.slots_of s.form) s.filling g x.1 h))
 
-  -- a statement's slots
+  -- A statement has at least one token.
   some_token : (slots : List (Slot W)) (f : Filling slots) → is_statement spelling slots ≡ true → Fills spelling [] slots f → ⊥
   some_token [] f is h = absurd cc
   some_token (slot ∷ slots) f is h = h
@@ -83,7 +83,7 @@ module _ {W Form Stmt : Type 0} (spelling : Spelling W Form Stmt) where
       colon_gives spelling b slots f.1.0 is
       (subst (λ (w : Bytes). Gives spelling w b f.1.0) (let same : u ≡ codes ":" = cc in same) h.1.0)
 
-  -- registers and numbers that tokens give
+  -- The registers and numbers that tokens give are in range.
   given : (ts : TokenList) (slots : List (Slot W)) (f : Filling slots)
       → Fills spelling ts slots f
       → AllByRecursion IsRegisterIndex (registers_in slots f) × AllByRecursion IsWordNumber (numbers_in slots f)
@@ -95,7 +95,7 @@ module _ {W Form Stmt : Type 0} (spelling : Spelling W Form Stmt) where
   given (t ∷ ts) (Number ∷ slots) (n, f) h = let more = given ts slots f h.1 in (more.0, (h.0.0, more.1))
   given (t ∷ ts) (slot ∷ slots) (g, f) h = given ts slots f h.1
 
-  -- the name of a location is allowed
+  -- The name of a location is allowed.
   name_allowed : (ts : TokenList) (slots : List (Slot W)) (f : Filling slots)
       → Fills spelling ts slots f
       → ForSome (name_in slots f) IsLocationName
@@ -104,14 +104,14 @@ module _ {W Form Stmt : Type 0} (spelling : Spelling W Form Stmt) where
   name_allowed (t ∷ ts) (Location ∷ slots) (x, f) h = λ n e. subst IsLocationName (same_Some x n e) h.0.1
   name_allowed (t ∷ ts) (slot ∷ slots) (g, f) h = name_allowed ts slots f h.1
 
-  -- the name of a location in each statement that tokens say is an allowed one
+  -- The name of a location in each statement that tokens say is allowed.
   pub names_allowed : (ts : TokenList) (s : ParsesStatement spelling)
       → (grammar_of spelling).says ts s
       → ForSome ((grammar_of spelling).name_of s) IsLocationName
   names_allowed ts s says = name_allowed ts (spelling.slots_of s.form) s.filling says.1
 
   module _ (made : Form → Operands → Option Stmt) (lawful : IsSpelling spelling made) where
-    -- the slots of each form are those of a statement, and a label, if they have one, stands last
+    -- The slots of each form are those of a statement, and its label, if it has one, comes last.
     pub well_spelled : (form : Form)
         → Contains spelling.forms form
         → (is_statement spelling (spelling.slots_of form) ≡ true) × (is_label_last spelling (spelling.slots_of form) ≡ true)
@@ -129,7 +129,7 @@ module _ {W Form Stmt : Type 0} (spelling : Spelling W Form Stmt) where
     is_given ts x to s says =
         let g = given ts (spelling.slots_of s.form) s.filling says.1 in (lawful.making x to s.form s.filling).given g.0 g.1
 
-    -- what is made of a spelling that keeps its rules is a grammar that keeps those of cells
+    -- A lawful spelling gives a grammar that satisfies the rules of cells.
     pub is_grammar : IsGrammar (grammar_of spelling)
     is_grammar = record {
       countable = lawful.countable;

@@ -1,8 +1,8 @@
--- The greater of two numbers, as the code takes it.
+-- The maximum of two numbers, as the code computes it.
 use Rattle.lw_statements.proofs.Common.{◌≡◌, ℕ, ◌<◌, ◌≤◌, max, Bool, true, false, refl, arith, eqb, ltb}
 use Rattle.lw_statements.proofs.Common.{ltb-true, ltb-false, nat_cmp, ord_max}
 
--- `max` of two numbers is the greater
+-- The code's `max` of two numbers is their maximum.
 pub greater_is : (a b : ℕ) → ord_max nat_cmp a b ≡ max a b
 greater_is a b = go (ltb b a) (eqb b a) refl refl
   where

@@ -14,7 +14,7 @@ use Rattle.lw_statements.proofs.api.Zips.{zip_unique, zip_length}
 use Rattle.lw_statements.proofs.ResolvedNames.{AllSaid, thread_fits}
 use Rattle.lw_statements.proofs.TablesRead.{AreIn, are_in}
 
--- a table of allowed names, with one more put in, has allowed names alone
+-- Inserting an allowed name preserves that all names of a table are allowed.
 name_right : (names : NameTable) (n : Bytes)
     → AllByRecursion IsLocationName names
     → IsLocationName n
@@ -25,7 +25,7 @@ name_right names n all here = go (contains_name names n) refl
     go true e = rw e all
     go false e = rw e (all_append IsLocationName names (n ∷ []) all (here, tt))
 
--- a table of allowed names, with some more put in, has allowed names alone
+-- Inserting allowed names preserves that all names of a table are allowed.
 names_right : (names ns : NameTable)
     → AllByRecursion IsLocationName names
     → AllByRecursion IsLocationName ns
@@ -34,7 +34,7 @@ names_right names [] all more = all
 names_right names (n ∷ ns) all more = names_right (insert_name names n) ns (name_right _ n all more.0) more.1
 
 module _ {Syntax Stmt : Type 0} (grammar : Grammar Syntax Stmt) (lawful : IsGrammar grammar) where
-  -- a frame has one test at most
+  -- A frame has at most one test.
   pub one_test : (frame : TestFrame) (s t : Test Stmt) → FrameHasTest grammar frame s → FrameHasTest grammar frame t → s ≡ t
   one_test frame s t h k =
       let same = zip_unique _ (column_unique grammar lawful) frame.cells h.threads k.threads h.says k.says in
@@ -42,7 +42,7 @@ module _ {Syntax Stmt : Type 0} (grammar : Grammar Syntax Stmt) (lawful : IsGram
       ∙ ap (λ ts. resolve_test grammar frame.head (insert_names frame.head.locs (names_of grammar ts)) ts) same
       ∙ sym k.made
 
-  -- what cells say is said by tokens
+  -- Each statement of a column is said by some tokens.
   column_said : (cells : Cells) (t : List (CellSyntax Syntax))
       → AllZip (ParsesCell grammar) cells t
       → AllSaid grammar lawful (statements t)
@@ -64,7 +64,7 @@ module _ {Syntax Stmt : Type 0} (grammar : Grammar Syntax Stmt) (lawful : IsGram
       )
   all_fit names columns ts says all = absurd says
 
-  -- The names of locations are allowed, as the languages' statements have them.
+  -- The names of locations in statements are allowed.
   module _ (named : (ts : TokenList) (s : Syntax) → grammar.says ts s → ForSome (grammar.name_of s) IsLocationName) where
     names_said : (ss : List Syntax) → AllSaid grammar lawful ss → AllByRecursion IsLocationName (filter_map grammar.name_of ss)
     names_said [] said = tt
@@ -78,7 +78,7 @@ module _ {Syntax Stmt : Type 0} (grammar : Grammar Syntax Stmt) (lawful : IsGram
         all_append IsLocationName _ _ (names_said _ (column_said c t says.0.says)) (all_named columns ts says.1)
     all_named columns ts says = absurd says
 
-    -- the test of a frame with a well-formed head is well-formed
+    -- The test of a frame with a well-formed head is well-formed.
     pub well_formed_test : (frame : TestFrame) (test : Test Stmt)
         → IsWellFormedHead frame.head
         → length frame.cells ≡ frame.head.threads

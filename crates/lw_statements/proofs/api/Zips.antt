@@ -1,7 +1,7 @@
--- Two lists of which each item of one stands to its fellow in a relation. The printer of canonical texts uses this.
+-- Two lists that are related item by item. The printer of canonical texts uses this.
 use Rattle.lw_statements.proofs.Common.{◌≡◌, suc, List, [], ◌∷◌, ◌++◌, length, refl, ap, AllZip}
 
--- The second list, cut at the fellow of the item x of the first: each part stands in the relation to its part of the first.
+-- The second list, split at the item related to x: each part is related to the first list's part.
 pub record Cut {X Y : Type 0} (R : X → Y → Type 0) (front : List X) (x : X) (rest : List X) (zs : List Y) : Type 0 where
   pub above : List Y
   pub here : Y
@@ -12,7 +12,7 @@ pub record Cut {X Y : Type 0} (R : X → Y → Type 0) (front : List X) (x : X) 
   pub below_says : AllZip R rest below
 
 module _ {X Y : Type 0} (R : X → Y → Type 0) where
-  -- if each item stands in the relation to one thing at most, so does a list of items, item by item, to one list
+  -- If each item is related to at most one, a list is related to at most one list.
   pub zip_unique : ((x : X) (y z : Y) → R x y → R x z → y ≡ z)
       → (xs : List X) (ys zs : List Y)
       → AllZip R xs ys
@@ -27,19 +27,19 @@ module _ {X Y : Type 0} (R : X → Y → Type 0) where
       cc
   zip_unique one xs ys zs h k = absurd h
 
-  -- two lists whose items stand in a relation do so with one item more each, if these do
+  -- Appending related items preserves that two lists are related.
   pub zip_more : (xs : List X) (ys : List Y) (x : X) (y : Y) → AllZip R xs ys → R x y → AllZip R (xs ++ x ∷ []) (ys ++ y ∷ [])
   zip_more [] [] x y h k = (k, tt)
   zip_more (w ∷ xs) (z ∷ ys) x y h k = (h.0, zip_more xs ys x y h.1 k)
   zip_more xs ys x y h k = absurd h
 
-  -- two lists whose items stand in a relation are of one length
+  -- Related lists have the same length.
   pub zip_length : (xs : List X) (ys : List Y) → AllZip R xs ys → length xs ≡ length ys
   zip_length [] [] h = refl
   zip_length (x ∷ xs) (y ∷ ys) h = ap suc (zip_length xs ys h.1)
   zip_length xs ys h = absurd h
 
-  -- where the first list is cut, so is the second, at their fellows
+  -- If the first list is split at an item, so is the second at the related item.
   pub zip_cut : (front : List X) (x : X) (rest : List X) (zs : List Y) → AllZip R (front ++ x ∷ rest) zs → Cut R front x rest zs
   zip_cut [] x rest (z ∷ zs) h =
       record { above = []; here = z; below = zs; whole = refl; above_says = tt; says = h.0; below_says = h.1 }

@@ -6,7 +6,7 @@ use Rattle.lw_statements.proofs.FrontLabels.{get_behind, next_within, labels_sta
 use Rattle.lw_statements.proofs.FrontLabels.{labels_twice, twice_in}
 use Rattle.lw_statements.proofs.labels.read_labels.Goals as goal
 
--- two tokens further on, fewer are left
+-- Two tokens further, fewer remain.
 fewer_left : (next len : ℕ) → next + 2 ≤ len → len - (next + 2) < len - next
 fewer_left next len within = omega arith
 

@@ -1,6 +1,6 @@
 use Rattle.lw_statements.proofs.Common.{length}
 use Rattle.lw_statements.proofs.statement_parser.+read_slots.Given as goal
 
--- the slots that are left
+-- The number of remaining slots decreases with each recursive call.
 abbrev pub decreases-read_slots : goal.decreases-read_slots
 decreases-read_slots g l = length l.slots.now

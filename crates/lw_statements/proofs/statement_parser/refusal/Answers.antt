@@ -27,7 +27,7 @@ pub offset_bounds-phrase-index : goal.offset_bounds-phrase-index
 offset_bounds-phrase-index g c =
     omega (arith, slice_get_within c.args.phrase.now.tokens.now c.in-Some.index c.in-Some.ensures.token c.in-Some.ensures.is)
 
--- too many names are no lack of memory
+-- The cause `TooMany` differs from `Memory`.
 other : TooMany ≡ Memory → ⊥
 other e = cc
 

@@ -5,7 +5,7 @@ use Rattle.lw_statements.proofs.Exits.{out_of_memory}
 use Rattle.lw_statements.proofs.Causes.{memory_tells, many_tells, refused_memory}
 use Rattle.lw_statements.proofs.token.location.Goals as goal
 
--- the table is full, and lacks it
+-- The table is full and does not have the name.
 is_ninth : (names : NameTable) (n : Bytes)
     → length names ≤ 8
     → 8 < length (insert_name names n)
