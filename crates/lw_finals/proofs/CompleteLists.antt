@@ -1,4 +1,4 @@
--- What is gathered from all choices of a test is its complete list, in either language.
+-- What is collected from all path assignments of a test is its complete list, in either language.
 use Rattle.lw_finals.proofs.Common.{◌≡◌, ℕ, inl, inr, List, [], ◌∷◌, length, Result, Ok, Err, refl, sym, ap}
 use Rattle.lw_finals.proofs.Common.{subst, IfOk, OnOk, All, Contains, ◌↔◌, cases_lt, All-nil, All-contains}
 use Rattle.lw_finals.proofs.Common.{All-weaker, Contains-append_right, FinalState, flat_memory, Protocol}
@@ -16,7 +16,7 @@ use Rattle.lw_finals.proofs.SourceTraceEquivalence.{OrdersEndAlike}
 use Rattle.lw_finals.proofs.Ordered.{OfChoice}
 use Rattle.lw_orders.specs.Order as orders
 
--- if P and Q together give R, P holds of a result's value where there is one, and Q holds there, then so does R
+-- If P and Q imply R, and the value of a result has P where it has one, and Q holds there, then the value has R.
 known_too : {T E : Type 0} (r : Result T E) (P R : T → Type 0) (Q : Type 0)
     → ((x : T) → P x → Q → R x)
     → IfOk r P
@@ -29,11 +29,11 @@ module _ {S : Type 0} (language : Language S) (test : Test S) {State : Type 0} (
   abbrev choice_items : List (List ℕ) → List Item
   choice_items paths = items_of language test.threads paths
 
-  -- a choice's items with their reduced pairs, which the orders are made with
+  -- The items of a path assignment with their reduced pairs, from which the orders are computed.
   abbrev pub reduced_constraints : List (List ℕ) → Constraints
   reduced_constraints paths = transitive_reduction language test.threads (choice_items paths)
 
-  -- of each choice of the test, alike orders of its items end alike
+  -- For each path assignment of the test, trace-equivalent orders of its items reach the same outcome.
   abbrev pub AreAlike : Type 0
   AreAlike =
       (paths : List (List ℕ)) → IsPathAssignment language test.threads paths → OrdersEndAlike language test.threads paths system
@@ -48,7 +48,7 @@ module _ {S : Type 0} (language : Language S) (test : Test S) {State : Type 0} (
       | inr within ↦ reduced_well_formed language test.threads (choice_items paths) within
     ]
 
-    -- what an order of a choice ends with, one ends with that is given
+    -- An outcome of some order of a path assignment is the outcome of a listed order.
     given_end : (o : FinalState)
         → OfChoice language test.threads system o
         → OutcomesOfProgram language (FollowsPathsToEnd system) test.threads o
@@ -73,7 +73,7 @@ module _ {S : Type 0} (language : Language S) (test : Test S) {State : Type 0} (
         (flat_too : AreFlat program) (entries : OutcomeEntries)
         (gathers : CollectsOutcomes (OutcomesOfProgram language (FollowsPathsToEnd system) test.threads) (ReplaysFlatTo program)
         [] entries) where
-      -- each schedule leads to its outcome
+      -- Each schedule reaches its outcome.
       lead : All (λ e. ReplaysFlatTo program e.1 e.0) entries
       lead = gathers.lead (All-nil (λ e. ReplaysFlatTo program e.1 e.0))
 
@@ -103,7 +103,7 @@ module _ {S : Type 0} (language : Language S) (test : Test S) {State : Type 0} (
         of_program = All-weaker _ _ (λ e h. flat_too.of_test Mesi e.1 e.0 h) entries (replays Mesi);
       }
 
-  -- Why a test's list is complete: its outcomes are those of the choices of paths, and those of this program on the flat machine.
+  -- Why a test's list is complete: its outcomes are those of the path assignments, and those of this program on the flat machine.
   pub record CanBeListed (Has : FinalState → Type 0) (program : X86Test) : Type 0 where
     pub is : IsWellFormed language test
     pub alike : AreAlike
@@ -112,7 +112,7 @@ module _ {S : Type 0} (language : Language S) (test : Test S) {State : Type 0} (
     pub same : (o : FinalState) → IsMachineOutcome flat_memory program program.head.init_words o ↔ Has o
     pub flat_too : AreFlat program
 
-  -- where a test has a list, it is a complete list of its outcomes
+  -- If a test has a list, it is a complete list of its outcomes.
   pub listed : (Has : FinalState → Type 0) (program : X86Test)
       → CanBeListed Has program
       → {E : Type 0} (result : Result OutcomeEntries E)

@@ -1,4 +1,4 @@
--- What is gathered by one run after another, and by one choice after another.
+-- What is collected by runs in sequence, and by path assignments in sequence.
 use Rattle.lw_finals.proofs.Common.{◌≡◌, ◌==◌, Bool, true, ℕ, ◌+◌, ◌<◌, ◌≤◌, List, [], ◌∷◌, ◌++◌, length}
 use Rattle.lw_finals.proofs.Common.{refl, sym, ◌∙◌, subst, inl, inr, arith, All, Contains, IsPermutation}
 use Rattle.lw_finals.proofs.Common.{eqb-true, map-append, All-nil, All-cons, All-append, All-weaker}
@@ -8,13 +8,13 @@ use Rattle.lw_finals.proofs.Common.{stays_listed, Contains-head, Contains-tail, 
 use Rattle.lw_finals.proofs.Common.{not-Contains-nil, of_one, indices_up}
 
 module _ (Leads : List Event → FinalState → Type 0) where
-  -- where there is no end, there is nothing to gather: the entries stay as they are
+  -- If there is no outcome, unchanged entries collect all outcomes.
   pub none_gathered : (Ends : FinalState → Type 0) (es : OutcomeEntries)
       → ((o : FinalState) → Ends o → ⊥)
       → CollectsOutcomes Ends Leads es es
   none_gathered Ends es none = record { covered = λ o e. absurd (none o e); kept = λ o c. c; lead = λ a. a }
 
-  -- one outcome more, with a schedule that leads to it, is all that is gathered where no other is an end
+  -- If o is the only outcome, then adding it with a schedule that reaches it collects all outcomes.
   pub one_added : (Ends : FinalState → Type 0) (es fs : OutcomeEntries) (o p : FinalState) (s : List Event)
       → ((q : FinalState) → Ends q → q ≡ o)
       → p ≡ o
@@ -34,14 +34,14 @@ module _ (Leads : List Event → FinalState → Type 0) where
       keys : outcomes_of (es ++ (p, s) ∷ []) ≡ outcomes_of es ++ p ∷ []
       keys = map-append _ es ((p, s) ∷ [])
 
-  -- entries that gather some ends gather any part of these too
+  -- Entries that collect a set of outcomes collect each subset.
   pub gathered_weaker : (More Ends : FinalState → Type 0) (es fs : OutcomeEntries)
       → ((o : FinalState) → Ends o → More o)
       → CollectsOutcomes More Leads es fs
       → CollectsOutcomes Ends Leads es fs
   gathered_weaker _ _ _ fs h a = record { covered = λ o e. a.covered o (h o e); kept = a.kept; lead = a.lead }
 
-  -- sorting keeps what is gathered
+  -- Sorting preserves what is collected.
   pub gathered_sorted : (Ends : FinalState → Type 0) (es fs gs : OutcomeEntries)
       → IsPermutation fs gs
       → CollectsOutcomes Ends Leads es fs
@@ -53,7 +53,7 @@ module _ (Leads : List Event → FinalState → Type 0) where
     lead = λ h. all (a.lead h);
   }
 
-  -- entries that have gathered the ends of the first, x, and then those of the others, xs, have gathered the ends of all
+  -- Entries that have collected the outcomes of x, and then those of xs, have collected the outcomes of `x ∷ xs`.
   pub first_gathered : {X : Type 0} (Ends : X → FinalState → Type 0) (x : X) (xs : List X) (es fs gs : OutcomeEntries)
       → CollectsOutcomes (Ends x) Leads es fs
       → CollectsOutcomes (OutcomesOfOne Ends xs) Leads fs gs
@@ -67,7 +67,7 @@ module _ (Leads : List Event → FinalState → Type 0) where
     lead = λ h. b.lead (a.lead h);
   }
 
--- Of all orders some are still to come, and `found` is gathered so far: once those are gathered too, all are.
+-- Of all orders some remain, and `found` is collected so far: once those are collected too, all are.
 pub record UpTo (Ends : List ℕ → FinalState → Type 0) (Leads : List Event → FinalState → Type 0) (all to_come : List (List ℕ))
     (old found : OutcomeEntries) : Type 0 where
   pub among : (order : List ℕ) → Contains to_come order → Contains all order
@@ -77,7 +77,7 @@ pub record UpTo (Ends : List ℕ → FinalState → Type 0) (Leads : List Event 
 
 module _ (Ends : List ℕ → FinalState → Type 0) (Leads : List Event → FinalState → Type 0) (all : List (List ℕ))
     (old : OutcomeEntries) where
-  -- the first order that is to come is gathered, and those behind it are to come
+  -- If the first remaining order is collected, those after it remain.
   pub up_to_more : (to_come next : List (List ℕ)) (found more : OutcomeEntries) (order : List ℕ)
       → to_come ≡ order ∷ next
       → UpTo Ends Leads all to_come old found
@@ -91,14 +91,14 @@ module _ (Ends : List ℕ → FinalState → Type 0) (Leads : List Event → Fin
         (first_gathered Leads Ends order next found more new h r));
   }
 
--- all choices were visited
+-- Path assignments visited in sequence.
 module _ {V : Type 0} (Test : Type 0) (test_of : V → Test) (found_of : V → OutcomeEntries)
     (visits : V → List (List ℕ) → V → Type 0) (Ends : Test → List (List ℕ) → FinalState → Type 0)
     (Leads : Test → List Event → FinalState → Type 0)
     (each : (v : V) (paths : List (List ℕ)) (w : V)
     → visits v paths w
     → (test_of w ≡ test_of v) × CollectsOutcomes (Ends (test_of v) paths) (Leads (test_of v)) (found_of v) (found_of w)) where
-  -- what choices gather, visited one after another, is gathered of all of them
+  -- What path assignments collect, visited in sequence, is collected from all of them.
   pub visits_gather : (test : Test) (choices : List (List (List ℕ))) (v w : V)
       → test_of v ≡ test
       → VisitsAll visits choices v w
@@ -112,7 +112,7 @@ module _ {V : Type 0} (Test : Type 0) (test_of : V → Test) (found_of : V → O
       (each v paths mid one) in
       first_gathered _ _ paths choices _ _ (found_of w) h.1 (visits_gather test choices mid w h.0 rest)
 
--- where one order alone is given, what it gathers is gathered of all that are given
+-- If there is only one order, what it collects is collected from all orders.
 pub gathered_alone : (Ends : List ℕ → FinalState → Type 0) (Leads : List Event → FinalState → Type 0) (given : List (List ℕ))
     (order : List ℕ) (es fs : OutcomeEntries)
     → given ≡ order ∷ []
@@ -122,12 +122,12 @@ gathered_alone Ends Leads given order es fs one =
     gathered_weaker Leads (Ends order) _ es fs
     (λ o (x, c, e). subst (λ (y : List ℕ). Ends y o) (of_one order x (subst (λ (xs : List (List ℕ)). Contains xs x) one c)) e)
 
--- n numbers from 0 up are below n
+-- The numbers of the range from 0 to n are below n.
 pub below : (n : ℕ) → All (λ i. i < n) (indices 0 n)
 below n =
     All-weaker (λ (j : ℕ). (0 ≤ j) × (j < 0 + n)) (λ (j : ℕ). j < n) (λ j h. omega (arith, h.1)) (indices 0 n) (indices_up 0 n)
 
--- a list whose length is found to be 0 is empty
+-- A list of length 0 is empty.
 pub nothing_in : {X : Type 0} (xs : List X) (n : ℕ) (b : Bool) → b ≡ (n == 0) → b ≡ true → n ≡ length xs → xs ≡ []
 nothing_in [] n b e is len = refl
 nothing_in (x ∷ xs) n b e is len = let zero_is : n ≡ 0 = eqb-true n 0 (sym e ∙ is) in absurd (omega arith)

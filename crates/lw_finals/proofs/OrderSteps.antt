@@ -1,14 +1,14 @@
--- A run of an order of items, one item further.
+-- One step of the run of an order of items.
 use Rattle.lw_finals.proofs.Common.{◌≡◌, ℕ, suc, ◌+◌, ◌<◌, ◌≤◌, List, ◌∷◌, length, drop, Some, refl, sym, ap}
 use Rattle.lw_finals.proofs.Common.{◌∙◌, subst, arith, get_or, drop-cons, IsTrue, drop_all, slice_get-get_or}
 use Rattle.lw_finals.proofs.Common.{get_or_from_slice_get, FinalState, Item, item_at, ItemTransitionSystem}
 use Rattle.lw_finals.proofs.Common.{OrderRunsTo, FollowsPathsToEnd}
 
--- the item that is read at an index is the item of that number
+-- The item read at an index is the item of that number.
 read_item : (items : List Item) (n : ℕ) (x : Item) → n < length items → x ≡ get_or items n x → item_at items n ≡ x
 read_item items n x l e = get_or_from_slice_get items n x _ (slice_get-get_or items n x l ∙ ap Some (sym e))
 
--- The item x is the next one of an order of which k are done: what is read at an index of the order is its number.
+-- The item x is the next one of an order whose first k items are done: its number is read at index k of the order.
 pub record IsNext (items : List Item) (order : List ℕ) (k : ℕ) (x : Item) : Type 0 where
   pub index : ℕ
   pub past : ℕ
@@ -21,16 +21,16 @@ module _ {State : Type 0} (system : ItemTransitionSystem State) (items : List It
   abbrev Ran : List ℕ → State → State → Type 0
   Ran = OrderRunsTo system items
 
-  -- The first k items of an order have led to a state, as they do in every run of it.
+  -- The first k items of an order have reached a state, and every run of the order goes through it.
   pub record RanFirst (order : List ℕ) (k : ℕ) (now : State) : Type 0 where
     pub goes : (end : State) → Ran order system.start end → Ran (drop k order) now end
     pub comes : (end : State) → Ran (drop k order) now end → Ran order system.start end
 
-  -- the item of number n is the next one
+  -- The item of number n is the next one.
   next_item : (order : List ℕ) (k n d : ℕ) → k < length order → n ≡ get_or order k d → drop k order ≡ n ∷ drop (suc k) order
   next_item order k n d l is = drop-cons order k d l ∙ ap (λ (i : ℕ). i ∷ drop (suc k) order) (sym is)
 
-  -- an item that can't be carried out ends every run
+  -- If the next item is not enabled, the order has no run.
   pub ran_off : (order : List ℕ) (k : ℕ) (x : Item) (now : State)
       → IsNext items order k x
       → ((next : State) → system.Carried x now next → ⊥)
@@ -43,7 +43,7 @@ module _ {State : Type 0} (system : ItemTransitionSystem State) (items : List It
       let m = subst (λ (xs : List ℕ). Ran xs now end) split (r.goes end o) in
       none m.0 (subst (λ (y : Item). system.Carried y now m.0) (read_item items one.index x one.there one.is_item) m.1)
 
-  -- where the next item can lead to one state alone, one item more has led there
+  -- If the next item has exactly one successor state, one more item has reached it.
   pub ran_on : (order : List ℕ) (k : ℕ) (x : Item) (now next : State)
       → IsNext items order k x
       → system.Carried x now next
@@ -68,7 +68,7 @@ module _ {State : Type 0} (system : ItemTransitionSystem State) (items : List It
             r.comes end (subst (λ (xs : List ℕ). Ran xs now end) (sym split) m);
       }
 
-  -- behind the last item a run has ended
+  -- After the last item a run is at its end.
   pub ran_out : (order : List ℕ) (k : ℕ) (now : State)
       → length order ≤ k
       → RanFirst order k now
@@ -77,11 +77,11 @@ module _ {State : Type 0} (system : ItemTransitionSystem State) (items : List It
       → end ≡ now
   ran_out order k now past r end o = subst (λ xs. Ran xs now end) (drop_all k order past) (r.goes end o)
 
-  -- where all items of an order have led to a state, the order's run ends there
+  -- If all items of an order have reached a state, the order's run ends there.
   pub ran_whole : (order : List ℕ) (k : ℕ) (now : State) → length order ≤ k → RanFirst order k now → Ran order system.start now
   ran_whole order k now past r = r.comes now (subst (λ xs. Ran xs now now) (sym (drop_all k order past)) refl)
 
-  -- an order whose items have all led to a state ends with that state's outcome alone, and the state is final
+  -- If all items of an order have reached a state, the order's only outcome is that state's, and the state is final.
   pub ends_alone : {order : List ℕ} {k : ℕ} {now : State}
       → length order ≤ k
       → RanFirst order k now
@@ -92,7 +92,7 @@ module _ {State : Type 0} (system : ItemTransitionSystem State) (items : List It
       let end : run.end ≡ now = ran_out order k now past r run.end run.ran in
       (run.is ∙ ap system.outcome_of end, subst (λ (s : State). IsTrue (system.is_final s)) end run.final)
 
-  -- if all items of an order have led to a final state, the order stays on its paths and ends with that state's outcome
+  -- If all items of an order have reached a final state, the order follows its paths and reaches that state's outcome.
   pub ends_so : {order : List ℕ} {k : ℕ} {now : State}
       → length order ≤ k
       → RanFirst order k now

@@ -1,5 +1,5 @@
--- The order of the items that a run of a program to its end carries out, in either language: each item of the paths stands there
--- once, and the fixed pairs are kept. So what the run ends with is an outcome of a choice of paths.
+-- The order of the items that a run of a program to a final state executes, in either language: it has each item of the paths exactly once,
+-- and respects the fixed pairs. So the run's outcome is one of a path assignment.
 use Rattle.lw_finals.proofs.Common.{◌≡◌, ℕ, zero, suc, ◌+◌, ◌<◌, inl, inr, List, [], ◌∷◌, map, length, Option}
 use Rattle.lw_finals.proofs.Common.{Some, Bool, true, false, Result, refl, sym, ap, ◌∙◌, subst, arith}
 use Rattle.lw_finals.proofs.Common.{slice_get, All, Contains, IsTrue, cases_eq, cases_lt, cases_order}
@@ -14,7 +14,7 @@ use Rattle.lw_finals.proofs.Common.{slot_goes_up, same_number, ItemTransitionSys
 use Rattle.lw_finals.proofs.Common.{IsChoiceOutcome}
 use Rattle.lw_finals.proofs.PathOfRun.{IsRight, IsAhead, Completed, Runs, completed}
 
--- an item of a list is found at an index below the list's length
+-- An item of a list is found at an index below the list's length.
 found_there : (xs : List ℕ) (i : ℕ) → Contains xs i → index_in xs i < length xs
 found_there [] i c = absurd (not-Contains-nil i c)
 found_there (x ∷ xs) i c = elim (cases_eq x i) [
@@ -25,7 +25,7 @@ found_there (x ∷ xs) i c = elim (cases_eq x i) [
   ]
 ]
 
--- what a list that is made of a function has at an index is what the function gives
+-- A list computed by a function has the function's value at each index.
 code_listed : (P : ℕ → List ℕ) (k n t : ℕ) → t < n → thread_code (map P (indices k n)) t ≡ P (k + t)
 code_listed P k zero t l = absurd (omega arith)
 code_listed P k (suc n) zero l = let e : k ≡ k + 0 = omega arith in ap P e
@@ -50,7 +50,7 @@ module _ {S : Type 0} (language : Language S) where
   code_within (code ∷ program) zero j i e = omega arith
   code_within (code ∷ program) (suc t) j i e = omega (arith, code_within program t j i e)
 
--- lists of numbers, and the items that they name
+-- Lists of numbers, and the items that they stand for.
 module _ {S : Type 0} (language : Language S) (program : List (List S)) (items : List Item) where
   abbrev it : ℕ → Item
   it i = item_at items i
@@ -78,7 +78,7 @@ module _ {S : Type 0} (language : Language S) (program : List (List S)) (items :
     | inr ne ↦ each_placed P xs i (All-tail P (it x) (map it xs) h) (omega (arith, index_in-other x xs i ne))
   ]
 
-  -- none stands twice
+  -- The list has no duplicates.
   once : (xs : List ℕ) → Pairwise (IsRight language program) (map it xs) → AreDistinct xs
   once [] h = tt
   once (x ∷ xs) h = (
@@ -107,7 +107,7 @@ module _ {S : Type 0} (language : Language S) (program : List (List S)) (items :
     ]
   ]
 
--- an outcome of some choice of a program's paths
+-- The outcome is one of some path assignment of the program.
 abbrev pub OfChoice : {S State : Type 0} → Language S → List (List S) → ItemTransitionSystem State → FinalState → Type 0
 OfChoice language program system o =
     (paths : List (List ℕ)) × IsPathAssignment language program paths × IsChoiceOutcome system language program paths o
@@ -134,7 +134,7 @@ module _ {S : Type 0} (language : Language S) (program : List (List S)) {State :
         let e : t ≡ 0 + t = omega arith in
         subst (λ (n : ℕ). IsFlowPathFrom language (thread_code program t) 0 (c.paths n)) e (c.flows t 0 (starts t l)))
 
-    -- each item that was done is one of the paths
+    -- Each item that was executed is one of the paths.
     has_number : (a : Item) → IsAhead language program c.paths (λ t. []) a → HasItem its a
     has_number a h =
         let l = code_within language program a.thread a.position h.statement h.at in
@@ -142,7 +142,7 @@ module _ {S : Type 0} (language : Language S) (program : List (List S)) {State :
         item_there language program paths a.thread a.position h.statement a.is_drain (as_many language program paths choice) l
         (subst (IsMember a.position) (sym (path_is a.thread l)) on) h.at h.store
 
-    -- and each of the paths was done
+    -- Each item of the paths was executed.
     is_done : (i : ℕ) → i < length its → Contains c.done (at i)
     is_done i l =
         let r : IsItemOnPath language program paths (at i) = IsItemOnPath-of_member language program paths i l in
@@ -191,7 +191,7 @@ module _ {S : Type 0} (language : Language S) (program : List (List S)) {State :
               (omega (arith, slot_goes_up language program paths forward choice i j less l same)) ordered)
         ]
 
-    -- the order that the run takes
+    -- The outcome is that of the order in which the run executes the items.
     of_choice : (o : FinalState) → IsTrue (system.is_final end) → o ≡ system.outcome_of end → OfChoice language program system o
     of_choice o final is = (
       paths,
@@ -208,7 +208,7 @@ module _ {S : Type 0} (language : Language S) (program : List (List S)) {State :
       },
     )
 
-  -- What a run ends with is an outcome of a choice of paths.
+  -- The outcome of a run is one of a path assignment.
   pub run_of_choice : (Done : Event → State → Result (Unit {0}) Stop → State → Type 0) (Sound : (ℕ → List ℕ) → State → Type 0)
       → Runs language program system position_of Done Sound
       → ((t : ℕ) → JumpsForward language (thread_code program t))

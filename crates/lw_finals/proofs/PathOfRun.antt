@@ -1,5 +1,5 @@
--- The paths that the threads of a program take in a run to the end, in either language, and the items that it carries out. Of a
--- test is asked that each event carries out an item.
+-- The paths that the threads of a program take in a run to a final state, in either language, and the items that the run executes. The only
+-- premise about the language is that each event executes an item.
 use Rattle.lw_finals.proofs.Common.{◌≡◌, ◌≢◌, ℕ, suc, ◌<◌, ◌≤◌, ◌==◌, if◌then◌else◌, ◌⊎◌, inl, inr, ⊎_elim}
 use Rattle.lw_finals.proofs.Common.{List, [], ◌∷◌, map, length, Option, Some, Bool, true, false, Result, Ok}
 use Rattle.lw_finals.proofs.Common.{refl, sym, ap, ◌∙◌, subst, arith, slice_get, All, Contains, IsTrue}
@@ -14,16 +14,16 @@ use Rattle.lw_finals.proofs.Common.{IsAscendingFrom-lower_bound, path_up, ItemTr
 use Rattle.lw_finals.proofs.api.Waiting.{DrainsOldest, IsAscendingBetween, climbs_in, entry_location}
 use Rattle.lw_finals.proofs.api.Waiting.{waits_after, from_after, in_after, store_after}
 
--- positions at the start
+-- The positions in the initial state.
 module _ {X Y : Type 0} (starting : X → Y) (position : Y → ℕ) (at_first : (x : X) → position (starting x) ≡ 0) (xs : List X) where
-  -- each thread that is there starts at its first position
+  -- Each thread starts at its first position.
   pub starts : (t : ℕ) → t < length xs → slice_get (map position (map starting xs)) t ≡ Some 0
   starts t l =
       let x = get_some xs t l in
       slice_get-map position (map starting xs) t
       ∙ (ap (option_map position) (slice_get-map starting xs t ∙ ap (option_map starting) x.1) ∙ ap Some (at_first x.0))
 
-  -- no thread starts elsewhere
+  -- No thread starts elsewhere.
   pub at_start : (t p : ℕ) → slice_get (map position (map starting xs)) t ≡ Some p → p ≡ 0
   at_start t p e =
       let y = get-map position (map starting xs) t p e in
@@ -31,11 +31,11 @@ module _ {X Y : Type 0} (starting : X → Y) (position : Y → ℕ) (at_first : 
       y.2 ∙ (ap position x.2 ∙ at_first x.0)
 
 module _ {S : Type 0} (language : Language S) (program : List (List S)) where
-  -- item a may stand before item b: no fixed pair says the opposite
+  -- Item a may precede item b: no fixed pair orders them the other way.
   abbrev pub IsRight : Item → Item → Type 0
   IsRight a b = a.thread ≡ b.thread → thread_rank b ≤ thread_rank a → AreOrdered language program b a → ⊥
 
-  -- an item of what is still to be done: of the paths ahead, or the drain of a store that waits
+  -- An item still to be executed: of the remaining paths, or the drain of a waiting store.
   pub record IsAhead (paths W : ℕ → List ℕ) (a : Item) : Type 0 where
     pub statement : S
     pub at : slice_get (thread_code program a.thread) a.position ≡ Some statement
@@ -43,7 +43,7 @@ module _ {S : Type 0} (language : Language S) (program : List (List S)) where
     pub store : a.is_drain ≡ true → IsStoring language statement
 
   module _ {State : Type 0} (system : ItemTransitionSystem State) (position_of : State → ℕ → Option ℕ) where
-    -- a run to the end, where these stores wait, taken apart
+    -- A run to a final state from a state in which these stores wait, as paths and executed items.
     pub record Completed (W : ℕ → List ℕ) (s end : State) : Type 0 where
       pub paths : ℕ → List ℕ
       pub done : List Item
@@ -59,11 +59,11 @@ module _ {S : Type 0} (language : Language S) (program : List (List S)) where
           → Contains done (item t j true)
       pub right : Pairwise IsRight done
 
-    -- each thread is within its code
+    -- Each thread's position is within its code.
     abbrev pub IsWithin : State → Type 0
     IsWithin s = (t p : ℕ) → position_of s t ≡ Some p → p ≤ length (thread_code program t)
 
-    -- where each is past its code, and nothing waits, nothing is left to be done
+    -- If each thread is past its code, and no store waits, nothing remains to be executed.
     pub over : (W : ℕ → List ℕ) (s : State)
         → IsWithin s
         → ((t p : ℕ) → position_of s t ≡ Some p → (length (thread_code program t) ≤ p) × ((j : ℕ) → IsMember j (W t) → ⊥))
@@ -79,28 +79,28 @@ module _ {S : Type 0} (language : Language S) (program : List (List S)) where
       right = tt;
     }
 
-    -- What an item does that is carried out where these stores wait: a statement leads along the flow, and where it waits for
-    -- drains there are none to wait for; a drain is that of the store that has waited longest.
+    -- The effect of executing an item while these stores wait: a statement goes to one of its flow successors, and if it waits for drains
+    -- no store of its thread waits; a drain is that of the store that has waited longest.
     pub record Moves (W : ℕ → List ℕ) (s mid : State) : Type 0 where
       pub a : Item
       pub statement : S
       pub at : slice_get (thread_code program a.thread) a.position ≡ Some statement
       pub carried : system.Carried a s mid
-      -- its thread stood at one position, and stands at another
+      -- The position of its thread before and after.
       pub old : ℕ
       pub new : ℕ
       pub was : position_of s a.thread ≡ Some old
       pub now : position_of mid a.thread ≡ Some new
       pub others : (u : ℕ) → a.thread ≢ u → position_of mid u ≡ position_of s u
       pub climbs : IsAscendingBetween 0 (W a.thread) old
-      -- of a statement
+      -- The effect of a statement.
       pub follows : a.is_drain ≡ false → (old ≡ a.position) × IsFlowSuccessor language (Some statement) a.position new
       pub waited : a.is_drain ≡ false
           → statement_needs_empty_buffer language statement ≡ true
           → (k : ℕ)
           → IsMember k (W a.thread)
           → ⊥
-      -- of a drain
+      -- The effect of a drain.
       pub stays : a.is_drain ≡ true → new ≡ old
       pub oldest : DrainsOldest a.is_drain a.position (W a.thread)
       pub store : a.is_drain ≡ true → IsStoring language statement
@@ -150,7 +150,7 @@ module _ {S : Type 0} (language : Language S) (program : List (List S)) where
           follows_within language (thread_code program t) j m.new (forward t)
           (subst (λ (o : Option S). IsFlowSuccessor language o j m.new) (sym m.at) (m.follows f).1)
 
-      -- each thread is still within its code
+      -- Each thread's position is still within its code.
       pub within_next : IsWithin s → IsWithin mid
       within_next within u q e = elim (cases_eq t u) [
         | inl same ↦
@@ -161,7 +161,7 @@ module _ {S : Type 0} (language : Language S) (program : List (List S)) where
         | inr ne ↦ within u q (sym (m.others u ne) ∙ e)
       ]
 
-      -- the thread is past the item's position then
+      -- The thread is past the item's position, then.
       beyond : j < m.new
       beyond = elim (cases_Bool b) [
         | inl f ↦
@@ -172,8 +172,8 @@ module _ {S : Type 0} (language : Language S) (program : List (List S)) where
         | inr f ↦ (went f).0
       ]
 
-      -- So what is still to be done comes behind it with right: it would else be of the same thread and at an index that is no
-      -- later, ordered before the item.
+      -- An item still to be executed may follow this one: otherwise it would be of the same thread, at an index that is no later, and
+      -- ordered before it.
       right_here : (paths : ℕ → List ℕ) (x : Item) → IsAscendingFrom m.new (paths t) → IsAhead paths after x → IsRight a x
       right_here paths x up ahead same le ordered = elim ahead.on [
         | inl on ↦ on_path (subst (λ (u : ℕ). IsMember x.position (paths u)) (sym same) on)
@@ -183,20 +183,20 @@ module _ {S : Type 0} (language : Language S) (program : List (List S)) where
         ]
       ]
         where
-          -- a position further on is a later index
+          -- A later position has a greater rank.
           later : j < x.position → ⊥
           later less = absurd (omega (arith, slot_less b x.is_drain j x.position less, le))
 
-          -- what is on the path ahead is further on
+          -- Positions on the remaining path are later.
           on_path : IsMember x.position (paths t) → ⊥
           on_path on = later (omega (arith, beyond, IsAscendingFrom-lower_bound m.new x.position (paths t) up on))
 
-          -- so is a store that waits behind the oldest
+          -- So is a store that waits after the oldest.
           newer : (rest : List ℕ) → IsAscendingBetween 0 (j ∷ rest) m.old → x.position ≢ j → IsMember x.position (j ∷ rest) → ⊥
           newer rest climbs ne (inl e) = ne (sym e)
           newer rest climbs ne (inr h) = later (climbs_in (suc j) m.old x.position rest climbs.1 h).0
 
-          -- a statement that is ordered behind a drain waits for it
+          -- A statement that is ordered after a drain waits for it.
           waits_at : b ≡ false
               → ((b ≡ true)
               ⊎ (option_map_or (statement_needs_empty_buffer language) (slice_get (thread_code program t) j) false ≡ true))
@@ -204,7 +204,7 @@ module _ {S : Type 0} (language : Language S) (program : List (List S)) where
           waits_at f (inl e) = absurd (true≢false (sym e ∙ f))
           waits_at f (inr e) = sym (ap (λ o. option_map_or (statement_needs_empty_buffer language) o false) m.at) ∙ e
 
-          -- a store that had waited before: behind the oldest, or in vain for a statement that waits for it
+          -- A store that was waiting cannot be ordered before the item: it is not the oldest, or no store may wait.
           waiting : x.is_drain ≡ true → (b ≡ true → x.position ≢ j) → IsMember x.position (W t) → ⊥
           waiting d ne w = elim (cases_Bool b) [
             | inl f ↦
@@ -214,7 +214,7 @@ module _ {S : Type 0} (language : Language S) (program : List (List S)) where
             | inr f ↦ m.waited f (waits_at f (ordered d)) x.position w
           ]
 
-      -- the run from an item on
+      -- The run from an item on.
       pub one_more : (end : State) → Completed after mid end → Completed W s end
       one_more end r = record {
         paths = before;
@@ -241,7 +241,7 @@ module _ {S : Type 0} (language : Language S) (program : List (List S)) where
         right = (All-weaker (IsAhead r.paths after) (IsRight a) (λ x h. right_here r.paths x up h) r.done r.ahead, r.right);
       }
         where
-          -- the paths from here on: a statement stands before what is left of its thread's path
+          -- The paths from here on: a statement precedes the rest of its thread's path.
           before : ℕ → List ℕ
           before u = if t == u then own_path b j (r.paths u) else r.paths u
 
@@ -251,7 +251,7 @@ module _ {S : Type 0} (language : Language S) (program : List (List S)) where
           before_other : (u : ℕ) → t ≢ u → before u ≡ r.paths u
           before_other u ne = cond-false (t == u) (own_path b j (r.paths u)) (r.paths u) (ne_eqb t u ne)
 
-          -- what is on them: what is left, and the statement
+          -- They contain the rest, and the statement.
           in_before : (u k : ℕ) → IsMember k (r.paths u) → IsMember k (before u)
           in_before u k h = elim (cases_eq t u) [
             | inl same ↦ subst (IsMember k) (sym (before_same u same)) (in_own b j k (r.paths u) h)
@@ -269,7 +269,7 @@ module _ {S : Type 0} (language : Language S) (program : List (List S)) where
             | inr ne ↦ inr (subst (IsMember k) (before_other u ne) h)
           ]
 
-          -- they are paths from where the threads stand
+          -- They are paths from the threads' positions.
           up : IsAscendingFrom m.new (r.paths t)
           up = path_up language (thread_code program t) m.new (r.paths t) (forward t) (r.flows t m.new m.now)
 
@@ -286,14 +286,14 @@ module _ {S : Type 0} (language : Language S) (program : List (List S)) where
               subst (λ (k : ℕ). IsFlowPathFrom language (thread_code program t) k (before t)) (same_Some m.old q (sym m.was ∙ e))
               (subst (IsFlowPathFrom language (thread_code program t) m.old) (sym (before_same t refl)) (own_flows b refl))
 
-          -- each thread stands somewhere behind the item too
+          -- Each thread has a position after the item too.
           still_stands : (u p : ℕ) → position_of s u ≡ Some p → (q : ℕ) × (position_of mid u ≡ Some q)
           still_stands u p e = elim (cases_eq t u) [
             | inl same ↦ (m.new, subst (λ (v : ℕ). position_of mid v ≡ Some m.new) same m.now)
             | inr ne ↦ (p, m.others u ne ∙ e)
           ]
 
-          -- the item was still to be done, and so was all that is done later
+          -- The item was still to be executed, and so were all later ones.
           on_here : IsMember j (before t) ⊎ ((b ≡ true) × IsMember j (W t))
           on_here = elim (cases_Bool b) [
             | inl f ↦ inr (f, subst (IsMember j) (sym (m.oldest f).1) (inl refl))
@@ -317,7 +317,7 @@ module _ {S : Type 0} (language : Language S) (program : List (List S)) where
           same_item : (u k : ℕ) (d : Bool) → t ≡ u → j ≡ k → b ≡ d → a ≡ item u k d
           same_item u k d tu jk bd = ap (λ t. item t j b) tu ∙ (ap (λ j. item u j b) jk ∙ ap (λ b. item u k b) bd)
 
-          -- The drain of a store is done where the store is on the path: if it is the item itself, it waits from then on.
+          -- The drain of a store is executed if the store is on the path: if the store is the item itself, it waits from then on.
           on_path : (u p k : ℕ) (h : S)
               → position_of mid u ≡ Some p
               → slice_get (thread_code program u) k ≡ Some h
@@ -339,7 +339,7 @@ module _ {S : Type 0} (language : Language S) (program : List (List S)) where
             | inr g ↦ Contains-tail a (item u k true) r.done (r.drained u p k h there (inl g) at store)
           ]
 
-          -- And where the store waits: the item is the drain, or the store waits on.
+          -- So it is if the store waits: the item is its drain, or the store keeps waiting.
           waiting : (u p k : ℕ) (h : S)
               → position_of mid u ≡ Some p
               → slice_get (thread_code program u) k ≡ Some h
@@ -362,13 +362,12 @@ module _ {S : Type 0} (language : Language S) (program : List (List S)) where
                   Contains-tail a (item u k true) r.done
                   (r.drained u p k h there (inr (in_after language program W a m.old m.climbs m.oldest u k l ne)) at store)
 
-    -- An event of a run carries out an item. Where the stores that wait in the state before it are known, so they are in that
-    -- behind it.
+    -- An event of a run executes an item, and preserves that the waiting stores are known.
     pub record One (Sound : (ℕ → List ℕ) → State → Type 0) (W : ℕ → List ℕ) (s mid : State) : Type 0 where
       pub moves : Moves W s mid
       pub sound : Sound (waits_after language program moves.a W) mid
 
-    -- Each event does, and at the end each thread is past its code, and nothing waits.
+    -- Each event executes an item; and in a final state each thread is past its code, and no store waits.
     pub record Runs (Done : Event → State → Result (Unit {0}) Stop → State → Type 0)
         (Sound : (ℕ → List ℕ) → State → Type 0) : Type 0 where
       pub first : Sound (λ t. []) system.start
@@ -384,7 +383,7 @@ module _ {S : Type 0} (language : Language S) (program : List (List S)) where
 
     module _ (Done : Event → State → Result (Unit {0}) Stop → State → Type 0) (Sound : (ℕ → List ℕ) → State → Type 0)
         (runs : Runs Done Sound) (forward : (t : ℕ) → JumpsForward language (thread_code program t)) where
-      -- every run to the end has its paths, and its items
+      -- Every run to a final state has its paths and its items.
       pub completed : (es : List Event) (W : ℕ → List ℕ) (s end : State)
           → IsWithin s
           → Sound W s

@@ -9,7 +9,7 @@ use Rattle.lw_finals.proofs.Common.{IsComplete}
 use Rattle.lw_finals.proofs.CompleteLists.{listed}
 use Rattle.lw_finals.proofs.SourceOutcomes.{alike_orders_end_alike, outcomes_are_those_of_choices}
 
--- what the orders of all choices gather is the complete list of the source test's outcomes
+-- What the orders of all path assignments collect is the complete list of the source test's outcomes.
 pub source_listed : (s : SourceTest)
     → IsWellFormedSource s
     → AreComplete

@@ -1,5 +1,5 @@
--- Alike orders of the items of a source test end alike; and the outcomes of the orders of all choices of paths are exactly its
--- outcomes.
+-- Trace-equivalent orders of the items of a source test reach the same outcome; and the outcomes of the orders of all path assignments are
+-- exactly the test's.
 use Rattle.lw_finals.proofs.Common.{◌≡◌, ℕ, ◌≤◌, ◌==◌, Bool, true, false, if◌then◌else◌, List, [], ◌∷◌, map}
 use Rattle.lw_finals.proofs.Common.{length, Option, Some, None, Result, Ok, refl, sym, subst, inl, inr}
 use Rattle.lw_finals.proofs.Common.{slice_get, arith, ◌≢◌, ◌<◌, ap₂, ◌∙◌, ◌↔◌, IsTrue, true≢false, leb-true}
@@ -20,16 +20,16 @@ use Rattle.lw_finals.proofs.SourceTraceEquivalence.{Neighbours, OrdersEndAlike, 
 use Rattle.lw_base.specs.Replays as replays
 use Rattle.lw_litmus.specs.Conflicts as conflicts
 
--- ---- alike orders
+-- ---- trace-equivalent orders
 
--- Two items of two threads, whose statements do not conflict.
+-- The items are of different threads, and their statements do not conflict.
 record OfTwoThreads (program : List (List Stmt)) (a b : Item) : Type 0 where
   unlike : a.thread ≢ b.thread
   free : conflicts.operations_conflict source_language (statement_of source_language program a)
       (statement_of source_language program b)
       ≡ false
 
--- two items by `OfTwoThreads`, carried out one behind the other, can be so the other way round, to the same state after both
+-- Two such items that can be executed in sequence can be executed in the other order, with the same state after both.
 swapped : (program : List (List Stmt)) (a b : Item) (s mid end : State)
     → OfTwoThreads program a b
     → SourceItemTransition program a s mid
@@ -45,7 +45,7 @@ swapped program a b s mid end two (at_a, step_a) (at_b, step_b) =
     exchange program a.thread b.thread s two.unlike apart mid end step_a step_b in
     (o.0, (was_b, o.1), (others_placed program b.thread a.thread s o.0 (λ e. two.unlike (sym e)) o.1 ∙ at_a, o.2))
 
--- two statements conflict as items, where neither is a drain, as they conflict as statements
+-- For items that are not drains, conflict of items is conflict of their statements.
 conflict_is : (b c : Bool) (o p : Option Stmt)
     → b ≡ false
     → c ≡ false
@@ -61,7 +61,7 @@ module _ (program : List (List Stmt)) (paths : List (List ℕ)) where
   abbrev at : ℕ → Item
   at i = item_at (items_of source_language program paths) i
 
-  -- no item is a drain
+  -- No item of a source test is a drain.
   not_drain : (i : ℕ) → i < length (items_of source_language program paths) → (at i).is_drain ≡ false
   not_drain i l =
       let r : IsItemOnPath source_language program paths (at i) = IsItemOnPath-of_member source_language program paths i l in
@@ -94,7 +94,7 @@ module _ (program : List (List Stmt)) (paths : List (List ℕ)) where
         | inr (inr more) ↦ n.back more (sym same) (λ d. absurd (true≢false (sym d ∙ y_step)))
       ]
 
--- alike orders of a source test end alike
+-- Trace-equivalent orders of a source test's items reach the same outcome.
 pub alike_orders_end_alike : (s : SourceTest) (paths : List (List ℕ))
     → OrdersEndAlike source_language s.threads paths (source_item_system s)
 alike_orders_end_alike s paths =
@@ -106,7 +106,7 @@ alike_orders_end_alike s paths =
 
 -- ---- outcomes
 
--- at the end each thread of a source test is past its code
+-- In a final state each thread of a source test is past its code.
 ended : (program : List (List Stmt)) (s : State) (t p : ℕ)
     → IsTrue (is_source_final program s)
     → thread_position s t ≡ Some p
@@ -119,7 +119,7 @@ ended program s t p final e = elim (cases_lt t (length program)) [
   | inr past ↦ subst (λ code. length code ≤ p) (sym (get_or_past program t [] past)) (omega arith)
 ]
 
--- no store waits in any thread, as in the source language each goes to memory at once
+-- No store waits in any thread, since in the source language each store goes to memory at once.
 abbrev NoneWaits : (ℕ → List ℕ) → State → Type 0
 NoneWaits W s = (u : ℕ) → W u ≡ []
 
@@ -138,7 +138,7 @@ module _ (test : SourceTest) where
       go true None = none u
       go true (Some i) = none u
 
-  -- a step carries out a statement of its thread
+  -- A step executes a statement of its thread.
   stepped : (t : ℕ) (W : ℕ → List ℕ) (s mid : State)
       → NoneWaits W s
       → source_step program t s ≡ Ok mid
@@ -177,7 +177,7 @@ module _ (test : SourceTest) where
         sound = none_waits W s t m.from none;
       }
 
-  -- a source test's runs have steps alone
+  -- The runs of a source test consist of steps.
   abbrev Steps : Event → State → Result (Unit {0}) Stop → State → Type 0
   Steps e s answer mid = (t : ℕ) × (source_step program t s ≡ Ok mid)
 
@@ -198,21 +198,21 @@ module _ (test : SourceTest) where
     ended = λ W s none final t p e. (ended program s t p final e, λ j h. subst (IsMember j) (none t) h);
   }
 
--- the steps of an order that stays on its paths are possible, one after another
+-- The steps of an order that follows its paths are enabled in sequence.
 scheduled : (s : SourceTest) (items : List Item) (order : List ℕ) (z end : State)
     → OrderRunsTo (source_item_system s) items order z end
     → SourceRunsTo s.threads (map Step (threads_of items order)) z end
 scheduled s items [] z end ran = ran
 scheduled s items (i ∷ order) z end (next, (at, step), ran) = (next, step, scheduled s _ order next end ran)
 
--- an order of any items that stays on its paths runs to its outcome
+-- An order of any items that follows its paths reaches its outcome by interleaving.
 pub order_runs_to : (s : SourceTest) (items : List Item) (order : List ℕ) (o : FinalState)
     → SourceFollowsPathsToEnd s items order o
     → InterleavesTo s (threads_of items order) o
 order_runs_to s items order o r =
     record { end = r.end; ran = scheduled s items order (initial_state s) r.end r.ran; final = r.final; is = r.is }
 
--- The outcomes of a well-formed test are those of its choices of paths.
+-- The outcomes of a well-formed test are those of its path assignments.
 pub outcomes_are_those_of_choices : (s : SourceTest) (o : FinalState)
     → IsWellFormedSource s
     → SourceOutcome s o

@@ -1,4 +1,4 @@
--- The schedules that orders of a source test's items stand for: they lead to the orders' outcomes.
+-- The schedules of the orders of a source test's items reach the orders' outcomes.
 use Rattle.lw_finals.proofs.Common.{◌≡◌, ◌<◌, length, ℕ, subst, List, [], ◌∷◌, ◌++◌, refl, sym, ap, ap₂, ◌∙◌}
 use Rattle.lw_finals.proofs.Common.{All, slice_get, All-nil, All-cons, slice_get_within, same_Some, get-map}
 use Rattle.lw_finals.proofs.Common.{step-decompose, FinalState, thread_code, Event, Stmt, Thread, State}
@@ -9,7 +9,7 @@ use Rattle.lw_finals.proofs.Common.{ReplaysFlatTo, CompiledSource, HasStatementA
 use Rattle.lw_finals.proofs.Common.{threads_of, SourceItemTransition}
 use Rattle.lw_finals.proofs.SourceOutcomes.{order_runs_to}
 
--- an item that is carried out is a statement of its thread
+-- An item that is executed is a statement of its thread.
 there : (program : List (List Stmt)) (item : Item) (s next : State)
     → SourceItemTransition program item s next
     → HasStatementAt program item
@@ -20,7 +20,7 @@ there program item s next (at, step) =
     let index_in : item.position ≡ d.thread.position = a.2 ∙ ap (λ (th : Thread). th.position) same in
     subst (λ (k : ℕ). k < length (thread_code program item.thread)) (sym index_in) (slice_get_within _ _ d.stmt d.at)
 
--- each item of an order that is carried out is a statement of its thread
+-- Each item of an order that is executed is a statement of its thread.
 pub all_there : (test : SourceTest) (items : List Item) (order : List ℕ) (s end : State)
     → OrderRunsTo (source_item_system test) items order s end
     → All (λ i. HasStatementAt test.threads (item_at items i)) order
@@ -29,7 +29,7 @@ all_there test items (i ∷ order) s end (next, carried, ran) =
     All-cons (λ j. HasStatementAt test.threads (item_at items j)) i order (there test.threads (item_at items i) s next carried)
     (all_there test items order next end ran)
 
--- the schedule of an order's threads has the events of its items
+-- The schedule of an order's threads has the events of the order's items.
 of_items : (test : SourceTest) (starts : List (List ℕ)) (items : List Item) (order : List ℕ) (s end : State)
     → OrderRunsTo (source_item_system test) items order s end
     → compiled_schedule test.threads starts (threads_of items order) s ≡ item_events test.threads starts items order
@@ -47,7 +47,7 @@ of_items test starts items (i ∷ order) s end (next, (at, step), ran) =
     (ap (λ o. after_step o (compiled_schedule test.threads starts (threads_of items order))) step
     ∙ of_items test starts items order next end ran)
 
--- The events of an order's items lead to its outcome.
+-- The events of an order's items reach its outcome.
 pub leads : (t : CompiledSource) (items : List Item) (order : List ℕ) (events : List Event) (o : FinalState)
     → SourceFollowsPathsToEnd t.source items order o
     → events ≡ item_events t.source.threads t.starts items order

@@ -1,5 +1,5 @@
--- Alike orders of the items of a choice end alike, in either language, where two neighbours can change places that neither conflict
--- nor are fixed.
+-- Trace-equivalent orders of a path assignment's items reach the same outcome, in either language, if adjacent items that neither conflict
+-- nor are fixed commute.
 use Rattle.lw_finals.proofs.Common.{◌≡◌, ◌≢◌, ℕ, suc, ◌<◌, true, List, [], ◌∷◌, ◌++◌, length, refl, sym, ap}
 use Rattle.lw_finals.proofs.Common.{◌∙◌, subst, inl, inr, arith, append_assoc, append-nil, length-append}
 use Rattle.lw_finals.proofs.Common.{cases_order, Contains-append_right, FinalState, Language, Constraints}
@@ -22,11 +22,11 @@ module _ {S : Type 0} (language : Language S) (program : List (List S)) (paths :
   abbrev Keeps : List ℕ → Type 0
   Keeps = IsLinearExtension t
 
-  -- no fixed pair says that item x, by its index in the choice's items, has to stand before item y
+  -- No fixed pair orders item x before item y.
   abbrev pub IsFree : ℕ → ℕ → Type 0
   IsFree x y = x < y → (at x).thread ≡ (at y).thread → AreOrdered language program (at x) (at y) → ⊥
 
-  -- the items x and y, by their indices, neither conflict nor are fixed, and stand side by side in the order, x at index k
+  -- The items x and y neither conflict nor are fixed, and are adjacent in the order, x at index k.
   pub record Neighbours (order : List ℕ) (k x y : ℕ) : Type 0 where
     pub x_below : x < length items
     pub y_below : y < length items
@@ -64,7 +64,7 @@ module _ {S : Type 0} (language : Language S) (program : List (List S)) (paths :
     back = λ less same ordered. omega (arith, kept language program paths xs ix.1 e.y e.x less old.0 same ordered, old.2, old.3);
   }
     where
-      -- where they stand in an order
+      -- The two adjacent items have these indices in an order.
       stand : (order front : List ℕ) (x y : ℕ) (rest : List ℕ)
           → IsOrder (length items) order
           → order ≡ front ++ x ∷ y ∷ rest
@@ -94,7 +94,7 @@ module _ {S : Type 0} (language : Language S) (program : List (List S)) (paths :
       differ : e.x ≢ e.y
       differ same = omega (arith, ap (index_in xs) same, old.2, old.3)
 
-  -- Of two alike orders that keep the fixed pairs: where one stays on its paths the other does, and ends with the same outcome.
+  -- If one of two trace-equivalent orders that respect the fixed pairs follows its paths, so does the other, with the same outcome.
   abbrev pub OrdersEndAlike : {State : Type 0} → ItemTransitionSystem State → Type 0
   OrdersEndAlike system =
       (xs ys : List ℕ) (o : FinalState)
@@ -104,8 +104,8 @@ module _ {S : Type 0} (language : Language S) (program : List (List S)) (paths :
       → FollowsPathsToEnd system items xs o
       → FollowsPathsToEnd system items ys o
 
-  -- What holds once the first k items of an order are carried out: the next item keeps it, and where it holds two neighbours lead
-  -- where they lead the other way round.
+  -- An invariant after the first k items of an order are executed: the next item preserves it, and under it adjacent independent items
+  -- commute.
   module _ {State : Type 0} (system : ItemTransitionSystem State) (Holds : List ℕ → ℕ → State → Type 0) where
     pub record CanExchange : Type 0 where
       pub first : (order : List ℕ) → Holds order 0 system.start
@@ -143,7 +143,7 @@ module _ {S : Type 0} (language : Language S) (program : List (List S)) (paths :
           subst (λ zs. Ran zs system.start end) (sym e.new)
           (walk [] e.front system.start e.old refl (can.first xs) (subst (λ zs. Ran zs system.start end) e.old ran))
         where
-          -- up to the two neighbours
+          -- The run up to the two adjacent items.
           walk : (before front : List ℕ) (s : State)
               → xs ≡ before ++ (front ++ e.x ∷ e.y ∷ e.rest)
               → before ++ front ≡ e.front
@@ -168,7 +168,7 @@ module _ {S : Type 0} (language : Language S) (program : List (List S)) (paths :
                     (subst (λ (k : ℕ). Holds xs k mid) more (can.next xs ix (length before) i o.0 there s mid holds one)) rest,
               )
 
-      -- alike orders end alike
+      -- Trace-equivalent orders reach the same outcome.
       pub orders_end_alike : OrdersEndAlike system
       orders_end_alike xs ys o ix iy alike r =
           let joined = alike_orders_are_joined t (conflicts_up language program items) xs ys ix iy alike in

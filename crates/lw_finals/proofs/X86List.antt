@@ -7,7 +7,7 @@ use Rattle.lw_finals.proofs.CompleteLists.{listed}
 use Rattle.lw_finals.proofs.X86TraceEquivalence.{x86_orders_end_alike}
 use Rattle.lw_finals.proofs.X86Outcomes.{x86_outcomes}
 
--- what the orders of all choices gather is the complete list of the x86 test's outcomes
+-- What the orders of all path assignments collect is the complete list of the x86 test's outcomes.
 pub program_listed : (test : X86Test)
     → IsWellFormedProgram test
     → AreComplete

@@ -1,4 +1,4 @@
--- The outcomes over flat memory of the orders of all choices of paths are exactly the outcomes of an x86 test.
+-- The outcomes over flat memory of the orders of all path assignments are exactly the outcomes of an x86 test.
 use Rattle.lw_finals.proofs.Common.{◌≡◌, ℕ, ◌≤◌, ◌==◌, List, [], ◌∷◌, length, Option, Some, None, Bool, true}
 use Rattle.lw_finals.proofs.Common.{false, Ok, refl, sym, ap, ◌∙◌, subst, arith, slice_get, length-set, ◌↔◌}
 use Rattle.lw_finals.proofs.Common.{IsTrue, nat_le, option_map, true≢false, leb-true, eqb-true, and_parts}
@@ -19,14 +19,14 @@ use Rattle.lw_finals.proofs.PathOfRun.{One, Runs, starts, at_start}
 use Rattle.lw_finals.proofs.api.X86Waiting.{ItemStep, carried, went, DrainShape, drain_shape, BufferHolds}
 use Rattle.lw_finals.proofs.api.X86Waiting.{no_waits, Holds, AllHold, all_hold, hold_first}
 
--- if the buffer has an oldest entry, some store waits, and the one that has waited longest made that entry
+-- If the buffer has an oldest entry, some store waits, and the one that has waited longest made that entry.
 oldest : (code : List Instr) (ws : List ℕ) (e : ℕ × ℕ) (newer : List (ℕ × ℕ))
     → BufferHolds code ws (e ∷ newer)
     → (j : ℕ) × (rest : List ℕ) × (ws ≡ j ∷ rest) × (entry_location x86_language (slice_get code j) ≡ Some e.0)
 oldest code [] e newer h = absurd h
 oldest code (j ∷ rest) e newer h = (j, rest, refl, h.0)
 
--- where an entry for a location is made, an instruction stands that stores
+-- A statement that makes an entry for a location is a store.
 storing : (o : Option Instr) (x : ℕ)
     → entry_location x86_language o ≡ Some x
     → (i : Instr) × (o ≡ Some i) × IsStoring x86_language i
@@ -37,7 +37,7 @@ module _ (test : X86Test) where
   abbrev program : List (List Instr)
   program = test.threads
 
-  -- at the end each thread is past its code, and nothing waits in its buffer
+  -- In a final state each thread is past its code, and no store waits in its buffer.
   ended : (W : ℕ → List ℕ) (s : MachineState (List ℕ))
       → AllHold program W s
       → length s.processors ≡ length program
@@ -61,7 +61,7 @@ module _ (test : X86Test) where
   instr_there None p q m n d = absurd d
   instr_there (Some i) p q m n d = (i, refl)
 
-  -- these stores wait in the buffers
+  -- These stores wait in the buffers.
   record IsSound (W : ℕ → List ℕ) (s : MachineState (List ℕ)) : Type 0 where
     hold : AllHold program W s
     many : length s.processors ≡ length program
@@ -124,7 +124,7 @@ module _ (test : X86Test) where
         drain true f c = drain_shape c.old c.new s.memory c.words c.does
         drain false f c = absurd (true≢false (sym f))
 
-    -- an event is an item that is carried out
+    -- An event executes an item.
     one : (e : Event) (W : ℕ → List ℕ) (s mid : MachineState (List ℕ))
         → IsSound W s
         → MachineTransition flat_memory program e s (Ok tt) mid
@@ -162,14 +162,14 @@ module _ (test : X86Test) where
       ended = λ W s sound final. ended W s sound.hold sound.many final;
     }
 
--- the events of an order that stays on its paths are possible, one after another
+-- The events of an order that follows its paths are enabled in sequence.
 scheduled : (test : X86Test) (items : List Item) (order : List ℕ) (s end : MachineState (List ℕ))
     → OrderRunsTo (x86_item_system flat_memory test test.head.init_words) items order s end
     → MachineRunsTo flat_memory test.threads (events_of items order) s end
 scheduled test items [] s end ran = ran
 scheduled test _ (i ∷ order) s end (next, out, ran) = (next, out.done, scheduled test _ order next end ran)
 
--- an order of any items that stays on its paths replays to its outcome
+-- An order of any items that follows its paths replays to its outcome.
 pub order_replays : (test : X86Test) (items : List Item) (order : List ℕ) (o : FinalState)
     → X86FollowsPathsToEnd flat_memory test test.head.init_words items order o
     → ReplaysTo flat_memory test test.head.init_words (events_of items order) o
@@ -180,7 +180,7 @@ order_replays test items order o r = record {
   is = r.is;
 }
 
--- The outcomes of a well-formed test are those of its choices of paths.
+-- The outcomes of a well-formed test are those of its path assignments.
 pub x86_outcomes : (test : X86Test) (o : FinalState)
     → IsWellFormedProgram test
     → IsMachineOutcome flat_memory test test.head.init_words o

@@ -1,4 +1,4 @@
--- Runs of the orders of an x86 test's items over any memory, seen over the flat one; and their events, which lead where they do.
+-- Runs of the orders of an x86 test's items over any memory correspond to runs over flat memory; and so do their events.
 use Rattle.lw_finals.proofs.Common.{◌≡◌, ℕ, ◌+◌, ◌≤◌, Bool, true, false, List, [], ◌∷◌, ◌++◌, length, Some}
 use Rattle.lw_finals.proofs.Common.{◌↔◌, ◌==◌, Ok, Err, refl, sym, ap, ◌∙◌, subst, IsTrue, eqb-true, eq-eqb}
 use Rattle.lw_finals.proofs.Common.{RunsTo-append, same_Some, FinalState, Event, Stop, flat_memory, Invariant}
@@ -9,7 +9,7 @@ use Rattle.lw_finals.proofs.Common.{Instr, X86Test, Item, event_by, event_of, X8
 use Rattle.lw_finals.proofs.Common.{x86_item_system, X86FollowsPathsToEnd}
 use Rattle.lw_finals.proofs.OrderSteps.{RanFirst, IsNext, ran_off, ran_on}
 
--- the thread of an item that is a step, at position p, stands at the item exactly where p is the item's position
+-- The thread of a step's item is at the item if and only if its position is the item's.
 pub item_stands : {M : Type 0} (a : Item) (s : MachineState M) (p q : ℕ)
     → a.is_drain ≡ false
     → q ≡ a.position
@@ -19,19 +19,19 @@ item_stands a s p q step same at =
     subst (λ (d : Bool). IsTrue (p == q) ↔ IsAtPosition (event_by d a.thread) a.position s) (sym step)
     ((λ t. at ∙ ap Some (eqb-true p q t ∙ same)), (λ h. eq-eqb p q (same_Some p a.position (sym at ∙ h) ∙ sym same)))
 
--- an item stands for no eviction
+-- An item's event is no eviction.
 no_eviction : (b : Bool) (t : ℕ) → without_evictions (event_by b t ∷ []) ≡ event_by b t ∷ []
 no_eviction true t = refl
 no_eviction false t = refl
 
 module _ {M : Type 0} (mem : Memory M) where
-  -- where a thread stands is seen without its memory
+  -- A thread's position does not depend on the memory.
   stands_flat : (b : Bool) (t j : ℕ) (s : MachineState M)
       → IsAtPosition (event_by b t) j s ↔ IsAtPosition (event_by b t) j (over_flat_memory mem s)
   stands_flat true t j s = ((λ h. h), (λ h. h))
   stands_flat false t j s = ((λ h. h), (λ h. h))
 
-  -- a memory that was put back to the start of the test is one on which it can start
+  -- A machine may start on a memory that was reset to the test's initial words.
   pub can_start : (test : X86Test) (m : M) (inv : Invariant M) {program threads : List (List Instr)} {words : List ℕ}
       → inv.sound m
       → length program ≤ inv.cpus m
@@ -47,14 +47,13 @@ module _ {M : Type 0} (mem : Memory M) where
   }
 
   module _ (test : X86Test) (m : M) (items : List Item) where
-    -- The first k items of an order have led to a state that a run reaches, and over flat memory to the same in every run of
-    -- the order.
+    -- The first k items of an order have reached a state, over this memory by a run, and over flat memory in every run of the order.
     pub record RanFlat (order : List ℕ) (k : ℕ) (now : MachineState M) : Type 0 where
       pub events : List Event
       pub reached : MachineRunsTo mem test.threads events (initial_machine_state test m) now
       pub first : RanFirst (x86_item_system flat_memory test test.head.init_words) items order k (over_flat_memory mem now)
 
-    -- an event that is no eviction is done over the memory as over flat memory
+    -- An event that is no eviction has the same effect over the memory as over flat memory.
     abbrev pub EventsAreFlat : Type 0
     EventsAreFlat =
         (events : List Event) (s after : MachineState M) (e : Event) (answer : EventResult)
@@ -64,7 +63,7 @@ module _ {M : Type 0} (mem : Memory M) where
         → MachineTransition flat_memory test.threads e (over_flat_memory mem s) answer (over_flat_memory mem after)
 
     module _ (over_flat : EventsAreFlat) where
-      -- an event of an item, over flat memory
+      -- An item's event is executed over flat memory too.
       done_flat : (order : List ℕ) (k : ℕ) (item : Item) (now after : MachineState M) (answer : EventResult)
           → RanFlat order k now
           → MachineTransition mem test.threads (event_of item) now answer after
@@ -73,7 +72,7 @@ module _ {M : Type 0} (mem : Memory M) where
       done_flat order k item now after answer r done =
           over_flat r.events now after (event_of item) answer r.reached (no_eviction item.is_drain item.thread) done
 
-      -- one item more
+      -- One more item is executed.
       pub carried_on : (order : List ℕ) (k : ℕ) (item : Item) (now next : MachineState M)
           → IsNext items order k item
           → RanFlat order k now
@@ -93,7 +92,7 @@ module _ {M : Type 0} (mem : Memory M) where
                 c.done done).1) r.first;
           }
 
-      -- an item that is not carried out
+      -- An item that is not executed ends every run.
       pub left_off : (order : List ℕ) (k : ℕ) (item : Item) (now after : MachineState M)
           → IsNext items order k item
           → RanFlat order k now

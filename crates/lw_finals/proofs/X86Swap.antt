@@ -1,4 +1,4 @@
--- Two neighbouring items of an x86 test's order that neither conflict nor are fixed are independent events.
+-- Adjacent items of an x86 test's order that neither conflict nor are fixed are independent events.
 use Rattle.lw_finals.proofs.Common.{◌≡◌, ◌≢◌, ℕ, ◌<◌, Bool, true, false, List, [], ◌∷◌, length, Option, Some}
 use Rattle.lw_finals.proofs.Common.{None, refl, sym, ap, ◌∙◌, subst, inl, arith, slice_get, ◌||◌}
 use Rattle.lw_finals.proofs.Common.{if◌then◌else◌, eq-eqb, cond-false, and_from, or_left, or_right}
@@ -16,20 +16,20 @@ use Rattle.lw_finals.proofs.api.X86Waiting.{act_by, ItemStep, went, DrainShape, 
 use Rattle.lw_finals.proofs.api.X86Waiting.{AllHold}
 use Rattle.lw_tso.specs.Independence as machine
 
--- ---- what an item that is carried out accesses
+-- ---- the accesses of an item
 
--- the location that an operation accesses in memory at once: none for a store, whose entry a drain brings there
+-- The location that an operation accesses in memory at once: none for a store, whose entry a drain writes later.
 abbrev by_itself : Operation → Option ℕ
 by_itself o = if is_store o then None else location_of o
 
--- an operation that accesses memory at once is no store, which makes an entry
+-- An operation that accesses memory at once is no buffered store.
 no_store : (o : Operation) (q : Processor) (z : ℕ)
     → machine.accessed_location (operation_effect o q) ≡ Some z
     → is_store o ≡ false
 no_store (Store x v) q z e = absurd (none-some z e)
 no_store o q z e = refl
 
--- what a step accesses in memory is its operation's location, and it writes there only if the operation does
+-- A step accesses in memory only its operation's location, and writes it only if the operation does.
 step_touches : (o : Operation) (q : Processor) (z : ℕ)
     → machine.accessed_location (operation_effect o q) ≡ Some z
     → (by_itself o ≡ Some z) × (machine.event_writes (operation_effect o q) ≡ true → writes o ≡ true)
@@ -37,7 +37,7 @@ step_touches o q z e =
     let found = operation_accessed o q z e in
     (cond-false (is_store o) None _ (no_store o q z e) ∙ found.0, λ w. or_right (is_store o) _ (found.1 ∙ w))
 
--- if some store waits, the buffer has an oldest entry, which the one that has waited longest made
+-- If some store waits, the buffer has an oldest entry, made by the store that has waited longest.
 oldest_entry : (code : List Instr) (k : ℕ) (ws : List ℕ) (b : List (ℕ × ℕ)) (h : Instr)
     → BufferHolds code (k ∷ ws) b
     → slice_get code k ≡ Some h
@@ -45,7 +45,7 @@ oldest_entry : (code : List Instr) (k : ℕ) (ws : List ℕ) (b : List (ℕ × �
 oldest_entry code k ws [] h w at = absurd w
 oldest_entry code k ws (e ∷ b) h w at = (e, b, refl, sym (ap (entry_location x86_language) at) ∙ w.0)
 
--- what a drain accesses in memory is the location of the store that has waited longest
+-- A drain accesses in memory the location of the store that has waited longest.
 drain_touches : (code : List Instr) (k : ℕ) (ws : List ℕ) (b : List (ℕ × ℕ)) (q : Processor) {z : ℕ} {h : Instr}
     → BufferHolds code (k ∷ ws) b
     → slice_get code k ≡ Some h
@@ -54,8 +54,8 @@ drain_touches : (code : List Instr) (k : ℕ) (ws : List ℕ) (b : List (ℕ × 
 drain_touches code k ws [] q w at e = absurd w
 drain_touches code k ws (f ∷ b) q w at e = sym (ap (entry_location x86_language) at) ∙ (w.0 ∙ e)
 
--- Where these stores wait, an item of thread t at position j is carried out: the instruction i, or the drain of its entry,
--- which is then that of the store that has waited longest.
+-- While these stores wait, an item of thread t at position j is executed: the instruction i, or the drain of its entry, which is then that
+-- of the store that has waited longest.
 pub record ItemMoves (program : List (List Instr)) (W : ℕ → List ℕ) (t j : ℕ) (b : Bool) (i : Instr)
     (s mid : MachineState (List ℕ)) : Type 0 where
   pub stands : slice_get (thread_code program t) j ≡ Some i
@@ -63,7 +63,7 @@ pub record ItemMoves (program : List (List Instr)) (W : ℕ → List ℕ) (t j :
   pub oldest : DrainsOldest b j (W t)
   pub carried : ItemStep program t j b s mid
 
--- an item that is carried out by `ItemMoves` accesses in memory its location alone, and writes it only if the item does
+-- An item that is executed accesses in memory only its location, and writes it only if the item does.
 touches : {program : List (List Instr)} {W : ℕ → List ℕ} {t j : ℕ} (b : Bool) {i : Instr} {s mid : MachineState (List ℕ)}
     (x : ItemMoves program W t j b i s mid) (z : ℕ)
     → machine.accessed_location (act_by program t b x.carried.old) ≡ Some z
@@ -82,7 +82,7 @@ touches {program = program} {t = t} false x z e =
     let r = step_touches _ c.old z (ap (λ o. machine.accessed_location (step_effect o c.old)) (sym here) ∙ e) in
     (r.0, λ f. r.1 (ap (λ o. machine.event_writes (step_effect o c.old)) (sym here) ∙ f))
 
--- items on one location of which one writes conflict
+-- Items of the same location of which one writes conflict.
 conflicting : (b c : Bool) (i h : Instr) (z : ℕ)
     → location_by x86_language b i ≡ Some z
     → location_by x86_language c h ≡ Some z
@@ -94,14 +94,14 @@ conflicting b c i h z e f w =
     (ap (λ o. is_same_location o (location_by x86_language c h)) e ∙ (ap (λ o. is_same_location (Some z) o) f ∙ eq-eqb z z refl))
     w
 
--- ---- an instruction beside a drain
+-- ---- an instruction and a drain
 
--- an operation may pass a drain to x, if it does not wait for an empty buffer and does not access x by itself
+-- An operation commutes with a drain to x if it does not wait for an empty buffer and does not access x at once.
 passes : (x : ℕ) (o : Operation) → (needs_empty_buffer o ≡ true → ⊥) → (by_itself o ≡ Some x → ⊥) → CommutesWithDrain x o
 passes x (Load d y) free other = λ e. other (ap Some (sym e))
 passes x o free other = false_from_ne_true (needs_empty_buffer o) free
 
--- an instruction that may pass a drain of the entry e may pass the oldest drain of a buffer whose oldest entry is e
+-- An instruction that commutes with the drain of the entry e commutes with the oldest drain of a buffer whose oldest entry is e.
 passes_oldest : (b : List (ℕ × ℕ)) (o : Option Instr) (e : ℕ × ℕ) (newer : List (ℕ × ℕ)) (i : Instr)
     → b ≡ e ∷ newer
     → o ≡ Some i
@@ -110,18 +110,18 @@ passes_oldest : (b : List (ℕ × ℕ)) (o : Option Instr) (e : ℕ × ℕ) (new
 passes_oldest b o e newer i full at may =
     subst (λ c. MayPassOldest c o) (sym full) (subst (λ p. MayPassOldest (e ∷ newer) p) (sym at) may)
 
--- a statement leaves the store that has waited longest the first of those that wait
+-- A statement preserves which waiting store is the oldest.
 own_head : (o : Option ℕ) (j w k : ℕ) (ws rest : List ℕ) → own_waits false o j (w ∷ ws) ≡ k ∷ rest → w ≡ k
 own_head (Some x) j w k ws rest e = cc
 own_head None j w k ws rest e = cc
 
--- where nothing waited, what waits behind a statement is its own store
+-- If no store waited, the only store that waits after a statement is its own.
 own_last : (o : Option ℕ) (j k : ℕ) (rest : List ℕ) → own_waits false o j [] ≡ k ∷ rest → j ≡ k
 own_last (Some x) j k rest e = cc
 own_last None j k rest e = cc
 
--- Of one thread, what the fixed pairs leave free: not two statements, nor two drains, nor a statement and its own drain, nor a
--- drain and what waits for it.
+-- The pairs of one thread's items that are not fixed: not two statements, nor two drains, nor a statement and its own drain, nor a drain
+-- and a statement that waits for it.
 pub record Unfixed (b c : Bool) (h : Instr) (j k : ℕ) : Type 0 where
   pub unlike : b ≡ c → ⊥
   pub others : b ≡ false → c ≡ true → j ≡ k → ⊥
@@ -131,8 +131,8 @@ module _ (program : List (List Instr)) (W : ℕ → List ℕ) (s m1 m2 : Machine
   full_empty : (b : List (ℕ × ℕ)) (e : ℕ × ℕ) (newer : List (ℕ × ℕ)) → b ≡ e ∷ newer → b ≡ [] → ⊥
   full_empty b e newer f g = cc
 
-  -- Two items of one thread, one right behind the other: the statement i or its drain moves, and then h or its drain is carried
-  -- out. They neither conflict nor are fixed. What the first stores, if it does, is at o.
+  -- Two adjacent items of one thread that neither conflict nor are fixed: the statement i or its drain is executed, and then h or its
+  -- drain. What the first stores, if it does, is at o.
   record OfOneThread (t j k : ℕ) (b c : Bool) (i h : Instr) (o : Option ℕ) : Type 0 where
     moves : ItemMoves program W t j b i s m1
     stands : slice_get (thread_code program t) k ≡ Some h
@@ -141,7 +141,7 @@ module _ (program : List (List Instr)) (W : ℕ → List ℕ) (s m1 m2 : Machine
     free : conflict_by x86_language b c (Some i) (Some h) ≡ true → ⊥
     unfixed : Unfixed b c h j k
 
-  -- One of them is a drain, and the other may pass the oldest entry.
+  -- One of them is a drain, and the other commutes with the drain of the oldest entry.
   passing : (t j k : ℕ) (b c : Bool) (i h : Instr) (o : Option ℕ) (two : OfOneThread t j k b c i h o)
       → AreDrainAndPassing program (event_by b t) (event_by c t) two.moves.carried.old
   passing t j k false true i h o two =
@@ -195,7 +195,7 @@ module _ (program : List (List Instr)) (W : ℕ → List ℕ) (s m1 m2 : Machine
           ap (λ (z : Processor). z.position) (sym d.is) ∙ (ap (λ z. z.position) same ∙ two.next.stands refl)
   passing t j k _ _ i h o two = absurd (two.unfixed.unlike refl)
 
-  -- Two items of two threads, one right behind the other, which do not conflict; and the processors that they find.
+  -- Two adjacent items of different threads that do not conflict; and the processors that they find.
   record OfTwoThreads (t u j k : ℕ) (b c : Bool) (i h : Instr) (V : ℕ → List ℕ) (p q : Processor) : Type 0 where
     unlike : t ≢ u
     first : ItemMoves program W t j b i s m1
@@ -236,7 +236,7 @@ module _ (program : List (List Instr)) (W : ℕ → List ℕ) (s m1 m2 : Machine
   cpu_is true t = refl
   cpu_is false t = refl
 
-  -- An item, and the next one, which neither conflict nor are fixed: their events are independent.
+  -- The events of adjacent items that neither conflict nor are fixed are independent.
   pub independent : (a b : Item) (i h : Instr)
       → ItemMoves program W a.thread a.position a.is_drain i s m1
       → ItemMoves program (waits_after x86_language program a W) b.thread b.position b.is_drain h m1 m2
@@ -277,7 +277,7 @@ module _ (program : List (List Instr)) (W : ℕ → List ℕ) (s m1 m2 : Machine
           free (ap (λ o. conflict_by x86_language a.is_drain b.is_drain o (statement_of x86_language program b)) first.stands
           ∙ (ap (λ o. conflict_by x86_language a.is_drain b.is_drain (Some i) o) second.stands ∙ e))
 
-      -- the drain is of the store of this thread that has waited longest
+      -- The drain is that of the thread's store that has waited longest.
       heady : a.thread ≡ b.thread
           → b.is_drain ≡ true
           → (rest : List ℕ)

@@ -1,4 +1,4 @@
--- Alike orders of the items of an x86 test end alike over flat memory.
+-- Trace-equivalent orders of the items of an x86 test reach the same outcome over flat memory.
 use Rattle.lw_finals.proofs.Common.{◌≡◌, ℕ, suc, ◌<◌, false, true≢false, List, [], length, Some, sym, ap, ◌∙◌}
 use Rattle.lw_finals.proofs.Common.{inl, inr, option_map_or, cases_order, thread_code, flat_memory, index_in}
 use Rattle.lw_finals.proofs.Common.{IsLinearExtension, MachineState, exchanged, Instr, x86_language}
@@ -24,12 +24,12 @@ module _ (program : List (List Instr)) (forward : (u : ℕ) → JumpsForward x86
   abbrev Keeps : List ℕ → Type 0
   Keeps = IsLinearExtension (constraints_of x86_language program items)
 
-  -- these stores wait once the first k items of an order are carried out
+  -- These stores wait after the first k items of an order are executed.
   pub record Reached (order : List ℕ) (k : ℕ) (W : ℕ → List ℕ) (s : MachineState (List ℕ)) : Type 0 where
     pub waiting : Waiting program forward paths choice order k W
     pub hold : AllHold program W s
 
-  -- an item's turn: it is an instruction, or the drain of the store that has waited longest
+  -- An item's turn: it is an instruction, or the drain of the store that has waited longest.
   pub record Turn (order : List ℕ) (k i : ℕ) (W : ℕ → List ℕ) (s mid : MachineState (List ℕ)) : Type 0 where
     pub instr : Instr
     pub statement : statement_of x86_language program (at i) ≡ Some instr
@@ -61,7 +61,7 @@ module _ (program : List (List Instr)) (forward : (u : ℕ) → JumpsForward x86
         };
       }
 
-  -- what the fixed pairs leave free
+  -- Adjacent items of one thread are not fixed.
   unfixed : (order : List ℕ) (k x y : ℕ)
       → Neighbours x86_language program paths order k x y
       → (h : Instr)
@@ -106,7 +106,7 @@ module _ (program : List (List Instr)) (forward : (u : ℕ) → JumpsForward x86
       (unfixed order k x y n v.instr v.statement) in
       exchanged program (event_of (at x)) (event_of (at y)) s free (at x).position (at y).position mid end one two
 
--- alike orders of an x86 test end alike over flat memory
+-- Trace-equivalent orders of an x86 test's items reach the same outcome over flat memory.
 pub x86_orders_end_alike : (test : X86Test) (paths : List (List ℕ))
     → IsWellFormedProgram test
     → IsPathAssignment x86_language test.threads paths

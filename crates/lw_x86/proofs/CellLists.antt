@@ -1,4 +1,4 @@
--- The cells of a thread, and those of a row: how many there are, and the text of each, as the code writes them.
+-- The cells of a thread, and those of a row: their number, and the text of each, as the code writes them.
 use Rattle.lw_x86.proofs.Common.{◌≡◌, ℕ, zero, suc, ◌+◌, ◌<◌, ◌≤◌, ◌==◌, max, Bool, true, false, Option, Some}
 use Rattle.lw_x86.proofs.Common.{None, List, [], ◌∷◌, ◌++◌, length, map, take, get_or, refl, ap, ◌∙◌, arith}
 use Rattle.lw_x86.proofs.Common.{slice_get, slice_index_or, codes, nat_cmp, if◌then◌else◌, option_map}
@@ -8,12 +8,12 @@ use Rattle.lw_x86.proofs.Common.{ord_max, IsWellFormedThread, Bytes, NameTable, 
 use Rattle.lw_x86.proofs.Common.{x86_language, x86_operation, greater_is, label, jumps_to, is_target}
 use Rattle.lw_x86.proofs.Common.{cell_text, end_cells, cells_from, cells_of, row_text, row_at, max_cell_count}
 
--- the text of a thread's cell at position k, where this is the instruction there, or none
+-- The text of a thread's cell at position k, by the instruction there, or none.
 abbrev pub at_row : NameTable → List Instr → ℕ → Option Instr → Bytes
 at_row names code k None = slice_index_or (end_cells code k) 0 []
 at_row names code k (Some i) = cell_text names code k i
 
--- a thread's cells from position k on are as many as its instructions there, and one more if its end has a label
+-- From position k on a thread has as many cells as instructions, plus one if its end has a label.
 pub cells-length : (names : NameTable) (code : List Instr) (k : ℕ) (rest : List Instr)
     → length (cells_from names code k rest) ≡ length rest + length (end_cells code (k + length rest))
 cells-length names code k [] = let here : k ≡ k + 0 = omega arith in ap (λ (n : ℕ). length (end_cells code n)) here ∙ omega arith
@@ -22,7 +22,7 @@ cells-length names code k (r ∷ rest) =
     omega (arith, cells-length names code (suc k) rest, ap (λ (n : ℕ). length (end_cells code n)) here)
 
 module _ (names : NameTable) (locs : ℕ) (code : List Instr) (thread : IsWellFormedThread x86_language locs code) where
-  -- no instruction jumps past the end
+  -- No instruction jumps past the end.
   no_target : (n : ℕ) → length code < n → is_target code n ≡ false
   no_target n past = list_any_none (jumps_to n) code (λ k i lt. go k _ (slice_get-get_or code k i lt))
     where
@@ -49,19 +49,19 @@ module _ (names : NameTable) (locs : ℕ) (code : List Instr) (thread : IsWellFo
       let here : suc k + j ≡ k + suc j = omega arith in
       cell_from _ rest j (omega (arith, is)) ∙ ap (λ (n : ℕ). at_row names code n (slice_get rest j)) here
 
-  -- what stands in a row of a thread is the cell of the instruction there, or of the end
+  -- A thread's cell in a row is that of the instruction there, or of the end.
   pub cell_at : (row : ℕ) → slice_index_or (cells_of names code) row [] ≡ at_row names code row (slice_get code row)
   cell_at row =
       let here : 0 + row ≡ row = omega arith in
       cell_from 0 code row (omega arith) ∙ ap (λ (n : ℕ). at_row names code n (slice_get code row)) here
 
--- a thread has as many cells as instructions, and one more where something jumps to its end
+-- A thread has as many cells as instructions, plus one if a jump targets its end.
 pub count_is : (names : NameTable) (code : List Instr) (n : ℕ)
     → n ≡ length code + length (end_cells code (length code))
     → n ≡ length (cells_of names code)
 count_is names code n is = let here : 0 + length code ≡ length code = omega arith in rw (cells-length names code 0 code, here) is
 
--- the greater of the most cells of the first k threads, and those of the next one, is the most cells of the first k + 1 threads
+-- The maximum over the first `k + 1` threads is that over the first k and the next thread's number of cells.
 pub longest_more : {X : Type 0} (f : X → List Bytes) (threads : List X) (k : ℕ) {code : X} {height count new : ℕ}
     → k < length threads
     → code ≡ get_or threads k code
@@ -82,11 +82,11 @@ longest_more f threads k {code} {height} {count} lt is before counted taken =
 
 -- The cells of all threads in the row at an index.
 module _ (names : NameTable) (threads : List (List Instr)) (row : ℕ) where
-  -- a row has a cell for each thread
+  -- A row has a cell for each thread.
   pub row_length : length (row_at (map (cells_of names) threads) row) ≡ length threads
   row_length = length-map (map (cells_of names) threads) _ ∙ length-map threads (cells_of names)
 
-  -- in a row, a thread has at its index the text of its cell at the row's index
+  -- A row has at a thread's index the text of that thread's cell in the row.
   pub part_of_row : (k : ℕ) (code : List Instr)
       → k < length threads
       → code ≡ get_or threads k code
@@ -96,6 +96,6 @@ module _ (names : NameTable) (threads : List (List Instr)) (row : ℕ) where
       ∙ ap (option_map (λ cells. slice_index_or cells row []))
       (slice_get-map _ threads k ∙ ap (option_map (cells_of names)) (slice_get_read threads (length threads) k code refl lt is))
 
--- the printed text of the row at an index, of the cells of all threads; the loop over rows goes through these
+-- The printed text of the row at an index, of the cells of all threads.
 abbrev pub whole_row : List (List Bytes) → ℕ → Bytes
 whole_row threads k = row_text (row_at threads k)

@@ -1,4 +1,4 @@
--- The initial block as it is printed: its text spells tokens, which say its initializers.
+-- The printed initial block: its text spells tokens, which say its initializers.
 use Rattle.lw_x86.proofs.Common.{◌≡◌, ℕ, zero, suc, ◌+◌, ◌*◌, ◌<◌, ◌≤◌, ◌^◌, Bool, true, false, not, List, []}
 use Rattle.lw_x86.proofs.Common.{◌∷◌, ◌++◌, map, length, refl, arith, append_assoc, length-append, ◌==◌}
 use Rattle.lw_x86.proofs.Common.{codes, filter, slice_index, slice_index_or, flat_map, AllByRecursion}
@@ -15,39 +15,39 @@ use Rattle.lw_x86.proofs.Common.{block_text}
 
 -- ---- initializers
 
--- whether a register has an initializer: if it does not begin with 0 (locations have one always)
+-- Tests whether a register or location has an initializer: a register has one unless it starts with 0, a location always.
 abbrev pub has_initializer : TestHead → Seen → Bool
 has_initializer head s = not (initial_word head s == 0)
 
--- the registers and locations that have an initializer, in their order
+-- The registers and locations that have an initializer, in their order.
 abbrev pub entered : TestHead → List Seen
 entered head = filter (has_initializer head) (all_registers head.threads) ++ locations (length head.locs)
 
--- what the initializer of a register or location says: its site, by its name, and its word
+-- The syntax of the initializer of a register or location: its site by name, and its word.
 abbrev pub initializer_of : TestHead → Seen → InitializerSyntax
 initializer_of head s = record { site = named_site head.locs s; word = initial_word head s }
 
--- what all initializers of a head say
+-- The syntax of all initializers of a head.
 abbrev pub initializers_of : TestHead → List InitializerSyntax
 initializers_of head = map (initializer_of head) (entered head)
 
--- the tokens of an initializer: its site, `=` and its word, without the `;` behind it
+-- The tokens of an initializer: its site, `=` and its word, without the `;` after it.
 abbrev pub initializer_tokens : InitializerSyntax → TokenList
 initializer_tokens e = site_tokens X86 e.site ++ value_tokens e.word
 
--- the tokens of the initial block
+-- The tokens of the initial block.
 abbrev pub block_tokens : TestHead → TokenList
 block_tokens head =
     codes "{" ∷ (flat_map (λ e. initializer_tokens e ++ codes ";" ∷ []) (initializers_of head) ++ (codes "}" ∷ []))
 
 -- ---- words
 
--- the most bytes of the initial block
+-- The maximal number of bytes of the initial block.
 abbrev pub block_bytes : ℕ
 block_bytes = 57 * most_seen + 4
 
 module _ (head : TestHead) (well : IsWellFormedHead head) where
-  -- The site is of the test.
+  -- The register or location is of the test.
   abbrev Sees : Seen → Type 0
   Sees = IsSeenInRange head.threads (length head.locs)
 
@@ -63,12 +63,12 @@ module _ (head : TestHead) (well : IsWellFormedHead head) where
   word_at (row ∷ rows) zero r h = row_word row r h.0
   word_at (row ∷ rows) (suc t) r h = word_at rows t r h.1
 
-  -- what a register or a location begins with is a word
+  -- The initial value of a register or location is a word.
   pub initial_is_word : (s : Seen) → initial_word head s < 2 ^ 32
   initial_is_word (Register t r) = word_at head.init_regs t r well.register_words
   initial_is_word (Location x) = row_word head.init_words x well.location_words
 
-  -- each register or location that has an initializer is one of the test
+  -- Each register or location that has an initializer is of the test.
   pub entered_seen : AllByRecursion Sees (entered head)
   entered_seen =
       all_append Sees _ _
@@ -110,7 +110,7 @@ module _ (head : TestHead) (well : IsWellFormedHead head) where
         well.table.few,
       )
 
-  -- the block with all its initializers in one list
+  -- The text of the registers' initializers is that of those that have one.
   registers_text : (ss : List Seen)
       → flat_map (register_initializer head) ss ≡ flat_map (initializer_text head) (filter (has_initializer head) ss)
   registers_text [] = refl
@@ -132,7 +132,7 @@ module _ (head : TestHead) (well : IsWellFormedHead head) where
         append_assoc (flat_map (register_initializer head) (all_registers head.threads)),
       ) refl
 
-  -- the text of the initial block spells its tokens
+  -- The text of the initial block spells its tokens.
   pub block_spelled : Spells Anything block_bytes (block_text head) (block_tokens head)
   block_spelled =
       rw (← block_is)
@@ -158,7 +158,7 @@ module _ (head : TestHead) (well : IsWellFormedHead head) where
         value_said X86 head.threads well.few head.locs n l (initial_is_word s),
       )
 
-  -- the tokens of the initial block say its initializers
+  -- The tokens of the initial block say its initializers.
   pub block_said : (rest : TokenList) → Block X86 (block_tokens head ++ rest) (initializers_of head) rest
   block_said rest = (
     (flat_map (λ e. initializer_tokens e ++ codes ";" ∷ []) (initializers_of head) ++ (codes "}" ∷ [])) ++ rest,
@@ -167,7 +167,7 @@ module _ (head : TestHead) (well : IsWellFormedHead head) where
         (ended_said _ _ (codes ";") (codes "}") _ rest (all_map _ _ _ (All-mono _ _ initializer_said _ entered_seen))),
   )
 
-  -- each initializer of a register is of a thread that the test has
+  -- Each initializer of a register is of a thread of the test.
   pub initializers_exist : AllByRecursion (λ e. ThreadExists head.threads e.site) (initializers_of head)
   initializers_exist =
       all_map _ (initializer_of head) (entered head)

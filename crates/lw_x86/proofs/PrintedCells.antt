@@ -1,4 +1,4 @@
--- A thread's cells as they are printed, by their rows: each text spells tokens, which say a label and an instruction.
+-- The printed cells of a thread, by their rows: each text spells tokens, which say a label and an instruction.
 use Rattle.lw_x86.proofs.Common.{EndsNoCell, ◌≡◌, ℕ, ◌<◌, ◌^◌, Bool, true, false, Option, Some, None, List}
 use Rattle.lw_x86.proofs.Common.{[], ◌∷◌, ◌++◌, length, refl, arith, if◌then◌else◌, codes, option_map}
 use Rattle.lw_x86.proofs.Common.{slice_get, slice_index_or, subst, AllByRecursion, slice_get_within}
@@ -17,56 +17,56 @@ use Rattle.lw_x86.proofs.PrintedInstructions.{instruction_no_end}
 
 -- ---- the tokens of a cell, and what they say
 
--- the tokens of the label in front of the instruction at position k, where it is needed
+-- The tokens of the label before the instruction at position k, if it is needed.
 abbrev front_tokens : Bool → ℕ → TokenList
 front_tokens needed k = if needed then label k ∷ codes ":" ∷ [] else []
 
--- the label in front of the instruction at position k, where it is needed
+-- The label before the instruction at position k, if it is needed.
 abbrev pub front_labels : Bool → ℕ → List Bytes
 front_labels needed k = if needed then label k ∷ [] else []
 
--- the tokens of an instruction, or of none behind the last
+-- The tokens of an instruction, or none after the last.
 abbrev maybe_tokens : NameTable → Option Instr → TokenList
 maybe_tokens names None = []
 maybe_tokens names (Some i) = instruction_tokens names i
 
--- the tokens of a thread's cell in the row at an index: a label where something jumps there, and the instruction
+-- The tokens of a thread's cell in the row at an index: a label if a jump targets the position, and the instruction.
 abbrev pub cell_tokens : NameTable → List Instr → ℕ → TokenList
 cell_tokens names code k = front_tokens (is_target code k) k ++ maybe_tokens names (slice_get code k)
 
--- what a thread's cell in the row at an index says: its label, if something jumps there, and its instruction
+-- The syntax of a thread's cell in the row at an index: its label if a jump targets the position, and its instruction.
 abbrev pub cell_syntax : NameTable → List Instr → ℕ → CellSyntax (ParsesStatement x86_spelling)
 cell_syntax names code k =
     record { labels = front_labels (is_target code k) k; stmt = option_map (printed_form names) (slice_get code k) }
 
 -- ---- their texts
 
--- The text spells these tokens before a blank, no cell ends in them, and they begin as no end of the rows does.
+-- The text spells these tokens before a blank, they contain no end of a cell, and they do not start as an end of the rows does.
 pub record IsPrintedCell (text : Bytes) (tokens : TokenList) : Type 0 where
   pub spells : Spells IsBlankNext 150 text tokens
   pub plain : EndsNoCell tokens
   pub starts : begins_stop tokens ≡ false
 
--- the text of a label in front, or of none, spells its tokens
+-- The text of a label, or of none, spells its tokens.
 front_spelled : (needed : Bool) (k : ℕ)
     → k < 2 ^ 32
     → Spells Anything 13 (if needed then label k ++ codes ": " else []) (front_tokens needed k)
 front_spelled true k h = Spells-then (λ rest g. refl) (Spells-label k h) (Spells-then (λ rest g. refl) Spells-colon Spells-space)
 front_spelled false k h = Spells-within 13 (omega arith) (Spells-nothing Anything)
 
--- no cell ends in a label
+-- The tokens of a label contain no end of a cell.
 front_plain : (needed : Bool) (k : ℕ) → k < 2 ^ 32 → EndsNoCell (front_tokens needed k)
 front_plain true k h = (name_no_end (label k) (label_is_location k h).0, (refl, tt))
 front_plain false k h = tt
 
--- if tokens do not begin as an end of the rows does, nor do they with a label in front
+-- If tokens do not start as an end of the rows does, neither do they with a label before them.
 front_starts : (needed : Bool) (k : ℕ) (more : TokenList)
     → begins_stop more ≡ false
     → begins_stop (front_tokens needed k ++ more) ≡ false
 front_starts true k more h = refl
 front_starts false k more h = h
 
--- the cell behind the last instruction, of the label of the end or of nothing, is printed as a cell is
+-- The cell after the last instruction, with the end's label or empty, is printed as a cell.
 end_printed : (needed : Bool) (k : ℕ)
     → k < 2 ^ 32
     → IsPrintedCell (slice_index_or (if needed then (label k ++ codes ":") ∷ [] else []) 0 []) (front_tokens needed k ++ [])
@@ -80,7 +80,7 @@ end_printed true k h = record {
 end_printed false k h =
     record { spells = Spells-within 150 (omega arith) (Spells-nothing IsBlankNext); plain = tt; starts = refl }
 
--- the tokens of a label in front, or of none, say that label, or none
+-- The tokens of a label, or of none, say that label, or none.
 labels_said : (needed : Bool) (k : ℕ) (mid : TokenList)
     → k < 2 ^ 32
     → Labels (front_tokens needed k ++ mid) (front_labels needed k) mid
@@ -91,13 +91,13 @@ labels_said false k mid h = refl
 
 module _ (names : NameTable) (table : AllByRecursion IsLocationName names) (code : List Instr)
     (thread : IsWellFormedThread x86_language (length names) code) where
-  -- each instruction of the thread is well-formed
+  -- Each instruction of the thread is well-formed.
   pub statement_at : (k : ℕ) (i : Instr) → slice_get code k ≡ Some i → IsWellFormedStatement x86_language (length names) i
   statement_at k i e =
       subst (IsWellFormedStatement x86_language (length names)) (get_or_from_slice_get code k i i e)
       (thread.there k i (slice_get_within code k i e))
 
-  -- each target of the thread is below 2 ^ 32
+  -- Each target in the thread is below `2 ^ 32`.
   pub target_small : (k : ℕ) (i : Instr) → slice_get code k ≡ Some i → HasTarget i
   target_small k i e = λ to f. omega (arith, (thread.forward k i e to f).1, thread.short)
 
@@ -124,11 +124,11 @@ module _ (names : NameTable) (table : AllByRecursion IsLocationName names) (code
     maybe_said None e = refl
     maybe_said (Some i) e = instruction_said names table i (statement_at k i e) (target_small k i e)
 
-    -- the text of a thread's cell spells its tokens
+    -- The text of a thread's cell spells its tokens.
     pub cell_printed : IsPrintedCell (slice_index_or (cells_of names code) k []) (cell_tokens names code k)
     cell_printed = rw (cell_at names (length names) code thread k) (maybe_printed (slice_get code k) refl)
 
-    -- the tokens of a thread's cell say its label and its instruction
+    -- The tokens of a thread's cell say its label and its instruction.
     pub cell_said : ParsesCell x86_grammar (cell_tokens names code k) (cell_syntax names code k)
     cell_said = (
       maybe_tokens names (slice_get code k),

@@ -1,4 +1,4 @@
--- A thread's cells as they are printed say the thread's code again.
+-- The printed cells of a thread say the thread's code.
 use Rattle.lw_x86.proofs.Common.{◌≡◌, ℕ, zero, suc, ◌+◌, ◌<◌, ◌≤◌, ◌^◌, Option, Some, None, List, [], ◌∷◌}
 use Rattle.lw_x86.proofs.Common.{map, length, refl, sym, ap, ◌∙◌, subst, arith, true, inl, inr, slice_get}
 use Rattle.lw_x86.proofs.Common.{slice_index_or, Contains, filter_map, option_map, AllByRecursion, AllZip}
@@ -15,16 +15,16 @@ use Rattle.lw_x86.proofs.PrintedInstructions.{printed}
 use Rattle.lw_x86.proofs.PrintedCells.{cell_tokens, cell_said, statement_at, target_small}
 use Rattle.lw_x86.proofs.PrintedLabels.{syntaxes_from, target_is, statements_are, labels_fine, label_leads}
 
--- ---- the instructions again
+-- ---- the instructions
 
 module _ (names : NameTable) (once : IsDuplicateFree names) (syntaxes : List (CellSyntax (ParsesStatement x86_spelling))) where
-  -- an instruction's location is in the table, and its label leads to its target
+  -- The instruction's location is in the table, and its label's target is its own.
   abbrev pub IsResolved : Instr → Type 0
   IsResolved i =
       ForSome (location_of (x86_operation i)) (λ x. x < length names)
       × ForSome (branch_target (x86_operation i)) (λ to. target_in syntaxes (label to) ≡ to)
 
-  -- such an instruction, as it is printed, is resolved to itself
+  -- The printed form of such an instruction is resolved to it.
   resolved_again : (i : Instr) → IsResolved i → resolved_statement x86_grammar names syntaxes (printed_form names i) ≡ i
   resolved_again i h =
       let p = printed names i in
@@ -39,7 +39,7 @@ module _ (names : NameTable) (once : IsDuplicateFree names) (syntaxes : List (Ce
   all_again [] h = refl
   all_again (i ∷ code) h = rw (resolved_again i h.0, all_again code h.1) refl
 
--- names that are in the table are so with a location's name in front, if there is a location, and it is of the table
+-- If names are in the table, so are they with the name of a location of the table prepended.
 name_there : (names : NameTable) (loc : Option ℕ)
     → ForSome loc (λ x. x < length names)
     → (more : List Bytes)
@@ -48,7 +48,7 @@ name_there : (names : NameTable) (loc : Option ℕ)
 name_there names None h more all = all
 name_there names (Some x) h more all = ((x, slice_get-get_or names x [] (h x refl)), all)
 
--- if the locations of instructions are of the table, their names are in the table
+-- If the locations of instructions are of the table, their names are in the table.
 names_there : (names : NameTable) (code : List Instr)
     → AllByRecursion (λ i. ForSome (location_of (x86_operation i)) (λ x. x < length names)) code
     → AllByRecursion (IsInTable names) (filter_map x86_grammar.name_of (map (printed_form names) code))
@@ -56,7 +56,7 @@ names_there names [] h = tt
 names_there names (i ∷ code) h =
     rw (printed names i).name (name_there names (location_of (x86_operation i)) h.0 _ (names_there names code h.1))
 
--- what holds of the label of an instruction's target holds of the label that is printed for it
+-- What holds of the label of an instruction's target holds of the printed form's label.
 of_label : (names : NameTable) (P : Bytes → Type 0) (i : Instr)
     → ForSome (branch_target (x86_operation i)) (λ to. P (label to))
     → ForSome (x86_grammar.label_of (printed_form names i)) P
@@ -66,7 +66,7 @@ of_label names P i h = rw (printed names i).led (go (branch_target (x86_operatio
     go None h = λ l e. absurd cc
     go (Some to) h = λ l e. subst P (let f : label to ≡ l = cc in f) (h to refl)
 
--- an item of a list's images is the image of one of its items
+-- An item of the images is the image of an item.
 from_map : {X Y : Type 0} (f : X → Y) (xs : List X) (k : ℕ) (y : Y)
     → slice_get (map f xs) k ≡ Some y
     → (x : X) × (slice_get xs k ≡ Some x) × (f x ≡ y)
@@ -74,20 +74,20 @@ from_map f [] k y e = absurd cc
 from_map f (x ∷ xs) zero y e = (x, refl, let g : f x ≡ y = cc in g)
 from_map f (x ∷ xs) (suc k) y e = from_map f xs k y e
 
--- what holds of the item at each index holds of all items, one after another
+-- What holds of the item at each index holds of all items.
 all_places : {X : Type 0} (P : X → Type 0) (xs : List X) → ((k : ℕ) (x : X) → slice_get xs k ≡ Some x → P x) → AllByRecursion P xs
 all_places P [] h = tt
 all_places P (x ∷ xs) h = (h 0 x refl, all_places P xs (λ k y e. h (suc k) y e))
 
--- ---- a thread, in so many rows that all its cells have one
+-- ---- a thread, with enough rows for all its cells
 
 module _ (names : NameTable) (table : IsNameTable names) (n : ℕ) (few : n ≤ 33) (code : List Instr)
     (thread : IsWellFormedThread x86_language (length names) code) (long : length (cells_of names code) ≤ n) where
-  -- what all cells of a thread say, in the rows below n
+  -- The syntax of the thread's cells in the rows below n.
   abbrev pub syntaxes : List (CellSyntax (ParsesStatement x86_spelling))
   syntaxes = syntaxes_from names code 0 n
 
-  -- each target of the thread is the index of one of its rows
+  -- Each target in the thread is the index of one of its rows.
   target_row : (to : ℕ) → is_target code to ≡ true → to ≤ length code → to < n
   target_row to is within = elim (cases_lt to (length code)) [
     | inl above ↦ omega (arith, above, long, cells-length names code 0 code)
@@ -143,7 +143,7 @@ module _ (names : NameTable) (table : IsNameTable names) (n : ℕ) (few : n ≤ 
       (names_there names code (all_places (λ i. ForSome (location_of (x86_operation i)) (λ x. x < length names)) code
       (λ k i e. (statement_at names table.all code thread k i e).0)))
 
-  -- what a thread's cells say, as they are printed, is its code again, and names locations of the table only
+  -- The printed cells of a thread say its code, and name only locations of the table.
   pub thread_said : Column x86_grammar (map (cell_tokens names code) (range_with_len 0 n)) syntaxes
       × (code_in x86_grammar names syntaxes ≡ code)
       × AllByRecursion (IsInTable names) (names_in x86_grammar syntaxes)

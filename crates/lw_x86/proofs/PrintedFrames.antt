@@ -1,4 +1,4 @@
--- The text of a test as it is printed is the text of a frame: the test's head, and its threads' cells.
+-- The printed text of a test is the text of a frame: the test's head, and its threads' cells.
 use Rattle.lw_x86.proofs.Common.{name_ascii, ◌≡◌, ℕ, ◌+◌, ◌*◌, ◌<◌, ◌≤◌, inl, List, [], ◌∷◌, ◌++◌, map}
 use Rattle.lw_x86.proofs.Common.{length, refl, sym, ap, ◌∙◌, subst, arith, append_assoc, length-append, codes}
 use Rattle.lw_x86.proofs.Common.{flat_map, IsUtf8, slice_index_or, AllByRecursion, AllZip, range_with_len}
@@ -28,23 +28,23 @@ use Rattle.lw_x86.proofs.PrintedLists.{listed_printable, condition_said, rows_st
 
 -- ---- the threads' cells
 
--- the texts of a test's cells, thread by thread
+-- The texts of a test's cells, thread by thread.
 abbrev pub texts_in : X86Test → List (List Bytes)
 texts_in p = map (cells_of p.head.locs) p.threads
 
--- the number of rows of a test as it is printed
+-- The number of rows of the printed test.
 abbrev pub height_of : X86Test → ℕ
 height_of p = max_cell_count (texts_in p)
 
--- the tokens of the cells of the row at an index
+-- The tokens of the cells of the row at an index.
 abbrev row_in : X86Test → ℕ → Cells
 row_in p k = map (λ code. cell_tokens p.head.locs code k) p.threads
 
--- the tokens of all rows of a test, cell by cell
+-- The tokens of all rows of a test, cell by cell.
 abbrev pub rows_in : X86Test → CellGrid
 rows_in p = map (row_in p) (range_with_len 0 (height_of p))
 
--- what the tokens of the printed test say
+-- The syntax that the tokens of the printed test say.
 abbrev pub syntax_in : X86Test → TestSyntax
 syntax_in p = record {
   initializers = initializers_of p.head;
@@ -55,46 +55,46 @@ syntax_in p = record {
   terminals = terminals_in p.head;
 }
 
--- the frame that the printed test has: its head, and the tokens of its cells
+-- The frame of the printed test: its head, and the tokens of its cells.
 abbrev pub frame_in : X86Test → TestFrame
 frame_in p =
     record { head = p.head; cells = map (λ code. map (cell_tokens p.head.locs code) (range_with_len 0 (height_of p))) p.threads }
 
 -- ---- tokens
 
--- the tokens of the list of names and of the condition
+-- The tokens of the list of names and of the condition.
 abbrev tokens_behind_rows : X86Test → TokenList
 tokens_behind_rows p = listed_tokens p.head.locs p.head.listed ++ condition_tokens p.head
 
--- the tokens of the rows, and all behind them
+-- The tokens of the rows, and all after them.
 abbrev tokens_behind_header : X86Test → TokenList
 tokens_behind_header p = flat_map row_tokens (rows_in p) ++ tokens_behind_rows p
 
--- the tokens of the header, and all behind it
+-- The tokens of the header, and all after it.
 abbrev tokens_behind_block : X86Test → TokenList
 tokens_behind_block p = header_tokens p.head.threads ++ tokens_behind_header p
 
--- all tokens of the printed test
+-- All tokens of the printed test.
 abbrev tokens_in : X86Test → TokenList
 tokens_in p = block_tokens p.head ++ tokens_behind_block p
 
--- the canonical text behind its first line
+-- The canonical text after its first line.
 abbrev body_text : X86Test → Bytes
 body_text p =
     block_text p.head
     ++ (header_text p.head.threads
     ++ (rows_text (texts_in p) ++ (listed_text p.head.locs p.head.listed ++ (condition_text p.head ++ codes "\n"))))
 
--- the most bytes behind the first line: the block, the header and 33 rows, the list and the condition
+-- The maximal number of bytes after the first line: the block, the header and 33 rows, the list and the condition.
 abbrev body_bytes : ℕ
 body_bytes = block_bytes + row_bytes * 34 + listed_bytes + condition_bytes
 
 module _ (p : X86Test) (well : IsWellFormedProgram p) where
-  -- each thread of a well-formed test is well-formed on the test's locations
+  -- Each thread of a well-formed test is well-formed with the test's locations.
   pub threads_are : AllByRecursion (IsWellFormedThread x86_language (length p.head.locs)) p.threads
   threads_are = recursion_from_All (IsWellFormedThread x86_language (length p.head.locs)) p.threads well.code
 
-  -- no thread has more than 33 cells
+  -- No thread has more than 33 cells.
   pub height_few : height_of p ≤ 33
   height_few =
       longest_under 33 (texts_in p)
@@ -134,7 +134,7 @@ module _ (p : X86Test) (well : IsWellFormedProgram p) where
       (height_of p) (omega (arith, height_few)))
       (Spells-on (listed_spelled p.head well.head) (condition_spelled p.head well.head well.arch)))))
 
-  -- ---- what it says
+  -- ---- what the text says
 
   more_printable : AllByRecursion (IsPrintable p.head.threads p.head.locs)
       (named_sites p.head.locs p.head.listed ++ sites_in (terminals_in p.head))
@@ -183,7 +183,7 @@ module _ (p : X86Test) (well : IsWellFormedProgram p) where
     few_nodes = nodes_few;
   }
 
-  -- ---- its head and cells
+  -- ---- the head and the cells
 
   head_is : head_of_syntax X86 p.head.name (syntax_in p) p.head.condition ≡ p.head
   head_is =
@@ -226,7 +226,7 @@ module _ (p : X86Test) (well : IsWellFormedProgram p) where
   text_short : length (canonical_text p) ≤ 65536
   text_short = omega (arith, length-append p.head.name (codes "\n" ++ body_text p), well.head.name.short, body_spelled.short)
 
-  -- the canonical text of a well-formed program is the text of the frame that `frame_in` makes
+  -- The canonical text of a well-formed program is the text of the frame `frame_in`.
   pub printed_frame : HasFrame (canonical_text p) (frame_in p)
   printed_frame = record {
     short = text_short;

@@ -1,4 +1,4 @@
--- The columns of the rows of a test as it is printed, and the number of cells of its longest thread.
+-- The columns of the rows of a printed test, and the number of cells of its longest thread.
 use Rattle.lw_x86.proofs.Common.{◌≡◌, ℕ, zero, suc, ◌+◌, ◌≤◌, max, Bool, true, false, Some, List, [], ◌∷◌}
 use Rattle.lw_x86.proofs.Common.{◌++◌, map, length, refl, sym, ap, ◌∙◌, arith, fold, if◌then◌else◌, codes}
 use Rattle.lw_x86.proofs.Common.{slice_get, option_map, AllByRecursion, range_with_len, length-map}
@@ -9,7 +9,7 @@ use Rattle.lw_x86.proofs.CellLists.{cells-length}
 
 -- ---- columns
 
--- Rows that have one item for each of some things, and the columns of so many of them.
+-- Rows that have one item for each of some things, and their columns.
 module _ {X Y : Type 0} (item : X → ℕ → Y) (things : List X) where
   column_is : (k : ℕ) (x : X)
       → slice_get things k ≡ Some x
@@ -18,7 +18,7 @@ module _ {X Y : Type 0} (item : X → ℕ → Y) (things : List X) where
   column_is k x at j zero = refl
   column_is k x at j (suc n) = rw (slice_get-map (λ (t : X). item t j) things k, at, column_is k x at (j + 1) n) refl
 
-  -- the columns of the first n such rows are, for each thing, its first n items
+  -- The columns of the first n such rows are, for each thing, its first n items.
   pub columns_are : (n : ℕ)
       → columns (length things) (map (λ i. map (λ (t : X). item t i) things) (range_with_len 0 n))
       ≡ map (λ t. map (item t) (range_with_len 0 n)) things
@@ -31,32 +31,32 @@ module _ {X Y : Type 0} (item : X → ℕ → Y) (things : List X) where
 
 -- ---- the longest thread
 
--- the greatest of a number and a list is no less than the number
+-- The maximum of a number and a list is at least the number.
 from_start : (a : ℕ) (xs : List ℕ) → a ≤ fold max a xs
 from_start a [] = omega arith
 from_start a (x ∷ xs) = omega (arith, from_start (max a x) xs)
 
--- no element of a list is greater than the greatest of a number and the list
+-- No element of a list is greater than the maximum of a number and the list.
 each_under : (a : ℕ) (xs : List ℕ) → AllByRecursion (λ x. x ≤ fold max a xs) xs
 each_under a [] = tt
 each_under a (x ∷ xs) = (omega (arith, from_start (max a x) xs), each_under (max a x) xs)
 
--- if a number a and all elements of a list are at most b, so is the greatest of them all
+-- If a number and all elements of a list are at most b, so is their maximum.
 all_under : (a b : ℕ) (xs : List ℕ) → a ≤ b → AllByRecursion (λ x. x ≤ b) xs → fold max a xs ≤ b
 all_under a b [] le all = le
 all_under a b (x ∷ xs) le all = all_under (max a x) b xs (omega (arith, le, all.0)) all.1
 
--- no thread has more cells than the longest
+-- No thread has more cells than the longest.
 pub under_longest : (threads : List (List Bytes)) → AllByRecursion (λ cells. length cells ≤ max_cell_count threads) threads
 under_longest threads = All-map_inv _ length threads (each_under 0 (map length threads))
 
--- where no thread has more than so many cells, the longest has not
+-- If no thread has more than n cells, neither has the longest.
 pub longest_under : (n : ℕ) (threads : List (List Bytes))
     → AllByRecursion (λ cells. length cells ≤ n) threads
     → max_cell_count threads ≤ n
 longest_under n threads h = all_under 0 n _ (omega arith) (all_map (λ k. k ≤ n) length threads h)
 
--- a thread has one cell more than instructions at most
+-- A thread has at most one cell more than instructions.
 pub cells_few : (names : NameTable) (code : List Instr) → length (cells_of names code) ≤ length code + 1
 cells_few names code = omega (arith, cells-length names code 0 code, go (is_target code (0 + length code)))
   where

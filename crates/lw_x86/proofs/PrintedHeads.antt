@@ -1,4 +1,4 @@
--- The head of a test as it is printed: what its text says is the head again.
+-- The printed head of a test: what its text says is the head.
 use Rattle.lw_x86.proofs.Common.{◌≡◌, ℕ, zero, suc, ◌+◌, ◌<◌, ◌||◌, ◌⊎◌, inl, inr, Bool, true, false, List}
 use Rattle.lw_x86.proofs.Common.{[], ◌∷◌, ◌++◌, map, length, refl, sym, ap, ◌∙◌, arith, ◌==◌, if◌then◌else◌}
 use Rattle.lw_x86.proofs.Common.{filter, fold, slice_index_or, eqb-true, AllByRecursion, list_any}
@@ -14,13 +14,13 @@ use Rattle.lw_x86.proofs.Common.{initial_word}
 use Rattle.lw_x86.proofs.PrintedBlocks.{has_initializer, entered, initializer_of, initializers_of}
 use Rattle.lw_x86.proofs.PrintedBlocks.{entered_seen}
 
--- mapping a list twice is mapping it once, by one function after the other
+-- A `map` of a `map` is a single `map`.
 map_twice : {X Y Z : Type 0} (f : Y → Z) (g : X → Y) (xs : List X) → map f (map g xs) ≡ map (λ x. f (g x)) xs
 map_twice f g [] = refl
 map_twice f g (x ∷ xs) = let e = map_twice f g xs in cc
 
 module _ (head : TestHead) (well : IsWellFormedHead head) where
-  -- The site is of the test.
+  -- The register or location is of the test.
   abbrev Sees : Seen → Type 0
   Sees = IsSeenInRange head.threads (length head.locs)
 
@@ -61,7 +61,7 @@ module _ (head : TestHead) (well : IsWellFormedHead head) where
         location_names 0 (length head.locs),
       ) (sym (fill_by_all (λ x. slice_index_or head.locs x []) head.locs (length head.locs) [] refl (λ k lt. refl)))
 
-  -- the names of the printed initializers, and of more of the test's sites, are the head's table again
+  -- The names of the printed initializers, and of further registers and locations of the test, give the head's table.
   pub table_again : (more : List SiteSyntax)
       → AllByRecursion (IsPrintable head.threads head.locs) more
       → insert_names [] (site_names (map (λ e. e.site) (initializers_of head) ++ more)) ≡ head.locs
@@ -73,7 +73,7 @@ module _ (head : TestHead) (well : IsWellFormedHead head) where
         insert_names-again head.locs well.table.once,
       ) (insert_names-there head.locs (site_names more) (sites_in_table head.threads head.locs more h))
 
-  -- ---- the words at the start
+  -- ---- the initial words
 
   same_again : (x : Seen) → Sees x → (s : Seen) → seen_eq (seen_in head.locs (named_site head.locs x)) s ≡ seen_eq x s
   same_again x h s = ap (λ (y : Seen). seen_eq y s) (seen_again head.threads head.locs well.table.once x h)
@@ -133,7 +133,7 @@ module _ (head : TestHead) (well : IsWellFormedHead head) where
           (λ x same. ap (has_initializer head) (same_seen_is x (Register t r) same) ∙ initializer) (all_registers head.threads)
           ∙ has_register head.threads t r h k))
 
-  -- the registers' words that the initializers say are the head's again
+  -- The registers' words that the initializers say are the head's.
   pub registers_again :
       map (λ t. map (initial_word_of head.locs (initializers_of head)) (thread_registers t)) (range_with_len 0 head.threads)
       ≡ head.init_regs
@@ -145,7 +145,7 @@ module _ (head : TestHead) (well : IsWellFormedHead head) where
       (All-get_or (λ row. length row ≡ 6) head.init_regs t [] (omega (arith, lt, well.regs))
       (All-from_recursion (λ row. length row ≡ 6) head.init_regs well.six)) (λ r k. sym (register_again t r lt k))))
 
-  -- the locations' words that the initializers say are the head's again
+  -- The locations' words that the initializers say are the head's.
   pub words_again : map (initial_word_of head.locs (initializers_of head)) (locations (length head.locs)) ≡ head.init_words
   words_again =
       map_twice (initial_word_of head.locs (initializers_of head)) (λ x. Location x) (range_with_len 0 (length head.locs))
@@ -155,7 +155,7 @@ module _ (head : TestHead) (well : IsWellFormedHead head) where
       (inr (has_right (filter (has_initializer head) (all_registers head.threads)) (locations (length head.locs)) (Location x)
       (has_location (length head.locs) x lt))))))
 
-  -- ---- what is listed
+  -- ---- the list of names
 
   listed_agrees : (ss : List Seen)
       → AllByRecursion Sees ss
@@ -164,7 +164,7 @@ module _ (head : TestHead) (well : IsWellFormedHead head) where
   listed_agrees [] h s = refl
   listed_agrees (x ∷ ss) h s = rw (same_again x h.0 s, listed_agrees ss h.1 s) refl
 
-  -- what the printed list of names says is what the head lists
+  -- The printed list of names says what the head lists.
   pub list_again : listed_in head.threads head.locs (map (named_site head.locs) head.listed) ≡ head.listed
   list_again =
       filter_agree _ (has_seen head.listed) (listed_agrees head.listed well.there)

@@ -1,4 +1,4 @@
--- Instructions as they are printed: their texts spell tokens, which say them again.
+-- Printed instructions: their texts spell tokens, which say them.
 use Rattle.lw_x86.proofs.Common.{EndsNoCell, ◌≡◌, ℕ, ◌<◌, ◌≤◌, ◌^◌, inl, true, false, [], ◌∷◌, length, refl}
 use Rattle.lw_x86.proofs.Common.{ap, arith, slice_index_or, Contains, option_map, AllByRecursion, ForSome}
 use Rattle.lw_x86.proofs.Common.{recursion_from_All, NameTable, TokenList, Number, IsLocationName}
@@ -15,30 +15,29 @@ use Rattle.lw_litmus.specs.declared.instr.Instr.TheVariants as instr
 
 -- ---- labels
 
--- a label of an instruction is a name that is not reserved
+-- A label of an instruction is a name that is not reserved.
 pub label_is_location : (k : ℕ) → k < 2 ^ 32 → IsLocationName (label k)
 label_is_location k h = (
   (record { some = omega arith; all = (refl, decimal_is_name_run k h); front = refl }, omega (arith, decimal_is_short k h)),
   refl,
 )
 
--- the text of a label spells one token
+-- The text of a label spells one token.
 pub Spells-label : (k : ℕ) → k < 2 ^ 32 → Spells EndsName 11 (label k) (label k ∷ [])
 Spells-label k h =
     Spells-run 11 (label k) (refl, decimal_is_name_run k h) (inl (label_is_location k h).0) (omega (arith, decimal_is_short k h))
 
--- ---- what an instruction is printed as
+-- ---- the printed form of an instruction
 
--- the instruction's target, if it has one, is below 2 ^ 32
+-- The instruction's target, if it has one, is below `2 ^ 32`.
 abbrev pub HasTarget : Instr → Type 0
 HasTarget i = ForSome (branch_target (x86_operation i)) (λ to. to < 2 ^ 32)
 
--- the tokens of an instruction, slot by slot of its form
+-- The tokens of an instruction, slot by slot of its form.
 abbrev pub instruction_tokens : NameTable → Instr → TokenList
 instruction_tokens names i = slots_tokens (x86_slots (printed_form names i).form) (printed_form names i).filling
 
--- A form of the language, which is short and begins with a mnemonic; it has the instruction's location and label, and with them
--- it is the instruction.
+-- The form is short and starts with a mnemonic; it has the instruction's location and label, and with them gives the instruction.
 pub record IsPrintedAs (names : NameTable) (i : Instr) (s : ParsesStatement x86_spelling) : Type 0 where
   pub there : Contains x86_forms s.form
   pub spaced : are_spaced (x86_slots s.form) ≡ true
@@ -67,7 +66,7 @@ module _ (names : NameTable) where
   row there spaced short starts name led again =
       record { there = there; spaced = spaced; short = short; starts = starts; name = name; led = led; again = again }
 
-  -- each instruction is printed in a form that is so (IsPrintedAs)
+  -- Each instruction has such a printed form.
   pub printed : (i : Instr) → IsPrintedAs names i (printed_form names i)
   printed (instr.Store x (Register a)) =
       row (0, omega arith, refl) refl (omega arith) refl refl refl
@@ -93,7 +92,7 @@ module _ (names : NameTable) where
   printed (instr.Jmp to) = row (17, omega arith, refl) refl (omega arith) refl refl refl (λ y t p q. ap instr.Jmp (q to refl))
 
 module _ (names : NameTable) (table : AllByRecursion IsLocationName names) where
-  -- what an instruction's form is given can be printed, if its location, registers, numbers and target are in their bounds
+  -- The filling of an instruction's form can be printed if its location, registers, numbers and target are in range.
   fills : (i : Instr)
       → ForSome (location_of (x86_operation i)) (λ x. x < length names)
       → AllByRecursion IsRegisterIndex (registers_of (x86_operation i))
@@ -122,7 +121,7 @@ module _ (names : NameTable) (table : AllByRecursion IsLocationName names) where
       → ArePrintable (x86_slots (printed_form names i).form) (printed_form names i).filling
   printable i h t = fills i h.0 (recursion_from_All _ _ h.1) (recursion_from_All IsWordNumber _ h.2) t
 
-  -- the text of an instruction spells its tokens
+  -- The text of an instruction spells its tokens.
   pub instruction_spelled : (i : Instr)
       → IsWellFormedStatement x86_language (length names) i
       → HasTarget i
@@ -131,7 +130,7 @@ module _ (names : NameTable) (table : AllByRecursion IsLocationName names) where
       let p = printed names i in
       Spells-within 133 p.short (slots_spelled _ (printed_form names i).filling (printable i h t) p.spaced)
 
-  -- the tokens of an instruction fill the slots of its form
+  -- The tokens of an instruction fill the slots of its form.
   pub instruction_said : (i : Instr)
       → IsWellFormedStatement x86_language (length names) i
       → HasTarget i
@@ -139,7 +138,7 @@ module _ (names : NameTable) (table : AllByRecursion IsLocationName names) where
       × Fills x86_spelling (instruction_tokens names i) (x86_slots (printed_form names i).form) (printed_form names i).filling
   instruction_said i h t = ((printed _ i).there, slots_said _ (printed_form names i).filling (printable i h t))
 
-  -- no cell ends in the tokens of an instruction
+  -- The tokens of an instruction contain no end of a cell.
   pub instruction_no_end : (i : Instr)
       → IsWellFormedStatement x86_language (length names) i
       → HasTarget i

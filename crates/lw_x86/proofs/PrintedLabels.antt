@@ -1,4 +1,4 @@
--- The labels of a thread as it is printed: each once, and each leads to its instruction.
+-- The labels of a printed thread have no duplicates, and each targets its instruction.
 use Rattle.lw_x86.proofs.Common.{◌≡◌, ℕ, zero, suc, ◌+◌, ◌<◌, ◌≤◌, ◌^◌, inl, inr, Bool, true, false, Some}
 use Rattle.lw_x86.proofs.Common.{List, [], ◌∷◌, ◌++◌, map, drop, length, refl, sym, ap, ◌∙◌, arith, ◌==◌}
 use Rattle.lw_x86.proofs.Common.{slice_get, Contains, bytes_eq, decimal, eq-eqb, eqb-true, option_map}
@@ -11,21 +11,21 @@ use Rattle.lw_x86.proofs.Common.{target_in, ParsesStatement, Instr, branch_targe
 use Rattle.lw_x86.proofs.Common.{x86_spelling, label, printed_form, jumps_to, is_target}
 use Rattle.lw_x86.proofs.PrintedCells.{front_labels, cell_syntax}
 
--- positions with the same label are the same
+-- Positions with the same label are equal.
 label_injective : (j k : ℕ) → j < 2 ^ 32 → k < 2 ^ 32 → label j ≡ label k → j ≡ k
 label_injective j k h l e = let f : decimal j ≡ decimal k = cc in decimal_injective j k (omega (arith, h)) (omega (arith, l)) f
 
--- a label compares equal to itself
+-- The comparison of a label with itself is true.
 same_label : (k : ℕ) → bytes_eq (label k) (label k) ≡ true
 same_label k = (bytes_eq-Decides (label k) (label k)).1 refl
 
--- labels of two positions do not compare equal
+-- The comparison of the labels of different positions is false.
 other_label : (j k : ℕ) → j < 2 ^ 32 → k < 2 ^ 32 → (j ≡ k → ⊥) → bytes_eq (label j) (label k) ≡ false
 other_label j k h l ne =
     false_from_ne_true (bytes_eq (label j) (label k))
     (λ e. ne (label_injective j k h l ((bytes_eq-Decides (label j) (label k)).0 e)))
 
--- what an instruction of the code jumps to is a target of the code
+-- A position that an instruction jumps to is a target of the code.
 pub target_is : (code : List Instr) (k to : ℕ) (i : Instr)
     → slice_get code k ≡ Some i
     → branch_target (x86_operation i) ≡ Some to
@@ -34,16 +34,16 @@ target_is code k to i at e =
     list_any_at (jumps_to to) code k i (slice_get_within code k i at)
     (rw (get_or_from_slice_get code k i i at, e) (eq-eqb to to refl))
 
--- the text is the label of a position from k on
+-- The text is the label of a position from k on.
 abbrev IsLabelFrom : ℕ → Bytes → Type 0
 IsLabelFrom k l = (j : ℕ) × (k ≤ j) × (j < 2 ^ 32) × (l ≡ label j)
 
--- the label in front of the instruction at position k, if it is needed, is of a position from k on
+-- The label before the instruction at position k, if it is needed, is of a position from k on.
 front_from : (b : Bool) (k : ℕ) → k < 2 ^ 32 → AllByRecursion (IsLabelFrom k) (front_labels b k)
 front_from true k h = ((k, omega arith, h, refl), tt)
 front_from false k h = tt
 
--- if labels are of positions behind k, each once, then so are these with the label of k in front, if that is needed
+-- If labels are of positions after k, without duplicates, they have none with k's label before them.
 front_once : (b : Bool) (k : ℕ) (ls : List Bytes)
     → k < 2 ^ 32
     → AllByRecursion (IsLabelFrom (k + 1)) ls
@@ -58,7 +58,7 @@ front_once true k ls h from once = (
 front_once false k ls h from once = once
 
 module _ (names : NameTable) (code : List Instr) where
-  -- what n cells of a thread say, from position k on
+  -- The syntax of n cells of a thread, from position k on.
   abbrev pub syntaxes_from : ℕ → ℕ → List (CellSyntax (ParsesStatement x86_spelling))
   syntaxes_from k n = map (cell_syntax names code) (range_with_len k n)
 
@@ -72,7 +72,7 @@ module _ (names : NameTable) (code : List Instr) where
   next_statement (i ∷ rest) zero = refl
   next_statement (i ∷ rest) (suc k) = next_statement rest k
 
-  -- without their labels, the cells from position k to the end say the instructions from there on
+  -- The statements of the cells from position k to the end are the instructions from there on.
   pub statements_are : (k n : ℕ) → length code ≤ k + n → statements (syntaxes_from k n) ≡ map (printed_form names) (drop k code)
   statements_are k zero all = ap (map (printed_form names)) (sym (drop_all code k (omega (arith, all))))
   statements_are k (suc n) all =
@@ -83,7 +83,7 @@ module _ (names : NameTable) (code : List Instr) where
 
   -- ---- labels
 
-  -- the labels of n cells from position k on are labels of positions from there on, each once
+  -- The labels of n cells from position k on are labels of positions from there on, without duplicates.
   pub labels_fine : (k n : ℕ)
       → k + n < 2 ^ 32
       → AllByRecursion (IsLabelFrom k) (labels_of (syntaxes_from k n)) × IsDuplicateFree (labels_of (syntaxes_from k n))
@@ -97,14 +97,14 @@ module _ (names : NameTable) (code : List Instr) where
         front_once (is_target code k) k labels small more.0 more.1,
       )
 
-  -- ---- where they lead
+  -- ---- targets
 
   module _ (to : ℕ) (small : to < 2 ^ 32) (target : is_target code to ≡ true) where
     fronts_other : (b : Bool) (k : ℕ) → k < 2 ^ 32 → (k ≡ to → ⊥) → contains_name (front_labels b k) (label to) ≡ false
     fronts_other true k h ne = rw (other_label k to h small ne) refl
     fronts_other false k h ne = refl
 
-    -- if a target is among the n positions from k on, its label is among those of the cells there, and leads to it
+    -- If a target is among the n positions from k on, its label is among those of the cells there, and its target is that position.
     pub label_leads : to ≤ length code
         → (k n : ℕ)
         → k ≤ to

@@ -1,4 +1,4 @@
--- What is listed, and the condition, as they are printed: their texts spell tokens, which say them again.
+-- The printed list of names and condition: their texts spell tokens, which say them.
 use Rattle.lw_x86.proofs.Common.{◌≡◌, ℕ, suc, ◌+◌, ◌*◌, inl, inr, true, false, List, [], ◌∷◌, ◌++◌, map}
 use Rattle.lw_x86.proofs.Common.{length, refl, arith, append_assoc, append-nil, codes, flat_map}
 use Rattle.lw_x86.proofs.Common.{AllByRecursion, NameTable, TokenList, X86, Quant, Exists, Seen}
@@ -14,38 +14,38 @@ use Rattle.lw_x86.proofs.Common.{element_text, listed_text}
 
 -- ---- tokens
 
--- the tokens of an element of the list of names: its site and a `;`
+-- The tokens of an element of the list of names: its site and a `;`.
 abbrev pub element_tokens : SiteSyntax → TokenList
 element_tokens s = site_tokens X86 s ++ codes ";" ∷ []
 
--- registers and locations as sites, by their names
+-- Registers and locations as sites, by their names.
 abbrev pub named_sites : NameTable → List Seen → List SiteSyntax
 named_sites names ss = map (named_site names) ss
 
--- the tokens of the list of names, if anything is listed
+-- The tokens of the list of names, if it is not empty.
 abbrev pub listed_tokens : NameTable → List Seen → TokenList
 listed_tokens names [] = []
 listed_tokens names (s ∷ ss) =
     codes "locations" ∷ codes "[" ∷ (flat_map element_tokens (named_sites names (s ∷ ss)) ++ (codes "]" ∷ []))
 
--- the terminals of a head's condition
+-- The terminals of a head's condition.
 abbrev pub terminals_in : TestHead → List (Terminal AtomSyntax)
 terminals_in head = enclosed (terminals_of (named_claim head.locs) head.condition)
 
--- the tokens of the condition: its quantifier and its proposition
+-- The tokens of the condition: its quantifier and its proposition.
 abbrev pub condition_tokens : TestHead → TokenList
 condition_tokens head = quantifier_tokens head.quant ++ flat_map (terminal_tokens X86) (terminals_in head)
 
--- the most bytes of the line of what is listed
+-- The maximal number of bytes of the line of the list.
 abbrev pub listed_bytes : ℕ
 listed_bytes = 80 + 45 * most_seen
 
--- the most bytes of the condition's line
+-- The maximal number of bytes of the condition's line.
 abbrev pub condition_bytes : ℕ
 condition_bytes = 15397
 
 module _ (head : TestHead) (well : IsWellFormedHead head) where
-  -- The site is of the test.
+  -- The register or location is of the test.
   abbrev Sees : Seen → Type 0
   Sees = IsSeenInRange head.threads (length head.locs)
 
@@ -80,14 +80,14 @@ module _ (head : TestHead) (well : IsWellFormedHead head) where
       (Spells-on (Spells-on (element_spelled s h.0) (elements_spelled ss h.1))
       (Spells-on (Spells-mark 93 refl (λ c. refl) refl (omega arith)) Spells-newline)))
 
-  -- the text of the list of names spells its tokens
+  -- The text of the list of names spells its tokens.
   pub listed_spelled : Spells Anything listed_bytes (listed_text head.locs head.listed) (listed_tokens head.locs head.listed)
   listed_spelled =
       Spells-within listed_bytes
       (omega (arith, listed_few head.threads (length head.locs) head.listed well.ascending well.there, well.few, well.table.few))
       (list_spelled head.listed well.there)
 
-  -- the text of the condition's line spells its tokens
+  -- The text of the condition's line spells its tokens.
   pub condition_spelled : head.arch ≡ X86
       → Spells Anything condition_bytes (condition_text head ++ codes "\n") (condition_tokens head)
   condition_spelled arch =
@@ -99,7 +99,7 @@ module _ (head : TestHead) (well : IsWellFormedHead head) where
 
   -- ---- what the tokens say
 
-  -- what is listed can be printed
+  -- The list of names can be printed.
   pub listed_printable : AllByRecursion (IsPrintable head.threads head.locs) (named_sites head.locs head.listed)
   listed_printable =
       all_map (IsPrintable head.threads head.locs) (named_site head.locs) head.listed
@@ -120,14 +120,14 @@ module _ (head : TestHead) (well : IsWellFormedHead head) where
             (All-mono _ _ (λ site p l. site_said X86 head.threads well.few head.locs site l p) sites h)),
       )
 
-  -- a quantifier begins no list, and ends the rows
+  -- A quantifier starts no list, and ends the rows.
   quantifier_begins : (q : Quant) (rest : TokenList)
       → (begins_token (codes "locations") (quantifier_tokens q ++ rest) ≡ false)
       × (begins_stop (quantifier_tokens q ++ rest) ≡ true)
   quantifier_begins Exists rest = (refl, refl)
   quantifier_begins q rest = (refl, refl)
 
-  -- the tokens of the list and the condition say what is listed, the quantifier and the terminals
+  -- The tokens of the list and the condition say the list, the quantifier and the terminals.
   pub condition_said : Condition X86 head.threads (listed_tokens head.locs head.listed ++ condition_tokens head)
       (named_sites head.locs head.listed) head.quant (terminals_in head)
   condition_said = record {
@@ -143,14 +143,14 @@ module _ (head : TestHead) (well : IsWellFormedHead head) where
         (whole_fine head.threads head.locs well.table.all head.condition well.condition);
   }
 
-  -- if tokens begin as an end of the rows does, so do they with the list of names in front
+  -- If tokens start as an end of the rows does, so do they with the list of names before them.
   list_stops : (ss : List Seen) (rest : TokenList)
       → begins_stop rest ≡ true
       → begins_stop (listed_tokens head.locs ss ++ rest) ≡ true
   list_stops [] rest h = h
   list_stops (s ∷ ss) rest h = refl
 
-  -- the rows end where the list of names or the condition begins
+  -- The rows end where the list of names or the condition starts.
   pub rows_stop : begins_stop (listed_tokens head.locs head.listed ++ condition_tokens head) ≡ true
   rows_stop =
       list_stops head.listed (condition_tokens head)

@@ -1,4 +1,4 @@
--- Rows as they are printed: their texts spell tokens, which are cells between bars.
+-- Printed rows: their texts spell tokens, which are cells between bars.
 use Rattle.lw_x86.proofs.Common.{EndsNoCell, ◌≡◌, ℕ, zero, suc, ◌+◌, ◌*◌, ◌<◌, ◌≤◌, true, false, List, []}
 use Rattle.lw_x86.proofs.Common.{◌∷◌, ◌++◌, map, length, refl, arith, append_assoc, codes, flat_map}
 use Rattle.lw_x86.proofs.Common.{AllByRecursion, AllZip, range_with_len, agree_below_at}
@@ -13,34 +13,34 @@ use Rattle.lw_x86.proofs.PrintedCells.{IsPrintedCell}
 
 -- ---- one row
 
--- the text of a row behind its first cell: the other cells, each with the bar before it, and the end of the row
+-- The text of a row after its first cell: the other cells, each after a bar, and the end of the row.
 abbrev behind_text : List Bytes → Bytes
 behind_text cells = flat_map (λ next. codes " | " ++ next) cells ++ codes " ;\n"
 
--- the tokens of the cells behind the first, each behind a `|`, and the `;`
+-- The tokens of the cells after the first, each after a `|`, and the `;`.
 abbrev pub tokens_behind : Cells → TokenList
 tokens_behind [] = codes ";" ∷ []
 tokens_behind (t ∷ ts) = codes "|" ∷ (t ++ tokens_behind ts)
 
--- the tokens of a row of cells
+-- The tokens of a row of cells.
 abbrev pub row_tokens : Cells → TokenList
 row_tokens [] = codes ";" ∷ []
 row_tokens (t ∷ ts) = t ++ tokens_behind ts
 
--- behind a cell, what stands in its row begins with a blank
+-- What follows a cell in its row starts with a blank.
 begins_behind : (cells : List Bytes) (rest : Bytes) → first_byte_is is_blank (behind_text cells ++ rest) ≡ true
 begins_behind [] rest = refl
 begins_behind (c ∷ cells) rest = refl
 
--- ` | ` spells a bar
+-- ` | ` spells a bar.
 bar : Spells Anything 3 (codes " | ") (codes "|" ∷ [])
 bar = Spells-on Spells-space (Spells-on (Spells-mark 124 refl (λ c. refl) refl (omega arith)) Spells-space)
 
--- ` ;` and the line's end spell a `;`
+-- ` ;` and the line's end spell a `;`.
 row_end : Spells Anything 3 (codes " ;\n") (codes ";" ∷ [])
 row_end = Spells-on Spells-space (Spells-on (Spells-mark 59 refl (λ c. refl) refl (omega arith)) Spells-newline)
 
--- the text of the cells behind the first spells their tokens
+-- The text of the cells after the first spells their tokens.
 behind_spelled : (cells : List Bytes) (ts : Cells)
     → AllZip IsPrintedCell cells ts
     → Spells Anything (153 * length cells + 3) (behind_text cells) (tokens_behind ts)
@@ -51,7 +51,7 @@ behind_spelled (c ∷ cells) (t ∷ ts) h =
     (Spells-on bar (Spells-then (λ more g. begins_behind cells more) h.0.spells (behind_spelled cells ts h.1))))
 behind_spelled cells ts h = absurd h
 
--- the text of a row spells its tokens
+-- The text of a row spells its tokens.
 pub row_spelled : (cells : List Bytes) (ts : Cells)
     → 1 ≤ length cells
     → AllZip IsPrintedCell cells ts
@@ -65,7 +65,7 @@ row_spelled (c ∷ cells) (t ∷ ts) some h =
 
 -- ---- what the tokens of a row are
 
--- the tokens of a row say its cells
+-- The tokens of a row say its cells.
 pub cells_said : (t : TokenList) (ts : Cells) (rest : TokenList)
     → AllByRecursion EndsNoCell (t ∷ ts)
     → RowCells (row_tokens (t ∷ ts) ++ rest) (t ∷ ts) rest
@@ -73,7 +73,7 @@ cells_said t [] rest h = (append_assoc t (codes ";" ∷ []) rest, h.0)
 cells_said t (u ∷ ts) rest h =
     (row_tokens (u ∷ ts) ++ rest, (append_assoc t (tokens_behind (u ∷ ts)) rest, h.0), cells_said u ts rest h.1)
 
--- the tokens of a row are a row with a cell for each thread
+-- The tokens of a row are a row with a cell for each thread.
 pub row_said : (threads : ℕ) (ts : Cells) (rest : TokenList)
     → 1 ≤ threads
     → length ts ≡ threads
@@ -82,7 +82,7 @@ pub row_said : (threads : ℕ) (ts : Cells) (rest : TokenList)
 row_said threads [] rest some long h = absurd (omega (arith, some, long))
 row_said threads (t ∷ ts) rest some long h = (cells_said t ts rest h, long)
 
--- the tokens of a row begin with no token that ends the rows, if those of no cell do
+-- If no cell starts as an end of the rows does, neither does the row.
 row_starts : (ts : Cells) (rest : TokenList)
     → AllByRecursion (λ t. begins_stop t ≡ false) ts
     → begins_stop (row_tokens ts ++ rest) ≡ false
@@ -91,11 +91,11 @@ row_starts ([] ∷ []) rest h = refl
 row_starts ([] ∷ (u ∷ ts)) rest h = refl
 row_starts ((w ∷ t) ∷ ts) rest h = h.0
 
--- a row with a cell for each thread, in which no cell ends and none begins as an end of the rows does
+-- The row has a cell for each thread, no cell contains an end of a cell, and none starts as an end of the rows does.
 abbrev pub IsPlainRow : ℕ → Cells → Type 0
 IsPlainRow threads ts = (length ts ≡ threads) × AllByRecursion EndsNoCell ts × AllByRecursion (λ t. begins_stop t ≡ false) ts
 
--- the tokens of plain rows (IsPlainRow) are rows, up to what ends them
+-- The tokens of plain rows are rows, up to what ends them.
 pub rows_said : (threads : ℕ) (rows : CellGrid) (rest : TokenList)
     → 1 ≤ threads
     → AllByRecursion (IsPlainRow threads) rows
@@ -109,11 +109,11 @@ rows_said threads (row ∷ rows) rest some h stop =
 
 -- ---- the header
 
--- the tokens of the header: a name for each thread
+-- The tokens of the header: a name for each thread.
 abbrev pub header_tokens : ℕ → TokenList
 header_tokens threads = row_tokens (map (λ k. thread_name k ∷ []) (range_with_len 0 threads))
 
--- the name of a thread is printed as a cell is
+-- The name of a thread is printed as a cell.
 thread_cell : (k : ℕ) → k < most_threads → IsPrintedCell (thread_name k) (thread_name k ∷ [])
 thread_cell k lt =
     let name =
@@ -124,20 +124,20 @@ thread_cell k lt =
       starts = agree_below_at (λ j. begins_stop (thread_name j ∷ [])) (λ j. false) most_threads k refl lt;
     }
 
--- the tokens of so many threads' names from the k-th on
+-- The tokens of n threads' names from the k-th on.
 abbrev names_from : ℕ → ℕ → Cells
 names_from k n = map (λ j. thread_name j ∷ []) (range_with_len k n)
 
--- the names of threads are printed as cells are
+-- The names of threads are printed as cells.
 header_cells : (k n : ℕ) → k + n ≤ most_threads → AllZip IsPrintedCell (map thread_name (range_with_len k n)) (names_from k n)
 header_cells k zero few = tt
 header_cells k (suc n) few = (thread_cell k (omega (arith, few)), header_cells (k + 1) n (omega (arith, few)))
 
--- the most bytes of a row
+-- The maximal number of bytes of a row.
 abbrev pub row_bytes : ℕ
 row_bytes = 153 * most_threads + 1
 
--- the text of the header spells its tokens
+-- The text of the header spells its tokens.
 pub header_spelled : (threads : ℕ)
     → 1 ≤ threads
     → threads ≤ most_threads
@@ -148,14 +148,14 @@ header_spelled threads some few =
     (row_spelled (map thread_name (range_with_len 0 threads)) (names_from 0 threads) (omega (arith, long, some))
     (header_cells 0 threads (omega (arith, few))))
 
--- the tokens of n + 1 threads' names from the k-th on say so many names
+-- The tokens of `n + 1` threads' names from the k-th on say these names.
 names_said : (k n : ℕ) (rest : TokenList) → Names k (suc n) (row_tokens (names_from k (suc n)) ++ rest) rest
 names_said k zero rest = refl
 names_said k (suc n) rest =
     let next : k + 1 ≡ suc k = omega arith in
     (row_tokens (names_from (k + 1) (suc n)) ++ rest, refl, rw (← next) (names_said (k + 1) n rest))
 
--- the tokens of the header say so many threads
+-- The tokens of the header say the number of threads.
 pub header_said : (threads : ℕ) (rest : TokenList)
     → 1 ≤ threads
     → threads ≤ most_threads
@@ -165,7 +165,7 @@ header_said (suc n) rest some few = (names_said 0 n rest, few)
 
 -- ---- rows
 
--- in cells that are printed no cell ends, and none begins as an end of the rows does
+-- Printed cells contain no end of a cell, and do not start as an end of the rows does.
 plain_cells : (texts : List Bytes) (cells : Cells)
     → AllZip IsPrintedCell texts cells
     → AllByRecursion EndsNoCell cells × AllByRecursion (λ t. begins_stop t ≡ false) cells
@@ -173,11 +173,11 @@ plain_cells [] [] h = (tt, tt)
 plain_cells (t ∷ texts) (c ∷ cells) h = let more = plain_cells texts cells h.1 in ((h.0.plain, more.0), (h.0.starts, more.1))
 plain_cells texts cells h = absurd h
 
--- The texts and the tokens of rows, by the row's index, below most.
+-- The texts and the tokens of rows, by the row's index.
 module _ (text : ℕ → List Bytes) (row : ℕ → Cells) (threads most : ℕ) (some : 1 ≤ threads) (few : threads ≤ most_threads)
     (printed : (k : ℕ) → k < most → AllZip IsPrintedCell (text k) (row k)) (long : (k : ℕ) → length (text k) ≡ threads)
     (as_long : (k : ℕ) → length (row k) ≡ threads) where
-  -- the texts of n rows from the k-th on spell their tokens
+  -- The texts of n rows from the k-th on spell their tokens.
   pub rows_spelled : (k n : ℕ)
       → k + n ≤ most
       → Spells Anything (row_bytes * n) (flat_map (λ j. row_text (text j)) (range_with_len k n))
@@ -189,7 +189,7 @@ module _ (text : ℕ → List Bytes) (row : ℕ → Cells) (threads most : ℕ) 
       Spells-within (row_bytes * suc n) (omega arith)
       (Spells-on (Spells-within row_bytes (omega (arith, e, few)) here) (rows_spelled (k + 1) n (omega (arith, within))))
 
-  -- the n rows from the k-th on have a cell for each thread, in which no cell ends, nor do the rows
+  -- The n rows from the k-th on are plain.
   pub rows_plain : (k n : ℕ) → k + n ≤ most → AllByRecursion (IsPlainRow threads) (map row (range_with_len k n))
   rows_plain k zero within = tt
   rows_plain k (suc n) within =

@@ -1,4 +1,4 @@
--- Slots as they are printed: their texts spell a token each, which gives again what stands there.
+-- Printed slots: each text spells a token, which gives the slot's value.
 use Rattle.lw_x86.proofs.Common.{◌≡◌, ℕ, ◌+◌, ◌<◌, ◌⊎◌, inl, inr, Bool, true, false, List, [], ◌∷◌, ◌++◌}
 use Rattle.lw_x86.proofs.Common.{length, refl, arith, append_assoc, ◌==◌, ◌&&◌, ◌||◌, decimal, eqb-true}
 use Rattle.lw_x86.proofs.Common.{AllByRecursion, cases_Bool, and_parts, decimal_nonempty, Bytes, TokenList}
@@ -15,7 +15,7 @@ use Rattle.lw_base.specs.declared.operand.Operand.TheVariants as operand
 
 -- ---- no token ends a cell
 
--- a token that begins with a name byte ends no cell
+-- A token that starts with a name byte ends no cell.
 no_end : (b : ℕ) (w : Bytes) → is_name_byte b ≡ true → ends_cell (b ∷ w) ≡ false
 no_end b w h = rw (other b h 124 refl, other b h 59 refl) refl
   where
@@ -25,30 +25,30 @@ no_end b w h = rw (other b h 124 refl, other b h 59 refl) refl
       | inr e ↦ e
     ]
 
--- a name run ends no cell
+-- A run of name bytes ends no cell.
 run_no_end : (w : Bytes) → 0 < length w → AllByRecursion (λ b. is_name_byte b ≡ true) w → ends_cell w ≡ false
 run_no_end [] some all = absurd (omega arith)
 run_no_end (b ∷ w) some all = no_end b w all.0
 
--- a name ends no cell
+-- A name ends no cell.
 pub name_no_end : (w : Bytes) → IsName w → ends_cell w ≡ false
 name_no_end w n = run_no_end w n.0.some n.0.all
 
 -- ---- mnemonics and signs
 
--- The keyword is a mnemonic: no sign, and a name.
+-- The keyword is a mnemonic: a name, and no sign.
 record IsMnemonic (w : X86Keyword) : Type 0 where
   unsigned : is_sign w ≡ false
   name : IsName (x86_keyword_text w)
 
--- The keyword is a sign: it spells one token, a name ends before it, and no cell ends in it.
+-- The keyword is a sign: it spells one token, ends a name before it, and ends no cell.
 record IsSign (w : X86Keyword) : Type 0 where
   signed : is_sign w ≡ true
   mark : Spells Anything 1 (x86_keyword_text w) (x86_keyword_text w ∷ [])
   ends : (rest : Bytes) → EndsName (x86_keyword_text w ++ rest)
   plain : ends_cell (x86_keyword_text w) ≡ false
 
--- each keyword of x86 is a mnemonic or a sign
+-- Each keyword of x86 is a mnemonic or a sign.
 kind_of : (w : X86Keyword) → IsMnemonic w ⊎ IsSign w
 kind_of Open =
     inr (record { signed = refl; mark = Spells-mark 91 refl (λ c. refl) refl (omega arith); ends = λ rest. refl; plain = refl })
@@ -60,9 +60,9 @@ kind_of Dollar =
     inr (record { signed = refl; mark = Spells-mark 36 refl (λ c. refl) refl (omega arith); ends = λ rest. refl; plain = refl })
 kind_of w = inl (record { unsigned = refl; name = name_by_test _ refl })
 
--- ---- what can be printed at a slot
+-- ---- values that can be printed
 
--- what a slot is given can be printed there: a register, an allowed name, or a word
+-- The value of a slot can be printed: a register, an allowed name, or a word.
 abbrev pub IsPrintable : (slot : Slot X86Keyword) → SlotValue slot → Type 0
 IsPrintable (Keyword w) g = Unit {0}
 IsPrintable Register r = IsRegisterIndex r
@@ -72,63 +72,63 @@ IsPrintable Value (operand.Number n) = IsWordNumber n
 IsPrintable Number n = IsWordNumber n
 IsPrintable Label l = IsLocationName l
 
--- what each slot is given can be printed there
+-- Each slot's value can be printed.
 abbrev pub ArePrintable : (slots : List (Slot X86Keyword)) → Filling slots → Type 0
 ArePrintable [] f = Unit {0}
 ArePrintable (slot ∷ slots) (g, f) = IsPrintable slot g × ArePrintable slots f
 
--- whether a keyword stands at the slot
+-- Tests whether the slot is a keyword's.
 abbrev pub is_keyword_slot : Slot X86Keyword → Bool
 is_keyword_slot (Keyword w) = true
 is_keyword_slot slot = false
 
--- whether a sign stands at the slot
+-- Tests whether the slot is a sign's.
 abbrev pub is_sign_slot : Slot X86Keyword → Bool
 is_sign_slot (Keyword w) = is_sign w
 is_sign_slot slot = false
 
--- of each two neighbouring slots the first is a keyword or the second a sign
+-- Of each two adjacent slots the first is a keyword or the second a sign.
 abbrev pub are_spaced : List (Slot X86Keyword) → Bool
 are_spaced [] = true
 are_spaced (slot ∷ []) = true
 are_spaced (slot ∷ next ∷ slots) = (is_keyword_slot slot || is_sign_slot next) && are_spaced (next ∷ slots)
 
--- the most bytes that are printed at a slot, with the blank behind a mnemonic
+-- The maximal number of bytes printed at a slot, with the blank after a mnemonic.
 abbrev pub most_of : Slot X86Keyword → ℕ
 most_of (Keyword w) = 1 + length (x86_keyword_text w)
 most_of slot = 32
 
--- the most bytes of all slots
+-- The maximal number of bytes of all slots.
 abbrev pub most_in : List (Slot X86Keyword) → ℕ
 most_in [] = 0
 most_in (slot ∷ slots) = most_of slot + most_in slots
 
--- the tokens of slots, one for each
+-- The tokens of slots, one for each.
 abbrev pub slots_tokens : (slots : List (Slot X86Keyword)) → Filling slots → TokenList
 slots_tokens [] f = []
 slots_tokens (slot ∷ slots) (g, f) = slot_text slot g ∷ slots_tokens slots f
 
 -- ---- a slot
 
--- a name spells one token, of as many bytes
+-- A name spells one token, of the same number of bytes.
 name_spelled : (w : Bytes) → IsName w → Spells EndsName (length w) w (w ∷ [])
 name_spelled w name = let s = Spells-name w name in record { before = s.before; short = omega arith; utf8 = s.utf8 }
 
--- a number ends no cell
+-- A number ends no cell.
 number_no_end : (n : ℕ) → IsWordNumber n → ends_cell (decimal n) ≡ false
 number_no_end n p = run_no_end (decimal n) (decimal_nonempty n (omega (arith, p))) (decimal_is_name_run n p)
 
--- What is given is printed at the slot as one token, which gives it again and ends no cell.
+-- The value is printed at the slot as one token, which gives the value and ends no cell.
 record IsPrinted (slot : Slot X86Keyword) (g : SlotValue slot) : Type 0 where
   spelled : Spells EndsName (most_of slot) (slot_text slot g) (slot_text slot g ∷ [])
   said : Gives x86_spelling (slot_text slot g) slot g
   plain : ends_cell (slot_text slot g) ≡ false
 
--- a register's name ends no cell
+-- A register's name ends no cell.
 register_no_end : (r : ℕ) → IsRegisterIndex r → ends_cell (register_name X86 r) ≡ false
 register_no_end r p = name_no_end (register_name X86 r) (register_is_name X86 r p)
 
--- what can be printed at a slot is printed there as one token
+-- A value that can be printed is printed as one token.
 printed : (slot : Slot X86Keyword) (g : SlotValue slot) → IsPrintable slot g → IsPrinted slot g
 printed (Keyword w) g p = elim (kind_of w) [
   | inl m ↦ record {
@@ -157,11 +157,11 @@ printed Number n p = record {
 }
 printed Label l p = record { spelled = Spells-name l p.0; said = (refl, p); plain = name_no_end l p.0 }
 
--- A keyword that is a sign spells one token, which ends a name and no cell.
+-- A sign spells one token, which ends a name and no cell.
 signed : (w : X86Keyword) → is_sign w ≡ true → IsSign w
 signed w e = elim (kind_of w) [ inl m ↦ absurd (let other = m.unsigned in cc) | inr s ↦ s ]
 
--- before slots of which the first is a sign's, a name ends
+-- Before slots of which the first is a sign's, a name ends.
 sign_ends : (next : Slot X86Keyword) (slots : List (Slot X86Keyword)) (h : SlotValue next) (f : Filling slots)
     → is_sign_slot next ≡ true
     → (rest : Bytes)
@@ -187,7 +187,7 @@ module _ (next : Slot X86Keyword) (slots : List (Slot X86Keyword)) (h : SlotValu
 
 -- ---- slots
 
--- the text of slots spells their tokens
+-- The text of slots spells their tokens.
 pub slots_spelled : (slots : List (Slot X86Keyword)) (f : Filling slots)
     → ArePrintable slots f
     → are_spaced slots ≡ true
@@ -199,14 +199,14 @@ slots_spelled (slot ∷ next ∷ slots) (g, (h, f)) p e =
     front_spelled next slots h f (most_in (next ∷ slots)) (slots_tokens (next ∷ slots) (h, f))
     (slots_spelled (next ∷ slots) (h, f) p.1 both.1) slot g p.0 both.0
 
--- the tokens of slots give again what was printed
+-- The tokens of slots give the values that were printed.
 pub slots_said : (slots : List (Slot X86Keyword)) (f : Filling slots)
     → ArePrintable slots f
     → Fills x86_spelling (slots_tokens slots f) slots f
 slots_said [] f p = tt
 slots_said (slot ∷ slots) (g, f) p = ((printed slot g p.0).said, slots_said slots f p.1)
 
--- no cell ends in the tokens of slots
+-- The tokens of slots contain no end of a cell.
 pub slots_no_end : (slots : List (Slot X86Keyword)) (f : Filling slots) → ArePrintable slots f → EndsNoCell (slots_tokens slots f)
 slots_no_end [] f p = tt
 slots_no_end (slot ∷ slots) (g, f) p = ((printed slot g p.0).plain, slots_no_end slots f p.1)

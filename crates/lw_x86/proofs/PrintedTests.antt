@@ -1,4 +1,4 @@
--- The frame of a test as it is printed says the test again.
+-- The frame of a printed test says the test.
 use Rattle.lw_x86.proofs.Common.{◌≡◌, ◌-◌, ◌≤◌, List, [], ◌∷◌, map, length, refl, sym, ap, arith, append-nil}
 use Rattle.lw_x86.proofs.Common.{AllByRecursion, AllZip, range_with_len, NameTable, insert_names, IsInTable}
 use Rattle.lw_x86.proofs.Common.{insert_names-there, all_append, All-map_inv, CellSyntax, Column, code_in}
@@ -15,11 +15,11 @@ module _ (p : X86Test) (well : IsWellFormedProgram p) where
   abbrev locs : NameTable
   locs = p.head.locs
 
-  -- what a thread's cells say, in all rows
+  -- The syntax of a thread's cells, in all rows.
   abbrev thread_says : List Instr → List (CellSyntax (ParsesStatement x86_spelling))
   thread_says code = syntaxes_from locs code 0 (height_of p)
 
-  -- a thread whose cells each have a row
+  -- The thread has a row for each of its cells.
   abbrev HasRoom : List Instr → Type 0
   HasRoom code = IsWellFormedThread x86_language (length locs) code × (length (cells_of locs code) ≤ height_of p)
 
@@ -57,7 +57,7 @@ module _ (p : X86Test) (well : IsWellFormedProgram p) where
   names_are : insert_names locs (names_of x86_grammar all_say) ≡ locs
   names_are = insert_names-there locs (names_of x86_grammar all_say) (all_said p.threads room).2
 
-  -- no location is new, so no word is
+  -- No location is new, so no word is.
   test_is : resolve_test x86_grammar p.head (insert_names locs (names_of x86_grammar all_say)) all_say ≡ p
   test_is =
       let none : length locs - length locs ≡ 0 = omega arith in
@@ -72,6 +72,6 @@ module _ (p : X86Test) (well : IsWellFormedProgram p) where
     made = sym test_is;
   }
 
-  -- the canonical text of a well-formed program says that program
+  -- The canonical text of a well-formed program says that program.
   pub reads_back : IsTextOf (canonical_text p) p
   reads_back = record { frame = frame_in p; framed = printed_frame p well; says = frame_says }

@@ -1,11 +1,11 @@
--- Parts of a line, each written behind what separates it from the one before.
+-- Parts of a line, each after what separates it from the one before.
 use Rattle.lw_x86.proofs.Common.{◌≡◌, ℕ, suc, ◌+◌, ◌≤◌, List, [], ◌∷◌, ◌++◌, length, length-take, take, arith}
 use Rattle.lw_x86.proofs.Common.{append_assoc, append-nil, Some, slice_get, take_all, ◌==◌, false, refl}
 use Rattle.lw_x86.proofs.Common.{Result, OnOk, is_ok, if◌then◌else◌, nat_tests, flat_map-append}
 use Rattle.lw_x86.proofs.Common.{slice_get_within, joined, Bytes, take_one, both_written, then_written}
 use Rattle.lw_x86.proofs.Common.{pushed, separator}
 
--- parts joined with one more are these parts joined, and then what separates it from them, and that part
+-- Appending a part appends the separator and that part to the joined text.
 joined_more : (between : Bytes) (parts : List Bytes) (part : Bytes)
     → joined between (parts ++ part ∷ []) ≡ joined between parts ++ (separator (length parts) between ++ part)
 joined_more between [] part = append-nil part
@@ -15,7 +15,7 @@ joined_more between (first ∷ parts) part =
 
 module _ (between : Bytes) (parts : List Bytes) (k : ℕ) (start out : Bytes)
     (before : out ≡ start ++ joined between (take k parts)) where
-  -- if one more part of the line was written, behind what separates it, then the first k + 1 parts were written
+  -- Writing the next part after its separator extends the first k parts to `k + 1`.
   pub parts_more : (part new : Bytes)
       → slice_get parts k ≡ Some part
       → new ≡ out ++ (separator k between ++ part)
@@ -32,11 +32,11 @@ module _ (between : Bytes) (parts : List Bytes) (k : ℕ) (start out : Bytes)
         ← before,
       ) written
 
-  -- if there are no more than k parts, all parts of the line were written
+  -- If there are at most k parts, all parts of the line were written.
   pub parts_all : length parts ≤ k → out ≡ start ++ joined between parts
   parts_all all = rw (← take_all k parts all) before
 
--- if what stands in front of a line's parts was written, then the parts, and then the line's end, the line was written
+-- If what precedes a line's parts was written, then the parts, and then the line's end, the line was written.
 pub line_written : {T E : Type 0} (answer : Result T E) (start front parts back : Bytes) {opened told end : Bytes}
     → opened ≡ start ++ front
     → told ≡ opened ++ parts

@@ -1,2 +1,2 @@
--- What proofs of other crates cite: that the x86 test of a frame is well-formed.
+-- Lemmas that other crates use: the x86 test of a frame is well-formed.
 pub mod Tests

@@ -1,4 +1,4 @@
--- What has been done, and which stores wait, after a part of an order of an x86 test's items that keeps the fixed pairs.
+-- What has been executed, and which stores wait, after a prefix of an order of an x86 test's items that respects the fixed pairs.
 use Rattle.lw_finals.proofs.Common.{◌≡◌, ℕ, suc, ◌<◌, ◌≤◌, Bool, true, false, true≢false, List, [], ◌∷◌}
 use Rattle.lw_finals.proofs.Common.{length, Some, refl, sym, ap, ap₂, ◌∙◌, subst, inl, inr, arith, slice_get}
 use Rattle.lw_finals.proofs.Common.{cases_lt, thread_code, index_in, Before, IsLinearExtension, same_index}
@@ -17,7 +17,7 @@ module _ (program : List (List Instr)) (forward : (t : ℕ) → JumpsForward x86
   abbrev it : ℕ → Item
   it i = item_at items i
 
-  -- A store's drain stands in the order and is still to come.
+  -- A store's drain is in the order, and still to be executed.
   pub record Coming (order : List ℕ) (k t w : ℕ) : Type 0 where
     pub index : ℕ
     pub below : index < length items
@@ -26,7 +26,7 @@ module _ (program : List (List Instr)) (forward : (t : ℕ) → JumpsForward x86
     pub is_drain : (it index).is_drain ≡ true
     pub later : k ≤ index_in order index
 
-  -- which stores wait once the first k items of an order are done
+  -- The stores that wait after the first k items of an order.
   pub record Waiting (order : List ℕ) (k : ℕ) (W : ℕ → List ℕ) : Type 0 where
     pub coming : (t w : ℕ) → IsMember w (W t) → Coming order k t w
     pub waits : (s d : ℕ)
@@ -40,12 +40,12 @@ module _ (program : List (List Instr)) (forward : (t : ℕ) → JumpsForward x86
         → k ≤ index_in order d
         → IsMember (it d).position (W (it d).thread)
 
-  -- before the first item no store waits
+  -- Before the first item no store waits.
   pub waiting_first : (order : List ℕ) → Waiting order 0 (λ t. [])
   waiting_first order = record { coming = λ t w h. absurd h; waits = λ s d ls ld c j f g lt ge. absurd (omega arith) }
 
   module _ (order : List ℕ) (keeps : IsLinearExtension (constraints_of x86_language program items) order) where
-    -- the other item of a store: each drain has its store before it, and each store its drain behind it
+    -- The other item of a store: each drain comes after its store, and each store before its drain.
     abbrev Partner : ℕ → Bool → Type 0
     Partner i b = HasItem items (item (it i).thread (it i).position b)
 
@@ -94,7 +94,7 @@ module _ (program : List (List Instr)) (forward : (t : ℕ) → JumpsForward x86
               (ap (λ (a : Item). a.is_drain) d.2),
         )
 
-    -- a drain's turn comes when its store is the oldest that waits
+    -- When it is a drain's turn, its store is the oldest that waits.
     pub oldest : (k high i : ℕ) (W : ℕ → List ℕ)
         → Waiting order k W
         → IsAscendingBetween 0 (W (it i).thread) high
@@ -129,7 +129,7 @@ module _ (program : List (List Instr)) (forward : (t : ℕ) → JumpsForward x86
     same_item : (i d : ℕ) → i < length items → index_in order i ≡ index_in order d → i ≡ d
     same_item i d lt e = same_index order i d e (stands i lt)
 
-    -- one item more
+    -- One more item is executed.
     pub waiting_next : (k high i : ℕ) (W : ℕ → List ℕ)
         → Waiting order k W
         → IsAscendingBetween 0 (W (it i).thread) high

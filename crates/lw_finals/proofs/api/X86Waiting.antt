@@ -13,14 +13,14 @@ use Rattle.lw_finals.proofs.Common.{follows_within, IsMember, event_by}
 use Rattle.lw_finals.proofs.api.Waiting.{IsAscendingBetween, own_waits, drain_climbs, statement_climbs}
 use Rattle.lw_finals.proofs.api.Waiting.{entry_location, waits_after, waits_same, waits_other}
 
--- ---- what an item did
+-- ---- the effect of an item
 
--- the act of a thread's drain (true), or of its step
+-- The effect of a thread's drain (true) or step (false).
 abbrev pub act_by : List (List Instr) → ℕ → Bool → Processor → EventEffect
 act_by program t true p = drain_effect p.buffer p
 act_by program t false p = step_effect (slice_get (thread_code program t) p.position) p
 
--- a drain of thread t (b is true), or its step from position j, leads from the state s to mid: from which processor to which
+-- A drain of thread t (b is true), or its step from position j, leads from the state s to `mid`: the processor before and after.
 pub record ItemStep (program : List (List Instr)) (t j : ℕ) (b : Bool) (s mid : MachineState (List ℕ)) : Type 0 where
   pub old : Processor
   pub new : Processor
@@ -30,7 +30,7 @@ pub record ItemStep (program : List (List Instr)) (t j : ℕ) (b : Bool) (s mid 
   pub does : EffectLeadsTo s.memory (act_by program t b old) new words
   pub is : mid ≡ state (slice_set s.processors t new) words
 
--- an item's event that is done is a step of its thread from its position, or a drain
+-- An item's event that is executed is a step of its thread from the item's position, or a drain.
 pub carried : (program : List (List Instr)) (t j : ℕ) (b : Bool) (s mid : MachineState (List ℕ))
     → TransitionAt flat_memory program (event_by b t) j s mid
     → ItemStep program t j b s mid
@@ -62,21 +62,21 @@ carried program t j false s mid d =
         → slice_get (map (λ (q : Processor). q.position) s.processors) t ≡ Some p.position
     at p was = slice_get-map _ s.processors t ∙ ap (option_map (λ (q : Processor). q.position)) was
 
--- an item is carried out: a step of its thread from its position, or a drain
+-- The item is executed: a step of its thread from its position, or a drain.
 abbrev pub CarriedItem : List (List Instr) → Item → MachineState (List ℕ) → MachineState (List ℕ) → Type 0
 CarriedItem program a s mid = ItemStep program a.thread a.position a.is_drain s mid
 
--- ---- what a drain does to the position and the buffer
+-- ---- the effect of a drain on position and buffer
 
--- a drain takes the oldest entry, and leaves the newer ones
+-- A drain removes the oldest entry, and leaves the newer ones.
 pub record DrainShape (p q : Processor) : Type 0 where
   pub entry : ℕ × ℕ
   pub newer : List (ℕ × ℕ)
   pub full : p.buffer ≡ entry ∷ newer
-  -- the processor after it, with the newer entries alone
+  -- The processor after it has only the newer entries.
   pub is : q ≡ record p { buffer = newer }
 
--- a drain that is possible takes the oldest entry of a buffer that has one
+-- An enabled drain removes the oldest entry of a buffer that has one.
 drain_cases : (b : List (ℕ × ℕ)) (p q : Processor) (m n : List ℕ)
     → p.buffer ≡ b
     → EffectLeadsTo m (drain_effect b p) q n
@@ -84,24 +84,24 @@ drain_cases : (b : List (ℕ × ℕ)) (p q : Processor) (m n : List ℕ)
 drain_cases [] p q m n e d = absurd d
 drain_cases (f ∷ b) p q m n e d = record { entry = f; newer = b; full = e; is = d.0 }
 
--- the act of a processor's drain takes its oldest entry, and leaves the newer ones
+-- A processor's drain removes its oldest entry, and leaves the newer ones.
 pub drain_shape : (p q : Processor) (m n : List ℕ) → EffectLeadsTo m (drain_effect p.buffer p) q n → DrainShape p q
 drain_shape p q m n d = drain_cases p.buffer p q m n refl d
 
--- ---- the stores that wait
+-- ---- the waiting stores
 
--- the buffer has the entries of the stores at these positions, in their order, and no others
+-- The buffer has exactly the entries of the stores at these positions, in their order.
 abbrev pub BufferHolds : List Instr → List ℕ → List (ℕ × ℕ) → Type 0
 BufferHolds code [] [] = Unit {0}
 BufferHolds code (w ∷ ws) (e ∷ b) = (entry_location x86_language (slice_get code w) ≡ Some e.0) × BufferHolds code ws b
 BufferHolds code _ _ = ⊥
 
--- in an empty buffer nothing waits
+-- If the buffer is empty, no store waits.
 pub no_waits : (code : List Instr) (ws : List ℕ) → BufferHolds code ws [] → (j : ℕ) → IsMember j ws → ⊥
 no_waits code [] h j g = g
 no_waits code (w ∷ ws) h j g = h
 
--- a store more waits with its entry behind all others
+-- A further store waits, with its entry after all others.
 waits_pushed : (code : List Instr) (ws : List ℕ) (b : List (ℕ × ℕ)) (j x w : ℕ)
     → BufferHolds code ws b
     → entry_location x86_language (slice_get code j) ≡ Some x
@@ -110,11 +110,11 @@ waits_pushed code [] [] j x w h e = (e, tt)
 waits_pushed code (u ∷ ws) (f ∷ b) j x w h e = (h.0, waits_pushed code ws b j x w h.1 e)
 waits_pushed code _ _ j x w h e = absurd h
 
--- the location for which an operation makes an entry, if it is a store
+-- The location for which an operation makes an entry, if it is a store.
 abbrev pub entered : Operation → Option ℕ
 entered o = if is_store o then location_of o else None
 
--- behind a step the buffer has the entries of the stores that wait then
+-- After a step the buffer has the entries of the stores that wait then.
 stepped_waits : (code : List Instr) (o : Operation) (ws : List ℕ) (b after : List (ℕ × ℕ)) (j : ℕ)
     → BufferHolds code ws b
     → entry_location x86_language (slice_get code j) ≡ entered o
@@ -128,24 +128,24 @@ stepped_waits code o ws b after j h e (inr (entry, is, at, grown)) =
     subst (λ (entry : Option ℕ). BufferHolds code (own_waits false entry j ws) after) (sym makes)
     (subst (BufferHolds code (ws ++ j ∷ [])) (sym grown) (waits_pushed code ws b j entry.0 entry.1 h (e ∙ makes)))
 
--- behind a drain the buffer has the entries of the stores that wait then
+-- After a drain the buffer has the entries of the stores that wait then.
 drained_waits : (code : List Instr) (o : Option ℕ) (j : ℕ) (ws : List ℕ) (e : ℕ × ℕ) (b : List (ℕ × ℕ))
     → BufferHolds code ws (e ∷ b)
     → BufferHolds code (own_waits true o j ws) b
 drained_waits code o j [] e b h = absurd h
 drained_waits code o j (w ∷ ws) e b h = h.1
 
--- The stores at these positions wait in the processor's buffer, in their order, all before where it stands.
+-- The stores at these positions wait in the processor's buffer, in their order, and all before its position.
 pub record Holds (code : List Instr) (ws : List ℕ) (p : Processor) : Type 0 where
   pub waits : BufferHolds code ws p.buffer
   pub climbs : IsAscendingBetween 0 ws p.position
 
--- each processor's buffer has the entries of the stores of its thread that wait
+-- Each processor's buffer has the entries of its thread's waiting stores.
 abbrev pub AllHold : List (List Instr) → (ℕ → List ℕ) → MachineState (List ℕ) → Type 0
 AllHold program W s = (t : ℕ) (p : Processor) → slice_get s.processors t ≡ Some p → Holds (thread_code program t) (W t) p
 
 module _ (program : List (List Instr)) where
-  -- an item's step of an instruction went as its operation does
+  -- The step of an item made its operation's transition.
   pub went : (t j : ℕ) (i : Instr) (s mid : MachineState (List ℕ)) (c : ItemStep program t j false s mid)
       → slice_get (thread_code program t) j ≡ Some i
       → OperationTransition (x86_operation i) c.old c.new
@@ -154,7 +154,7 @@ module _ (program : List (List Instr)) where
       operation_does _ _ c.new _ _ (subst (λ o. EffectLeadsTo s.memory (step_effect o c.old) c.new c.words) here c.does)
 
   module _ (forward : (t : ℕ) → JumpsForward x86_language (thread_code program t)) where
-    -- what an item that was carried out leaves at its processor
+    -- The item's processor, after the item is executed.
     after_one : (t j : ℕ) (i : Instr) (b : Bool) (ws : List ℕ) (s mid : MachineState (List ℕ)) (c : ItemStep program t j b s mid)
         → slice_get (thread_code program t) j ≡ Some i
         → Holds (thread_code program t) ws c.old
@@ -182,7 +182,7 @@ module _ (program : List (List Instr)) where
               (subst (IsAscendingBetween 0 ws) there h.climbs);
         }
 
-    -- each item that is carried out keeps it
+    -- Each item that is executed preserves `AllHold`.
     pub all_hold : (a : Item) (i : Instr) (W : ℕ → List ℕ) (s mid : MachineState (List ℕ))
         → CarriedItem program a s mid
         → statement_of x86_language program a ≡ Some i
@@ -223,7 +223,7 @@ module _ (program : List (List Instr)) where
             (Holds (thread_code program a.thread)
             (own_waits a.is_drain (drained_location x86_language i) a.position (W a.thread))) e mine))
 
--- at the start no store waits, and all buffers are empty
+-- Initially no store waits, and all buffers are empty.
 pub hold_first : (test : X86Test) (words : List ℕ) → AllHold test.threads (λ t. []) (initial_machine_state test words)
 hold_first test words t p e =
     let from = get-map initial_processor test.head.init_regs t p e in

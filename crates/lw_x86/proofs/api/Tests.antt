@@ -3,7 +3,7 @@ use Rattle.lw_x86.proofs.Common.{◌≡◌, length, IsWellFormedHead, TestFrame,
 use Rattle.lw_x86.proofs.Common.{names_allowed, well_formed_test, x86_spelling, x86_grammar, HasProgram}
 use Rattle.lw_x86.proofs.X86Laws.{x86_lawful}
 
--- where the frame's head is well-formed, so is its test, by the rule of cells
+-- If the frame's head is well-formed, so is its test.
 pub well_formed_program : (frame : TestFrame) (test : X86Test)
     → IsWellFormedHead frame.head
     → length frame.cells ≡ frame.head.threads

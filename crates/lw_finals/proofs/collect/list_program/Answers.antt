@@ -5,7 +5,7 @@ use Rattle.lw_finals.proofs.Gathering.{visits_gather, gathered_sorted}
 use Rattle.lw_finals.proofs.collect.list_program.Given.{Over}
 use Rattle.lw_finals.proofs.collect.list_program.Goals as goal
 
--- the view of a gatherer, which counts nothing
+-- The collector as a visitor that counts nothing.
 abbrev gathering : (g : Over)
     → VisitorView g.row.S.Denot (Gatherer g.row.S.Denot g.row.A.Denot g.row.B.Denot g.row.R.Denot g.S.Statement)
 gathering g = record {

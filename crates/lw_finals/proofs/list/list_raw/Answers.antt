@@ -5,7 +5,7 @@ use Rattle.lw_finals.proofs.list.list_raw.Given.{Over}
 use Rattle.lw_finals.proofs.list.list_raw.Goals.{After-drop-runner-inside-4}
 use Rattle.lw_finals.proofs.list.list_raw.Goals as goal
 
--- the list is complete, where there is one
+-- The list is complete, if there is one.
 whole : (g : Over) (c : After-drop-runner-inside-4 g)
     → let program = program_of c.args.program.now in
     IfOk c.list_program.result (IsComplete (IsMachineOutcome flat_memory program program.head.init_words) program)

@@ -4,7 +4,7 @@ use Rattle.lw_x86.proofs.Common.{range_with_len, take}
 use Rattle.lw_x86.proofs.BlockTexts.{location_initializer, locations_are}
 use Rattle.lw_x86.proofs.block.write_locations.Goals as goal
 
--- one of the first so many numbers is below that
+-- The location's index is below the number of locations.
 below_len : (len : ℕ) {k x : ℕ} {all xs : List ℕ}
     → all ≡ range_with_len 0 8
     → xs ≡ take len all

@@ -5,7 +5,7 @@ use Rattle.lw_x86.proofs.Common.{listed_text}
 use Rattle.lw_x86.proofs.SeparatedTexts.{parts_more, parts_all, line_written}
 use Rattle.lw_x86.proofs.canonical.write_listed.Goals as goal
 
--- what is listed is no empty list
+-- The list of names is not empty.
 listed_is : (names : NameTable) (ss : List Seen)
     → (length ss == 0) ≡ false
     → codes "locations [" ++ (joined (codes " ") (map (element_text names) ss) ++ codes "]\n") ≡ listed_text names ss

@@ -5,14 +5,14 @@ use Rattle.lw_finals.proofs.Common.{RunnerState, CompiledSource, refl, common_st
 use Rattle.lw_finals.proofs.OrderSteps.{ran_off, ran_on, ends_alone, ends_so}
 use Rattle.lw_finals.proofs.source_runner.SourceRunnerOrderRunner.run.Goals as goal
 
--- an item leads to one state
+-- An item has at most one successor state.
 led_once : (program : List (List Stmt)) (item : Item) (now next other : State)
     → SourceItemTransition program item now next
     → SourceItemTransition program item now other
     → other ≡ next
 led_once program item now next other one two = let both : Ok other ≡ Ok next = sym two.1 ∙ one.1 in cc
 
--- what a run ends with, for the test and the outcome that these are
+-- The outcome of a run, for this test and outcome.
 ends_of : (items : List Item) (order : List ℕ) (test given : SourceTest) (o end : FinalState)
     → test ≡ given
     → end ≡ o
@@ -56,7 +56,7 @@ loop-index-preserved g c =
           }) carried (λ other. led_once source.threads item now next other carried) c.loop-index.invariant.ran;
     }
 
--- all items were carried out, but the state is not final
+-- All items were executed, but the state is not final.
 pub returns-then-not-is_final-clause-ends : goal.returns-then-not-is_final-clause-ends
 returns-then-not-is_final-clause-ends g c o stays =
     let source = source_of c.self.inside.source.now in
@@ -80,7 +80,7 @@ returns-clause-ends g c =
     (ends_so (source_item_system source) c.args.items.now c.loop-index-test.false c.loop-index.invariant.ran final)
     (λ o run. (ends_alone _ _ c.loop-index-test.false c.loop-index.invariant.ran o run).0)
 
--- an item could not be carried out
+-- An item could not be executed.
 pub returns-then-not-carry_out-clause-ends : goal.returns-then-not-carry_out-clause-ends
 returns-then-not-carry_out-clause-ends g c o stays =
     let source = c.self.inside.source.now in
@@ -105,7 +105,7 @@ returns-then-not-carry_out-clause-ends g c o stays =
 pub carry_out-requires : goal.carry_out-requires
 carry_out-requires g c = c.len-threads.ensures ∙ sym c.loop-index.invariant.many
 
--- what a runner is of has not changed, and its run is of the source
+-- The runner's test is unchanged, and its run is of the source.
 pub invariant_of-self : goal.invariant_of-self
 invariant_of-self g c =
     let kept = c.loop-index.invariant in

@@ -2,7 +2,7 @@ use Rattle.lw_finals.proofs.Common.{◌≡◌, length, source_of, initial_state,
 use Rattle.lw_finals.proofs.OrderSteps.{RanFirst}
 use Rattle.lw_finals.proofs.source_runner.SourceRunnerOrderRunner.run.Given as goal
 
--- the items so far were carried out
+-- The items before the index were executed.
 abbrev pub invariant-loop-index : goal.invariant-loop-index
 invariant-loop-index g l = record {
   source : l.self-inside.source ≡ l.initial.self-inside.source;

@@ -7,7 +7,7 @@ use Rattle.lw_finals.proofs.OrderSteps.{ends_alone, ends_so}
 use Rattle.lw_finals.proofs.X86Runners.{can_start, carried_on, left_off}
 use Rattle.lw_finals.proofs.x86_runner.X86RunnerOrderRunner.run.Goals as goal
 
--- what a run ends with, for the test and the outcome that these are
+-- The outcome of a run, for this test and outcome.
 ends_of : (items : List Item) (order : List ℕ) (test given : X86Test) (o end : FinalState)
     → test ≡ given
     → end ≡ o
@@ -21,7 +21,7 @@ ends_of items order test given o end same is run alone = (
   λ p h. alone p (subst (λ t. X86FollowsPathsToEnd flat_memory t t.head.init_words items order p) (sym same) h) ∙ sym is,
 )
 
--- the machine over caches, which was put back to the start, is done over flat memory
+-- An event of the machine over caches, reset to the initial state, is one over flat memory.
 pub loop-index-preserved : goal.loop-index-preserved
 loop-index-preserved g c =
     let mem = caches_by Mesi in
@@ -55,7 +55,7 @@ loop-index-preserved g c =
           }) c.loop-index.invariant.ran carried;
     }
 
--- an item could not be carried out
+-- An item could not be executed.
 pub returns-then-not-carry_out-clause-ends : goal.returns-then-not-carry_out-clause-ends
 returns-then-not-carry_out-clause-ends g c o stays =
     let mem = caches_by Mesi in
@@ -85,7 +85,7 @@ returns-then-not-carry_out-clause-ends g c o stays =
       is_item = c.index-items-from.is;
     }) c.loop-index.invariant.ran refused o run
 
--- all items were carried out, but the state is not final
+-- All items were executed, but the state is not final.
 pub returns-then-not-is_final-clause-ends : goal.returns-then-not-is_final-clause-ends
 returns-then-not-is_final-clause-ends g c o stays =
     let test = program_of c.self.inside.program.now in
@@ -113,7 +113,7 @@ returns-clause-ends g c =
 pub bounds-items-from : goal.bounds-items-from
 bounds-items-from g c = rw c.from.ensures (c.requires c.loop-index.index-index 0 c.loop-index-test.true)
 
--- what a runner is of has not changed, and its machine is of the program
+-- The runner's program is unchanged, and its machine is of the program.
 pub invariant_of-self : goal.invariant_of-self
 invariant_of-self g c =
     let kept = c.loop-index.invariant in

@@ -2,7 +2,7 @@ use Rattle.lw_finals.proofs.Common.{◌≡◌, length, caches_by, Mesi, program_
 use Rattle.lw_finals.proofs.X86Runners.{RanFlat}
 use Rattle.lw_finals.proofs.x86_runner.X86RunnerOrderRunner.run.Given as goal
 
--- the items so far were carried out
+-- The items before the index were executed.
 abbrev pub invariant-loop-index : goal.invariant-loop-index
 invariant-loop-index g l = record {
   program : l.self-inside.program ≡ l.initial.self-inside.program;
