@@ -1,4 +1,4 @@
--- A block that is given for so many bytes has room for them, and its class is one of the 60.
+-- The block for a number of bytes has room for them, and its class is one of the 60.
 use Rattle.std.proofs.Common.{◌≡◌, ℕ, ◌-◌, ◌*◌, ◌/◌, ◌^◌, ◌<◌, ◌≤◌, max, ap, subst, sym, arith, pow_mono, ⊎_elim}
 use Rattle.std.proofs.lemmas.Bool.{cases_lt}
 use Rattle.std.proofs.lemmas.Nat.{leading_length}
@@ -9,7 +9,7 @@ pub record FitsClass (n : ℕ) : Type 0 where
   pub bounded : block_class n < 60
   pub holds : n ≤ block_units n * 16
 
--- each number of bytes below 2 ^ 63, and no more are asked for, has a class of the 60 whose block has room for them
+-- Each number of bytes below `2 ^ 63`, the most that is requested, has one of the 60 classes, and its block has room for the bytes.
 pub fits_class : (n : ℕ) → n < 2 ^ 63 → FitsClass n
 fits_class n small =
     let x : ℕ = (max n 1 - 1) / 16 in
@@ -23,6 +23,6 @@ fits_class n small =
       holds = omega (arith, units, length.2);
     }
 
--- each block has at least one unit
+-- Each block has at least one unit.
 pub some_units : (n : ℕ) → 1 ≤ block_units n
 some_units n = omega (arith, pow_mono {i = 0} {j = block_class n} (omega arith))

@@ -1,4 +1,4 @@
--- Units of memory are cut in two, and are room for a type that they hold. Assumes `Logic`.
+-- Units of memory can be split in two, and are room for each type that fits into them. Assumes `Logic`.
 use Rattle.std.proofs.Common.{◌≡◌, ℕ, zero, suc, ◌+◌, ◌-◌, ◌*◌, ◌%◌, ◌≤◌, max, List, [], ◌∷◌, sym, ap, subst, ◌∙◌, arith}
 use seplogic.Ra.Ura.{Ura}
 use mir.Syntax.{Ty, Tys, w8, w128, tnil, tcons, ty_int, ty_array, ty_struct}
@@ -15,34 +15,34 @@ use denote.RawPtr.Room.{room_cut, past}
 use denote.Steps.{nothing}
 use Rattle.lw_arena.specs.Ownership.{units, memory}
 
--- what stands k units behind o stands k times 16 bytes behind it
+-- The address k units after o is `o + k * 16`.
 past_units : (k o : ℕ) → past (ty_int w128) k o ≡ o + k * 16
 past_units zero o = omega arith
 past_units (suc k) o = past_units k (o + 16) ∙ omega arith
 
--- no gap stands before what begins at a multiple of its alignment
+-- A multiple of an alignment needs no padding.
 no_gap : (a n : ℕ) → Dv a n → up a n ≡ n
 no_gap a n divides =
     let gap : pad a n ≡ 0 = ap (λ (r : ℕ). (a - r) % a) (dv→ a n divides) ∙ ap (λ (r : ℕ). r % a) (sub-zero a) ∙ mod_self a in
     ap (λ (r : ℕ). n + r) gap ∙ omega arith
 
--- the bytes behind a τ that fill it up to k units, as the last field of a struct
+-- The bytes after a τ that fill k units, as the last field of a struct.
 abbrev filling : Ty → ℕ → Tys
 filling τ k = tcons (ty_array (ty_int w8) (k * 16 - size τ)) tnil
 
--- a struct of a τ and the bytes behind it, which fills k units
+-- A struct of a τ and the bytes after it, which fills k units.
 abbrev filled : Ty → ℕ → Ty
 filled τ k = ty_struct [] (tcons τ (filling τ k))
 
--- a first field stands at the beginning, whatever its alignment
+-- The first field has offset 0, whatever its alignment.
 first_place : (τ : Ty) → up (align τ) 0 ≡ 0
 first_place τ = no_gap (align τ) 0 (dv_zero (align τ))
 
--- an alignment is at least 1
+-- An alignment is at least 1.
 alignment : (τ : Ty) → max (align τ) 1 ≡ align τ
 alignment τ = omega (arith, align_pos τ)
 
--- the struct of a τ and the bytes behind it is as large as k units, where a τ fits into them
+-- The struct of a τ and the bytes after it has the size of k units, if τ fits into them.
 filled_size : (τ : Ty) (k : ℕ) → size τ ≤ k * 16 → Dv (align τ) 16 → size (filled τ k) ≡ k * 16
 filled_size τ k fits divides =
     let behind : ℕ = up (align τ) 0 + size τ in
@@ -54,13 +54,13 @@ filled_size τ k fits divides =
 module _ {M : Type 1} {𝓤 : Ura M} (𝓛 : Logic 𝓤) where
   open 𝓛 use {H}
 
-  -- the room of m + n units is the room of the first m and the room of the n behind them
+  -- The room of `m + n` units is the room of the first m and that of the n after them.
   pub cuts : (m n b o : ℕ) → ent 𝓤 (H.room (units (m + n)) b o) (sep 𝓤 (H.room (units m) b o) (H.room (units n) b (o + m * 16)))
   cuts m n b o =
       subst (λ (d : ℕ). ent 𝓤 (H.room (units (m + n)) b o) (sep 𝓤 (H.room (units m) b o) (H.room (units n) b d))) (past_units m o)
       (room_cut 𝓛 (ty_int w128) m n b o)
 
-  -- k units into which a τ fits are room for it, and the right to have all k units again for that room
+  -- The room of k units into which τ fits is room for τ, with the right to exchange it for the room of all k units.
   pub holds : (τ : Ty) (k b o : ℕ)
       → size τ ≤ k * 16
       → Dv (align τ) 16
@@ -80,13 +80,13 @@ module _ {M : Type 1} {𝓤 : Ura M} (𝓛 : Logic 𝓤) where
       split ! $ split ! $ frame ! $ assume ! (raw First) $ join ! $
       use2 𝓛 (raw Struct) (apply∗ 𝓤 (sep 𝓤 First Others) Struct) $ by ! (apply∗ 𝓤 Struct Whole))
 
-  -- the room of some units is memory of so many units at its pointer
+  -- The room of k units is memory of k units at its pointer.
   pub is_memory : (k b o : ℕ) → ent 𝓤 (H.room (units k) b o) (sem 𝓛 (memory k (block_ptr b o)))
   is_memory zero b o = qed 𝓛 (raw (H.room (units zero) b o) ∷ []) ∵ drop ! $ nothing ! $ done !
   is_memory (suc k) b o = id⊢ 𝓤 _
 
 module _ {M : Type 1} {𝓤 : Ura M} {𝓛 : Logic 𝓤} {K : Type 0} {Γ : List (Item 𝓤)} {G : Goal 𝓤 𝓛.H} where
-  -- to prove a goal from memory of at least one unit, it is enough to prove it where the pointer is into a block
+  -- A goal holds with memory of at least one unit if it holds when the pointer is into a block.
   pub in_memory : K → (k : ℕ) (p : Ptr) → 1 ≤ k → ((b o : ℕ) → p ≡ block_ptr b o → Seq K 𝓛 (‵ (froom (units k) b o) ∷ Γ) G)
       → Seq K 𝓛 (‵ (memory k p) ∷ Γ) G
   in_memory t zero p some next = absurd (omega arith)

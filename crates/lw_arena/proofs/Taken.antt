@@ -1,4 +1,4 @@
--- The two cases of what `take` gave, and a block as room for a type with the right to give it back. Assumes `Logic`.
+-- The two cases of the result of `take`, and a block as room for a type with the right to give it back. Assumes `Logic`.
 use Rattle.std.proofs.Common.{◌≡◌, ℕ, ◌^◌, ◌<◌, ◌≤◌, List, [], ◌∷◌, ◌++◌, IfSome, None, Some, refl, sym, ap, subst, ◌∙◌, arith}
 use seplogic.Ra.Ura.{Ura}
 use mir.Syntax.{Ty, Width, w8, w16, w32, w64, w128}
@@ -23,15 +23,15 @@ use Rattle.lw_arena.proofs.Classes.{fits_class, some_units}
 use Rattle.lw_arena.proofs.Rooms.{holds, is_memory, in_memory}
 use Rattle.lw_arena.proofs.Walks.{point_val, point_own, point_told}
 
--- the type of what `take` gives: a block, or none
+-- The type of the result of `take`: a block, or none.
 abbrev pub Taken : RattleType
 Taken = option.the_row block.the_row
 
--- what `take` ensures of its answer, where it is asked for n bytes aligned to a
+-- What `take` ensures of its result for n bytes of alignment a.
 abbrev pub Said : ℕ → ℕ → Taken.Denot → Type 0
 Said n a x = IfSome x (λ b. (b.units ≡ block_units n) × (n < 2 ^ 63) × (a ≤ 16))
 
--- the alignment of each number divides 16, so every unit begins at a multiple of it
+-- The alignment of each number divides 16, so every unit is aligned for it.
 divides_16 : (w : Width) → Dv (bytes w) 16
 divides_16 w8 = tt
 divides_16 w16 = tt
@@ -39,7 +39,7 @@ divides_16 w32 = tt
 divides_16 w64 = tt
 divides_16 w128 = tt
 
--- the right to make the room whole again is the right to give the memory back
+-- The right to make the room whole again is the right to give the memory back.
 gives_memory : {M : Type 1} {𝓤 : Ura M} (𝓛 : Logic 𝓤) (τ : Ty) (k b o : ℕ)
     → ent 𝓤 (wand 𝓤 (𝓛.H.room τ b o) (𝓛.H.room (units k) b o)) (sem 𝓛 (fwand (froom τ b o) (memory k (block_ptr b o))))
 gives_memory {𝓤 = 𝓤} 𝓛 τ k b o =
@@ -47,7 +47,7 @@ gives_memory {𝓤 = 𝓤} 𝓛 τ k b o =
     let Whole = 𝓛.H.room (units k) b o in
     qed 𝓛 (raw (wand 𝓤 Room Whole) ∷ []) ∵ assume ! (raw Room) $ use2 𝓛 (raw Whole) (apply∗ 𝓤 Room Whole) $ by ! (is_memory 𝓛 k b o)
 
--- a block of the class of n bytes is room for a τ of that size, with the right to give the block back for it
+-- A block of the class of n bytes is room for a τ of that size, with the right to give the block back for it.
 pub hands_out : {M : Type 1} {𝓤 : Ura M} (𝓛 : Logic 𝓤) (τ : Ty) (b o n : ℕ)
     → capped (size τ) ≡ n
     → n < 2 ^ 63
@@ -65,7 +65,7 @@ hands_out {𝓤 = 𝓤} 𝓛 τ b o n sized small =
     fpack ! (size τ < 2 ^ 63) (λ _. fwand (froom τ b o) (memory k (block_ptr b o))) short $ done !
 
 module _ {M : Type 1} {𝓤 : Ura M} {𝓛 : Logic 𝓤} {K : Type 0} {Γ : List (Item 𝓤)} {G : Goal 𝓤 𝓛.H} where
-  -- to prove a goal of what `take` gave, it is enough to prove it where that is a block in memory, and where it is none
+  -- A goal about the result of `take` holds if it holds when that is a block in memory, and when it is none.
   pub taken : K → (n a : ℕ) (x : Taken.Denot) (v : Val) → Said n a x
       → ((b o : ℕ) → n < 2 ^ 63 → v ≡ live 1 (vcons (point_val (block_ptr b o)) vnil) → Seq K 𝓛 (‵ (froom (units (block_units n)) b o) ∷ Γ) G)
       → (v ≡ live 0 vnil → Seq K 𝓛 Γ G) → Seq K 𝓛 (‵ (Taken.own_val x (v ∷ [])) ∷ Γ) G

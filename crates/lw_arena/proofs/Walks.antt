@@ -1,5 +1,5 @@
--- What the proofs by hand share, which go through a function's body statement by statement: slots of parameters, what runs after
--- an arm of a match, a struct of one pointer as the machine has it, and a pair of two values. Assumes `Logic`.
+-- Lemmas for the proofs by hand, which follow a function's body statement by statement: slots of parameters, what runs after an arm of a
+-- match, a struct of one pointer as the machine represents it, and a pair of two values. Assumes `Logic`.
 use Rattle.std.proofs.Common.{◌≡◌, ℕ, zero, suc, List, [], ◌∷◌, ◌++◌, refl, ◌∙◌, lit<}
 use seplogic.Ra.Ura.{Ura}
 use mir.Syntax.{Body, ty_ptr, ty_struct, tcons, tnil}
@@ -20,13 +20,13 @@ use denote.Struct.Declared.{shape}
 use denote.Struct.Tuple.{Tuple, tuple_type}
 use Rattle.std.proofs.cell.Inside.{Good}
 
--- the slot of the parameter at an index, in a list of those of all parameters
+-- The slot of the parameter at an index, in the list of all slots.
 abbrev pub slot_at : {n : ℕ} → ℕ → List (Slot n) → Slot n
 slot_at k [] = plain (λ _. unit)
 slot_at zero (s ∷ ss) = s
 slot_at (suc k) (s ∷ ss) = slot_at k ss
 
--- what an arm of a match has to reach, so that the body b runs after it and reaches q
+-- What an arm of a match must reach, so that the body b runs after it and reaches q.
 abbrev pub then_runs : {M : Type 1} {𝓤 : Ura M} (𝓛 : Logic 𝓤)
     → Calls 𝓤 𝓛.H
     → Loops 𝓤 𝓛.H
@@ -36,37 +36,37 @@ abbrev pub then_runs : {M : Type 1} {𝓤 : Ura M} (𝓛 : Logic 𝓤)
     → Post 𝓤 𝓛.H
 then_runs {𝓤 = 𝓤} 𝓛 C Λ E b q = any_q (after_seq 𝓤 𝓛.H (Wp 𝓤 𝓛.H C Λ E b (post 𝓤 𝓛.H q)) (post 𝓤 𝓛.H q))
 
--- the machine value of a struct whose one field is a pointer
+-- The machine value of a struct whose only field is a pointer.
 abbrev pub point_val : Ptr → Val
 point_val p = vstruct (vcons (ptr_val p) vnil)
 
--- what a struct of one pointer owns by that field alone, whatever the struct is named
+-- What a struct of one pointer owns by that field, whatever the struct's name.
 abbrev pub point_own : Ptr → List Val → Fml
 point_own p = (Struct (record { name = []; args = []; types = []; fields = RawPtr ∷ [] })).own_val (p, tt)
 
--- the machine values of what is owned as a struct of one pointer are `point_val` of the pointer alone
+-- The machine values owned as a struct of one pointer are exactly `point_val` of the pointer.
 pub point_told : (p : Ptr) (vs : List Val) → shadow (point_own p vs) → vs ≡ point_val p ∷ []
 point_told p vs s = s.1.0 ∙ (λ i. vstruct (of_list (s.1.1.0 i ++ [])) ∷ [])
 
--- `point_val` of a pointer can always be owned as a struct of one pointer: no memory is needed for it
+-- `point_val` of a pointer can always be owned as a struct of one pointer, since no memory is needed for it.
 pub point_made : {M : Type 1} {𝓤 : Ura M} (𝓛 : Logic 𝓤) (p : Ptr) → ent 𝓤 (emp 𝓤) (sem 𝓛 (point_own p (point_val p ∷ [])))
 point_made 𝓛 p = makes_shadow 𝓛 (point_own p (point_val p ∷ [])) (λ _. (tt, (tt, tt))) ((ptr_val p ∷ [], tt), (refl, (refl, tt)))
 
--- each pointer has the machine type of pointers
+-- Each pointer has the machine type of pointers.
 pub ptr_typed : (p : Ptr) → Good ty_ptr (ptr_val p)
 ptr_typed (block_ptr b o) = (tt, tt)
 ptr_typed null_ptr = (tt, record { fits = lit< tt })
 
--- `point_val` of a pointer has the machine type of a struct of one pointer
+-- `point_val` of a pointer has the machine type of a struct of one pointer.
 pub point_typed : (p : Ptr) → Good (ty_struct [] (tcons ty_ptr tnil)) (point_val p)
 point_typed (block_ptr b o) = (tt, (tt, tt))
 point_typed null_ptr = (tt, (record { fits = lit< tt }, tt))
 
--- the machine value of a pair
+-- The machine value of a pair.
 abbrev pub pair_val : Val → Val → Val
 pair_val u v = vstruct (vcons u (vcons v vnil))
 
--- two values that are owned are owned as a pair
+-- Two values that are owned are owned as a pair.
 pub pair_of : {M : Type 1} {𝓤 : Ura M} (𝓛 : Logic 𝓤) (R S : RattleType) (x : R.Denot) (y : S.Denot) (u v : Val)
     → ent 𝓤 (sep 𝓤 (sem 𝓛 (R.own_val x (u ∷ []))) (sem 𝓛 (S.own_val y (v ∷ []))))
     (sem 𝓛 ((Tuple (R ∷ S ∷ [])).own_val (x, y) (pair_val u v ∷ [])))

@@ -1,4 +1,4 @@
--- The spelling of the source language is one that the rule of cells can rest on.
+-- The spelling of the source language satisfies the rule of cells.
 use Rattle.std.proofs.Common.{ℕ, refl, arith}
 use Rattle.lw_base.specs.declared.operand.Operand.TheVariants.{Register, Number}
 use Rattle.lw_statements.specs.Grammars.{IsGrammar}
@@ -12,8 +12,8 @@ use Rattle.lw_source.specs.Spelling.{source_slots, source_spelling}
 use Rattle.lw_source.specs.Grammar.{source_grammar}
 use Rattle.lw_source.specs.inner.Operands.{statement_of_operands}
 
--- for each form, `statement_of_operands` makes of the operands that its tokens give the statement that the spelling has for them, x being the
--- index of its location, and to its target
+-- `statement_of_operands` makes each form's statement from the operands that its tokens give: x is the index of its location, and `to` its
+-- target.
 making : (x to : ℕ) (form : SourceForm) (f : Filling (source_slots form))
     → IsMade source_spelling statement_of_operands x to form f
 making x to Store (n, (_, (Register r, _))) = record { is = refl; located = refl; led = refl; given = λ p q. (p, q) }
@@ -29,10 +29,10 @@ making x to IfEqual (_, (a, (_, (n, (_, (l, _)))))) = record { is = refl; locate
 making x to IfNotEqual (_, (a, (_, (n, (_, (l, _)))))) = record { is = refl; located = refl; led = refl; given = λ p q. (p, q) }
 making x to Goto (_, (l, _)) = record { is = refl; located = refl; led = refl; given = λ p q. (p, q) }
 
--- the spelling of the source language is one: its forms are told apart, and made of their operands
+-- The spelling of the source language is lawful: its forms are distinguishable, and its statements made from their operands.
 pub source_spelled : IsSpelling source_spelling statement_of_operands
 source_spelled = record { countable = omega arith; apart = refl; statements = refl; names = refl; making = making }
 
--- the grammar of the source language keeps the rule of cells
+-- The grammar of the source language satisfies the rule of cells.
 pub source_lawful : IsGrammar source_grammar
 source_lawful = is_grammar source_spelling statement_of_operands source_spelled

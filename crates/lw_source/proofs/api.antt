@@ -1,2 +1,2 @@
--- What proofs of other crates cite: that the source test of a frame is well-formed.
+-- Lemmas that other crates use: the source test of a frame is well-formed.
 pub mod Tests

@@ -42,7 +42,7 @@ module _ (Z : Al) where
     pub fields : ent 𝓤 (sem 𝓛 (hidden_shr Whole κ h p.0 p.1)) Fields
     fields =
         qed 𝓛 (‵ (hidden_shr Whole κ h p.0 p.1) ∷ []) ∵ unhide ! $ fsplit ! $ fsplit ! $
-        -- [the allocator inside; the fields after it; what stands after the fields]
+        -- [the allocator inside; the fields after it; what follows the fields]
         move ! (1 ∷ []) $ fsplit ! $ keep ! (2 ∷ 0 ∷ []) $ done !
 
 module _ {M : Type 1} {𝓤 : Ura M} (𝓛 : Logic 𝓤) (at_mem : Memory → SProp 𝓤) (run : Routine → Fun 𝓤) where

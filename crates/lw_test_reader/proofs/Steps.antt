@@ -1,4 +1,4 @@
--- The names that a proof by hand of a body cites, passed on from where they are defined.
+-- The names that a proof by hand of a body uses, exported again from where they are defined.
 pub use Rattle.std.proofs.Common.{◌≡◌, ℕ, ◌^◌, ◌<◌, Bool, true, false, T, List, [], ◌∷◌, Ok, Err, refl, sym, subst, w64, Bor}
 pub use seplogic.Ra.Ura.{Ura}
 pub use mir.Syntax.{Ty, Fn, a_type, dnil, dcons}

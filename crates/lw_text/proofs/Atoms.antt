@@ -1,4 +1,4 @@
--- Numbers, values, sites and initializers are read in one way; and the tokens that close and separate lists of them.
+-- Numbers, values, sites and initializers have unique parses; and the tokens that close and separate lists of them.
 use Rattle.lw_text.proofs.Common.{◌≡◌, ℕ, ◌<◌, ◌⊎◌, inl, inr, Bool, true, false, not, [], ◌∷◌, length, ap}
 use Rattle.lw_text.proofs.Common.{subst, arith, codes, ◌&&◌, ◌||◌, ◌==◌, sym, ◌∙◌, is_ascii_digit, and_parts}
 use Rattle.lw_text.proofs.Common.{or_cases, not-true, HoldsOfNothing, ParsesNothing, is_name_byte}
@@ -8,14 +8,14 @@ use Rattle.lw_text.proofs.Common.{IsSite, Value, IsInitializer}
 use Rattle.lw_text.proofs.api.Numbers.{number_first, bracket_no_number, number-unique}
 use Rattle.lw_text.proofs.Lists.{IsDeterministic}
 
--- no token is both a number and a name: a number begins with a digit
+-- No token is both a number and a name, since a number starts with a digit.
 pub number_no_name : (w : Bytes) (n : ℕ) → IsNumber w n → IsName w → ⊥
 number_no_name w n p q =
     let h = number_first w n p in
     let k = q.0.front in
     cc
 
--- where what stands behind the `=` is no number, no value is read
+-- If the token after `=` is no number, there is no value.
 pub value_none : (ts l m : TokenList) (t : Bytes)
     → ts ≡ codes "=" ∷ l
     → l ≡ t ∷ m
@@ -23,35 +23,35 @@ pub value_none : (ts l m : TokenList) (t : Bytes)
     → ParsesNothing (Value ts)
 value_none ts l m t e f none v rest (w, g, number) = let same : w ≡ t = cc in none v (subst (λ w. IsNumber w v) same number)
 
--- `= n` is read in one way
+-- The parse of `= n` is unique.
 pub Value-unique : (ts r s : TokenList) (v w : ℕ) → Value ts v r → Value ts w s → (v ≡ w) × (r ≡ s)
 Value-unique ts r s v w (a, e, is_v) (b, f, is_w) =
     let same : b ≡ a = cc in (number-unique a v w is_v (subst (λ x. IsNumber x w) same is_w), cc)
 
--- a value takes at least one token
+-- A value takes at least one token.
 pub Value-shorter : (ts rest : TokenList) (v : ℕ) → Value ts v rest → length rest < length ts
 Value-shorter ts rest v p = omega (arith, ap length p.1)
 
 -- ---- sites
 
--- `[` is no name
+-- `[` is no name.
 pub bracket_no_name : IsName (codes "[") → ⊥
 bracket_no_name n = let h = n.0.all.0 in cc
 
--- tokens do not begin both with a name and with a `[`
+-- Tokens do not start both with a name and with `[`.
 name_or_bracket : {ts l m : TokenList} {x : Bytes} → IsName x → ts ≡ x ∷ l → ts ≡ codes "[" ∷ m → ⊥
 name_or_bracket {x = x} name e f = let k : x ≡ codes "[" = cc in bracket_no_name (subst IsName k name)
 
--- tokens do not begin both with a name and with a number
+-- Tokens do not start both with a name and with a number.
 name_or_number : {ts l m : TokenList} {x w : Bytes} {n : ℕ} → IsName x → IsNumber w n → ts ≡ x ∷ l → ts ≡ w ∷ m → ⊥
 name_or_number {x = x} {w = w} {n = n} name number e f = let k : x ≡ w = cc in number_no_name w n number (subst IsName k name)
 
--- tokens do not begin both with a number and with a `[`
+-- Tokens do not start both with a number and with `[`.
 number_or_bracket : {ts l m : TokenList} {w : Bytes} {n : ℕ} → IsNumber w n → ts ≡ w ∷ l → ts ≡ codes "[" ∷ m → ⊥
 number_or_bracket {w = w} {n = n} number e f =
     let k : w ≡ codes "[" = cc in bracket_no_number n (subst (λ w. IsNumber w n) k number)
 
--- a site is read in one way: `x`, `[x]` and `t : r` begin with tokens of three kinds
+-- The parse of a site is unique: `x`, `[x]` and `t : r` start with tokens of three kinds.
 pub IsSite-unique : (arch : Arch) → IsDeterministic (IsSite arch)
 IsSite-unique arch ts (InMemory x) (InMemory y) r s (p, inl e) (q, inl f) = let k : x ≡ y = cc in (ap InMemory k, cc)
 IsSite-unique arch ts (InMemory x) (InMemory y) r s (p, inl e) (q, inr f) = absurd (name_or_bracket p.0 e f)
@@ -72,13 +72,13 @@ IsSite-unique arch ts (InThread t n) (InThread u m) r s (w, v, e, is_t, is_n) (w
     let registers : n ≡ m = register_unique arch v n m is_n (subst (λ x. IsRegisterName arch x m) names is_m) in
     (cc, cc)
 
--- a site takes at least one token
+-- A site takes at least one token.
 pub IsSite-shorter : (arch : Arch) (ts rest : TokenList) (s : SiteSyntax) → IsSite arch ts s rest → length rest < length ts
 IsSite-shorter arch ts rest (InMemory x) (p, inl e) = omega (arith, ap length e)
 IsSite-shorter arch ts rest (InMemory x) (p, inr e) = omega (arith, ap length e)
 IsSite-shorter arch ts rest (InThread t r) p = omega (arith, ap length p.2)
 
--- a site begins with a location's name, a number or a `[`
+-- A site starts with a location's name, a number or `[`.
 site_front : (arch : Arch) (ts rest : TokenList) (s : SiteSyntax)
     → IsSite arch ts s rest
     → (t : Bytes) (l : TokenList)
@@ -89,12 +89,12 @@ site_front arch ts rest (InMemory x) (p, inr e) t l f = inr (inr cc)
 site_front arch ts rest (InThread u r) (w, v, e, number, register) t l f =
     let k : w ≡ t = cc in inr (inl (u, subst (λ w. IsNumber w u) k number))
 
--- whether a token shows, by its first byte or since it is a reserved name, that no site begins with it
+-- Tests whether a token starts no site, by its first byte or because it is a reserved name.
 abbrev pub is_apart : Bytes → Bool
 is_apart [] = false
 is_apart (b ∷ w) = not (is_ascii_digit b) && (not (b == 91) && (not (is_name_byte b) || is_reserved (b ∷ w)))
 
--- no site begins with a token of which `is_apart` says so
+-- No site starts with a token for which `is_apart` is true.
 pub no_site : (w : Bytes)
     → is_apart w ≡ true
     → (arch : Arch) (ts rest mid : TokenList) (site : SiteSyntax)
@@ -123,7 +123,7 @@ no_site (b ∷ w) h arch ts rest mid site e p =
           cc
     ]
 
--- where no token is left no site stands
+-- No tokens are no site.
 pub site_none : (arch : Arch) (ts rest : TokenList) (s : SiteSyntax) → ts ≡ [] → IsSite arch ts s rest → ⊥
 site_none arch ts rest (InMemory x) e (p, inl f) = cc
 site_none arch ts rest (InMemory x) e (p, inr f) = cc
@@ -131,14 +131,14 @@ site_none arch ts rest (InThread t r) e p = let f = p.2 in cc
 
 -- ---- initializers
 
--- an initializer is read in one way: its site, and then its word
+-- The parse of an initializer is unique: its site, and then its word.
 pub IsInitializer-unique : (arch : Arch) → IsDeterministic (IsInitializer arch)
 IsInitializer-unique arch ts a b r s p q =
     let e = IsSite-unique arch ts a.site b.site p.0 q.0 p.1 q.1 in
     let f = Value-unique p.0 r s a.word b.word p.2 (subst (λ l. Value l b.word s) (sym e.1) q.2) in
     (ap (λ x. record { site = x; word = a.word }) e.0 ∙ ap (λ w. record { site = b.site; word = w }) f.0, f.1)
 
--- a site without a value behind it is no initializer
+-- A site that no value follows is no initializer.
 pub value_missing : (arch : Arch) (ts mid : TokenList) (site : SiteSyntax)
     → IsSite arch ts site mid
     → ParsesNothing (Value mid)
@@ -146,14 +146,14 @@ pub value_missing : (arch : Arch) (ts mid : TokenList) (site : SiteSyntax)
 value_missing arch ts mid site s never e rest p =
     never e.word rest (subst (λ l. Value l e.word rest) (IsSite-unique arch ts e.site site p.0 mid p.1 s).1 p.2)
 
--- what closes the initial block
+-- The token that closes the initial block.
 abbrev pub brace : Bytes
 brace = codes "}"
 
--- what closes the list of names
+-- The token that closes the list of names.
 abbrev pub bracket : Bytes
 bracket = codes "]"
 
--- what stands between the elements of a list
+-- The token that separates the elements of a list.
 abbrev pub semicolon : Bytes
 semicolon = codes ";"

@@ -1,4 +1,4 @@
--- What a body in memory says, by the names of its table.
+-- The syntax of a body in memory, with the names of its table.
 use Rattle.lw_text.proofs.Common.{◌≡◌, ℕ, ◌≤◌, true, List, [], ◌++◌, length, map, sym, ap, ◌∙◌, subst, arith}
 use Rattle.lw_text.proofs.Common.{AllByRecursion, list_all, All-from_recursion, NameTable, TokenList, Arch}
 use Rattle.lw_text.proofs.Common.{Quant, Prop, insert_names, insert_names-append, Cursor, Header, Rows}
@@ -10,7 +10,7 @@ use Rattle.lw_text.specs.declared.site.Site.{Site as MadeSite}
 use Rattle.lw_text.proofs.NameTables.{site_by_name-along, initializer-along, all_along}
 use Rattle.lw_text.proofs.Whole.{first_names, all_there, table_parts}
 
--- where the list of names, the quantifier and the proposition were taken one after another, while the table grew, a condition was
+-- If the list of names, the quantifier and the proposition were read in sequence, while the table grew, a condition was read.
 pub taken_condition : {A : Type 0} {arch : Arch} {threads : ℕ} {before behind : Cursor} {first names last : NameTable}
     {ss : List MadeSite} {p : Prop A}
     → ParsedNameList arch threads before behind first names ss
@@ -40,7 +40,7 @@ taken_condition {arch = arch} {threads} {before} {behind} {first} {names} {last}
       within = All-from_recursion (IsIn last) ss along.1;
     }
 
--- where the parts of a test were taken one after another, while the table grew, the body of them says what the tokens say
+-- If the parts of a test were read in sequence, while the table grew, the body has the syntax that the tokens say.
 pub taken_body : {A : Type 0} {arch : Arch} {before behind : Cursor} {first : NameTable} {b : ParsedBody A}
     → ParsedBlock arch before behind [] first b.parts.initializers
     → (rest end : TokenList)

@@ -1,4 +1,4 @@
--- Cells and rows in memory, each token at its place, are cut from the tokens.
+-- Cells and rows in memory, each token with its position, are parts of the tokens.
 use Rattle.lw_text.proofs.Common.{◌≡◌, ℕ, ◌≤◌, true, false, List, [], ◌∷◌, ◌++◌, refl, sym, ap, ◌∙◌, subst}
 use Rattle.lw_text.proofs.Common.{All, codes, bytes_eq, AllByRecursion, map-append, map_push}
 use Rattle.lw_text.proofs.Common.{All-from_recursion, Arch, Token, Cell, token_texts, IsSuffix, Bytes, Cursor}
@@ -13,28 +13,28 @@ use Rattle.lw_text.proofs.Texts.{is_text}
 use Rattle.lw_text.proofs.api.Places.{texts_placed, grid_placed}
 use Rattle.lw_text.specs.Rows as words
 
--- ---- without places
+-- ---- without positions
 
--- rows of tokens in memory are rows of the same tokens with places, when these are left out
+-- Rows of tokens in memory are rows of the same tokens without their positions.
 pub rows_placed : {A : Type 0} (n : ℕ) (ts rest : List Token) (rows : List (List (Cell A)))
     → Rows n (token_texts ts) (all_texts rows) (token_texts rest)
     → Rows n (texts_of_tokens (with_spans ts)) (texts_of_grid (placed_cells rows)) (texts_of_tokens (with_spans rest))
 rows_placed n ts rest rows r = rw (texts_placed ts, grid_placed rows, texts_placed rest) r
 
--- tokens with their places are those of a front with theirs, and behind it those that are left with theirs
+-- Tokens with their positions are those before a suffix, followed by those of the suffix.
 pub front_placed : (whole behind : List Token) (l : IsSuffix whole behind)
     → with_spans whole ≡ with_spans l.0 ++ with_spans behind
 front_placed whole behind l = ap with_spans l.1 ∙ map-append with_span l.0 behind
 
 -- ---- one more cell, and one more row
 
--- A cell stands in front of the tokens, and behind it the mark that ends it.
+-- A cell is at the start of the tokens, followed by the mark that ends it.
 record IsFrontCell (here : List PlacedToken) (cell : PlacedCell) (mark : PlacedToken) (after : List PlacedToken) : Type 0 where
   pub parts : here ≡ cell.tokens ++ mark ∷ after
   pub is_mark : ends_cell mark.text ≡ true
   pub at_end : mark.at ≡ cell.end
 
--- one more cell, with the mark that ends it, is cut from the tokens behind the cells so far
+-- Reading one more cell, with the mark that ends it, extends the cells read from the tokens.
 CellsFrom-push : (before : List PlacedToken) (cells : List PlacedCell) {here after : List PlacedToken} {cell : PlacedCell}
     {mark : PlacedToken}
     → CellsFrom before cells here
@@ -44,7 +44,7 @@ CellsFrom-push before [] {after = after} {mark = mark} cut front =
     (mark, after, cut ∙ front.parts, front.is_mark, front.at_end, refl)
 CellsFrom-push before (c ∷ cells) cut front = (cut.0, cut.1, cut.2, cut.3, cut.4, CellsFrom-push cut.1 cells cut.5 front)
 
--- Cells have been read, each cut from the tokens with a `|` behind it, and then comes what is here.
+-- These cells have been read, each followed by `|`, and `here` remains.
 pub record CellsRead {A : Type 0} (start here : List Token) (cells : List (Cell A)) : Type 0 where
   pub before : Before words.Cell (codes "|") (codes ";") (token_texts start) (cells_texts cells) (token_texts here)
   pub cut : CellsFrom (with_spans start) (placed_row cells) (with_spans here)
@@ -72,7 +72,7 @@ module _ {A : Type 0} {start : List Token} {here after : Cursor} {cells : List (
         at_end = refl;
       }))
 
-  -- where a `|` ends the next cell, the cells that have been read are one more
+  -- If `|` ends the next cell, it is one more cell read.
   pub cells_more : bytes_eq mark.text.now (codes ";") ≡ false → CellsRead start (remaining after) more
   cells_more e = record {
     before =
@@ -82,7 +82,7 @@ module _ {A : Type 0} {start : List Token} {here after : Cursor} {cells : List (
     cut = cut_more;
   }
 
-  -- where a `;` ends the next cell, the cells that have been read are a whole row with it, and cut from the tokens
+  -- If `;` ends the next cell, the cells read with it are a whole row.
   pub cells_closed : bytes_eq mark.text.now (codes ";") ≡ true
       → RowCells (token_texts start) (cells_texts more) (remaining_texts after)
       × CellsFrom (with_spans start) (placed_row more) (with_spans (remaining after))
@@ -93,7 +93,7 @@ module _ {A : Type 0} {start : List Token} {here after : Cursor} {cells : List (
     cut_more,
   )
 
--- one more row of cells is cut from the tokens behind the rows so far
+-- Reading one more row extends the rows read from the tokens.
 pub rows_more : {A : Type 0} (before here after : List Token) (rows : List (List (Cell A))) (row : List (Cell A))
     → RowsFrom (with_spans before) (placed_cells rows) (with_spans here)
     → CellsFrom (with_spans here) (placed_row row) (with_spans after)
@@ -102,13 +102,13 @@ rows_more before here after rows row cut more =
     subst (λ rs. RowsFrom (with_spans before) rs (with_spans after)) (sym (map-append placed_row rows (row ∷ [])))
     (ParsesMany-push CellsFrom (placed_cells rows) _ (with_spans here) _ (placed_row row) cut more)
 
--- ---- no place is past the end
+-- ---- no position is past the end
 
--- no token lies past this place
+-- Every token is at or before this position.
 abbrev Within : ℕ → List PlacedToken → Type 0
 Within len ts = AllByRecursion (λ t. t.at ≤ len) ts
 
--- cells that are cut from tokens within a place lie within it, and so does what is left
+-- If tokens are within a position, so are the cells read from them, and the tokens after these.
 cells_within : {A : Type 0} (len : ℕ) (ts : List PlacedToken) (cells : List (Cell A)) (rest : List PlacedToken)
     → CellsFrom ts (placed_row cells) rest
     → Within len ts
@@ -120,7 +120,7 @@ cells_within len ts (cell ∷ cells) rest cut all =
     let more = cells_within len cut.1 cells rest cut.5 parts.1.1 in
     ((((All-from_recursion _ cell.tokens (All-map_inv _ with_span cell.tokens parts.0)), end), more.0), more.1)
 
--- rows of cells that are cut from tokens within a place lie within it
+-- If tokens are within a position, so are the rows read from them.
 rows_within : {A : Type 0} (len : ℕ) (ts : List PlacedToken) (rows : List (List (Cell A))) (rest : List PlacedToken)
     → RowsFrom ts (placed_cells rows) rest
     → Within len ts
@@ -130,7 +130,7 @@ rows_within len ts (row ∷ rows) rest cut all =
     let here = cells_within len ts row cut.0 cut.1 all in
     (All-from_recursion (EndsBefore len) row here.0, rows_within len cut.0 rows rest cut.2 here.1)
 
--- the cells of a test's rows lie within the place up to which its tokens do
+-- The cells of a test's rows are within the position of its tokens.
 pub HasRows-within : {A : Type 0} (len : ℕ) (arch : Arch) (tokens : List Token) (threads : ℕ) (rows : List (List (Cell A)))
     → HasRows arch (with_spans tokens) threads (placed_cells rows)
     → All (λ t. t.at ≤ len) tokens

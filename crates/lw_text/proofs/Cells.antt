@@ -1,4 +1,4 @@
--- Cells and rows are read in one way; when rows have been read up to their end, and when there are none.
+-- Cells and rows have unique parses. Then when rows have been read up to their end, and when there are none.
 use Rattle.lw_text.proofs.Common.{◌≡◌, ℕ, ◌<◌, ◌≤◌, inl, inr, true, false, [], ◌∷◌, ◌++◌, length, refl, sym}
 use Rattle.lw_text.proofs.Common.{ap, ◌∙◌, subst, arith, length-append, codes, bytes_eq, or_cases}
 use Rattle.lw_text.proofs.Common.{ParsesNothing, Bytes, TokenList, Cells, CellGrid, ParsesSepBy}
@@ -10,13 +10,13 @@ use Rattle.lw_text.proofs.Lists.{ParsesMany-push, Passed, Passed-stop, Passed-pe
 use Rattle.lw_text.proofs.Lists.{Before, IsDeterministic, Before-fault, IsMark, IsExact, ParsesSepBy-front}
 use Rattle.lw_text.proofs.Lists.{ParsesSepBy-unique}
 
--- The tokens up to the first that ends a cell, this one, and the rest.
+-- The tokens up to the first that ends a cell, that token, and the rest.
 record IsCut (ts w : TokenList) (a : Bytes) (rest : TokenList) : Type 0 where
   pub parts : ts ≡ w ++ a ∷ rest
   pub plain : EndsNoCell w
   pub ends : ends_cell a ≡ true
 
--- tokens are cut in one way at the first that ends a cell
+-- The split at the first token that ends a cell is unique.
 split-unique : (w v : TokenList) {ts r s : TokenList} {a b : Bytes}
     → IsCut ts w a r
     → IsCut ts v b s
@@ -41,40 +41,40 @@ split-unique (c ∷ w) (d ∷ v) {r = r} {s = s} {a = a} {b = b} p q =
     (record { parts = cc; plain = q.plain.1; ends = q.ends }) in
     (cc, both.1, both.2)
 
--- a `|` or a `;` ends a cell
+-- `|` and `;` end a cell.
 mark_ends : (a : Bytes) → IsMark Cell (codes "|") (codes ";") a → ends_cell a ≡ true
 mark_ends a (inl e) = ap ends_cell e
 mark_ends a (inr e) = ap ends_cell e
 
--- a cell and the mark behind it are read in one way
+-- The parse of a cell and the mark after it is unique.
 pub Cell-exact : IsExact Cell (codes "|") (codes ";")
 Cell-exact ts x y a b r s m n p q =
     split-unique x y (record { parts = p.0; plain = p.1; ends = mark_ends a m })
     (record { parts = q.0; plain = q.1; ends = mark_ends b n })
 
--- a row with a cell for each thread is read in one way
+-- The parse of a row with a cell for each thread is unique.
 pub Row-one : (threads : ℕ) → IsDeterministic (Row threads)
 Row-one threads ts x y r s p q = ParsesSepBy-unique Cell _ (codes ";") Cell-exact marks_apart x y ts r s p.0 q.0
 
--- a token that ends a cell and is no `;` is a `|`
+-- A token that ends a cell and is not `;` is `|`.
 pub is_bar : (m : Bytes) → ends_cell m ≡ true → bytes_eq m (codes ";") ≡ false → m ≡ codes "|"
 is_bar m e n =
     elim (or_cases (bytes_eq m (codes "|")) (bytes_eq m (codes ";")) e) [ inl h ↦ is_text m (codes "|") h | inr h ↦ absurd cc ]
 
--- tokens in which no cell ends hold no mark
+-- Tokens without an end of a cell contain no mark.
 plain_mark : (x : TokenList) (m : Bytes) (l : TokenList) → EndsNoCell (x ++ m ∷ l) → ends_cell m ≡ true → ⊥
 plain_mark [] m l p e = let h = p.0 in cc
 plain_mark (t ∷ x) m l p e = plain_mark x m l p.1 e
 
 module _ (ts here : TokenList) (cells : Cells) (before : Before Cell (codes "|") (codes ";") ts cells here) where
-  -- where no token that ends a cell is left behind the cells that have been read, no row is
+  -- If no token that ends a cell follows the cells read, there is no row.
   pub Cells-open : EndsNoCell here → ParsesNothing (ParsesSepBy Cell (codes "|") (codes ";") ts)
   Cells-open plain all rest row =
       Before-fault Cell _ _ Cell-exact marks_apart _ all ts _ rest before (λ zs l s.
       let f = ParsesSepBy-front Cell _ _ zs here l s in plain_mark f.0 f.1 f.2 (subst EndsNoCell f.4.0 plain) (mark_ends f.1 f.3))
       row
 
--- where a row has another number of cells than there are threads, no row of the test is read
+-- If a row's number of cells is not the number of threads, it is no row of the test.
 pub Row-ragged : (ts next : TokenList) (cells : Cells)
     → ParsesSepBy Cell (codes "|") (codes ";") ts cells next
     → (threads : ℕ)
@@ -86,11 +86,11 @@ Row-ragged ts next cells row threads ne all rest line =
 
 -- ---- rows
 
--- a cell with its mark takes at least one token
+-- A cell with its mark takes at least one token.
 cell_shorter : (ts c : TokenList) (m : Bytes) (rest : TokenList) → Cell ts c (m ∷ rest) → length rest < length ts
 cell_shorter ts c m rest p = omega (arith, ap length p.0, length-append c (m ∷ rest))
 
--- a row of cells takes at least one token
+-- A row of cells takes at least one token.
 cells_shorter : (cells : Cells) (ts rest : TokenList)
     → ParsesSepBy Cell (codes "|") (codes ";") ts cells rest
     → length rest < length ts
@@ -99,23 +99,23 @@ cells_shorter (c ∷ []) ts rest s = cell_shorter ts c (codes ";") rest s
 cells_shorter (c ∷ d ∷ cells) ts rest s =
     omega (arith, cell_shorter ts c (codes "|") s.0 s.1, cells_shorter (d ∷ cells) s.0 rest s.2)
 
--- a row with a cell for each thread takes at least one token
+-- A row with a cell for each thread takes at least one token.
 pub Row-shorter : (threads : ℕ) (cells : Cells) (ts rest : TokenList) → Row threads ts cells rest → length rest < length ts
 Row-shorter threads cells ts rest l = cells_shorter cells ts rest l.0
 
 module _ (threads : ℕ) (ts here : TokenList) (rows : CellGrid) (passed : Passed begins_stop (Row threads) ts rows here) where
-  -- where a token stands that ends the rows, those that have been read are all rows, if they are not too many
+  -- If the next token ends the rows, the rows read are all, if they are not too many.
   pub Rows-found : begins_stop here ≡ true → length rows ≤ 64 → Rows threads ts rows here
   Rows-found stop few = (Passed-stop begins_stop (Row threads) rows ts here passed stop, few)
 
-  -- where no token stands that ends the rows, but one more row, it has been read with those before it
+  -- If the next token does not end the rows, and a row follows, it is one more row read.
   pub Rows-more : (next : TokenList) (row : Cells)
       → begins_stop here ≡ false
       → Row threads here row next
       → Passed begins_stop (Row threads) ts (rows ++ row ∷ []) next
   Rows-more next row go line = ParsesMany-push _ rows ts here next row passed (go, line)
 
-  -- the rows go on with one that stands here
+  -- All rows are those read, followed by the next row and others.
   next_row : begins_stop here ≡ false
       → (all : CellGrid) (rest : TokenList)
       → Rows threads ts all rest
@@ -131,16 +131,16 @@ module _ (threads : ℕ) (ts here : TokenList) (rows : CellGrid) (passed : Passe
       at [] e u = absurd (let h = u.1 in cc)
       at (row ∷ more) e u = (row, more, u.1.0, e, u.1.1)
 
-  -- where neither a token stands that ends the rows nor a row, the tokens have no rows
+  -- If the next token does not end the rows, and no row follows, the tokens have no rows.
   pub Rows-fault : begins_stop here ≡ false → ParsesNothing (Row threads here) → ParsesNothing (Rows threads ts)
   Rows-fault go never all rest r = let k = next_row go all rest r in never k.0 k.2 k.4
 
-  -- where as many rows have been read as may be, and no token stands that ends them, the tokens have no rows
+  -- If the maximal number of rows has been read, and the next token does not end the rows, the tokens have no rows.
   pub Rows-many : begins_stop here ≡ false → length rows ≡ 64 → ParsesNothing (Rows threads ts)
   Rows-many go full all rest r =
       let k = next_row go all rest r in omega (arith, ap length k.3, length-append rows (k.0 ∷ k.1), r.1)
 
--- the rows of a test are read in one way
+-- The parse of a test's rows is unique.
 pub Rows-unique : (threads : ℕ) (ts a b : TokenList) (x y : CellGrid)
     → Rows threads ts x a
     → Rows threads ts y b

@@ -1,15 +1,15 @@
--- A comment ends at one place, and a loop finds it that counts the inner comments that are open.
+-- The end of a comment is unique, and a loop that counts the open inner comments finds it.
 use Rattle.lw_text.proofs.Common.{◌≡◌, ℕ, zero, suc, ◌+◌, ◌-◌, ◌<◌, ◌≤◌, true, false, [], ◌∷◌, length, refl}
 use Rattle.lw_text.proofs.Common.{sym, ap, subst, arith, add-one, sub-one, Bytes, IsSuffix, begins_pair}
 use Rattle.lw_text.proofs.Common.{begins_mark, Comment, closed, nested, other}
 use Rattle.lw_text.proofs.Lists.{IsSuffix-join}
 
--- the text closes n open comments, one behind another, and then comes rest
+-- The text closes n open comments in sequence, and `rest` remains.
 abbrev pub Closes : ℕ → Bytes → Bytes → Type 0
 Closes zero text rest = text ≡ rest
 Closes (suc n) text rest = (mid : Bytes) × Comment text mid × Closes n mid rest
 
--- an open comment that goes on with a `(*` has an inner comment behind that, and goes on behind it
+-- An open comment that continues with `(*` continues after an inner comment.
 at_open : {ts rest : Bytes}
     → Comment ts rest
     → (text : Bytes)
@@ -19,13 +19,13 @@ at_open closed text e = absurd (let h : false ≡ true = ap (begins_pair 40 42) 
 at_open (nested {text = t} {inner} c d) text e = (inner, rw (let k : t ≡ text = cc in k) at c, d)
 at_open (other {b} {text = t} m c) text e = absurd (let h = ap begins_mark e in cc)
 
--- at a `*)` the comment ends
+-- `*)` ends the comment.
 at_close : {ts rest : Bytes} → Comment ts rest → (text : Bytes) → ts ≡ 42 ∷ 41 ∷ text → text ≡ rest
 at_close closed text e = cc
 at_close (nested c d) text e = absurd (let h : true ≡ false = ap (begins_pair 40 42) e in cc)
 at_close (other {b} {text = t} m c) text e = absurd (let h = ap begins_mark e in cc)
 
--- behind any other byte the same comment goes on
+-- After any other byte the same comment continues.
 at_other : {ts rest : Bytes}
     → Comment ts rest
     → (b : ℕ) (text : Bytes)
@@ -36,30 +36,30 @@ at_other closed b text e m = absurd (let h : true ≡ begins_mark (b ∷ text) =
 at_other (nested c d) b text e m = absurd (let h : true ≡ begins_mark (b ∷ text) = ap begins_mark e in cc)
 at_other {rest = rest} (other {text = t} n c) b text e m = rw (let k : t ≡ text = cc in k) at c
 
--- a comment ends at one place
+-- The end of a comment is unique.
 pub Comment-unique : {text a b : Bytes} → Comment text a → Comment text b → a ≡ b
 Comment-unique (closed {rest}) d = at_close d rest refl
 Comment-unique {b = end} (nested {text} c e) d =
     let o = at_open d text refl in Comment-unique e (subst (λ x. Comment x end) (sym (Comment-unique c o.1)) o.2)
 Comment-unique (other {b} {text} m c) d = Comment-unique c (at_other d b text refl m)
 
--- a comment takes at least one byte
+-- A comment takes at least one byte.
 pub Comment-shorter : {text rest : Bytes} → Comment text rest → length rest < length text
 Comment-shorter closed = omega arith
 Comment-shorter (nested c d) = omega (arith, Comment-shorter c, Comment-shorter d)
 Comment-shorter (other m c) = omega (arith, Comment-shorter c)
 
--- where neither `(*` nor `*)` stands, no mark of a comment does
+-- If the text starts neither with `(*` nor with `*)`, it starts with no mark of a comment.
 no_mark : (text : Bytes) → begins_pair 40 42 text ≡ false → begins_pair 42 41 text ≡ false → begins_mark text ≡ false
 no_mark text p q = rw (p, q)
 
--- how far a loop over a comment's bytes is: the comment ends where the rest closes it and depth inner ones, and only there
+-- The invariant of the loop over a comment's bytes: the comment ends exactly where the rest closes it and `depth` inner ones.
 pub record Progress (bytes : Bytes) (depth : ℕ) (rest : Bytes) : Type 0 where
   pub given : (end : Bytes) → Closes (suc depth) rest end → Comment bytes end
   pub only : (end : Bytes) → Comment bytes end → Closes (suc depth) rest end
   pub bound : depth + length rest ≤ length bytes
 
--- behind a `(*` one comment more is open
+-- After `(*` one more comment is open.
 pub Progress_open : {bytes rest after : Bytes} {depth : ℕ}
     → Progress bytes depth rest
     → rest ≡ 40 ∷ 42 ∷ after
@@ -73,7 +73,7 @@ Progress_open {bytes} {rest} {after} {depth} p e = rw add-one (record {
   bound = omega (arith, p.bound, ap length e);
 })
 
--- behind a `*)` that closes an inner comment, one fewer is open
+-- After `*)` that closes an inner comment, one fewer is open.
 pub Progress_close : {bytes rest after : Bytes} {depth : ℕ}
     → Progress bytes depth rest
     → rest ≡ 42 ∷ 41 ∷ after
@@ -89,7 +89,7 @@ Progress_close {bytes} {rest} {after} {depth = suc depth} p e ne = rw sub-one (r
   bound = omega (arith, p.bound, ap length e);
 })
 
--- behind the `*)` that closes the outermost, the comment has ended
+-- After `*)` that closes the outermost comment, the comment has ended.
 pub Progress_done : {bytes rest after : Bytes} {depth : ℕ}
     → Progress bytes depth rest
     → rest ≡ 42 ∷ 41 ∷ after
@@ -97,7 +97,7 @@ pub Progress_done : {bytes rest after : Bytes} {depth : ℕ}
     → Comment bytes after
 Progress_done {bytes} {rest} {after} {depth} p e z = p.given after (after, rw e closed, rw z refl)
 
--- behind any other byte as many are open as before
+-- Any other byte preserves the number of open comments.
 pub Progress_other : {bytes rest next : Bytes} {depth b : ℕ}
     → Progress bytes depth rest
     → rest ≡ b ∷ next
@@ -112,7 +112,7 @@ Progress_other {bytes} {rest} {next} {depth} {b} p e m n =
       bound = omega (arith, p.bound, ap length e);
     }
 
--- what stands behind a comment is the end of the text
+-- What follows a comment is a suffix of the text.
 pub Comment-suffix : {text rest : Bytes} → Comment text rest → IsSuffix text rest
 Comment-suffix closed = (42 ∷ 41 ∷ [], refl)
 Comment-suffix (nested c d) = IsSuffix-join (40 ∷ 42 ∷ [], refl) (IsSuffix-join (Comment-suffix c) (Comment-suffix d))

@@ -1,9 +1,9 @@
--- The header is read in one way, name by name.
+-- The parse of the header is unique, name by name.
 use Rattle.lw_text.proofs.Common.{◌≡◌, ℕ, zero, suc, ◌+◌, ◌∷◌, refl, ap, ◌∙◌, subst, arith, add-one, codes}
 use Rattle.lw_text.proofs.Common.{TokenList, thread_name, Names}
 use Rattle.lw_text.proofs.Texts.{marks_apart}
 
--- the names of a header are read in one way, and tell the number of threads
+-- The parse of a header's names is unique, and so is the number of threads.
 pub Names-unique : (k m n : ℕ) (ts r s : TokenList) → Names k m ts r → Names k n ts s → (m ≡ n) × (r ≡ s)
 Names-unique k zero n ts r s p q = absurd p
 Names-unique k (suc m) zero ts r s p q = absurd q
@@ -15,12 +15,12 @@ Names-unique k (suc (suc m)) (suc (suc n)) ts r s p q =
     let e = Names-unique (suc k) (suc m) (suc n) p.0 r s p.2 (subst (λ l. Names (suc k) (suc n) l s) i q.2) in
     (ap suc e.0, e.1)
 
--- k names of threads have been read, each with a `|` behind it, and then comes here
+-- The names of k threads have been read, each followed by `|`, and `here` remains.
 pub record NamesTo (start : TokenList) (k : ℕ) (here : TokenList) : Type 0 where
   pub given : (m : ℕ) (rest : TokenList) → Names k (suc m) here rest → Names 0 (k + suc m) start rest
   pub only : (n : ℕ) (rest : TokenList) → Names 0 n start rest → (m : ℕ) × (n ≡ k + suc m) × Names k (suc m) here rest
 
--- no name has been read at the start
+-- At the start no name has been read.
 pub NamesTo-start : (start : TokenList) → NamesTo start 0 start
 NamesTo-start start = record {
   given = λ m rest h. subst (λ x. Names 0 x start rest) (let e : suc m ≡ 0 + suc m = omega arith in e) h;
@@ -33,7 +33,7 @@ NamesTo-start start = record {
 
 module _ (start here : TokenList) (k : ℕ) (p : NamesTo start k here) where
   module _ (l : TokenList) (e : here ≡ thread_name k ∷ l) where
-    -- where one more name stands, and a `|` behind it, the names that have been read are one more
+    -- If one more name follows, and `|` after it, it is one more name read.
     pub Names-more : (next : TokenList) → l ≡ codes "|" ∷ next → NamesTo start (k + 1) next
     Names-more next f = rw add-one (record {
       given =

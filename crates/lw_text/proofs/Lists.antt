@@ -1,28 +1,28 @@
--- Lists that are written out are read in one way.
+-- Parses of lists are unique.
 use Rattle.lw_text.proofs.Common.{◌≡◌, ◌⊎◌, inl, inr, Bool, true, false, List, [], ◌∷◌, ◌++◌, refl, sym, ap}
 use Rattle.lw_text.proofs.Common.{◌∙◌, subst, append_assoc, ParsesNothing, ParsesMany, ParsesSepBy}
 use Rattle.lw_text.proofs.Common.{ParsesManyTill, ParsesSepEndBy, IsSuffix, ◌<◌, arith, length}
 
--- P reads what stands first in one way: there is one x, with one rest behind it
+-- The parse by P of a list's start is unique: one x, and one rest.
 abbrev pub IsDeterministic : {T X : Type 0} → (List T → X → List T → Type 0) → Type 0
 IsDeterministic {T} {X} P = (ts : List T) (x y : X) (r s : List T) → P ts x r → P ts y s → (x ≡ y) × (r ≡ s)
 
--- where c is left behind some elements of b, and b behind some of a, c is left behind some of a
+-- A suffix of a suffix is a suffix.
 pub IsSuffix-join : {X : Type 0} {a b c : List X} → IsSuffix a b → IsSuffix b c → IsSuffix a c
 IsSuffix-join {c = c} p q = (p.0 ++ q.0, p.1 ∙ ap (λ x. p.0 ++ x) q.1 ∙ sym (append_assoc p.0 q.0 c))
 
--- what stands behind the first element of a list is one list
+-- The tail of a list is unique.
 pub same_behind : {X : Type 0} {ts a b : List X} (x : X) → ts ≡ x ∷ a → ts ≡ x ∷ b → a ≡ b
 same_behind x e f = cc
 
--- what stands behind an element of a shorter list is shorter still
+-- The tail of a shorter list is shorter.
 pub shorter_behind : {X : Type 0} (ts here next : List X) (x : X)
     → length here < length ts
     → here ≡ x ∷ next
     → length next < length ts
 shorter_behind ts here next x shorter e = omega (arith, shorter, ap length e)
 
--- where xs stand one behind another, and x behind them, all of these do
+-- If x follows the elements xs, they parse as `xs ++ [x]`.
 pub ParsesMany-push : {T X : Type 0} (P : List T → X → List T → Type 0) (xs : List X) (ts here next : List T) (x : X)
     → ParsesMany P ts xs here
     → P here x next
@@ -30,7 +30,7 @@ pub ParsesMany-push : {T X : Type 0} (P : List T → X → List T → Type 0) (x
 ParsesMany-push P [] ts here next x b p = (next, subst (λ l. P l x next) (sym b) p, refl)
 ParsesMany-push P (y ∷ xs) ts here next x b p = (b.0, b.1, ParsesMany-push P xs b.0 here next x b.2 p)
 
--- Where a whole W is a whole W again behind one element, it is so behind all elements xs that stand at its front.
+-- If a whole W is a whole W again after one element, it is one after all elements xs at its start.
 pub ParsesMany-peel : {T X : Type 0} {P : List T → X → List T → Type 0} {W : List T → List X → Type 0}
     → ((ts mid : List T) (x : X) (ys : List X) → P ts x mid → W ts ys → (more : List X) × (ys ≡ x ∷ more) × W mid more)
     → (xs ys : List X) (ts here : List T)
@@ -46,11 +46,11 @@ ParsesMany-peel {P = P} {W = W} step (x ∷ xs) ys ts here b w =
 -- ---- with separators
 
 module _ {T X : Type 0} (P : List T → X → List T → Type 0) (sep close : T) where
-  -- xs have been read, each with a separator behind it, and then comes rest, where one more is to stand before the close
+  -- These elements have been read, each followed by a separator, and `rest` remains, where another element must follow.
   abbrev pub Before : List T → List X → List T → Type 0
   Before ts xs rest = ParsesMany (λ ts x mid. P ts x (sep ∷ mid)) ts xs rest
 
-  -- where xs have been read, each with a separator behind it, and then comes a last element and the close, the list is whole
+  -- If a last element and the closing token follow, the list is complete.
   pub Before-close : (xs : List X) (ts here rest : List T) (x : X)
       → Before ts xs here
       → P here x (close ∷ rest)
@@ -59,11 +59,11 @@ module _ {T X : Type 0} (P : List T → X → List T → Type 0) (sep close : T)
   Before-close (y ∷ []) ts here rest x b p = (b.0, b.1, subst (λ l. P l x (close ∷ rest)) (sym b.2) p)
   Before-close (y ∷ z ∷ xs) ts here rest x b p = (b.0, b.1, Before-close (z ∷ xs) b.0 here rest x b.2 p)
 
-  -- a separator or the close: what stands behind an element
+  -- A separator or the closing token: what follows an element.
   abbrev pub IsMark : T → Type 0
   IsMark t = (t ≡ sep) ⊎ (t ≡ close)
 
-  -- what stands at the front of a list that is written out, and the mark behind it
+  -- The first element of a list, and the mark after it.
   pub ParsesSepBy-front : (xs : List X) (ts rest : List T)
       → ParsesSepBy P sep close ts xs rest
       → (x : X) × (m : T) × (l : List T) × IsMark m × P ts x (m ∷ l)
@@ -71,7 +71,7 @@ module _ {T X : Type 0} (P : List T → X → List T → Type 0) (sep close : T)
   ParsesSepBy-front (x ∷ []) ts rest s = (x, close, rest, inr refl, s)
   ParsesSepBy-front (x ∷ y ∷ xs) ts rest s = (x, sep, s.0, inl refl, s.1)
 
-  -- an element and the mark behind it are read in one way
+  -- The parse of an element and the mark after it is unique.
   abbrev pub IsExact : Type 0
   IsExact =
       (ts : List T) (x y : X) (a b : T) (r s : List T)
@@ -82,7 +82,7 @@ module _ {T X : Type 0} (P : List T → X → List T → Type 0) (sep close : T)
       → (x ≡ y) × (a ≡ b) × (r ≡ s)
 
   module _ (exact : IsExact) (apart : sep ≡ close → ⊥) where
-    -- the list behind one of its elements and a separator
+    -- The rest of the list, after one of its elements and a separator.
     ParsesSepBy-behind : (rest ts mid : List T) (x : X) (ys : List X)
         → P ts x (sep ∷ mid)
         → ParsesSepBy P sep close ts ys rest
@@ -93,7 +93,7 @@ module _ {T X : Type 0} (P : List T → X → List T → Type 0) (sep close : T)
         let e = exact ts x y sep sep mid s.0 (inl refl) (inl refl) p s.1 in
         (v ∷ ys, cc, subst (λ l. ParsesSepBy P sep close l (v ∷ ys) rest) (sym e.2) s.2)
 
-    -- a list with separators between its elements is read in one way
+    -- The parse of a list with separators is unique.
     pub ParsesSepBy-unique : (xs ys : List X) (ts r s : List T)
         → ParsesSepBy P sep close ts xs r
         → ParsesSepBy P sep close ts ys s
@@ -109,7 +109,7 @@ module _ {T X : Type 0} (P : List T → X → List T → Type 0) (sep close : T)
         let h = ParsesSepBy-unique (u ∷ xs) k.0 p.0 r s p.2 k.2 in
         (ap (λ l. x ∷ l) h.0 ∙ sym k.1, h.1)
 
-    -- where the rest is no list, the whole is none
+    -- If the rest is no list, neither is the whole.
     pub Before-fault : (xs ys : List X) (ts here rest : List T)
         → Before ts xs here
         → ParsesNothing (ParsesSepBy P sep close here)
@@ -122,17 +122,17 @@ module _ {T X : Type 0} (P : List T → X → List T → Type 0) (sep close : T)
 -- ---- up to a stop
 
 module _ {T X : Type 0} (stop : List T → Bool) (P : List T → X → List T → Type 0) where
-  -- xs have been read, none of them where it is to stop, and then comes rest
+  -- These elements have been read, none of them at a stop, and `rest` remains.
   abbrev pub Passed : List T → List X → List T → Type 0
   Passed ts xs rest = ParsesMany (λ ts x mid. (stop ts ≡ false) × P ts x mid) ts xs rest
 
-  -- at a stop, what has been read is all that stands up to it
+  -- At a stop, the elements read are all up to it.
   pub Passed-stop : (xs : List X) (ts here : List T) → Passed ts xs here → stop here ≡ true → ParsesManyTill stop P ts xs here
   Passed-stop [] ts here b h = (b, ap stop b ∙ h)
   Passed-stop (y ∷ xs) ts here b h = (b.1.0, (b.0, b.1.1, Passed-stop xs b.0 here b.2 h))
 
   module _ (one : IsDeterministic P) where
-    -- the lines behind one of them
+    -- The rest of the elements, after one of them.
     ParsesManyTill-behind : (rest ts mid : List T) (x : X) (ys : List X)
         → (stop ts ≡ false) × P ts x mid
         → ParsesManyTill stop P ts ys rest
@@ -144,7 +144,7 @@ module _ {T X : Type 0} (stop : List T → Bool) (P : List T → X → List T �
     ParsesManyTill-behind rest ts mid x (y ∷ ys) p s =
         let e = one ts x y mid s.1.0 p.1 s.1.1 in (ys, cc, subst (λ l. ParsesManyTill stop P l ys rest) (sym e.1) s.1.2)
 
-    -- a list that goes on up to a stop is read in one way
+    -- The parse of a list up to a stop is unique.
     pub ParsesManyTill-unique : (xs ys : List X) (ts r s : List T)
         → ParsesManyTill stop P ts xs r
         → ParsesManyTill stop P ts ys s
@@ -159,25 +159,25 @@ module _ {T X : Type 0} (stop : List T → Bool) (P : List T → X → List T �
         let h = ParsesManyTill-unique xs k.0 p.1.0 r s p.1.2 k.2 in
         (ap (λ l. x ∷ l) h.0 ∙ sym k.1, h.1)
 
-    -- where xs have been read, all elements up to the stop are xs and those that stand behind
+    -- All elements up to the stop are those read, followed by the rest.
     pub Passed-peel : (xs ys : List X) (ts here rest : List T)
         → Passed ts xs here
         → ParsesManyTill stop P ts ys rest
         → (more : List X) × (ys ≡ xs ++ more) × ParsesManyTill stop P here more rest
     Passed-peel xs ys ts here rest b s = ParsesMany-peel (ParsesManyTill-behind rest) xs ys ts here b s
 
--- ---- with an end behind each
+-- ---- with a separator after each element
 
 module _ {T X : Type 0} (P : List T → X → List T → Type 0) (sep close : T) where
-  -- an element and the separator behind it
+  -- An element, and the separator after it.
   abbrev pub Listed : List T → X → List T → Type 0
   Listed ts x next = (mid : List T) × P ts x mid × (mid ≡ sep ∷ next)
 
-  -- xs have been read, each with a separator behind it, and then comes rest, where the close may stand, too
+  -- These elements have been read, each followed by a separator, and `rest` remains, where the closing token may follow too.
   abbrev pub Listing : List T → List X → List T → Type 0
   Listing ts xs rest = ParsesMany Listed ts xs rest
 
-  -- where xs have been read, and then comes the close, the list is whole: it may end behind a separator
+  -- If the closing token follows, the list is complete: it may end after a separator.
   pub Listing-end : (xs : List X) (ts here rest : List T)
       → Listing ts xs here
       → here ≡ close ∷ rest
@@ -185,7 +185,7 @@ module _ {T X : Type 0} (P : List T → X → List T → Type 0) (sep close : T)
   Listing-end [] ts here rest b e = b ∙ e
   Listing-end (y ∷ xs) ts here rest b e = (b.1.0, b.1.1, inr (b.0, b.1.2, Listing-end xs b.0 here rest b.2 e))
 
-  -- where xs have been read, and then comes an element and the close, the list is whole: the last separator may lack
+  -- If an element and the closing token follow, the list is complete: the last separator may be absent.
   pub Listing-last : (xs : List X) (ts here mid rest : List T) (x : X)
       → Listing ts xs here
       → P here x mid
@@ -196,7 +196,7 @@ module _ {T X : Type 0} (P : List T → X → List T → Type 0) (sep close : T)
 
   module _ (one : IsDeterministic P) (apart : sep ≡ close → ⊥)
       (unlike : (ts r l : List T) (x : X) → ts ≡ close ∷ l → P ts x r → ⊥) where
-    -- the list behind one of its elements and a separator
+    -- The rest of the list, after one of its elements and a separator.
     ParsesSepEndBy-behind : (rest ts next : List T) (x : X) (ys : List X)
         → Listed ts x next
         → ParsesSepEndBy P sep close ts ys rest
@@ -212,7 +212,7 @@ module _ {T X : Type 0} (P : List T → X → List T → Type 0) (sep close : T)
               (ys, cc, rw n at f.2)
         ]
 
-    -- a list with separators behind its elements, of which the last may lack, is read in one way
+    -- The parse of a list with separators after its elements, the last of them optional, is unique.
     pub ParsesSepEndBy-unique : (xs ys : List X) (ts r s : List T)
         → ParsesSepEndBy P sep close ts xs r
         → ParsesSepEndBy P sep close ts ys s
@@ -236,14 +236,14 @@ module _ {T X : Type 0} (P : List T → X → List T → Type 0) (sep close : T)
           (ap (λ l. x ∷ l) h.0 ∙ sym k.1, h.1)
     ]
 
-    -- where xs have been read, the elements of the whole list are xs and those that stand behind
+    -- The elements of the whole list are those read, followed by the rest.
     Listing-peel : (xs ys : List X) (ts here rest : List T)
         → Listing ts xs here
         → ParsesSepEndBy P sep close ts ys rest
         → (more : List X) × (ys ≡ xs ++ more) × ParsesSepEndBy P sep close here more rest
     Listing-peel xs ys ts here rest b s = ParsesMany-peel {P = Listed} (ParsesSepEndBy-behind rest) xs ys ts here b s
 
-    -- where neither the end nor an element stands, the whole is no list
+    -- If neither the closing token nor an element follows, there is no list.
     pub Listing-here : (xs ys : List X) (ts here rest : List T)
         → Listing ts xs here
         → (here ≡ close ∷ rest → ⊥)
@@ -256,7 +256,7 @@ module _ {T X : Type 0} (P : List T → X → List T → Type 0) (sep close : T)
         at [] e q = no_end q
         at (y ∷ more) e q = never y more q.0 e q.1
 
-    -- where a mark that is neither stands behind an element, the whole is no list
+    -- If neither a separator nor the closing token follows an element, there is no list.
     pub Listing-mark : (xs ys : List X) (ts here mid rest : List T) (x : X)
         → Listing ts xs here
         → P here x mid

@@ -1,4 +1,4 @@
--- Name runs and symbols: what a token begins with, and that one token begins at a place.
+-- Runs of name bytes and symbols: how a token starts, and that the token at a position is unique.
 use Rattle.lw_text.proofs.Common.{IsOfKind, Symbol, is_ascii_digit, ◌≡◌, ℕ, ◌<◌, inl, inr, Bool, true, false}
 use Rattle.lw_text.proofs.Common.{not, [], ◌∷◌, ◌++◌, length, take, drop, refl, sym, ap, ◌∙◌, subst, arith}
 use Rattle.lw_text.proofs.Common.{◌==◌, nat_lt, slice_index_or, bytes_eq, ltb-true, eqb-true, AllByRecursion}
@@ -10,15 +10,15 @@ use Rattle.lw_text.proofs.Common.{IsSymbol, IsToken, HoldsOfNothing, ◌≤◌, 
 use Rattle.lw_text.proofs.api.Numbers.{number_first}
 use Rattle.lw_text.proofs.api.Spelling.{all_pass}
 
--- ---- rows of bytes
+-- ---- runs of bytes
 
--- The longest row of bytes at a text's front that pass a test, and the rest of the text.
+-- The longest prefix of the text whose bytes pass a test, and the rest of the text.
 pub record IsRun (p : ℕ → Bool) (text w rest : Bytes) : Type 0 where
   pub parts : text ≡ w ++ rest
   pub all : AllByRecursion (λ b. p b ≡ true) w
   pub longest : first_byte_is p rest ≡ false
 
--- Up to the first byte that fails a test, a text is read in one way.
+-- The longest such prefix is unique.
 pub run-unique : (p : ℕ → Bool) (w v : Bytes) {text r s : Bytes} → IsRun p text w r → IsRun p text v s → (w ≡ v) × (r ≡ s)
 run-unique p [] [] a c = (refl, sym a.parts ∙ c.parts)
 run-unique p [] (b ∷ v) a c =
@@ -36,40 +36,40 @@ run-unique p (b ∷ w) (d ∷ v) {text} {r} {s} a c =
     (record { parts = cc; all = c.all.1; longest = c.longest }) in
     (cc, both.1)
 
--- all bytes are letters, digits or `_`
+-- All bytes are letters, digits or `_`.
 abbrev pub NameBytes : Bytes → Type 0
 NameBytes w = AllByRecursion (λ b. is_name_byte b ≡ true) w
 
--- a test that passes for all symbols of one byte, as a list, passes for each byte that is one
+-- A test that all one-byte symbols of the list pass is passed by each byte that is one.
 single_all : (q : ℕ → Bool) (b : ℕ) → list_all q one_byte_symbols ≡ true → is_one_byte_symbol b ≡ true → q b ≡ true
 single_all q b all h = any_all (λ x y. x == y) same_byte q one_byte_symbols b all h
 
--- a test that passes for all symbols of two bytes, as a list, passes for any two bytes that are one
+-- A test that all two-byte symbols of the list pass is passed by any two bytes that are one.
 pair_all : (q : Bytes → Bool) (b c : ℕ)
     → list_all q two_byte_symbols ≡ true
     → is_two_byte_symbol b c ≡ true
     → q (b ∷ c ∷ []) ≡ true
 pair_all q b c all h = any_all bytes_eq (λ x y e. (bytes_eq-Decides x y).0 e) q two_byte_symbols (b ∷ c ∷ []) all h
 
--- ---- what a token begins with
+-- ---- how a token starts
 
--- a name or a number has a byte
+-- A name or a number has at least one byte.
 kind_nonempty : (w : Bytes) → IsNameOrNumber w → 0 < length w
 kind_nonempty w (inl name) = name.0.some
 kind_nonempty w (inr (n, m)) = elim m.1 [ inl d ↦ d.0 | inr h ↦ omega (arith, ap length h.1) ]
 
--- a name run begins with a name byte
+-- A run of name bytes starts with one.
 run_front : (w rest : Bytes) → IsNameRun w rest → first_byte_is is_name_byte (w ++ rest) ≡ true
 run_front [] rest h = absurd (let n = kind_nonempty [] h.kind in omega arith)
 run_front (b ∷ w) rest h = h.all.0
 
--- a symbol begins with no name byte
+-- A symbol does not start with a name byte.
 symbol_front : (t rest : Bytes) → IsSymbol t rest → first_byte_is is_name_byte (t ++ rest) ≡ false
 symbol_front (b ∷ []) rest h = not-true (is_name_byte b) (single_all (λ x. not (is_name_byte x)) b refl h.0)
 symbol_front (b ∷ c ∷ []) rest h = not-true (is_name_byte b) (pair_all (first_byte_is (λ x. not (is_name_byte x))) b c refl h)
 symbol_front _ rest h = absurd h
 
--- no trivia begins with a byte that passes a test which no blank and no `(` passes
+-- No trivia starts with a byte that passes a test which no blank and no `(` passes.
 pub no_trivia_at : (p : ℕ → Bool) (b : ℕ) (text : Bytes)
     → list_all (λ x. not (p x)) (32 ∷ 9 ∷ 10 ∷ 13 ∷ []) ≡ true
     → p 40 ≡ false
@@ -79,7 +79,7 @@ no_trivia_at p b text blanks bracket h =
     let k = false_from_ne_true (is_blank b) (λ e. let i = not-true (p b) (blank_all (λ x. not (p x)) b blanks e) in cc) in
     rw (k, (false_from_ne_true (b == 40) (λ e. let i = ap p (eqb-true b 40 e) in cc))) refl
 
--- no trivia begins where a token does
+-- No trivia starts where a token does.
 pub token_no_trivia : (t rest : Bytes) → IsToken t rest → begins_trivia (t ++ rest) ≡ false
 token_no_trivia [] rest (inl w) = absurd (let n = kind_nonempty [] w.kind in omega arith)
 token_no_trivia (b ∷ t) rest (inl w) = no_trivia_at (is_name_byte) b (t ++ rest) refl refl w.all.0
@@ -88,15 +88,15 @@ token_no_trivia (b ∷ c ∷ []) rest (inr s) =
     not-true (begins_trivia (b ∷ c ∷ [])) (pair_all (λ w. not (begins_trivia w)) b c refl s)
 token_no_trivia _ rest (inr s) = absurd s
 
--- a token has a byte
+-- A token has at least one byte.
 pub token_nonempty : (t rest : Bytes) → IsToken t rest → 0 < length t
 token_nonempty t rest (inl w) = kind_nonempty t w.kind
 token_nonempty [] rest (inr s) = absurd s
 token_nonempty (b ∷ t) rest (inr s) = omega arith
 
--- ---- one token begins at a place
+-- ---- the token at a position is unique
 
--- where what stands behind b makes no symbol of two bytes with it, b and the next byte d are none
+-- If what follows b makes no two-byte symbol with it, then b and the next byte d are none.
 no_longer_there : (b d : ℕ) (r s : Bytes)
     → r ≡ d ∷ s
     → first_byte_is (is_two_byte_symbol b) r ≡ false
@@ -104,7 +104,7 @@ no_longer_there : (b d : ℕ) (r s : Bytes)
     → ⊥
 no_longer_there b d r s e shut pair = let h = ap (first_byte_is (is_two_byte_symbol b)) e in cc
 
--- one symbol begins at a place
+-- The symbol at a position is unique.
 symbol-unique : (t r u s : Bytes) → IsSymbol t r → IsSymbol u s → t ++ r ≡ u ++ s → (t ≡ u) × (r ≡ s)
 symbol-unique (b ∷ []) r (c ∷ []) s p q e = (cc, cc)
 symbol-unique (b ∷ []) r (c ∷ d ∷ []) s p q e =
@@ -116,7 +116,7 @@ symbol-unique [] r u s p q e = absurd p
 symbol-unique (a ∷ b ∷ c ∷ t) r u s p q e = absurd p
 symbol-unique _ r _ s p q e = absurd q
 
--- one token begins at a place: a name run or a symbol, as its first byte tells
+-- The token at a position is unique: a run of name bytes or a symbol, by its first byte.
 pub token-unique : (t r u s : Bytes) → IsToken t r → IsToken u s → t ++ r ≡ u ++ s → (t ≡ u) × (r ≡ s)
 token-unique t r u s (inl p) (inl q) e =
     run-unique is_name_byte t u {text = t ++ r} (record { parts = refl; all = p.all; longest = p.longest })
@@ -133,9 +133,9 @@ token-unique t r u s (inr p) (inl q) e =
     cc)
 token-unique t r u s (inr p) (inr q) e = symbol-unique t r u s p q e
 
--- ---- what the reader of one token owes
+-- ---- what the reader of one token must prove
 
--- where the name bytes at the front, as many as there are, are neither a name nor a number, no token stands
+-- If the longest run of name bytes is neither a name nor a number, there is no token.
 pub no_kind : {bytes w r : Bytes}
     → IsRun is_name_byte bytes w r
     → first_byte_is is_name_byte bytes ≡ true
@@ -152,7 +152,7 @@ no_kind run front never t rest f (inr p) =
     let i = ap (first_byte_is is_name_byte) f in
     cc
 
--- where no name byte, no symbol of one byte and none of two stands, no token does
+-- If there is no name byte, and no symbol of one or two bytes, there is no token.
 pub no_token : {bytes rest : Bytes} {b : ℕ}
     → bytes ≡ b ∷ rest
     → is_name_byte b ≡ false
@@ -171,7 +171,7 @@ no_token {b = b} e no_word no_single short (c ∷ []) more f (inr p) =
 no_token e no_word no_single short (c ∷ d ∷ []) more f (inr p) = short c d more f p
 no_token e no_word no_single short _ more f (inr p) = p
 
--- two bytes at the front that are a symbol are the token there
+-- Two bytes at the start that are a symbol are the token.
 pub long_symbol : (bytes t rest : Bytes)
     → ((b c : ℕ) × (more : Bytes) × (bytes ≡ b ∷ c ∷ more) × (is_two_byte_symbol b c ≡ true))
     → t ≡ take 2 bytes
@@ -179,14 +179,14 @@ pub long_symbol : (bytes t rest : Bytes)
     → (bytes ≡ t ++ rest) × IsToken t rest × IsOfKind Symbol t
 long_symbol bytes t rest (b, c, more, e, p) f g = rw (f, g, e) (refl, inr p, symbol_front (b ∷ c ∷ []) more p)
 
--- where b and the next byte are no symbol, whichever that byte is, what stands behind b makes no symbol of two bytes with it
+-- If b makes no symbol with any next byte, what follows b makes no two-byte symbol with it.
 no_longer : (more : Bytes) (b : ℕ)
     → ((d : ℕ) (l : Bytes) → more ≡ d ∷ l → is_two_byte_symbol b d ≡ true → ⊥)
     → first_byte_is (is_two_byte_symbol b) more ≡ false
 no_longer [] b h = refl
 no_longer (d ∷ l) b h = false_from_ne_true (is_two_byte_symbol b d) (h d l refl)
 
--- a symbol of one byte is the token there, where none of two bytes begins
+-- A one-byte symbol is the token, if no two-byte symbol starts there.
 pub short_symbol : {bytes more t rest : Bytes} {b : ℕ}
     → bytes ≡ b ∷ more
     → ((c d : ℕ) (l : Bytes) → bytes ≡ c ∷ d ∷ l → is_two_byte_symbol c d ≡ true → ⊥)
@@ -199,13 +199,13 @@ short_symbol {bytes} {more} {t} {rest} {b} e no_pair single f g =
     let is : IsSymbol (b ∷ []) more = (single.0, longer, subst (λ x. begins_pair 40 42 x ≡ false) e single.1) in
     rw (f, g, e) (refl, inr is, symbol_front (b ∷ []) more is)
 
--- ---- what a word of such bytes is, by its first byte
+-- ---- the kind of a run of name bytes, by its first byte
 
--- the empty text is neither a name nor a number
+-- The empty text is neither a name nor a number.
 pub empty_no_kind : {w : Bytes} → w ≡ [] → IsNameOrNumber w → ⊥
 empty_no_kind {w} is kind = let some = kind_nonempty w kind in omega (arith, ap length is)
 
--- a name run that begins with a digit and is no number is no name either
+-- A run that starts with a digit and is no number is no name either.
 pub digit_no_kind : {w r : Bytes} {b : ℕ}
     → w ≡ b ∷ r
     → is_ascii_digit b ≡ true
@@ -218,12 +218,12 @@ digit_no_kind is digit never (inl name) =
     cc
 digit_no_kind is digit never (inr (n, number)) = never n number
 
--- a name run that begins with no digit is a name where it is short enough
+-- A run that does not start with a digit is a name if it is short enough.
 pub short_name : {w r : Bytes} {b : ℕ} → w ≡ b ∷ r → NameBytes w → is_ascii_digit b ≡ false → length w ≤ 32 → IsName w
 short_name is all other short =
     (record { some = omega (arith, ap length is); all = all; front = ap (first_byte_is is_ascii_digit) is ∙ other }, short)
 
--- a name run that begins with no digit and is too long is neither a name nor a number
+-- A run that does not start with a digit and is too long is neither a name nor a number.
 pub long_no_kind : {w r : Bytes} {b : ℕ} → w ≡ b ∷ r → is_ascii_digit b ≡ false → (length w ≤ 32 → ⊥) → IsNameOrNumber w → ⊥
 long_no_kind is other long (inl name) = long name.1
 long_no_kind {w} is other long (inr (n, number)) =
@@ -231,13 +231,13 @@ long_no_kind {w} is other long (inr (n, number)) =
     let begin = ap (first_byte_is is_ascii_digit) is in
     cc
 
--- ---- symbols have bytes below 128 alone
+-- ---- all bytes of a symbol are below 128
 
--- where a test says that all bytes of a list are below 128, the byte at each index is
+-- If the test says that all bytes of a list are below 128, the byte at each index is.
 below_all : (w : Bytes) → list_all (λ b. nat_lt b 128) w ≡ true → (i : ℕ) → slice_index_or w i 0 < 128
 below_all w h = all_ascii (λ b. nat_lt b 128) (λ b k. ltb-true b 128 k) w (all_pass (λ b. nat_lt b 128) w h)
 
--- the bytes of a symbol of two bytes are below 128
+-- The bytes of a two-byte symbol are below 128.
 pub long_ascii : (bytes t : Bytes)
     → ((b c : ℕ) × (more : Bytes) × (bytes ≡ b ∷ c ∷ more) × (is_two_byte_symbol b c ≡ true))
     → t ≡ take 2 bytes
@@ -249,7 +249,7 @@ long_ascii bytes t (b, c, more, e, p) f i =
     refl p in
     subst (λ w. slice_index_or w i 0 < 128) (sym (f ∙ ap (take 2) e)) (below_all (b ∷ c ∷ []) low i)
 
--- the byte of a symbol of one byte is below 128
+-- The byte of a one-byte symbol is below 128.
 pub short_ascii : (bytes more t : Bytes) (b : ℕ)
     → bytes ≡ b ∷ more
     → is_one_byte_symbol b ≡ true

@@ -1,4 +1,4 @@
--- Sites in a table of names that grows: what they are called by their names stays, and is the same by indices.
+-- Sites in a growing table of names: their names are unchanged, and agree with their indices.
 use Rattle.lw_text.proofs.Common.{◌≡◌, ℕ, suc, ◌+◌, inl, inr, true, List, [], ◌∷◌, map, get_or, slice_get}
 use Rattle.lw_text.proofs.Common.{Some, refl, sym, ap, ◌∙◌, subst, arith, ◌++◌, append_assoc, append-nil}
 use Rattle.lw_text.proofs.Common.{fold, if◌then◌else◌, bytes_eq, AllByRecursion, list_any, get_or-append}
@@ -13,7 +13,7 @@ use Rattle.lw_text.specs.declared.site.Site.TheVariants as made
 
 -- ---- the index of a name
 
--- a name of the table stands at its index
+-- A name of the table is at its index.
 name_at_index : (names : NameTable) (t : Bytes)
     → contains_name names t ≡ true
     → slice_get names (position_of_name names t) ≡ Some t
@@ -27,22 +27,22 @@ name_at_index (y ∷ names) t h = elim (cases_Bool (bytes_eq y t)) [
       (let j : suc (position_of_name names t) ≡ 1 + position_of_name names t = omega arith in j) (name_at_index names t k))
 ]
 
--- a name that was entered into the table stands in it at its index
+-- A name inserted into the table is at its index.
 pub appeared_at : (before after : NameTable) (loc : ℕ) (t : Bytes)
     → after ≡ insert_name before t
     → loc ≡ position_of_name after t
     → slice_get after loc ≡ Some t
 appeared_at before after loc t e f = rw (f, e) (name_at_index _ t (contains_name-insert_name before t))
 
--- a location in memory is named by the name at its index
+-- A location in memory has the name at its index.
 pub site_by_name-at : (names : NameTable) (loc : ℕ) (t : Bytes)
     → slice_get names loc ≡ Some t
     → site_by_name names (made.Location loc) ≡ InMemory t
 site_by_name-at names loc t e = ap InMemory (get_or_from_slice_get names loc t [] e)
 
--- ---- in a table that grows
+-- ---- in a growing table
 
--- names that are entered stand behind those that the table has
+-- Inserted names come after those that the table has.
 insert_names-grows : (names ns : NameTable) → (more : NameTable) × (insert_names names ns ≡ names ++ more)
 insert_names-grows names [] = ([], sym (append-nil names))
 insert_names-grows names (n ∷ ns) =
@@ -50,7 +50,7 @@ insert_names-grows names (n ∷ ns) =
     let h = insert_names-grows (insert_name names n) ns in
     (g.0 ++ h.0, h.1 ∙ ap (λ l. l ++ h.0) g.1 ∙ append_assoc names g.0 h.0)
 
--- a site of the table has the same name when more names have been entered
+-- Inserting names preserves the name of a site of the table.
 pub site_by_name-along : (names ns : NameTable) (s : Site)
     → IsIn names s
     → site_by_name (insert_names names ns) s ≡ site_by_name names s
@@ -58,14 +58,14 @@ site_by_name-along names ns (made.Location loc) h =
     let g = insert_names-grows names ns in ap InMemory (ap (λ l. get_or l loc []) g.1 ∙ get_or-append names g.0 [] loc h)
 site_by_name-along names ns (made.Register t r) h = refl
 
--- a table with more names still has the site
+-- Inserting names preserves that a site is in the table.
 in-along : (names ns : NameTable) (s : Site) → IsIn names s → IsIn (insert_names names ns) s
 in-along names ns s h = omega (arith, h, insert_names-longer names ns)
 
--- lists of what stands on sites
+-- Lists of items that have sites.
 module _ {X Y : Type 0} (site : X → Site) (at : TokenList → X → Y)
     (stable : (names ns : NameTable) (x : X) → IsIn names (site x) → at (insert_names names ns) x ≡ at names x) where
-  -- when more names have been entered, all on the list are named as before, and their sites are in the table
+  -- Inserting names preserves the names of all items of a list, and that their sites are in the table.
   pub all_along : (names after ns : NameTable) (xs : List X)
       → after ≡ insert_names names ns
       → AllByRecursion (λ x. IsIn names (site x)) xs
@@ -77,7 +77,7 @@ module _ {X Y : Type 0} (site : X → Site) (at : TokenList → X → Y)
       let j = k.0 in
       (cc, (subst (λ l. IsIn l (site x)) (sym e) (in-along names ns (site x) h.0), k.1))
 
--- an initializer whose site the table has is named as before when more names have been entered
+-- Inserting names preserves the named form of an initializer whose site is in the table.
 pub initializer-along : (names ns : NameTable) (e : Initializer)
     → IsIn names e.site
     → named_initializer (insert_names names ns) e ≡ named_initializer names e
@@ -85,7 +85,7 @@ initializer-along names ns e h = rw (site_by_name-along names ns e.site h) refl
 
 -- ---- by indices
 
--- a site's name is resolved to the site, where each name stands once
+-- A site's name is resolved to the site, if the names have no duplicates.
 pub resolved-site_by_name : (names : NameTable) (s : Site)
     → IsDuplicateFree names
     → IsIn names s
@@ -94,7 +94,7 @@ resolved-site_by_name names (made.Location loc) once h =
     ap (λ (l : ℕ). seen.Location l) (position_of_name-at names (get_or names loc []) loc once (slice_get-get_or names loc [] h))
 resolved-site_by_name names (made.Register t r) once h = refl
 
--- the words of initializers by names and by indices are the same, one initializer after another
+-- The words of initializers by names and by indices agree, initializer by initializer.
 words-step : (names : NameTable) (es : List Initializer) (s : Seen) (w : ℕ)
     → IsDuplicateFree names
     → AllByRecursion (λ e. IsIn names e.site) es
@@ -106,14 +106,14 @@ words-step names (e ∷ es) s w once h =
     ∙ ap (λ x. fold (λ w e. if seen_eq (seen_of e.site) s then e.word else w) (if seen_eq x s then e.word else w) es)
     (resolved-site_by_name names e.site once h.0)
 
--- a site begins with the same word by names and by indices
+-- A site has the same initial word by names and by indices.
 pub words-site_by_name : (names : NameTable) (es : List Initializer) (s : Seen)
     → IsDuplicateFree names
     → AllByRecursion (λ e. IsIn names e.site) es
     → initial_word_of names (map (named_initializer names) es) s ≡ word_at es s
 words-site_by_name names es s once h = words-step names es s 0 once h
 
--- a site is listed by names if and only if it is by indices
+-- A site is listed by names if and only if it is listed by indices.
 pub listed-site_by_name : (names : NameTable) (sites : List Site) (s : Seen)
     → IsDuplicateFree names
     → AllByRecursion (IsIn names) sites

@@ -1,4 +1,4 @@
--- Quoted texts and lines `Key=value` are read in one way, and so are rows of them, the notes; and a loop finds where these end.
+-- Quoted texts and lines `Key=value` have unique ends, and so have sequences of them, the notes; and a loop finds the end.
 use Rattle.lw_text.proofs.Common.{◌≡◌, ℕ, ◌<◌, ◌≤◌, inl, inr, Bool, true, false, not, [], ◌∷◌, ◌++◌, length}
 use Rattle.lw_text.proofs.Common.{length-append, append_assoc, refl, sym, ap, ◌∙◌, subst, arith, ◌==◌}
 use Rattle.lw_text.proofs.Common.{eqb-true, AllByRecursion, list_all, not-true, not-false, HoldsOfNothing}
@@ -11,22 +11,22 @@ use Rattle.lw_text.proofs.NameRuns.{run-unique, no_trivia_at}
 
 -- ---- quoted texts
 
--- bytes none of which is c
+-- No byte is c.
 abbrev pub Without : ℕ → Bytes → Type 0
 Without c bytes = AllByRecursion (λ b. not (b == c) ≡ true) bytes
 
--- bytes that all differ from c are without it
+-- Bytes that all differ from c satisfy `Without`.
 without : (c : ℕ) (bytes : Bytes) → AllByRecursion (λ b. (b == c) ≡ false) bytes → Without c bytes
 without c bytes all = All-mono (λ b. (b == c) ≡ false) _ (λ b e. ap not e) bytes all
 
--- bytes without c all differ from it
+-- Bytes that satisfy `Without` all differ from c.
 with_none : (c : ℕ) (bytes : Bytes) → Without c bytes → AllByRecursion (λ b. (b == c) ≡ false) bytes
 with_none c bytes all = All-mono _ (λ b. (b == c) ≡ false) (λ b e. not-true (b == c) e) bytes all
 
--- what a text's quote is, where it was taken apart at the quotes
+-- The parts of a text that starts with a quote: the bytes up to the next quote, and the rest.
 module _ (text inside quoted rest : Bytes) (e : text ≡ 34 ∷ inside) (f : inside ≡ quoted ++ rest) (all : Without 34 quoted)
     (longest : first_byte_is (λ b. not (b == 34)) rest ≡ false) where
-  -- where a quote and bytes without one stand before the rest, the rest begins with the quote that ends the quoted text
+  -- The rest starts with the quote that ends the quoted text.
   pub Quoted-rest : (end : Bytes) → Quoted text end → rest ≡ 34 ∷ end
   Quoted-rest end q =
       let p = q.parts in
@@ -35,11 +35,11 @@ module _ (text inside quoted rest : Bytes) (e : text ≡ 34 ∷ inside) (f : ins
       (record { parts = g; all = without 34 q.inside q.plain; longest = refl })
       (record { parts = f; all = all; longest = longest })).1
 
-  -- where no quote follows, there is no quoted text
+  -- If no quote follows, there is no quoted text.
   pub Quoted-open : rest ≡ [] → HoldsOfNothing (Quoted text)
   Quoted-open gone end q = let k = Quoted-rest end q in cc
 
-  -- where a quote follows, there is a quoted text up to it
+  -- If a quote follows, there is a quoted text up to it.
   pub Quoted-made : (b : ℕ) (after : Bytes) → rest ≡ b ∷ after → Quoted text after
   Quoted-made b after g =
       let h : not (b == 34) ≡ false = subst (λ x. first_byte_is (λ c. not (c == 34)) x ≡ false) g longest in
@@ -47,11 +47,11 @@ module _ (text inside quoted rest : Bytes) (e : text ≡ 34 ∷ inside) (f : ins
       let j : rest ≡ 34 ∷ after = cc in
       record { inside = quoted; parts = e ∙ ap (λ x. 34 ∷ x) (f ∙ ap (λ x. quoted ++ x) j); plain = with_none 34 quoted all }
 
--- a quoted text begins with a quote
+-- A quoted text starts with a quote.
 pub Quoted-front : (text end : Bytes) → Quoted text end → first_byte_is (λ b. b == 34) text ≡ true
 Quoted-front text end q = ap (first_byte_is (λ b. b == 34)) q.parts
 
--- a quoted text ends at one place
+-- The end of a quoted text is unique.
 pub Quoted-unique : (text a b : Bytes) → Quoted text a → Quoted text b → a ≡ b
 Quoted-unique text a b p q =
     let k : 34 ∷ b ≡ 34 ∷ a =
@@ -60,32 +60,32 @@ Quoted-unique text a b p q =
 
 -- ---- lines `Key=value`
 
--- all of the bytes are such as a key may have
+-- Every byte may be in a key.
 abbrev pub Keys : Bytes → Type 0
 Keys bytes = AllByRecursion (λ b. is_key_byte b ≡ true) bytes
 
--- all of the bytes are spaces or tabs
+-- Every byte is a space or a tab.
 abbrev pub Spaces : Bytes → Type 0
 Spaces bytes = AllByRecursion (λ b. is_space b ≡ true) bytes
 
--- a space is no byte of a key
+-- A space may not be in a key.
 space_no_key : (b : ℕ) → is_space b ≡ true → is_key_byte b ≡ false
 space_no_key b h = not-true (is_key_byte b) (any_all (λ x y. x == y) same_byte (λ x. not (is_key_byte x)) (32 ∷ 9 ∷ []) b refl h)
 
--- no key goes on behind a key
+-- No key continues after the spaces and `=`.
 behind_key : (spaces more : Bytes) → Spaces spaces → first_byte_is is_key_byte (spaces ++ 61 ∷ more) ≡ false
 behind_key [] more all = refl
 behind_key (b ∷ spaces) more all = space_no_key b all.0
 
--- the parts of a line `Key=value`, joined one way and the other
+-- The two groupings of the parts of a line `Key=value` are equal.
 line_parts : (key spaces value rest : Bytes) → key ++ spaces ++ 61 ∷ value ++ rest ≡ key ++ (spaces ++ 61 ∷ (value ++ rest))
 line_parts key spaces value rest = append_assoc (key ++ spaces) (61 ∷ value) rest ∙ append_assoc key spaces (61 ∷ (value ++ rest))
 
--- what a text's key is, and what stands behind it, where it was taken apart behind its longest key
+-- The parts of a text after its longest key: spaces, and the rest.
 module _ (text key rest spaces left : Bytes) (e : text ≡ key ++ rest) (all : Keys key)
     (longest : first_byte_is is_key_byte rest ≡ false) (f : rest ≡ spaces ++ left) (spaced : Spaces spaces)
     (stop : first_byte_is is_space left ≡ false) where
-  -- a line's key is the longest, and behind the spaces stand `=` and its value
+  -- A line's key is the longest, and `=` and its value follow the spaces.
   pub KeyLine-parts : (end : Bytes) → (p : KeyLine text end) → (p.key ≡ key) × (left ≡ 61 ∷ p.value ++ end)
   KeyLine-parts end p =
       let outer =
@@ -99,14 +99,14 @@ module _ (text key rest spaces left : Bytes) (e : text ≡ key ++ rest) (all : K
       (record { parts = f; all = spaced; longest = stop }) in
       (outer.0, sym inner.1)
 
-  -- where no `=` stands behind the spaces, there is no line `Key=value`
+  -- If no `=` follows the spaces, there is no line `Key=value`.
   pub no_equals : first_byte_is (λ b. b == 61) left ≡ false → HoldsOfNothing (KeyLine text)
   no_equals other end p =
       let k = KeyLine-parts end p in
       let h = ap (first_byte_is (λ b. b == 61)) k.1 in
       cc
 
-  -- where an `=` stands behind the key, there is a line `Key=value`, up to the end of the line
+  -- If `=` follows the key, there is a line `Key=value`, up to the end of the line.
   pub KeyLine-made : (more value end : Bytes)
       → 0 < length key
       → left ≡ 61 ∷ more
@@ -126,7 +126,7 @@ module _ (text key rest spaces left : Bytes) (e : text ≡ key ++ rest) (all : K
     longest = last;
   }
 
--- a line `Key=value` ends at one place
+-- The end of a line `Key=value` is unique.
 pub KeyLine-unique : (text a b : Bytes) → KeyLine text a → KeyLine text b → a ≡ b
 KeyLine-unique text a b p q =
     let k =
@@ -137,18 +137,18 @@ KeyLine-unique text a b p q =
     (record { parts = refl; all = without 10 _ p.one_line; longest = p.longest })
     (record { parts = ends; all = without 10 q.value q.one_line; longest = q.longest })).1
 
--- what has a key at its front begins with a byte of a key
+-- A text that starts with a key starts with a byte of a key.
 key_front : (key more : Bytes) → 0 < length key → Keys key → first_byte_is is_key_byte (key ++ more) ≡ true
 key_front [] more some all = absurd (omega (arith, some))
 key_front (b ∷ key) more some all = all.0
 
--- a line `Key=value` begins with a byte of a key
+-- A line `Key=value` starts with a byte of a key.
 pub KeyLine-front : (text end : Bytes) → KeyLine text end → first_byte_is is_key_byte text ≡ true
 KeyLine-front text end p =
     let e = p.parts ∙ line_parts p.key p.spaces p.value end in
     ap (first_byte_is is_key_byte) e ∙ key_front p.key (p.spaces ++ 61 ∷ (p.value ++ end)) p.some p.all
 
--- where no byte of a key stands at the front, there is no line `Key=value`
+-- If the text does not start with a byte of a key, there is no line `Key=value`.
 pub no_key : (text key rest : Bytes)
     → text ≡ key ++ rest
     → first_byte_is is_key_byte rest ≡ false
@@ -162,7 +162,7 @@ no_key text (b ∷ key) rest e longest gone end p = omega (arith, gone)
 
 -- ---- one note
 
--- no text begins with a byte that passes p and with one that passes q, where no byte passes both
+-- No text starts with a byte that passes p and one that passes q, if no byte passes both.
 apart : (p q : ℕ → Bool) (text : Bytes)
     → first_byte_is p text ≡ true
     → first_byte_is q text ≡ true
@@ -171,23 +171,23 @@ apart : (p q : ℕ → Bool) (text : Bytes)
 apart p q [] h k never = cc
 apart p q (b ∷ text) h k never = let n = never b h in cc
 
--- where a key may not have c, it may not have any byte that is c
+-- If a key may not contain c, no byte equal to c may be in a key.
 byte_no_key : (c b : ℕ) → is_key_byte c ≡ false → (b == c) ≡ true → is_key_byte b ≡ false
 byte_no_key c b other h = ap is_key_byte (eqb-true b c h) ∙ other
 
--- no text begins with a quoted text and with a line `Key=value`
+-- No text starts both with a quoted text and with a line `Key=value`.
 pub no_quote_is_key : (text a b : Bytes) → Quoted text a → KeyLine text b → ⊥
 no_quote_is_key text a b q p =
     apart (λ x. x == 34) is_key_byte text (Quoted-front text a q) (KeyLine-front text b p) (λ x h. byte_no_key 34 x refl h)
 
--- a note ends at one place
+-- The end of a note is unique.
 pub Note-unique : (text a b : Bytes) → Note text a → Note text b → a ≡ b
 Note-unique text a b (inl p) (inl q) = Quoted-unique text a b p q
 Note-unique text a b (inl p) (inr q) = absurd (no_quote_is_key text a b p q)
 Note-unique text a b (inr p) (inl q) = absurd (no_quote_is_key text b a q p)
 Note-unique text a b (inr p) (inr q) = KeyLine-unique text a b p q
 
--- no trivia begins at the front of a text whose first byte passes a test that no blank and no `(` passes
+-- No trivia starts at a byte that passes a test which no blank and no `(` passes.
 trivia_free : (p : ℕ → Bool) (text : Bytes)
     → list_all (λ x. not (p x)) (32 ∷ 9 ∷ 10 ∷ 13 ∷ []) ≡ true
     → p 40 ≡ false
@@ -196,22 +196,22 @@ trivia_free : (p : ℕ → Bool) (text : Bytes)
 trivia_free p [] blanks bracket h = refl
 trivia_free p (b ∷ text) blanks bracket h = no_trivia_at p b text blanks bracket h
 
--- no trivia begins where a note does
+-- No trivia starts where a note does.
 pub note_no_trivia : (text end : Bytes) → Note text end → begins_trivia text ≡ false
 note_no_trivia text end (inl q) = trivia_free (λ b. b == 34) text refl refl (Quoted-front text end q)
 note_no_trivia text end (inr p) = trivia_free is_key_byte text refl refl (KeyLine-front text end p)
 
--- no trivia begins with a `{`
+-- No trivia starts with `{`.
 pub block_no_trivia : (text : Bytes) → first_byte_is (λ b. b == 123) text ≡ true → begins_trivia text ≡ false
 block_no_trivia text h = trivia_free (λ b. b == 123) text refl refl h
 
--- no note begins with a `{`
+-- No note starts with `{`.
 pub note_no_block : (text end : Bytes) → first_byte_is (λ b. b == 123) text ≡ true → Note text end → ⊥
 note_no_block text end h (inl q) =
     apart (λ b. b == 34) (λ b. b == 123) text (Quoted-front text end q) h (λ b k. ap (λ x. x == 123) (eqb-true b 34 k))
 note_no_block text end h (inr p) = apart _ _ text h (KeyLine-front _ end p) (λ b k. byte_no_key 123 b refl k)
 
--- a text that begins with no quote and has no line `Key=value` in front has no note
+-- A text that starts with no quote and with no line `Key=value` starts with no note.
 pub no_note : (text : Bytes)
     → first_byte_is (λ b. b == 34) text ≡ false
     → HoldsOfNothing (KeyLine text)
@@ -219,7 +219,7 @@ pub no_note : (text : Bytes)
 no_note text other never end (inl q) = let h = Quoted-front text end q in cc
 no_note text other never end (inr p) = never end p
 
--- a text that begins with a quote and has no quoted text in front has no note
+-- A text that starts with a quote but with no quoted text starts with no note.
 pub no_quote : (text : Bytes)
     → first_byte_is (λ b. b == 34) text ≡ true
     → HoldsOfNothing (Quoted text)
@@ -228,16 +228,16 @@ no_quote text here never end (inl q) = never end q
 no_quote text here never end (inr p) =
     apart (λ b. b == 34) is_key_byte text here (KeyLine-front text end p) (λ b h. byte_no_key 34 b refl h)
 
--- a note takes at least one byte, and what stands behind it is the end of the text
+-- A note takes at least one byte, and what follows it is a suffix of the text.
 pub Note-suffix : (text end : Bytes) → Note text end → (front : Bytes) × (text ≡ front ++ end) × (0 < length front)
 Note-suffix text end (inl q) =
     (34 ∷ q.inside ++ 34 ∷ [], q.parts ∙ ap (λ x. 34 ∷ x) (sym (append_assoc q.inside (34 ∷ []) end)), omega arith)
 Note-suffix text end (inr p) =
     (p.key ++ p.spaces ++ 61 ∷ p.value, p.parts, omega (arith, p.some, length-append (p.key ++ p.spaces) (61 ∷ p.value)))
 
--- ---- rows of notes
+-- ---- sequences of notes
 
--- where a row of notes stands, and at its front trivia and a note, the others stand behind these
+-- If notes start with trivia and a note, the others follow these.
 at_note : {text mid after rest : Bytes} → Notes text rest → Trivia text mid → Note mid after → Notes after rest
 at_note {mid = mid} {after} (none {rest = rest} t h) g n =
     absurd (let e : mid ≡ rest = Trivia-unique g t (note_no_trivia mid after n) (block_no_trivia rest h) in
@@ -246,7 +246,7 @@ at_note {mid = mid} {after} {rest} (note {mid = m} {after = a} t f more) g n =
     let e : m ≡ mid = Trivia-unique t g (note_no_trivia m a f) (note_no_trivia mid after n) in
     subst (λ x. Notes x rest) (Note-unique mid a after (subst (λ x. Note x a) e f) n) more
 
--- where the `{` stands behind the trivia, the notes have ended
+-- If `{` follows the trivia, the notes have ended.
 at_block : {text start rest : Bytes}
     → Notes text rest
     → Trivia text start
@@ -257,26 +257,26 @@ at_block {start = start} (note {mid = m} {after = a} t f more) g h =
     absurd (let e : start ≡ m = Trivia-unique g t (block_no_trivia start h) (note_no_trivia m a f) in
     note_no_block m a (subst (λ x. first_byte_is (λ b. b == 123) x ≡ true) e h) f)
 
--- a row of notes ends at one place
+-- The end of a sequence of notes is unique.
 pub Notes-unique : {text a b : Bytes} → Notes text a → Notes text b → a ≡ b
 Notes-unique (none g h) q = at_block q g h
 Notes-unique (note g n m) q = Notes-unique m (at_note q g n)
 
--- what stands behind a row of notes is the end of the text
+-- What follows a sequence of notes is a suffix of the text.
 pub Notes-suffix : {text rest : Bytes} → Notes text rest → IsSuffix text rest
 Notes-suffix (none g h) = Trivia-suffix g
 Notes-suffix (note {mid = mid} {after = after} g n m) =
     let t = Note-suffix mid after n in IsSuffix-join (Trivia-suffix g) (IsSuffix-join (t.0, t.1) (Notes-suffix m))
 
--- ---- what the reader of notes owes
+-- ---- what the reader of notes must prove
 
--- how far a loop over notes is: the notes at the front of the bytes end where those at the front of the rest do
+-- The invariant of the loop over notes: the notes at the start of the bytes end where those at the start of the rest do.
 pub record Passed (bytes rest : Bytes) : Type 0 where
   pub given : (end : Bytes) → Notes rest end → Notes bytes end
   pub only : (end : Bytes) → Notes bytes end → Notes rest end
   pub bound : length rest ≤ length bytes
 
--- behind trivia and a note at the front of the rest, these have been passed too
+-- After trivia and a note, the invariant holds again.
 pub Passed_note : {bytes rest start after : Bytes} → Passed bytes rest → Trivia rest start → Note start after → Passed bytes after
 Passed_note {bytes} {rest} {start} {after} p g n =
     let t = Note-suffix start after n in
@@ -286,12 +286,12 @@ Passed_note {bytes} {rest} {start} {after} p g n =
       bound = omega (arith, p.bound, Trivia-shorter g, ap length t.1, length-append t.0 after);
     }
 
--- a note with the trivia before it takes at least one byte
+-- Trivia and a note take at least one byte.
 pub Passed_shorter : {rest start after : Bytes} → Trivia rest start → Note start after → length after < length rest
 Passed_shorter {rest} {start} {after} g n =
     let t = Note-suffix start after n in omega (arith, Trivia-shorter g, ap length t.1, length-append t.0 after, t.2)
 
--- at the `{` the notes have ended
+-- At `{` the notes have ended.
 pub Passed_done : {bytes rest start : Bytes}
     → Passed bytes rest
     → Trivia rest start
@@ -299,19 +299,19 @@ pub Passed_done : {bytes rest start : Bytes}
     → Notes bytes start
 Passed_done {start = start} p g h = p.given start (none g h)
 
--- a row of notes begins with trivia, behind which no more of it stands
+-- Notes start with trivia that no more trivia follows.
 first_start : {text rest : Bytes} → Notes text rest → (start : Bytes) × Trivia text start × (begins_trivia start ≡ false)
 first_start (none {rest = rest} t h) = (rest, t, block_no_trivia rest h)
 first_start (note {mid = mid} {after = after} t n m) = (mid, t, note_no_trivia mid after n)
 
--- where a comment among the notes isn't closed, the bytes have no row of notes
+-- If a comment among the notes is not closed, there is no sequence of notes.
 pub Passed_open : {bytes rest : Bytes}
     → Passed bytes rest
     → ((start : Bytes) → begins_trivia start ≡ false → Trivia rest start → ⊥)
     → HoldsOfNothing (Notes bytes)
 Passed_open p never end m = let k = first_start (p.only end m) in never k.0 k.2 k.1
 
--- where neither a `{` nor a note stands behind the trivia, the bytes have no row of notes
+-- If neither `{` nor a note follows the trivia, there is no sequence of notes.
 pub Passed_none : {bytes rest start : Bytes}
     → Passed bytes rest
     → Trivia rest start

@@ -1,19 +1,19 @@
--- The number that digits stand for, digit by digit as a loop reads them.
+-- The number that digits represent, as a loop computes it digit by digit.
 use Rattle.lw_text.proofs.Common.{◌≡◌, ℕ, ◌+◌, ◌*◌, ◌^◌, ◌<◌, ◌≤◌, [], ◌∷◌, sym, ap, ◌∙◌, subst, arith}
 use Rattle.lw_text.proofs.Common.{mul-le-mul_left, mul_comm, Option, Some, None, IfNone, digit_value, Bytes}
 use Rattle.lw_text.proofs.Common.{Digits}
 
--- further digits make no number smaller
+-- Further digits do not make a number smaller.
 pub Digits-grow : (base n : ℕ) (ds : Bytes) (v : ℕ) → 1 ≤ base → Digits base n ds v → n ≤ v
 Digits-grow base n [] v h d = omega (arith, d)
 Digits-grow base n (x ∷ ds) v h d = omega (arith, Digits-grow base (base * n + digit_value x) ds v h d.1, mul-le-mul_left n h)
 
--- digits stand for one number
+-- Digits represent at most one number.
 pub Digits-unique : (base n : ℕ) (ds : Bytes) (v w : ℕ) → Digits base n ds v → Digits base n ds w → v ≡ w
 Digits-unique base n [] v w d e = sym d ∙ e
 Digits-unique base n (x ∷ ds) v w d e = Digits-unique base (base * n + digit_value x) ds v w d.1 e.1
 
--- how far a loop over digits is: those that were read stand for n, and all stand for what the rest stands for behind n
+-- The invariant of the loop over digits: those read represent n, and all represent what the rest represents after n.
 pub record Reads (base : ℕ) (digits : Bytes) (n : ℕ) (rest : Bytes) : Type 0 where
   pub given : (v : ℕ) → Digits base n rest v → Digits base 0 digits v
   pub only : (v : ℕ) → Digits base 0 digits v → Digits base n rest v
@@ -23,20 +23,20 @@ module _ {base : ℕ} {digits : Bytes} {n : ℕ} {rest next : Bytes} {x : ℕ} (
   here : (v : ℕ) → Digits base 0 digits v → Digits base n (x ∷ next) v
   here v d = subst (λ l. Digits base n l v) e (r.only v d)
 
-  -- where one more digit makes it 2 ^ 32 or more, the digits stand for no smaller number
+  -- If one more digit makes the number `2 ^ 32` or more, the digits represent no smaller number.
   pub Reads-large : 1 ≤ base → 2 ^ 32 ≤ base * n + digit_value x → (v : ℕ) → v < 2 ^ 32 → Digits base 0 digits v → ⊥
   Reads-large pos large v lt d = omega (arith, large, lt, Digits-grow base (base * n + digit_value x) next v pos (here v d).1)
 
-  -- one more digit has been read, and the number so far is made with it
+  -- One more digit preserves the invariant, with the number extended by it.
   pub Reads-next : (m : ℕ) → m ≡ base * n + digit_value x → digit_value x < base → Reads base digits m next
   Reads-next m f small =
       rw f (record { given = λ v d. r.given v (subst (λ l. Digits base n l v) (sym e) (small, d)); only = λ v d. (here v d).1 })
 
--- the number with one more digit, as the code computes it, is the one that `Digits` has
+-- The number with one more digit, as the code computes it, is the one of `Digits`.
 pub next_value : (base n x b d : ℕ) → b ≡ base → d ≡ digit_value x → n * b + d ≡ base * n + digit_value x
 next_value base n x b d e f = rw (e, f) (ap (λ y. y + digit_value x) (mul_comm n base))
 
--- a fact that holds anyway holds where an option is none
+-- A fact that holds in every case holds if an option is `None`.
 pub if_none : {A : Type 0} (o : Option A) (P : Type 0) → P → IfNone o P
 if_none None P p = p
 if_none (Some x) P p = tt

@@ -1,4 +1,4 @@
--- A text has its cells at one place each, and its tokens are the slices of their spans.
+-- The cells of a text, with their positions, are unique; and its tokens are the slices of their spans.
 use Rattle.lw_text.proofs.Common.{◌≡◌, ℕ, ◌+◌, ◌≤◌, List, [], ◌∷◌, ◌++◌, length, take, drop, refl, sym, ap}
 use Rattle.lw_text.proofs.Common.{◌∙◌, subst, arith, append_assoc, length-append, take_at, take-append_seam}
 use Rattle.lw_text.proofs.Common.{drop-append_seam, length-map, Bytes, Arch, arch_keyword, Preamble, columns}
@@ -13,26 +13,26 @@ use Rattle.lw_text.proofs.Headers.{Names-unique}
 use Rattle.lw_text.proofs.SiteLists.{Block-unique}
 use Rattle.lw_text.proofs.Cells.{Rows-unique}
 
--- ---- cells are cut in one way
+-- ---- uniqueness of cells
 
--- equal lists that are cut behind fronts of one length have the same fronts and the same rests
+-- Equal lists split after the same length have equal parts.
 cut_same : {X : Type 0} (xs ys us vs : List X) → length xs ≡ length ys → xs ++ us ≡ ys ++ vs → (xs ≡ ys) × (us ≡ vs)
 cut_same xs ys us vs len e = (
   sym (take-append_seam xs us) ∙ ap (take (length xs)) e ∙ ap (λ (n : ℕ). take n (ys ++ vs)) len ∙ take-append_seam ys vs,
   sym (drop-append_seam xs us) ∙ ap (drop (length xs)) e ∙ ap (λ (n : ℕ). drop n (ys ++ vs)) len ∙ drop-append_seam ys vs,
 )
 
--- cells with the same tokens and the same end are the same
+-- Cells with the same tokens and the same end are equal.
 same_cell : (a b : PlacedCell) → a.tokens ≡ b.tokens → a.end ≡ b.end → a ≡ b
 same_cell a b tokens end =
     ap (λ ts. let c : PlacedCell = record { tokens = ts; end = a.end } in c) tokens
     ∙ ap (λ (n : ℕ). let c : PlacedCell = record { tokens = b.tokens; end = n } in c) end
 
--- lists of tokens that are the same without places are as long
+-- Lists of tokens that are equal without positions have the same length.
 as_long : (ts us : List PlacedToken) → texts_of_tokens ts ≡ texts_of_tokens us → length ts ≡ length us
 as_long ts us e = sym (length-map ts (λ t. t.text)) ∙ ap length e ∙ length-map us (λ t. t.text)
 
--- cells that are the same without places, and are cut from the same tokens, are the same, and the same is left behind them
+-- Cells read from the same tokens that are equal without positions are equal, and so are the rests.
 cells_same : (ts a b : List PlacedToken) (xs ys : List PlacedCell)
     → CellsFrom ts xs a
     → CellsFrom ts ys b
@@ -52,7 +52,7 @@ cells_same ts a b (x ∷ xs) (y ∷ ys) p q e =
     (cc, more.1)
 cells_same ts a b _ _ p q e = absurd cc
 
--- rows of cells that are the same without places, and are cut from the same tokens, are the same
+-- Rows read from the same tokens that are equal without positions are equal.
 rows_same : (ts a b : List PlacedToken) (xs ys : List (List PlacedCell))
     → RowsFrom ts xs a
     → RowsFrom ts ys b
@@ -68,7 +68,7 @@ rows_same ts a b (x ∷ xs) (y ∷ ys) p q e =
     cc
 rows_same ts a b _ _ p q e = absurd cc
 
--- tokens have one number of threads, and one list of rows with their places
+-- Tokens have a unique number of threads, and a unique list of rows with their positions.
 HasRows-unique : (arch : Arch) (tokens : List PlacedToken) (m n : ℕ) (x y : List (List PlacedCell))
     → HasRows arch tokens m x
     → HasRows arch tokens n y
@@ -90,7 +90,7 @@ HasRows-unique arch tokens m n x y p q =
     let rows = Rows-unique n _ _ _ (texts_of_grid x) (texts_of_grid y) says q.says in
     (header.0, rows_same _ _ _ x y (subst (λ l. RowsFrom l x p.behind_rows) behind p.cut) q.cut rows.0)
 
--- a text has its cells at one place each
+-- The cells of a text, with their positions, are unique.
 pub HasCells-unique : (text : Bytes) (c d : List (List PlacedCell)) → HasCells text c → HasCells text d → c ≡ d
 HasCells-unique text c d p q =
     let head = Preamble-unique text p.arch p.name p.rest q.arch q.name q.rest p.preamble q.preamble in
@@ -100,9 +100,9 @@ HasCells-unique text c d p q =
     let rows = HasRows-unique q.arch q.tokens p.threads q.threads p.rows q.rows has q.has_rows in
     p.are ∙ ap (λ (n : ℕ). columns n p.rows) rows.0 ∙ ap (columns q.threads) rows.1 ∙ sym q.are
 
--- ---- where tokens lie
+-- ---- the positions of tokens
 
--- spans from a place on are spans from an earlier place on
+-- Spans from a position on are spans from every earlier position on.
 Spans-earlier : (text : Bytes) (from mid to : ℕ) (ts : List PlacedToken)
     → from ≤ mid
     → Spans text mid ts to
@@ -110,7 +110,7 @@ Spans-earlier : (text : Bytes) (from mid to : ℕ) (ts : List PlacedToken)
 Spans-earlier text from mid to [] le s = omega (arith, s, le)
 Spans-earlier text from mid to (t ∷ ts) le s = (omega (arith, s.0, le), s.1, s.2)
 
--- the tokens of what is left of a text behind some front lie in the text one behind another
+-- The tokens of a suffix of the text have ascending spans in the text.
 stream_spans : (text front rest : Bytes) (ts : List PlacedToken)
     → text ≡ front ++ rest
     → PlacedTokens (length text) rest ts
@@ -131,14 +131,14 @@ stream_spans text front rest (t ∷ ts) e p =
           (stream_spans text (before ++ t.text) p.0 ts (whole ∙ sym (append_assoc before t.text p.0)) p.3),
     )
 
--- what stands behind a preamble is the end of its text
+-- What follows a preamble is a suffix of its text.
 preamble_rest : (text : Bytes) (arch : Arch) (name rest : Bytes) → Preamble text arch name rest → IsSuffix text rest
 preamble_rest text arch name rest h =
     IsSuffix-join (Trivia-suffix h.2.0)
     (IsSuffix-join (arch_keyword arch, refl)
     (IsSuffix-join (h.3.blanks, h.3.parts) (IsSuffix-join (name, refl) (Notes-suffix h.4))))
 
--- the tokens that a text's cells are cut from lie in it one behind another
+-- The tokens of which a text's cells are parts have ascending spans in it.
 pub tokens_spans : (text : Bytes) (cells : List (List PlacedCell)) (has : HasCells text cells)
     → Spans text 0 has.tokens (length text)
 tokens_spans text cells has =

@@ -1,4 +1,4 @@
--- The keyword of a language, blanks, a test's name and its notes are read in one way.
+-- The keyword of a language, blanks, a test's name and its notes have unique parses.
 use Rattle.lw_text.proofs.Common.{◌≡◌, ℕ, true, false, not, [], ◌∷◌, ◌++◌, refl, sym, ap, subst, arith, codes}
 use Rattle.lw_text.proofs.Common.{AllByRecursion, is_ascii_graphic, not-true, false_from_ne_true}
 use Rattle.lw_text.proofs.Common.{HoldsOfNothing, ParsesNothing, Bytes, Arch, Source, X86, arch_keyword}
@@ -9,31 +9,31 @@ use Rattle.lw_text.proofs.NameRuns.{run-unique}
 use Rattle.lw_text.proofs.TokenRows.{IsFirstToken-unique}
 use Rattle.lw_text.proofs.NoteRows.{Notes-unique}
 
--- bytes none of which is a blank
+-- No byte is a blank.
 abbrev Plain : Bytes → Type 0
 Plain name = AllByRecursion (λ b. not (is_blank b) ≡ true) name
 
--- a visible ASCII character is no blank
+-- A visible ASCII character is no blank.
 graphic_no_blank : (b : ℕ) → is_ascii_graphic b ≡ true → is_blank b ≡ false
 graphic_no_blank b h =
     false_from_ne_true (is_blank b)
     (λ e. let k = not-true (is_ascii_graphic b) (blank_all (λ x. not (is_ascii_graphic x)) b refl e) in cc)
 
--- among visible ASCII characters there is no blank
+-- Visible ASCII characters contain no blank.
 graphic_plain : (name : Bytes) → AllByRecursion (λ b. is_ascii_graphic b ≡ true) name → Plain name
 graphic_plain [] all = tt
 graphic_plain (b ∷ name) all = (ap not (graphic_no_blank b all.0), graphic_plain name all.1)
 
--- a test's name begins with no blank
+-- A test's name does not start with a blank.
 name_front : (name rest : Bytes) → IsTestName name → first_byte_is is_blank (name ++ rest) ≡ false
 name_front [] rest h = absurd (let k = h.some in omega arith)
 name_front (b ∷ name) rest h = graphic_no_blank b h.all.0
 
--- what a text's name and its neighbours are, where it was taken apart at the blanks
+-- The parts of a text that starts with blanks, followed by a name.
 module _ (text space after name rest : Bytes) (e : text ≡ space ++ after) (blank : AllByRecursion (λ b. is_blank b ≡ true) space)
     (stop : first_byte_is is_blank after ≡ false) (f : after ≡ name ++ rest) (plain : Plain name)
     (longest : first_byte_is (λ b. not (is_blank b)) rest ≡ false) where
-  -- where a text was taken apart into blanks, a name and the rest, it is read in no other way
+  -- A text's parts, its blanks, name and rest, are unique.
   pub ParsesTestName-parts : (n r : Bytes) → (p : ParsesTestName text n r) → (p.blanks ≡ space) × (n ≡ name) × (r ≡ rest)
   ParsesTestName-parts n r p =
       let outer =
@@ -45,7 +45,7 @@ module _ (text space after name rest : Bytes) (e : text ≡ space ++ after) (bla
       (record { parts = f; all = plain; longest = longest }) in
       (outer.0, inner.0, inner.1)
 
--- a text has one name behind its blanks, which ends at one place
+-- The name of a text and its end are unique.
 pub ParsesTestName-unique : (text n r m s : Bytes) → ParsesTestName text n r → ParsesTestName text m s → (n ≡ m) × (r ≡ s)
 ParsesTestName-unique text n r m s p q =
     let k =
@@ -53,13 +53,13 @@ ParsesTestName-unique text n r m s p q =
     (graphic_plain m q.is_name.all) q.longest n r p in
     (k.1, k.2)
 
--- languages with the same keyword are the same
+-- The keyword of a language is unique.
 arch_keyword-unique : (a b : Arch) → arch_keyword a ≡ arch_keyword b → a ≡ b
 arch_keyword-unique Source X86 e = absurd (is_no_text (codes "SRC") (codes "X86") refl e)
 arch_keyword-unique X86 Source e = absurd (is_no_text (codes "X86") (codes "SRC") refl e)
 arch_keyword-unique _ _ e = refl
 
--- where no name stands behind a language's keyword there is no preamble
+-- If no name follows a language's keyword, there is no preamble.
 pub no_named : (text mid : Bytes) (arch : Arch)
     → IsFirstToken text (arch_keyword arch) mid
     → ParsesNothing (ParsesTestName mid)
@@ -69,7 +69,7 @@ no_named text mid arch word never a n r p =
     never n p.1
     (subst (λ x. ParsesTestName x n p.1) (IsFirstToken-unique text (arch_keyword a) p.0 (arch_keyword arch) mid p.2 word).1 p.3)
 
--- where the notes behind the name don't come to a `{` there is no preamble
+-- If no `{` follows the notes after the name, there is no preamble.
 pub no_notes : (text mid name after : Bytes) (arch : Arch)
     → IsFirstToken text (arch_keyword arch) mid
     → ParsesTestName mid name after
@@ -81,7 +81,7 @@ no_notes text mid name after arch word named never a n r p =
     let f = (ParsesTestName-unique mid n p.1 name after (subst (λ x. ParsesTestName x n p.1) e p.3) named).1 in
     never r (subst (λ x. Notes x r) f p.4)
 
--- a text has one preamble: its language, its name and where it ends
+-- A text has at most one preamble: its language, its name and its end.
 pub Preamble-unique : (text : Bytes) (a : Arch) (n r : Bytes) (b : Arch) (m s : Bytes)
     → Preamble text a n r
     → Preamble text b m s

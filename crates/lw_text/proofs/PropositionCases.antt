@@ -1,4 +1,4 @@
--- A proposition that is read terminal by terminal, with the table of its names.
+-- Reading a proposition terminal by terminal, while the table of names grows.
 use Rattle.lw_text.proofs.Common.{◌≡◌, ℕ, ◌+◌, ◌≤◌, inl, inr, Bool, true, false, List, [], ◌∷◌, ◌++◌, length}
 use Rattle.lw_text.proofs.Common.{map, get_or, refl, sym, ap, ◌∙◌, subst, arith, codes, not, if◌then◌else◌}
 use Rattle.lw_text.proofs.Common.{◌||◌, ◌==◌, ◌≢◌, Option, Some, None, is_some, option_map, eqb-true}
@@ -26,13 +26,13 @@ use Rattle.lw_text.proofs.TerminalLists.{Terminals-peel, Terminals-unique, IsTer
 use Rattle.lw_text.specs.declared.terminal.Terminal.TheVariants as made
 use Rattle.lw_text.specs.declared.terminal.Atom.TheVariants as atoms
 
--- ---- what a terminal says in a table
+-- ---- a terminal's syntax, with the names of a table
 
--- the table has the name of each location that an atom of these terminals speaks of
+-- The table has the names of all locations in these terminals' atoms.
 abbrev pub AllThere : NameTable → List (Terminal AtomSyntax) → Type 0
 AllThere names ss = AllByRecursion (λ x. contains_name names x ≡ true) (site_names (sites_in ss))
 
--- names that were entered are in the table
+-- Inserted names are in the table.
 pub all_entered : (names ns : NameTable) → AllByRecursion (λ x. contains_name (insert_names names ns) x ≡ true) ns
 all_entered names [] = tt
 all_entered names (n ∷ ns) = (
@@ -40,7 +40,7 @@ all_entered names (n ∷ ns) = (
   all_entered (insert_name names n) ns,
 )
 
--- terminals whose locations' names are in the table are resolved as before when more names have been entered
+-- Inserting names preserves the resolved form of terminals whose names are in the table.
 map_resolved-along : (names ns : NameTable) (ss : List (Terminal AtomSyntax))
     → AllThere names ss
     → map (resolved (insert_names names ns)) ss ≡ map (resolved names) ss
@@ -51,7 +51,7 @@ map_resolved-along names ns (Atom (Holds (InMemory x) n) ∷ ss) h =
     cc
 map_resolved-along names ns (s ∷ ss) h = ap (λ l. resolved names s ∷ l) (map_resolved-along names ns ss h)
 
--- a terminal in memory, put by the names of the table and resolved by it again, is the same terminal
+-- A terminal in memory, named by the table and resolved by it, is the same terminal.
 pub resolved_named : (names : NameTable) (s : Made)
     → IsDuplicateFree names
     → TerminalIn names s
@@ -61,17 +61,17 @@ resolved_named names (made.Atom (atoms.WordIs loc n)) once h =
     (position_of_name-at names (get_or names loc []) loc once (slice_get-get_or names loc [] h))
 resolved_named names _ once h = refl
 
--- a terminal in memory is a node if and only if it is one by its names
+-- A terminal in memory is a node if and only if its named form is.
 node_named : (names : NameTable) (s : Made) → is_node (named_terminal names s) ≡ is_node (terminal_of s)
 node_named names made.Open = refl
 node_named names _ = refl
 
--- a part begins with a terminal if and only if it does with the terminal resolved
+-- A terminal starts a part if and only if its resolved form does.
 begins_resolved : (names : NameTable) (s : Terminal AtomSyntax) → begins_part (resolved names s) ≡ begins_part s
 begins_resolved names Open = refl
 begins_resolved names _ = refl
 
--- the table takes the names of some terminals and of more as those of all
+-- The table after the names of `a ++ b` is that after the names of a and then of b.
 with_sites_in-append : (names : NameTable) (a b : List (Terminal AtomSyntax))
     → with_sites names (sites_in (a ++ b)) ≡ with_sites (with_sites names (sites_in a)) (sites_in b)
 with_sites_in-append names a b =
@@ -79,7 +79,7 @@ with_sites_in-append names a b =
 
 -- ---- what has been read
 
--- The reader has taken the terminals from start to here, with so many nodes. Their names went into the table, which was first.
+-- The reader has read the terminals from `start` to `here`, with this number of nodes. Their names were inserted into the table `first`.
 pub record TerminalsRead {A : Type 0} (arch : Arch) (threads : ℕ) (first names start here : TokenList) (nodes : ℕ)
     (reader : PropositionReader A) : Type 0 where
   pub terminals : List (Terminal AtomSyntax)
@@ -89,7 +89,7 @@ pub record TerminalsRead {A : Type 0} (arch : Arch) (threads : ℕ) (first names
   pub few : nodes ≤ 256
   pub leads : state_after_terminals (Some initial_reader_state) (map (resolved names) terminals) ≡ Some (state_of reader)
 
--- a reader that stands where it begins has taken no terminal
+-- A reader in its initial state has read no terminal.
 pub terminals_none : {A : Type 0} (arch : Arch) (threads : ℕ) (names start : TokenList) (reader : PropositionReader A)
     → state_of reader ≡ initial_reader_state
     → TerminalsRead arch threads names names start start 0 reader
@@ -98,7 +98,7 @@ terminals_none arch threads names start reader e =
 
 module _ {A : Type 0} {arch : Arch} {threads : ℕ} {first names start here : TokenList} {nodes : ℕ} {reader : PropositionReader A}
     (read : TerminalsRead arch threads first names start here nodes reader) where
-  -- the table, behind more terminals
+  -- The table after further terminals.
   table_of : (more : List (Terminal AtomSyntax))
       → with_sites first (sites_in (read.terminals ++ more)) ≡ with_sites names (sites_in more)
   table_of more = with_sites_in-append first read.terminals more ∙ ap (λ ns. with_sites ns (sites_in more)) (sym read.names_are)
@@ -108,13 +108,13 @@ module _ {A : Type 0} {arch : Arch} {threads : ℕ} {first names start here : To
       map_resolved-along names ns read.terminals
       (subst (λ l. AllThere l read.terminals) (sym read.names_are) (all_entered first (site_names (sites_in read.terminals))))
 
-  -- where more terminals lead
+  -- The reader's state after further terminals.
   lead_on : (ss : List (Terminal Formula))
       → state_after_terminals (Some initial_reader_state) (map (resolved names) read.terminals ++ ss)
       ≡ state_after_terminals (Some (state_of reader)) ss
   lead_on ss = fold-append _ _ (map (resolved names) read.terminals) ss ∙ ap (λ o. state_after_terminals o ss) read.leads
 
-  -- what is left of a whole proposition says it
+  -- The rest of a whole proposition completes it.
   whole_left : (more : List (Terminal AtomSyntax)) (p : Formula)
       → IsProposition (map (resolved (with_sites first (sites_in (read.terminals ++ more)))) (read.terminals ++ more)) p
       → said_at (state_after_terminals (Some (state_of reader)) (map (resolved (with_sites names (sites_in more))) more)) ≡ Some p
@@ -128,7 +128,7 @@ module _ {A : Type 0} {arch : Arch} {threads : ℕ} {first names start here : To
       sym (ap said_at (ap (state_after_terminals (Some initial_reader_state)) e ∙ lead_on (map (resolved after) more)))
       ∙ derived_said whole
 
-  -- at the end of the tokens a proposition has been taken, if the reader says its formula
+  -- At the end of the tokens a proposition has been read, if the state has a result.
   pub terminals_end : here ≡ []
       → (p : Prop A)
       → state_result (state_of reader) ≡ Some (formula_of p)
@@ -141,7 +141,7 @@ module _ {A : Type 0} {arch : Arch} {threads : ℕ} {first names start here : To
     says = said_derived (ap said_at read.leads ∙ is);
   }
 
-  -- where the tokens end and the reader says no formula, the tokens from the start on are no proposition
+  -- If the tokens end and the state has no result, the tokens are no proposition.
   pub terminals_open : here ≡ [] → state_result (state_of reader) ≡ None → NoProposition arch threads start first
   terminals_open e none all p s fits =
       let k = Terminals-peel arch threads read.terminals all start here read.gone s in
@@ -149,7 +149,7 @@ module _ {A : Type 0} {arch : Arch} {threads : ℕ} {first names start here : To
       let left = whole_left [] p (rw (k.1 ∙ ap (λ l. read.terminals ++ l) (sym same)) at fits).says in
       cc
 
-  -- where no terminal stands that can come next and has room, the tokens from the start on are no proposition
+  -- If no terminal follows that is allowed next and has room, the tokens are no proposition.
   pub terminals_fault : (here ≡ [] → ⊥)
       → ((s : Terminal AtomSyntax) (rest : TokenList)
       → IsTerminal arch threads here s rest
@@ -190,26 +190,26 @@ module _ {A : Type 0} {arch : Arch} {threads : ℕ} {first names start here : To
           ∙ fold_stays _ None (λ s. refl) more) in
           cc) room few
 
-  -- the table has each name once, if it did before
+  -- The names of the table have no duplicates, if they had none before.
   pub once_here : IsDuplicateFree first → IsDuplicateFree names
   once_here once = subst IsDuplicateFree (sym read.names_are) (once-along first (site_names (sites_in read.terminals)) once)
 
--- a terminal counts as one node where it is one, and else as none
+-- A terminal counts as one node if it is one, and as none otherwise.
 one_node : (b : Bool) (t : Terminal AtomSyntax) → is_node t ≡ b → count (t ∷ []) ≡ (if b then 1 else 0)
 one_node true t e = rw e refl
 one_node false t e = rw e refl
 
--- a terminal that was taken
+-- A terminal was read.
 module _ {arch : Arch} {threads : ℕ} {before behind : Cursor} {names after : NameTable} {s : Made}
     (taken : ParsedTerminal arch threads before behind names after s) where
-  -- a terminal that was taken, put by the names of the table and resolved by it again, is the same terminal
+  -- A terminal that was read, named by the table and resolved by it, is the same terminal.
   same_terminal : IsDuplicateFree names → resolved after (named_terminal after s) ≡ terminal_of s
   same_terminal once =
       resolved_named after s
       (subst IsDuplicateFree (sym taken.names_are) (once-along names (site_names (sites_in (named_terminal after s ∷ []))) once))
       taken.within
 
-  -- where one more terminal was taken that can come next and has room, the reader has taken the terminals up to behind it
+  -- If one more terminal was read that is allowed next and has room, it is one more terminal read.
   pub terminals_more : {A : Type 0} {first start : TokenList} {nodes : ℕ} {reader reader_after : PropositionReader A}
       → TerminalsRead arch threads first names start (remaining_texts before) nodes reader
       → IsDuplicateFree first
@@ -241,7 +241,7 @@ module _ {arch : Arch} {threads : ℕ} {before behind : Cursor} {names after : N
         leads = ap (state_after_terminals (Some initial_reader_state)) made_more ∙ lead_on read (terminal_of s ∷ []) ∙ step;
       }
 
-  -- where the terminal that was taken can't come next, no terminal that stands on the same tokens can
+  -- If the terminal read is not allowed next, no terminal of the same tokens is.
   pub terminal_refused : {A : Type 0} (reader : PropositionReader A)
       → IsDuplicateFree names
       → next_state (state_of reader) (terminal_of s) ≡ None
@@ -258,7 +258,7 @@ module _ {arch : Arch} {threads : ℕ} {before behind : Cursor} {names after : N
       ∙ same_terminal once in
       ap (next_state (state_of reader)) f ∙ step
 
--- where a part has to come, a terminal that can come next begins a part, and elsewhere it begins none
+-- A terminal that is allowed next starts a part if and only if a part must come next.
 next_begins : (o : Option Formula) (l : Pending) (os : List Pending) (s : Terminal Formula) (b : Bool)
     → is_some o ≡ not b
     → next_state (reader_state_in o l os) s ≢ None
@@ -273,7 +273,7 @@ next_begins None l os _ false e some = absurd cc
 next_begins (Some x) l os _ true e some = absurd cc
 next_begins _ l os _ _ e some = absurd (some refl)
 
--- a terminal that can come next for a reader in memory begins a part if and only if that reader stands before one
+-- A terminal that is allowed next starts a part if and only if the reader in memory is before one.
 pub begins_right : {A : Type 0} (reader : PropositionReader A) (part : Bool)
     → is_some reader.part ≡ not part
     → (names : NameTable) (s : Terminal AtomSyntax)
@@ -289,11 +289,11 @@ begins_right reader part next names s some =
 
 -- ---- parentheses
 
--- whether a parenthesis stands here
+-- Tests whether the tokens start with a parenthesis.
 abbrev pub at_parenthesis : TokenList → Bool
 at_parenthesis here = begins_token (codes "(") here || begins_token (codes ")") here
 
--- where a site begins, a token does not stand of which `is_apart` says that no site begins with it
+-- Tokens that start with a site do not start with a token for which `is_apart` is true.
 site_elsewhere : (arch : Arch) (w : Bytes)
     → is_apart w ≡ true
     → (here rest : TokenList) (site : SiteSyntax)
@@ -304,7 +304,7 @@ site_elsewhere arch w apart (t ∷ here) rest site is =
     false_from_ne_true (begins_token w (t ∷ here))
     (λ e. no_site w apart arch (t ∷ here) here rest site (ap (λ x. x ∷ here) (is_text t w e)) is)
 
--- a terminal makes a node, unless it stands at a parenthesis
+-- A terminal is a node, unless it is a parenthesis.
 node_here : (arch : Arch) (threads : ℕ) (here rest : TokenList) (s : Terminal AtomSyntax)
     → IsTerminal arch threads here s rest
     → is_node s ≡ not (at_parenthesis here)
@@ -314,7 +314,7 @@ node_here arch threads here rest (Atom (Holds site n)) is =
     rw (site_elsewhere arch (codes "(") refl here is.0 site is.1, site_elsewhere arch (codes ")") refl here is.0 site is.1) refl
 node_here arch threads here rest _ is = sym (ap (λ l. not (at_parenthesis l)) is)
 
--- where there is room for it, the nodes with those of one more terminal are not too many
+-- If there is room, the number of nodes with one more terminal is within the limit.
 pub room_left : {arch : Arch} {threads : ℕ} {before behind : Cursor} {names after : NameTable} {s : Made}
     → ParsedTerminal arch threads before behind names after s
     → (nodes : ℕ)
@@ -334,7 +334,7 @@ room_left {arch} {threads} {before} {behind} {after = after} {s = s} taken nodes
       | inr h ↦ absurd cc
     ]
 
--- where there is room for no more nodes, no terminal but a parenthesis fits
+-- If there is no room for another node, only a parenthesis fits.
 pub no_room : (arch : Arch) (threads nodes : ℕ) (here rest : TokenList) (s : Terminal AtomSyntax)
     → (not (nodes == 256) || at_parenthesis here) ≡ false
     → IsTerminal arch threads here s rest

@@ -1,4 +1,4 @@
--- Terminals are a proposition if and only if they lead its reader to where it says that proposition.
+-- Terminals are a proposition if and only if the reader's state after them has that proposition as its result.
 use Rattle.lw_text.proofs.Common.{◌≡◌, ℕ, zero, suc, List, [], ◌∷◌, ◌++◌, Option, Some, None, option_and_then}
 use Rattle.lw_text.proofs.Common.{fold, refl, sym, ap, ◌∙◌, subst, append_assoc, append-nil, Formula, Not, Or}
 use Rattle.lw_text.proofs.Common.{Terminal, Open, Close, Negation, Conjunction, Disjunction, Atom, Level}
@@ -7,34 +7,34 @@ use Rattle.lw_text.proofs.Common.{parens, part, and, conjunction, or, IsProposit
 use Rattle.lw_text.proofs.Common.{BeforePart, BehindPart, initial_reader_state, negations, after_and}
 use Rattle.lw_text.proofs.Common.{after_or, ands_of, opened, with_not, next_state, state_result}
 
--- the terminals of a proposition, whose atoms are formulas
+-- The terminals of a proposition, with formulas as atoms.
 abbrev pub Terms : Type 0
 Terms = List (Terminal Formula)
 
--- the state to which some terminals lead a reader from another, or `None` where one of them can't come next
+-- The reader's state after some terminals, or `None` if one of them is not allowed.
 abbrev pub state_after_terminals : Option ReaderState → Terms → Option ReaderState
 state_after_terminals o ss = fold (λ o s. option_and_then (λ r. next_state r s) o) o ss
 
--- the formula that is said in a state, or `None` where there is no state, or it says none
+-- The result of a state, or `None` if there is no state or no result.
 abbrev pub said_at : Option ReaderState → Option Formula
 said_at o = option_and_then state_result o
 
--- one more `~` inside of n others is the same as one outside of them
+-- A negation inside n negations equals one outside.
 negations-not : (n : ℕ) (p : Formula) → negations n (Not p) ≡ Not (negations n p)
 negations-not zero p = refl
 negations-not (suc n) p = ap Not (negations-not n p)
 
--- one more `~` before a part is the part's negation
+-- A pending `~` before a part is the negation of the part.
 ands_of-not : (l : Pending) (p : Formula) → ands_of (with_not l) p ≡ ands_of l (Not p)
 ands_of-not l p = ap (after_and l.both) (sym (negations-not l.nots p))
 
--- ---- what is derived is said
+-- ---- each derivation is accepted
 
--- what a reader holds of a group before a row of `/\`: the formula before a `\/`, or none, and nothing else
+-- What the reader holds of a group before a row of `/\`: only the formula before `\/`, if there is one.
 abbrev row_begun : Option Formula → Pending
 row_begun e = record { either = e; both = None; nots = 0 }
 
--- the terminals ss, of a level, lead a reader from each state before them to the one in which p has been read
+-- From each state before them, the terminals ss of a level reach the state in which p has been read.
 abbrev Derives-level : Level → Terms → Formula → Type 0
 Derives-level PartLevel ss p =
     (l : Pending) (os : List Pending) (rest : Terms)
@@ -51,7 +51,7 @@ Derives-level DisjunctionLevel ss p =
     × (after_or e a ≡ p)
     × (state_after_terminals (Some (BeforePart opened os)) (ss ++ rest) ≡ state_after_terminals (Some (BehindPart e a os)) rest)
 
--- terminals that derive p at a level lead a reader from each state before them to the one in which p has been read
+-- Terminals that derive p at a level satisfy `Derives-level`.
 leads : {k : Level} {ss : Terms} {p : Formula} → Derives k ss p → Derives-level k ss p
 leads atom = λ l os rest. refl
 leads (negated {p = p} d) = λ l os rest.
@@ -78,7 +78,7 @@ leads (or {ss} {ts} {p} {q} d e) = λ os rest.
           ∙ leads e (Some p) os rest,
     )
 
--- terminals that are a proposition lead the reader to where it says it
+-- After the terminals of a proposition the reader's result is that proposition.
 pub derived_said : {ss : Terms} {p : Formula}
     → IsProposition ss p
     → said_at (state_after_terminals (Some initial_reader_state) ss) ≡ Some p
@@ -86,21 +86,21 @@ derived_said {ss} d =
     let k = leads d [] [] in
     ap (λ l. said_at (state_after_terminals (Some initial_reader_state) l)) (sym (append-nil ss)) ∙ ap said_at k.3 ∙ ap Some k.2
 
--- terminals are a proposition of one formula alone
+-- Terminals are a proposition of at most one formula.
 pub IsProposition-unique : (ss : Terms) (p q : Formula) → IsProposition ss p → IsProposition ss q → p ≡ q
 IsProposition-unique ss p q d e =
     let h = derived_said d in
     let k = derived_said e in
     cc
 
--- ---- what is said is derived
+-- ---- what is accepted has a derivation
 
--- the terminals of a group before its last row of `/\`: those that say a formula, and a `\/`; or none
+-- The terminals of a group before its last row of `/\`: those of a formula, followed by `\/`; or none.
 abbrev Front : Option Formula → Terms → Type 0
 Front None ts = ts ≡ []
 Front (Some a) ts = (ss : Terms) × (ts ≡ ss ++ Disjunction ∷ []) × Derives DisjunctionLevel ss a
 
--- The terminals ts are what stands outside of a group, then its front, which says e, and a row of `/\`, which says p.
+-- The terminals ts are those outside a group, its front of formula e, and a row of `/\` of formula p.
 record Row (Outside : Terms → Type 0) (ts : Terms) (e : Option Formula) (p : Formula) : Type 0 where
   outside : Terms
   front : Terms
@@ -110,7 +110,7 @@ record Row (Outside : Terms → Type 0) (ts : Terms) (e : Option Formula) (p : F
   before : Front e front
   says : Derives ConjunctionLevel conjuncts p
 
--- the terminals up to the `(` of a group, where these groups stand open around it, the innermost first
+-- The terminals up to the `(` of a group, inside these open groups, the innermost first.
 abbrev Outside : List Pending → Terms → Type 0
 Outside [] ts = ts ≡ []
 Outside (o ∷ os) ts =
@@ -118,19 +118,19 @@ Outside (o ∷ os) ts =
     × (ts ≡ before ++ Open ∷ [])
     × ((ss : Terms) (p : Formula) → Derives PartLevel ss p → Row (Outside os) (before ++ ss) o.either (ands_of o p))
 
--- the state stands for the terminals: they are a row as it says; before a part this is so with each part that may come
+-- The state is right for the terminals: they are such a row; before a part, they are with each part that may follow.
 abbrev Stands : Option ReaderState → Terms → Type 0
 Stands None ts = Unit {0}
 Stands (Some (BeforePart l os)) ts =
     (ss : Terms) (p : Formula) → Derives PartLevel ss p → Row (Outside os) (ts ++ ss) l.either (ands_of l p)
 Stands (Some (BehindPart e p os)) ts = Row (Outside os) ts e p
 
--- at the beginning of a group each part that may come stands alone in it
+-- At the start of a group each part that may follow is the first.
 first_part : (os : List Pending) (ts : Terms) → Outside os ts → Stands (Some (BeforePart opened os)) ts
 first_part os ts out =
     λ ss p d. record { outside = ts; front = []; conjuncts = ss; is = refl; around = out; before = refl; says = part d }
 
--- the terminals of a group derive what it says
+-- The terminals of a group derive its formula.
 group_says : {Out : Terms → Type 0} {ts : Terms} {e : Option Formula} {p : Formula} (r : Row Out ts e p)
     → Derives DisjunctionLevel (r.front ++ r.conjuncts) (after_or e p)
 group_says {e = None} {p = p} r = subst (λ l. Derives DisjunctionLevel (l ++ r.conjuncts) p) (sym r.before) (conjunction r.says)
@@ -139,7 +139,7 @@ group_says {e = Some a} {p = p} r =
     subst (λ l. Derives DisjunctionLevel l (Or a p))
     (sym (ap (λ l. l ++ r.conjuncts) f.1 ∙ append_assoc f.0 (Disjunction ∷ []) r.conjuncts)) (or f.2 r.says)
 
--- where a state stands for the terminals so far, the one behind one more terminal stands for them and that
+-- If a state is right for the terminals so far, the next state is right for one more.
 one_more : (o : Option ReaderState) (s : Terminal Formula) (ts : Terms)
     → Stands o ts
     → Stands (option_and_then (λ r. next_state r s) o) (ts ++ s ∷ [])
@@ -187,21 +187,21 @@ one_more (Some (BehindPart e p os)) Disjunction ts h = λ ss q d.
     }
 one_more _ _ ts h = tt
 
--- where a state stands for the terminals so far, the one behind some more stands for all of them
+-- If a state is right for the terminals so far, the state after more terminals is right for all of them.
 all_more : (ss : Terms) (o : Option ReaderState) (ts : Terms) → Stands o ts → Stands (state_after_terminals o ss) (ts ++ ss)
 all_more [] o ts h = subst (Stands o) (sym (append-nil ts)) h
 all_more (s ∷ ss) o ts h =
     let next = option_and_then (λ r. next_state r s) o in
     subst (Stands (state_after_terminals next ss)) (append_assoc ts (s ∷ []) ss) (all_more ss next _ (one_more o s ts h))
 
--- where the state that stands for the terminals says a formula, they are a proposition that says it
+-- If a state that is right for the terminals has a result, they are that proposition.
 whole_said : (o : Option ReaderState) (ts : Terms) (p : Formula) → Stands o ts → said_at o ≡ Some p → IsProposition ts p
 whole_said (Some (BehindPart e a [])) ts p h is =
     subst (λ l. IsProposition l p) (sym (h.is ∙ ap (λ x. x ++ (h.front ++ h.conjuncts)) h.around))
     (subst (IsProposition (h.front ++ h.conjuncts)) (let k : after_or e a ≡ p = cc in k) (group_says h))
 whole_said _ ts p h is = absurd cc
 
--- terminals that lead the reader to where it says a formula are a proposition that says it
+-- If the reader's result after some terminals is a formula, they are a proposition of that formula.
 pub said_derived : {ss : Terms} {p : Formula}
     → said_at (state_after_terminals (Some initial_reader_state) ss) ≡ Some p
     → IsProposition ss p

@@ -1,4 +1,4 @@
--- Lists of initializers and of sites that are read one after another, with the table of their names.
+-- Reading lists of initializers and of sites in sequence, while the table of names grows.
 use Rattle.lw_text.proofs.Common.{◌≡◌, ◌≤◌, List, [], ◌∷◌, ◌++◌, length, map, refl, sym, ap, ◌∙◌, subst}
 use Rattle.lw_text.proofs.Common.{arith, All, AllByRecursion, append_cancel_left, map-append, map_push}
 use Rattle.lw_text.proofs.Common.{filter_map-append, All-from_recursion, ParsesNothing, Bytes, NameTable}
@@ -11,17 +11,17 @@ use Rattle.lw_text.proofs.Lists.{ParsesMany-push, ParsesSepEndBy-unique, Listing
 use Rattle.lw_text.proofs.Lists.{IsDeterministic, Listing-here, Listing-mark}
 use Rattle.lw_text.proofs.NameTables.{all_along}
 
--- what holds of all on a list and of x holds of all on the list with x at its end
+-- What holds of all elements of a list and of x holds of all elements of the list with x appended.
 pub all_push : {X : Type 0} (P : X → Type 0) (xs : List X) (x : X) → AllByRecursion P xs → P x → AllByRecursion P (xs ++ x ∷ [])
 all_push P xs x all p = all_append P xs (x ∷ []) all (p, tt)
 
--- to enter the names of sites a and then of b is to enter those of a ++ b
+-- Inserting the names of sites a and then of b is inserting those of `a ++ b`.
 pub with_sites-append : (names : NameTable) (a b : List SiteSyntax)
     → with_sites names (a ++ b) ≡ with_sites (with_sites names a) b
 with_sites-append names a b =
     ap (insert_names names) (filter_map-append site_name a b) ∙ insert_names-append names (site_names a) (site_names b)
 
--- the names of sites up to one of them need no more room in the table than those of all
+-- The names of sites up to one of them need no more room in the table than those of all.
 names_up_to : (names : NameTable) (front : List SiteSyntax) (s : SiteSyntax) (back : List SiteSyntax)
     → length (with_sites (with_sites names front) (s ∷ [])) ≤ length (with_sites names (front ++ s ∷ back))
 names_up_to names front s back =
@@ -33,8 +33,7 @@ names_up_to names front s back =
       insert_names-longer (with_sites table (s ∷ [])) (site_names back),
     )
 
--- What is listed: what opens and closes the list, how an element X in memory stands on the tokens as a Y, which has a site, and
--- what it must be.
+-- A kind of list: its opening and closing tokens, how an element X in memory parses as a Y, which has a site, and what is required of it.
 pub record Kind (X Y : Type 0) : Type 1 where
   pub opening : TokenList
   pub close : Bytes
@@ -50,15 +49,15 @@ pub record Kind (X Y : Type 0) : Type 1 where
   pub unlike : (ts r l : TokenList) (x : Y) → ts ≡ close ∷ l → stands ts x r → ⊥
 
 module _ {X Y : Type 0} (kind : Kind X Y) where
-  -- the tokens are a whole list of these elements, from its opening to its close, and then comes rest
+  -- The tokens are a whole list of these elements, from its opening to its close, and `rest` remains.
   abbrev pub Whole : TokenList → List Y → TokenList → Type 0
   Whole ts ys rest = (l : TokenList) × (ts ≡ kind.opening ++ l) × ParsesSepEndBy kind.stands semicolon kind.close l ys rest
 
-  -- the sites that elements in memory speak of, by the names of a table
+  -- The sites of elements in memory, by the names of a table.
   abbrev pub sites_of : NameTable → List X → List SiteSyntax
   sites_of names xs = map (λ x. site_by_name names (kind.site x)) xs
 
-  -- These elements have been read, and then comes what is here. The names of their sites went into the table.
+  -- These elements have been read, and `here` remains. The names of their sites were inserted into the table.
   pub record Read (first names ts here : TokenList) (xs : List X) : Type 0 where
     pub start : TokenList
     pub begun : ts ≡ kind.opening ++ start
@@ -67,18 +66,18 @@ module _ {X Y : Type 0} (kind : Kind X Y) where
     pub within : AllByRecursion (λ x. IsIn names (kind.site x)) xs
     pub there : AllByRecursion kind.asks (map (kind.at names) xs)
 
-  -- These elements are the whole list, and then comes rest. The names of their sites went into the table.
+  -- These elements are the whole list, and `rest` remains. The names of their sites were inserted into the table.
   pub record ReadWhole (first names ts rest : TokenList) (xs : List X) : Type 0 where
     pub whole : Whole ts (map (kind.at names) xs) rest
     pub names_are : names ≡ with_sites first (sites_of names xs)
     pub within : All (λ x. IsIn names (kind.site x)) xs
     pub there : AllByRecursion kind.asks (map (kind.at names) xs)
 
-  -- behind the opening nothing has been read
+  -- After the opening nothing has been read.
   pub read_none : (names ts start : TokenList) → ts ≡ kind.opening ++ start → Read names names ts start []
   read_none names ts start e = record { start = start; begun = e; listing = refl; names_are = refl; within = tt; there = tt }
 
-  -- the syntax of elements' sites is that of their sites in memory, by the names of the table
+  -- The syntax of elements' sites is that of their sites in memory, by the names of the table.
   syntax_sites : (names : NameTable) (xs : List X) → map kind.syntax (map (kind.at names) xs) ≡ sites_of names xs
   syntax_sites names [] = refl
   syntax_sites names (x ∷ xs) =
@@ -86,7 +85,7 @@ module _ {X Y : Type 0} (kind : Kind X Y) where
       let f = syntax_sites names xs in
       cc
 
-  -- the list behind its opening
+  -- The list after its opening.
   behind_opening : (ts start : TokenList)
       → ts ≡ kind.opening ++ start
       → (ys : List Y) (rest : TokenList)
@@ -94,13 +93,13 @@ module _ {X Y : Type 0} (kind : Kind X Y) where
       → ParsesSepEndBy kind.stands semicolon kind.close start ys rest
   behind_opening ts start e ys rest w = rw (append_cancel_left kind.opening w.0 start (sym w.1 ∙ e)) at w.2
 
-  -- a list is read in one way
+  -- The parse of a list is unique.
   pub Whole-unique : IsDeterministic Whole
   Whole-unique ts a b r s p q =
       ParsesSepEndBy-unique kind.stands semicolon kind.close kind.one kind.apart kind.unlike a b p.0 r s p.2
       (behind_opening ts p.0 p.1 b s q)
 
--- One more element was read: x, whose name went into the table, stands here, up to mid.
+-- One more element x was read, from `here` to `mid`, and its name inserted into the table.
 pub record More {X Y : Type 0} (kind : Kind X Y) (names after : NameTable) (here mid : TokenList) (x : X) : Type 0 where
   pub grows : after ≡ with_sites names (site_by_name after (kind.site x) ∷ [])
   pub is_in : IsIn after (kind.site x)
@@ -109,7 +108,7 @@ pub record More {X Y : Type 0} (kind : Kind X Y) (names after : NameTable) (here
 
 module _ {X Y : Type 0} {kind : Kind X Y} {first names ts here : TokenList} {xs : List X}
     (read : Read kind first names ts here xs) where
-  -- where the close stands behind a separator, the elements are the whole list
+  -- If the closing token follows a separator, the elements are the whole list.
   pub read_end : (rest : TokenList) → here ≡ kind.close ∷ rest → ReadWhole kind first names ts rest xs
   read_end rest e = record {
     whole = (read.start, read.begun, Listing-end _ semicolon _ _ read.start here rest read.listing e);
@@ -118,7 +117,7 @@ module _ {X Y : Type 0} {kind : Kind X Y} {first names ts here : TokenList} {xs 
     there = read.there;
   }
 
-  -- where neither the close stands nor an element whose name has room, the tokens from the opening on are no list
+  -- If neither the closing token nor an element whose name has room follows, there is no list.
   pub read_none_here : ((l : TokenList) → here ≡ kind.close ∷ l → ⊥)
       → ((y : Y) (rest : TokenList) → kind.stands here y rest → kind.asks y → HasRoomFor names (kind.syntax y ∷ []) → ⊥)
       → (ys : List Y) (rest : TokenList)
@@ -142,7 +141,7 @@ module _ {X Y : Type 0} {kind : Kind X Y} {first names ts here : TokenList} {xs 
         ap (λ ns. length (with_sites ns (kind.syntax y ∷ []))) read.names_are,
       ))) (behind_opening kind ts read.start read.begun ys rest w)
 
-  -- where neither a separator nor the close stands behind an element, the tokens from the opening on are no list
+  -- If neither a separator nor the closing token follows an element, there is no list.
   pub read_no_mark : (x : Y) (mid : TokenList)
       → kind.stands here x mid
       → ((l : TokenList) → mid ≡ semicolon ∷ l → ⊥)
@@ -152,7 +151,7 @@ module _ {X Y : Type 0} {kind : Kind X Y} {first names ts here : TokenList} {xs 
       Listing-mark kind.stands semicolon kind.close kind.one kind.apart kind.unlike _ ys read.start here mid rest x read.listing p
       no_sep no_close (behind_opening kind ts read.start read.begun ys rest w)
 
-  -- one more
+  -- One more element.
   module _ {after : NameTable} {x : X} {mid : TokenList} (more : More kind names after here mid x) where
     along : (map (kind.at after) xs ≡ map (kind.at names) xs) × AllByRecursion (λ x. IsIn after (kind.site x)) xs
     along = all_along _ _ kind.stable _ _ (site_names (site_by_name after (kind.site x) ∷ [])) xs more.grows read.within
@@ -175,7 +174,7 @@ module _ {X Y : Type 0} {kind : Kind X Y} {first names ts here : TokenList} {xs 
     there_more : AllByRecursion kind.asks (map (kind.at after) (xs ++ x ∷ []))
     there_more = subst (AllByRecursion kind.asks) (sym at_more) (all_push kind.asks _ _ read.there more.fits)
 
-    -- where a separator stands behind one more element, it has been read with those before it
+    -- If a separator follows one more element, it is one more element read.
     pub read_more : (next : TokenList) → mid ≡ semicolon ∷ next → Read kind first after ts next (xs ++ x ∷ [])
     read_more next e = record {
       start = read.start;
@@ -188,7 +187,7 @@ module _ {X Y : Type 0} {kind : Kind X Y} {first names ts here : TokenList} {xs 
       there = there_more;
     }
 
-    -- where the close stands behind one more element, the whole list has been read
+    -- If the closing token follows one more element, the whole list has been read.
     pub read_last : (rest : TokenList) → mid ≡ kind.close ∷ rest → ReadWhole kind first after ts rest (xs ++ x ∷ [])
     read_last rest e = record {
       whole = (

@@ -1,4 +1,4 @@
--- The columns of rows: their number and height, what holds of their cells, and the loop that gives each column its cell of a row.
+-- The columns of rows: their number and height, what holds of their cells, and the loop that appends to each column its cell of a row.
 use Rattle.lw_text.proofs.Common.{◌≡◌, ℕ, zero, suc, ◌+◌, ◌<◌, ◌≤◌, List, [], ◌∷◌, ◌++◌, length, map}
 use Rattle.lw_text.proofs.Common.{slice_get, Option, Some, None, get_or, refl, sym, ap, ◌∙◌, subst, arith}
 use Rattle.lw_text.proofs.Common.{All, option_map, cons_option, range_with_len, AllByRecursion}
@@ -7,15 +7,15 @@ use Rattle.lw_text.proofs.Common.{slice_get_within, get_or_from_slice_get, slice
 use Rattle.lw_text.proofs.Common.{set-append_seam, slice_get-get_or, set, length-append, zip, append_assoc}
 use Rattle.lw_text.proofs.Common.{append-nil, column, columns, each_of, all_of_range, height, get_some}
 
--- ---- what each column is
+-- ---- each column
 
--- what holds of each column by its index holds of all columns
+-- What holds of each column by its index holds of all columns.
 all_columns : {X : Type 0} (Q : List X → Type 0) (n : ℕ) (rows : List (List X))
     → ((k : ℕ) → k < n → Q (column rows k))
     → All Q (columns n rows)
 all_columns Q n rows h = All-from_recursion Q _ (all_of_range Q _ 0 n (λ k le lt. h k (omega (arith, lt))))
 
--- a column is as long as there are rows
+-- A column has as many items as there are rows.
 column-length : {X : Type 0} (n k : ℕ) (rows : List (List X))
     → k < n
     → AllByRecursion (λ row. length row ≡ n) rows
@@ -24,7 +24,7 @@ column-length n k [] lt all = refl
 column-length n k (row ∷ rows) lt all =
     rw ((get_some row k (omega (arith, lt, all.0))).1) (ap suc (column-length n k rows lt all.1))
 
--- what holds of all elements of a row and of a list holds of the list with the row's element at k, if there is one, at its front
+-- What holds of all elements of a row and of a list holds of the list with the row's element at k, if there is one, prepended.
 cons_each : {X : Type 0} (P : X → Type 0) (row more : List X) (k : ℕ) (o : Option X)
     → slice_get row k ≡ o
     → All P row
@@ -34,21 +34,21 @@ cons_each P row more k None e all rest = rest
 cons_each P row more k (Some x) e all rest =
     (subst P (get_or_from_slice_get row k x x e) (all k x (slice_get_within row k x e)), rest)
 
--- what holds of all elements of the rows holds of all elements of the column at k
+-- What holds of all elements of the rows holds of all elements of the column at k.
 column-each : {X : Type 0} (P : X → Type 0) (k : ℕ) (rows : List (List X))
     → AllByRecursion (λ row. All P row) rows
     → AllByRecursion P (column rows k)
 column-each P k [] all = tt
 column-each P k (row ∷ rows) all = cons_each P row (column rows k) k _ refl all.0 (column-each P k rows all.1)
 
--- ---- columns of rows of which each has a cell for each thread
+-- ---- columns of rows with a cell for each thread
 
 module _ {X : Type 0} (n : ℕ) (rows : List (List X)) (even : All (λ row. length row ≡ n) rows) where
-  -- there are as many columns as asked for
+  -- There are n columns.
   pub columns-length : length (columns n rows) ≡ n
   columns-length = length-map-range_with_len (column rows) 0 n
 
-  -- the columns are as high as there are rows
+  -- The height of the columns is the number of rows.
   pub columns-height : 1 ≤ n → height (columns n rows) ≡ length rows
   columns-height some = at n refl some
     where
@@ -56,13 +56,13 @@ module _ {X : Type 0} (n : ℕ) (rows : List (List X)) (even : All (λ row. leng
       at zero e some = absurd (omega arith)
       at (suc m) e some = rw e (column-length n 0 rows (omega (arith, some)) (each_of rows _ even))
 
-  -- all columns are as high as the first
+  -- All columns have the same height.
   pub columns-even : 1 ≤ n → All (λ c. length c ≡ height (columns n rows)) (columns n rows)
   columns-even some =
       all_columns (λ c. length c ≡ height (columns n rows)) n rows
       (λ k lt. column-length n k rows lt (each_of rows (λ row. length row ≡ n) even) ∙ sym (columns-height some))
 
--- what holds of all elements of the rows holds of all elements of all columns
+-- What holds of all elements of the rows holds of all elements of all columns.
 pub columns-each : {X : Type 0} (P : X → Type 0) (n : ℕ) (rows : List (List X))
     → All (λ row. All P row) rows
     → All (λ c. All P c) (columns n rows)
@@ -70,23 +70,23 @@ columns-each {X} P n rows all =
     all_columns (λ c. All P c) n rows
     (λ k lt. All-from_recursion P (column rows k) (column-each P k rows (each_of rows (λ row. All P row) all)))
 
--- ---- columns of rows that are seen otherwise, as without places
+-- ---- columns of mapped rows
 
--- mapping an optional element in front of a list is mapping both
+-- A `map` of an optional element prepended to a list is the `map` of both.
 cons_map : {X Y : Type 0} (f : X → Y) (o : Option X) (xs : List X) (ys : List Y)
     → map f xs ≡ ys
     → map f (cons_option o xs) ≡ cons_option (option_map f o) ys
 cons_map f None xs ys e = e
 cons_map f (Some x) xs ys e = ap (λ l. f x ∷ l) e
 
--- a column, mapped, is that column of the mapped rows
+-- A mapped column is that column of the mapped rows.
 column-map : {X Y : Type 0} (f : X → Y) (rows : List (List X)) (k : ℕ) → map f (column rows k) ≡ column (map (map f) rows) k
 column-map f [] k = refl
 column-map f (row ∷ rows) k =
     cons_map f (slice_get row k) (column rows k) (column (map (map f) rows) k) (column-map f rows k)
     ∙ ap (λ o. cons_option o (column (map (map f) rows) k)) (sym (slice_get-map f row k))
 
--- columns from any index on, mapped, are those of the mapped rows
+-- Mapped columns from an index on are those of the mapped rows.
 range-map : {X Y : Type 0} (f : X → Y) (rows : List (List X)) (a n : ℕ)
     → map (map f) (map (column rows) (range_with_len a n)) ≡ map (column (map (map f) rows)) (range_with_len a n)
 range-map f rows a zero = refl
@@ -95,18 +95,18 @@ range-map f rows a (suc n) =
     let g = range-map f rows (a + 1) n in
     cc
 
--- all columns, mapped, are the columns of the mapped rows
+-- All columns, mapped, are the columns of the mapped rows.
 pub columns-map : {X Y : Type 0} (f : X → Y) (n : ℕ) (rows : List (List X))
     → map (map f) (columns n rows) ≡ columns n (map (map f) rows)
 columns-map f n rows = range-map f rows 0 n
 
--- ---- cells that move to the ends of columns, one after another
+-- ---- moving cells to the ends of columns, in sequence
 
--- a list with one more item
+-- A list with one item appended.
 abbrev pub with_last : {X : Type 0} → List X × X → List X
 with_last p = p.0 ++ p.1 ∷ []
 
--- So many columns have got their cell of a row, and the rest of the row is still to come.
+-- The first `count` columns have got their cell of a row, and the rest of the row remains.
 pub record Filling {X : Type 0} (old columns : List (List X)) (row rest : List X) (count : ℕ) : Type 0 where
   pub done : List (List X)
   pub todo : List (List X)
@@ -115,18 +115,18 @@ pub record Filling {X : Type 0} (old columns : List (List X)) (row rest : List X
   pub whole : done ++ map with_last (zip todo rest) ≡ map with_last (zip old row)
   pub even : length todo ≡ length rest
 
--- no column has got its cell of a row yet
+-- No column has got its cell of the row yet.
 pub filling_none : {X : Type 0} (old : List (List X)) (row : List X) → length row ≡ length old → Filling old old row row 0
 filling_none old row even = record { done = []; todo = old; are = refl; number = refl; whole = refl; even = sym even }
 
--- where a cell of the row is still to come, there is a column for it
+-- If a cell of the row remains, there is a column for it.
 pub filling_within : {X : Type 0} {old columns : List (List X)} {row rest more : List X} {count : ℕ} {x : X}
     → Filling old columns row rest count
     → rest ≡ x ∷ more
     → count < length columns
 filling_within f is = omega (arith, ap length f.are, length-append f.done f.todo, f.number, f.even, ap length is)
 
--- where the next cell of the row was put at the end of the column at count, one more column has got its cell
+-- If the next cell is appended to the column at `count`, one more column has got its cell.
 pub filling_more : {X : Type 0} {old columns : List (List X)} {row rest more column : List X} {count : ℕ} {x : X}
     → Filling old columns row rest count
     → rest ≡ x ∷ more
@@ -161,7 +161,7 @@ filling_more {X} {old} {columns} {row} {rest} {more} {column} {count} {x} f is a
           even = omega (arith, f.even, ap length some, ap length is);
         }
 
--- all columns have got their cells of a row
+-- All columns have got their cell of the row.
 pub filling_all : {X : Type 0} {old columns : List (List X)} {row rest : List X} {count : ℕ}
     → Filling old columns row rest count
     → length rest ≡ 0
@@ -172,7 +172,7 @@ filling_all {X} {old} {columns} {row} {rest} f is = last f.todo refl
     last [] none = f.are ∙ ap (λ l. f.done ++ l) none ∙ ap (λ l. f.done ++ map with_last (zip l rest)) (sym none) ∙ f.whole
     last (c ∷ todo) some = absurd (omega (arith, f.even, ap length some, is))
 
--- n columns of rows from the index a on, each with its cell of one row more at its end, are those of the rows and that row
+-- The n columns from the index a on, each with its cell of one more row appended, are those of the rows with that row.
 from_place : {X : Type 0} (rows : List (List X)) (front part : List X) (a n : ℕ)
     → length front ≡ a
     → length part ≡ n
@@ -194,13 +194,13 @@ from_place {X} rows front (x ∷ part) a (suc n) e f =
     ∙ ap (λ r. column (rows ++ row ∷ []) a ∷ map (column (rows ++ r ∷ [])) (range_with_len (a + 1) n))
     (append_assoc front (x ∷ []) part)
 
--- columns of rows and one row more are the columns, each with its cell of that row at the end
+-- The columns of rows, each with its cell of one more row appended, are the columns of the rows with that row.
 pub columns_more : {X : Type 0} (n : ℕ) (rows : List (List X)) (row : List X)
     → length row ≡ n
     → map with_last (zip (columns n rows) row) ≡ columns n (rows ++ row ∷ [])
 columns_more n rows row e = from_place rows [] row 0 n refl e
 
--- each row that is still to come is as long as all rows are
+-- Each remaining row has the same length as the others.
 pub row_length : {X : Type 0} (n : ℕ) (rows before rest more : List (List X)) (row : List X)
     → All (λ r. length r ≡ n) rows
     → before ++ rest ≡ rows
@@ -213,7 +213,7 @@ row_length n rows before rest more row even whole next =
     subst (λ l. length (get_or l (length before) row) ≡ n) (sym all) (even (length before) row lt) in
     ap length (sym (get_or-append_seam before row more row)) ∙ at
 
--- where no row is still to come, those before are all rows
+-- If no row remains, those before are all rows.
 pub all_yielded : {X : Type 0} (rows before rest : List X) → before ++ rest ≡ rows → length rest ≡ 0 → before ≡ rows
 all_yielded rows before [] whole none = sym (append-nil before) ∙ whole
 all_yielded rows before (x ∷ rest) whole none = absurd (omega (arith, none))

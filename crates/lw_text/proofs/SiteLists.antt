@@ -1,4 +1,4 @@
--- The initializers of an initial block, and the list of names, read one after another.
+-- Reading the initializers of an initial block, and the list of names, in sequence.
 use Rattle.lw_text.proofs.Common.{◌≡◌, false, List, [], ◌∷◌, refl, codes, ℕ, inl, inr, map, sym, ◌∙◌, subst}
 use Rattle.lw_text.proofs.Common.{map-id, AllByRecursion, TokenList, Arch, HasRoomFor, SiteSyntax, IsSite}
 use Rattle.lw_text.proofs.Common.{ThreadExists, begins_token, Listed, InitializerSyntax, IsInitializer, Block}
@@ -13,7 +13,7 @@ use Rattle.lw_text.specs.declared.site.Site.{Site as MadeSite}
 
 -- ---- the initial block
 
--- the initial block, as a list of initializers between braces
+-- The initial block, as a list of initializers between braces.
 abbrev pub initializers : Arch → Kind MadeInitializer InitializerSyntax
 initializers arch = record {
   opening = codes "{" ∷ [];
@@ -30,12 +30,12 @@ initializers arch = record {
   unlike = λ ts r l e at p. no_site brace refl arch ts l p.0 e.site at p.1;
 }
 
--- all initializers are what `Kind` asks of them: nothing is asked
+-- Nothing is required of initializers.
 all_unit : (all : List InitializerSyntax) → AllByRecursion (λ e. Unit {0}) all
 all_unit [] = tt
 all_unit (e ∷ all) = (tt, all_unit all)
 
--- where no initializer stands here, nor the end, there is no initial block
+-- If neither an initializer nor the closing brace follows, there is no initial block.
 pub initializers_fault : (arch : Arch) {first names ts here : TokenList} {es : List MadeInitializer}
     → Read (initializers arch) first names ts here es
     → begins_token brace here ≡ false
@@ -48,13 +48,13 @@ initializers_fault arch {here = here} read h never all rest block few =
     read_none_here read (λ l. token_not_next brace here l h) (λ e rest p none few. never e rest p few) all rest block
     (all_unit all) few
 
--- an initial block is read in one way
+-- The parse of an initial block is unique.
 pub Block-unique : (arch : Arch) → IsDeterministic (Block arch)
 Block-unique arch = Whole-unique (initializers arch)
 
 -- ---- the list of names
 
--- the list of names, as a list of sites of threads that exist
+-- The list of names, as a list of sites whose threads exist.
 abbrev pub sites : Arch → ℕ → Kind MadeSite SiteSyntax
 sites arch threads = record {
   opening = codes "locations" ∷ codes "[" ∷ [];
@@ -71,7 +71,7 @@ sites arch threads = record {
   unlike = λ ts r l s at p. no_site bracket refl arch ts l r s at p;
 }
 
--- where tokens begin with `locations`, what is listed on them is a list of the kind `sites`, and is not left out
+-- If tokens start with `locations`, they have a list of the kind `sites`.
 pub list_behind : (arch : Arch) (threads : ℕ) (ts behind : TokenList)
     → ts ≡ codes "locations" ∷ behind
     → (all : List SiteSyntax) (rest : TokenList)
@@ -80,11 +80,11 @@ pub list_behind : (arch : Arch) (threads : ℕ) (ts behind : TokenList)
 list_behind arch threads ts behind word all rest (inl p) = p
 list_behind arch threads ts behind word all rest (inr p) = absurd (token_not_next _ ts behind p.0 word)
 
--- a table with room for sites has it for the syntax that the kind `sites` takes of them: the sites themselves
+-- A table with room for sites has room for their syntax, which are the sites themselves.
 pub syntax_same : (names : TokenList) (all : List SiteSyntax) → HasRoomFor names all → HasRoomFor names (map (λ s. s) all)
 syntax_same names all few = subst (λ x. HasRoomFor names x) (sym (map-id all)) few
 
--- a list of names, or none, is read in one way
+-- The parse of a list of names, or of none, is unique.
 pub Listed-unique : (arch : Arch) → IsDeterministic (Listed arch)
 Listed-unique arch ts a b r s (inl p) q =
     Whole-unique (sites arch 0) ts a b r s p (list_behind arch 0 ts (codes "[" ∷ p.0) p.1 b s q)

@@ -1,4 +1,4 @@
--- Where a site stands, and where none does.
+-- When tokens start with a site, and when they do not.
 use Rattle.lw_text.proofs.Common.{◌≡◌, ◌⊎◌, ℕ, ◌<◌, inl, inr, [], ◌∷◌, Option, None, Some, true, false}
 use Rattle.lw_text.proofs.Common.{slice_get, subst, sym, ap, ◌∙◌, arith, codes, true≢false, ltb-false}
 use Rattle.lw_text.proofs.Common.{ltb-true, slice_get_within, HoldsOfNothing, ParsesNothing, Bytes, NameTable}
@@ -11,17 +11,17 @@ use Rattle.lw_text.proofs.api.Numbers.{bracket_no_number, number-unique}
 use Rattle.lw_text.proofs.NameTables.{site_by_name-at}
 use Rattle.lw_text.specs.declared.site.Site.TheVariants as made
 
--- a location is allowed, however many threads there are
+-- A location is allowed for every number of threads.
 allowed_location : (threads : Option ℕ) (x : Bytes) → ThreadAllowed threads (InMemory x)
 allowed_location None x = tt
 allowed_location (Some threads) x = tt
 
--- a register of an allowed thread is allowed
+-- A register of an allowed thread is allowed.
 pub allowed_thread : (threads : Option ℕ) (t r : ℕ) → is_allowed threads t ≡ true → ThreadAllowed threads (InThread t r)
 allowed_thread None t r e = tt
 allowed_thread (Some threads) t r e = ltb-true t threads e
 
--- where a location's name was entered, and stands here as it is or in brackets, the site that it is was taken
+-- If a location's name was inserted, and is next with or without brackets, its site was read.
 pub entered : {arch : Arch} {threads : Option ℕ} {before after : Cursor} {names table : NameTable} {loc : ℕ} {t : Bytes}
     → IsLocationName t × (slice_get table loc ≡ Some t) × (table ≡ insert_name names t)
     → AdvancesTo before after
@@ -39,7 +39,7 @@ entered {arch} {threads} {before} {after} {names} {table} {loc} {t} made leaves 
     }
 
 module _ (arch : Arch) (names : NameTable) {ts l : TokenList} {t : Bytes} (e : ts ≡ t ∷ l) where
-  -- at a `[`, where no location and `]` follow that have room, no site stands that fits
+  -- If `[` is next, but no location that has room and `]` follow, no site fits.
   pub brackets_none : t ≡ codes "["
       → ((x : Bytes) (rest : TokenList) → l ≡ x ∷ codes "]" ∷ rest → IsLocationName x → HasRoomForName names x → ⊥)
       → (s : SiteSyntax) (rest : TokenList)
@@ -53,7 +53,7 @@ module _ (arch : Arch) (names : NameTable) {ts l : TokenList} {t : Bytes} (e : t
       let k : p.0 ≡ codes "[" = cc in
       bracket_no_number u (subst (λ w. IsNumber w u) k p.3)
 
-  -- behind a number
+  -- A site that starts with a number is a register of that thread.
   behind_number : (n : ℕ)
       → IsNumber t n
       → (s : SiteSyntax) (rest : TokenList)
@@ -69,7 +69,7 @@ module _ (arch : Arch) (names : NameTable) {ts l : TokenList} {t : Bytes} (e : t
       let same : u ≡ n = number-unique t u n (subst (λ w. IsNumber w u) k p.3) number in
       (p.1, r, ap (λ (v : ℕ). InThread v r) same, cc, p.4)
 
-  -- where the thread's number is not allowed no allowed site stands
+  -- If the thread's number is not allowed, there is no allowed site.
   pub thread_refused : (n : ℕ)
       → IsNumber t n
       → (threads : Option ℕ)
@@ -83,14 +83,14 @@ module _ (arch : Arch) (names : NameTable) {ts l : TokenList} {t : Bytes} (e : t
       let exists : n < threads = subst (ThreadExists threads) ((behind_number n number s rest p).2) there in
       omega (arith, exists, ltb-false n threads refused)
 
-  -- behind a number, where no `:` and register follow, no site stands
+  -- If no `:` and register follow a number, there is no site.
   pub register_none : (n : ℕ)
       → IsNumber t n
       → ((q : Bytes) (r : ℕ) (rest : TokenList) → l ≡ codes ":" ∷ q ∷ rest → IsRegisterName arch q r → ⊥)
       → ParsesNothing (IsSite arch ts)
   register_none n number never s rest p = let k = behind_number n number s _ p in never k.0 k.1 rest k.3 k.4
 
-  -- at a token that is no `[`, no number and no location that has room, no site stands that fits
+  -- If the token is no `[`, no number and no location that has room, no site fits.
   pub location_none : (t ≡ codes "[" → ⊥)
       → HoldsOfNothing (IsNumber t)
       → (IsLocationName t → HasRoomForName names t → ⊥)

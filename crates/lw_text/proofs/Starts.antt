@@ -1,15 +1,15 @@
--- Loops over indices: what a list of what they made has with one index more, and what is known at the end of the loop.
+-- Loops over indices: how a computed list grows with the index, and what holds at the loop's end.
 use Rattle.lw_text.proofs.Common.{◌≡◌, ℕ, ◌+◌, Bool, List, [], ◌∷◌, ◌++◌, length, map, take, refl, sym, ap}
 use Rattle.lw_text.proofs.Common.{◌∙◌, append_assoc, zero-add, filter, flat_map, map-id, append-nil, ◌≤◌}
 use Rattle.lw_text.proofs.Common.{take_all, range_with_len, flat_map-append, map_push, filter-append}
 use Rattle.lw_text.proofs.Common.{map-range_with_len_more, Seen, thread_registers, all_registers}
 
--- of the images f of the first n + 1 indices those that pass a test are those of the first n that do, and the last, if it does
+-- The images of the first `n + 1` indices that pass a test are those of the first n that do, followed by the last, if it does.
 pub filter_more : {X : Type 0} (p : X → Bool) (f : ℕ → X) (n : ℕ)
     → filter p (map f (range_with_len 0 (n + 1))) ≡ filter p (map f (range_with_len 0 n)) ++ filter p (f n ∷ [])
 filter_more p f n = ap (filter p) (map-range_with_len_more f 0 n n (zero-add n)) ∙ filter-append p _ _
 
--- a list of h of the images f of the first n indices, with that of the index n put at its end, is the list of n + 1 of them
+-- Appending h of the image of index n extends the list for the first n indices to `n + 1`.
 pub mapped_more : {X Y : Type 0} (h : X → Y) (f : ℕ → X) (before after : List Y) (n : ℕ) (y : Y)
     → before ≡ map h (map f (range_with_len 0 n))
     → after ≡ before ++ y ∷ []
@@ -18,7 +18,7 @@ pub mapped_more : {X Y : Type 0} (h : X → Y) (f : ℕ → X) (before after : L
 mapped_more h f before after n y e p q =
     rw (map-range_with_len_more f 0 n n (zero-add n), map_push h (map f (range_with_len 0 n)) (f n), ← e, ← q) p
 
--- behind what stood before, those of the images f of n indices that pass a test, and that of n, if it does, are those of n + 1
+-- Appending the image of index n, if it passes a test, extends the filtered images of the first n indices to `n + 1`.
 pub seen_more : {X : Type 0} (p : X → Bool) (before seen after : List X) (f : ℕ → X) (n : ℕ)
     → seen ≡ before ++ filter p (map f (range_with_len 0 n))
     → after ≡ seen ++ filter p (f n ∷ [])
@@ -29,14 +29,14 @@ seen_more p before seen after f n e h =
     ∙ append_assoc before (filter p (map f (range_with_len 0 n))) (filter p (f n ∷ []))
     ∙ ap (λ l. before ++ l) (sym (filter_more p f n))
 
--- the n + 1 indices from a up are the n from a up, and a + n at the end
+-- The `n + 1` indices from a are the n from a, followed by `a + n`.
 range-more : (a n : ℕ) → range_with_len a (n + 1) ≡ range_with_len a n ++ (a + n) ∷ []
 range-more a n =
     sym (map-id (range_with_len a (n + 1)))
     ∙ map-range_with_len_more (λ k. k) a n (a + n) refl
     ∙ ap (λ l. l ++ (a + n) ∷ []) (map-id (range_with_len a n))
 
--- the registers of n threads that pass a test, and behind them those of the thread n, are those of n + 1 threads
+-- Appending the registers of thread n that pass a test extends those of the first n threads to `n + 1`.
 pub registers_more : (p : Seen → Bool) (seen after : List Seen) (n : ℕ)
     → seen ≡ filter p (all_registers n)
     → after ≡ seen ++ filter p (thread_registers n)
@@ -48,8 +48,8 @@ registers_more p seen after n e f =
     ∙ ap (λ l. all_registers n ++ l) (append-nil (thread_registers n)) in
     f ∙ ap (λ l. l ++ filter p (thread_registers n)) e ∙ sym (ap (filter p) more ∙ filter-append p _ _)
 
--- ---- all of a list
+-- ---- the whole list
 
--- what is so of all that a loop has passed is so of the whole list, at the loop's end
+-- What holds of the items that a loop has passed holds of the whole list at the loop's end.
 pub at_end : {X Y : Type 0} (f : List X → Y) (xs : List X) (i : ℕ) (y : Y) → length xs ≤ i → f (take i xs) ≡ y → f xs ≡ y
 at_end f xs i y le all = ap f (sym (take_all i xs le)) ∙ all

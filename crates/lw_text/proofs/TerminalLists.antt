@@ -1,4 +1,4 @@
--- The terminals of a proposition are read in one way.
+-- The parse of a proposition's terminals is unique.
 use Rattle.lw_text.proofs.Common.{◌≡◌, ℕ, ◌<◌, inl, inr, true, false, List, [], ◌∷◌, ◌++◌, length, refl, sym}
 use Rattle.lw_text.proofs.Common.{ap, ◌∙◌, subst, arith, codes, if◌then◌else◌, ◌⊎◌, Option, Some, None}
 use Rattle.lw_text.proofs.Common.{bytes_eq, append-nil, ParsesNothing, Bytes, TokenList, Arch, ParsesMany}
@@ -10,9 +10,9 @@ use Rattle.lw_text.proofs.Atoms.{no_site}
 use Rattle.lw_text.proofs.Lists.{ParsesMany-peel, IsDeterministic}
 use Rattle.lw_text.proofs.Texts.{token_not_next}
 
--- ---- terminals are read in one way
+-- ---- uniqueness
 
--- the terminal that one token is: a parenthesis, a connective, `true` or `false`
+-- The terminal that a single token is: a parenthesis, a connective, `true` or `false`.
 abbrev terminal_word : Bytes → Option (Terminal AtomSyntax)
 terminal_word w =
     if bytes_eq w (codes "(")
@@ -29,14 +29,14 @@ terminal_word w =
     then Some Disjunction
     else if bytes_eq w (codes "true") then Some (Atom Always) else if bytes_eq w (codes "false") then Some (Atom Never) else None
 
--- A terminal that is one token stands here.
+-- The tokens start with a terminal that is a single token.
 record Word (ts : TokenList) (s : Terminal AtomSyntax) (rest : TokenList) : Type 0 where
   pub word : Bytes
   pub stands : ts ≡ word ∷ rest
   pub is : terminal_word word ≡ Some s
   pub apart : is_apart word ≡ true
 
--- An atom that claims a word of a site: the site stands here, and its value behind it.
+-- The tokens start with an atom: a site, and its value after it.
 record Claimed (arch : Arch) (threads : ℕ) (ts : TokenList) (s : Terminal AtomSyntax) (rest : TokenList) : Type 0 where
   pub site : SiteSyntax
   pub n : ℕ
@@ -45,7 +45,7 @@ record Claimed (arch : Arch) (threads : ℕ) (ts : TokenList) (s : Terminal Atom
   pub site_is : IsSite arch ts site mid
   pub value : Value mid n rest
 
--- a terminal is one token, or an atom that claims a word of a site
+-- A terminal is a single token, or an atom about a site.
 terminal_front : (arch : Arch) (threads : ℕ) (ts rest : TokenList) (s : Terminal AtomSyntax)
     → IsTerminal arch threads ts s rest
     → Word ts s rest ⊎ Claimed arch threads ts s rest
@@ -60,7 +60,7 @@ terminal_front arch threads ts rest (Atom Never) e = inl (record { word = codes 
 terminal_front arch threads ts rest (Atom (Holds site n)) p =
     inr (record { site = site; n = n; mid = p.0; is = refl; site_is = p.1; value = p.3 })
 
--- where a site stands and no value behind it, no terminal stands
+-- If no value follows a site, there is no terminal.
 pub site_alone : (arch : Arch) (threads : ℕ) (ts mid : TokenList) (site : SiteSyntax)
     → IsSite arch ts site mid
     → ParsesNothing (Value mid)
@@ -70,7 +70,7 @@ site_alone arch threads ts mid site p never s rest is = elim (terminal_front arc
   | inr w ↦ never w.n rest (subst (λ l. Value l w.n rest) (IsSite-unique arch ts w.site site w.mid mid w.site_is p).1 w.value)
 ]
 
--- a terminal is read in one way
+-- The parse of a terminal is unique.
 pub IsTerminal-unique : (arch : Arch) (threads : ℕ) → IsDeterministic (IsTerminal arch threads)
 IsTerminal-unique arch threads ts a b r s p q = elim (terminal_front arch threads ts r a p) [
   | inl v ↦ elim (terminal_front arch threads ts s b q) [
@@ -92,7 +92,7 @@ IsTerminal-unique arch threads ts a b r s p q = elim (terminal_front arch thread
   ]
 ]
 
--- a terminal takes at least one token
+-- A terminal takes at least one token.
 pub IsTerminal-shorter : (arch : Arch) (threads : ℕ) (ts rest : TokenList) (s : Terminal AtomSyntax)
     → IsTerminal arch threads ts s rest
     → length rest < length ts
@@ -101,14 +101,14 @@ IsTerminal-shorter arch threads ts rest s p = elim (terminal_front arch threads 
   | inr w ↦ omega (arith, IsSite-shorter arch ts w.mid w.site w.site_is, Value-shorter w.mid rest w.n w.value)
 ]
 
--- ---- rows of terminals
+-- ---- sequences of terminals
 
--- where no token stands, no terminal does
+-- No tokens have no terminals.
 no_terminals : (arch : Arch) (threads : ℕ) (more : List (Terminal AtomSyntax)) → Terminals arch threads [] more → more ≡ []
 no_terminals arch threads [] p = refl
 no_terminals arch threads (s ∷ ss) p = absurd (omega (arith, IsTerminal-shorter arch threads [] p.0 s p.1))
 
--- where all tokens are terminals, and begin with s, what stands behind s are the others
+-- If all tokens are terminals that start with s, the tokens after s are the others.
 terminals_behind : (arch : Arch) (threads : ℕ) (ts mid : TokenList) (s : Terminal AtomSyntax) (all : List (Terminal AtomSyntax))
     → IsTerminal arch threads ts s mid
     → Terminals arch threads ts all
@@ -119,14 +119,14 @@ terminals_behind arch threads ts mid s (t ∷ all) p q =
     let k : s ≡ t = e.0 in
     (all, cc, subst (λ l. Terminals arch threads l all) (sym e.1) q.2)
 
--- all terminals are those that have been read, and those that stand behind
+-- All terminals are those read, followed by the rest.
 pub Terminals-peel : (arch : Arch) (threads : ℕ) (ss all : List (Terminal AtomSyntax)) (ts here : TokenList)
     → ParsesMany (IsTerminal arch threads) ts ss here
     → Terminals arch threads ts all
     → (more : List (Terminal AtomSyntax)) × (all ≡ ss ++ more) × Terminals arch threads here more
 Terminals-peel arch threads = ParsesMany-peel {W = Terminals arch threads} (terminals_behind arch threads)
 
--- the terminals of a proposition are read in one way
+-- The parse of a proposition's terminals is unique.
 pub Terminals-unique : (arch : Arch) (threads : ℕ) (a b : List (Terminal AtomSyntax)) (ts : TokenList)
     → Terminals arch threads ts a
     → Terminals arch threads ts b
@@ -135,7 +135,7 @@ Terminals-unique arch threads a b ts p q =
     let k = Terminals-peel arch threads a b ts [] p q in
     sym (k.1 ∙ ap (λ l. a ++ l) (no_terminals arch threads k.0 k.2) ∙ append-nil a)
 
--- at a token with which no other part begins, only a site's atom begins one
+-- If the token starts no other part, only a site's atom can start there.
 pub only_claim : (arch : Arch) (threads : ℕ) (ts : TokenList)
     → begins_token (codes "(") ts ≡ false
     → begins_token (codes "~") ts ≡ false

@@ -1,33 +1,33 @@
--- What follows where a comparison of two texts says yes or no, as whether a token is next.
+-- What follows if the comparison of two texts is true or false, such as whether a token is next.
 use Rattle.lw_text.proofs.Common.{◌≡◌, ℕ, zero, suc, ◌+◌, ◌<◌, ◌≤◌, true, false, List, [], ◌∷◌, drop, length}
 use Rattle.lw_text.proofs.Common.{length-drop, get_or, refl, sym, ap, ◌∙◌, subst, arith, add-one, drop-cons}
 use Rattle.lw_text.proofs.Common.{codes, bytes_eq, drop_all, length-map, bytes_eq-Decides, Bytes, TokenList}
 use Rattle.lw_text.proofs.Common.{Token, token_texts, IsSuffix, begins_token}
 
--- texts that `bytes_eq` says are the same are the same
+-- Texts that `bytes_eq` finds equal are equal.
 pub is_text : (t u : Bytes) → bytes_eq t u ≡ true → t ≡ u
 is_text t u h = (bytes_eq-Decides t u).0 h
 
--- texts that `bytes_eq` says differ are not the same
+-- Texts that `bytes_eq` finds unequal are unequal.
 pub is_no_text : (t u : Bytes) → bytes_eq t u ≡ false → t ≡ u → ⊥
 is_no_text t u h e = let k = (bytes_eq-Decides t u).1 e in cc
 
--- the two marks behind cells differ
+-- The two marks after cells differ.
 pub marks_apart : codes "|" ≡ codes ";" → ⊥
 marks_apart e = is_no_text (codes "|") (codes ";") refl e
 
--- a token that is not found to be next does not stand in front
+-- A token that is not found to be next is not at the start.
 pub token_not_next : (w : Bytes) (ts l : TokenList) → begins_token w ts ≡ false → ts ≡ w ∷ l → ⊥
 token_not_next w ts l h e = is_no_text w w (ap (begins_token w) (sym e) ∙ h) refl
 
--- what is left from an index on is the token at the index, and what is left from the next on
+-- The tokens from an index on are the token at the index, followed by those from the next index on.
 pub token_next : (tokens : List Token) (next : ℕ) (t : Token)
     → next < length tokens
     → t ≡ get_or tokens next t
     → drop next tokens ≡ t ∷ drop (next + 1) tokens
 token_next tokens next t lt e = rw add-one (drop-cons tokens next t lt ∙ ap (λ x. x ∷ drop (suc next) tokens) (sym e))
 
--- a token that is found to be next stands first in what is left, and behind it is left what is left from the next index on
+-- A token that is found to be next is the first of the rest, and the tokens from the next index on follow it.
 pub word_next : (tokens : List Token) (next : ℕ) (w : Bytes)
     → begins_token w (token_texts (drop next tokens)) ≡ true
     → (next < length tokens)
@@ -44,11 +44,11 @@ word_next (t ∷ tokens) (suc next) w h =
       subst (λ (n : ℕ). IsSuffix (drop next tokens) (drop n (t ∷ tokens))) k r.2,
     )
 
--- past the last token none is left
+-- Past the last token no tokens remain.
 pub nothing_left : (tokens : List Token) (next : ℕ) → length tokens ≤ next → token_texts (drop next tokens) ≡ []
 nothing_left tokens next le = ap token_texts (drop_all next tokens le)
 
--- before the end of the tokens some are left
+-- Before the last token some tokens remain.
 pub some_left : (tokens : List Token) (next : ℕ)
     → next ≤ length tokens
     → (next ≡ length tokens → ⊥)

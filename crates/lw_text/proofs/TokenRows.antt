@@ -1,4 +1,4 @@
--- A text has one list of tokens, each at one place.
+-- The list of tokens of a text, with their positions, is unique.
 use Rattle.lw_text.proofs.Common.{◌≡◌, ℕ, ◌+◌, ◌<◌, false, List, [], ◌∷◌, ◌++◌, length, refl, sym, ap, ◌∙◌}
 use Rattle.lw_text.proofs.Common.{subst, arith, length-append, HoldsOfNothing, ParsesNothing, Bytes}
 use Rattle.lw_text.proofs.Common.{TokenList, Token, ParsesMany, begins_trivia, Trivia, IsToken, IsFirstToken}
@@ -7,19 +7,19 @@ use Rattle.lw_text.proofs.api.Places.{texts_placed}
 use Rattle.lw_text.proofs.TriviaLemmas.{Trivia-unique, Trivia-shorter}
 use Rattle.lw_text.proofs.NameRuns.{token-unique, token_no_trivia, token_nonempty}
 
--- a text has one first token, which ends at one place
+-- The first token of a text and its end are unique.
 pub IsFirstToken-unique : (text t r u s : Bytes) → IsFirstToken text t r → IsFirstToken text u s → (t ≡ u) × (r ≡ s)
 IsFirstToken-unique text t r u s p q =
     token-unique t r u s p.1 q.1 (Trivia-unique p.0 q.0 (token_no_trivia t r p.1) (token_no_trivia u s q.1))
 
--- where only trivia is left there is no first token
+-- If only trivia remains, there is no first token.
 pub no_first : (text t r : Bytes) → Trivia text [] → IsFirstToken text t r → ⊥
 no_first text t r g p =
     let e = Trivia-unique g p.0 refl (token_no_trivia t r p.1) in
     let n = token_nonempty t r p.1 in
     omega (arith, ap length e, length-append t r)
 
--- a text has one list of tokens
+-- The list of tokens of a text is unique.
 pub Tokens-unique : (ts us : TokenList) (text : Bytes) → Tokens text ts → Tokens text us → ts ≡ us
 Tokens-unique [] [] text p q = refl
 Tokens-unique [] (u ∷ us) text p q = absurd (no_first text u q.0 p q.1)
@@ -32,15 +32,15 @@ Tokens-unique (t ∷ ts) (u ∷ us) text p q =
 
 -- ---- tokens that have been read
 
--- a token at its place in a text of this length
+-- A token with its position in a text of this length.
 abbrev pub Placed : ℕ → Bytes → PlacedToken → Bytes → Type 0
 Placed len text t mid = IsFirstToken text t.text mid × (t.at + length t.text + length mid ≡ len)
 
--- these tokens have been read, each at its place, and then comes rest
+-- These tokens have been read, with their positions, and `rest` remains.
 abbrev pub Read : ℕ → Bytes → List PlacedToken → Bytes → Type 0
 Read len text ts rest = ParsesMany (Placed len) text ts rest
 
--- where only trivia is left, the tokens that have been read are all of the text
+-- If only trivia remains, the tokens read are all of the text.
 pub Read-done : (len : ℕ) (ts : List PlacedToken) (text rest : Bytes)
     → Read len text ts rest
     → Trivia rest []
@@ -48,7 +48,7 @@ pub Read-done : (len : ℕ) (ts : List PlacedToken) (text rest : Bytes)
 Read-done len [] text rest p g = subst (λ x. Trivia x []) (sym p) g
 Read-done len (u ∷ ts) text rest p g = (p.0, p.1.0, p.1.1, Read-done len ts p.0 rest p.2 g)
 
--- where the rest, behind the tokens that have been read, is no list of tokens, the text is none
+-- If the rest is no list of tokens, neither is the text.
 pub Read-fault : (len : ℕ) (ts : List PlacedToken) (text rest : Bytes)
     → Read len text ts rest
     → HoldsOfNothing (Tokens rest)
@@ -58,50 +58,50 @@ Read-fault len (t ∷ ts) text rest p never [] q = no_first text t.text p.0 q p.
 Read-fault len (t ∷ ts) text rest p never (u ∷ us) q =
     Read-fault _ ts _ _ p.2 never us (subst (λ x. Tokens x us) (sym (IsFirstToken-unique _ _ _ u _ p.1.0 q.1).1) q.2)
 
--- ---- what the reader of the next token owes
+-- ---- what the reader of the next token must prove
 
 module _ (text start : Bytes) (g : Trivia text start) (stop : begins_trivia start ≡ false) where
-  -- where something is left behind the trivia, the text has not ended
+  -- If something remains after the trivia, the text has not ended.
   pub not_ended : 0 < length start → Trivia text [] → ⊥
   not_ended pos q = omega (arith, ap length (Trivia-unique g q stop refl))
 
-  -- where no token stands behind the trivia, the text has no first token
+  -- If no token follows the trivia, the text has no first token.
   pub no_first_from : ((t rest : Bytes) → start ≡ t ++ rest → IsToken t rest → ⊥) → ParsesNothing (IsFirstToken text)
   no_first_from never t rest q = never t rest (Trivia-unique g q.0 stop (token_no_trivia t rest q.1)) q.1
 
--- where a comment isn't closed the text has no first token
+-- If a comment is not closed, the text has no first token.
 pub no_first_open : (text : Bytes)
     → ((start : Bytes) → begins_trivia start ≡ false → Trivia text start → ⊥)
     → ParsesNothing (IsFirstToken text)
 no_first_open text never t rest q = never (t ++ rest) (token_no_trivia t rest q.1) q.0
 
--- a text that is neither trivia alone nor has a token first is no list of tokens
+-- A text that is not only trivia and has no first token is no list of tokens.
 pub Tokens-none : (text : Bytes) → (Trivia text [] → ⊥) → ParsesNothing (IsFirstToken text) → HoldsOfNothing (Tokens text)
 Tokens-none text no_end no_token [] q = no_end q
 Tokens-none text no_end no_token (t ∷ ts) q = no_token t q.0 q.1
 
--- a token with the trivia before it takes at least one byte
+-- A token with the trivia before it takes at least one byte.
 pub IsFirstToken-shorter : (text t rest : Bytes) → IsFirstToken text t rest → length rest < length text
 IsFirstToken-shorter text t rest f = let n = token_nonempty t rest f.1 in omega (arith, Trivia-shorter f.0, length-append t rest)
 
--- ---- tokens with and without places
+-- ---- tokens with and without positions
 
--- where a text is tokens with their places, it is the same tokens without them
+-- If a text is a list of tokens with their positions, it is the list of the same tokens without them.
 pub Tokens-of : (len : ℕ) (text : Bytes) (ts : List PlacedToken) → PlacedTokens len text ts → Tokens text (texts_of_tokens ts)
 Tokens-of len text [] p = p
 Tokens-of len text (t ∷ ts) p = (p.0, p.1, Tokens-of len p.0 ts p.3)
 
--- where a text is tokens in memory with their places, it is the same tokens without them
+-- If a text is a list of tokens in memory with their positions, it is the list of the same tokens without them.
 pub read_whole : (len : ℕ) (rest : Bytes) (ts : List Token) → PlacedTokens len rest (with_spans ts) → Tokens rest (token_texts ts)
 read_whole len rest ts p = subst (Tokens rest) (texts_placed ts) (Tokens-of len rest (with_spans ts) p)
 
--- tokens with the same place and the same bytes are the same
+-- Tokens with the same position and the same bytes are equal.
 pub same_token : (a b : PlacedToken) → a.at ≡ b.at → a.text ≡ b.text → a ≡ b
 same_token a b at text =
     ap (λ (n : ℕ). let t : PlacedToken = record { at = n; text = a.text } in t) at
     ∙ ap (λ (x : Bytes). let t : PlacedToken = record { at = b.at; text = x } in t) text
 
--- a text has one list of tokens with their places
+-- The list of a text's tokens with their positions is unique.
 pub PlacedTokens-unique : (len : ℕ) (ts us : List PlacedToken) (text : Bytes)
     → PlacedTokens len text ts
     → PlacedTokens len text us

@@ -1,4 +1,4 @@
--- Blanks and comments end at one place, and a loop finds what stands behind them.
+-- The end of blanks and comments is unique, and a loop finds it.
 use Rattle.lw_text.proofs.Common.{◌≡◌, ℕ, true, false, ◌||◌, [], ◌∷◌, ◌++◌, ◌≤◌, length, length-append, arith}
 use Rattle.lw_text.proofs.Common.{refl, sym, ap, ◌∙◌, subst, AllByRecursion, HoldsOfNothing, Bytes, is_blank}
 use Rattle.lw_text.proofs.Common.{first_byte_is, begins_pair, begins_trivia, Comment, Trivia, none, blank}
@@ -6,7 +6,7 @@ use Rattle.lw_text.proofs.Common.{comment, IsSuffix}
 use Rattle.lw_text.proofs.Comments.{Comment-unique, Comment-suffix}
 use Rattle.lw_text.proofs.Lists.{IsSuffix-join}
 
--- a trivia that begins with a comment goes on behind it
+-- Trivia that starts with a comment continues after it.
 at_comment : {ts rest : Bytes}
     → Trivia ts rest
     → (text : Bytes)
@@ -17,11 +17,11 @@ at_comment (none {rest}) text e stop = absurd (let h : begins_trivia rest ≡ tr
 at_comment (blank {b} t g) text e stop = absurd (let h : is_blank b ≡ false = ap (first_byte_is is_blank) e in cc)
 at_comment (comment {text = t} {after} c g) text e stop = (after, rw (let k : t ≡ text = cc in k) at c, g)
 
--- what passes as a blank begins a trivia
+-- A blank starts trivia.
 blank_begins : (l : Bytes) → first_byte_is is_blank l ≡ true → begins_trivia l ≡ false → ⊥
 blank_begins l p q = let h : true || begins_pair 40 42 l ≡ false = rw p at q in cc
 
--- a trivia that begins with a blank goes on behind it
+-- Trivia that starts with a blank continues after it.
 at_blank : {ts rest : Bytes}
     → Trivia ts rest
     → (b : ℕ) (text : Bytes)
@@ -33,37 +33,37 @@ at_blank (none {rest}) b text e test stop = absurd (blank_begins rest (ap (first
 at_blank {rest = rest} (blank {text = t} h g) b text e test stop = rw (let k : t ≡ text = cc in k) at g
 at_blank (comment c g) b text e test stop = absurd (let h : false ≡ is_blank b = ap (first_byte_is is_blank) e in cc)
 
--- where no trivia begins, there is none
+-- If no trivia starts, there is none.
 at_none : {text rest : Bytes} → Trivia text rest → begins_trivia text ≡ false → text ≡ rest
 at_none none stop = refl
 at_none (blank {b} {text} h g) stop = absurd (blank_begins (b ∷ text) h stop)
 at_none (comment c g) stop = absurd cc
 
--- blanks and comments end at one place, if none follow
+-- The end of blanks and comments is unique, if none follow.
 pub Trivia-unique : {text a b : Bytes} → Trivia text a → Trivia text b → begins_trivia a ≡ false → begins_trivia b ≡ false → a ≡ b
 Trivia-unique none g p q = at_none g p
 Trivia-unique (blank {b} {text} h f) g p q = Trivia-unique f (at_blank g b text refl h q) p q
 Trivia-unique {b = end} (comment {text} {after} c f) g p q =
     let o = at_comment g text refl q in Trivia-unique f (subst (λ x. Trivia x end) (sym (Comment-unique c o.1)) o.2) p q
 
--- what stands behind a trivia is the end of the text
+-- What follows trivia is a suffix of the text.
 pub Trivia-suffix : {text rest : Bytes} → Trivia text rest → IsSuffix text rest
 Trivia-suffix none = ([], refl)
 Trivia-suffix (blank {b} h g) = IsSuffix-join (b ∷ [], refl) (Trivia-suffix g)
 Trivia-suffix (comment c g) = IsSuffix-join (40 ∷ 42 ∷ [], refl) (IsSuffix-join (Comment-suffix c) (Trivia-suffix g))
 
--- a trivia makes what is left no longer
+-- What follows trivia is no longer than the text.
 pub Trivia-shorter : {text rest : Bytes} → Trivia text rest → length rest ≤ length text
 Trivia-shorter {rest = rest} g = let s = Trivia-suffix g in omega (arith, ap length s.1, length-append s.0 rest)
 
--- ---- what the reader of a trivia owes
+-- ---- what the reader of trivia must prove
 
--- how far a loop over trivia is: the trivia at the front of the bytes ends where that at the front of the rest does
+-- The invariant of the loop over trivia: the trivia at the start of the bytes ends where that at the start of the rest does.
 pub record Skipped (bytes rest : Bytes) : Type 0 where
   pub given : (end : Bytes) → Trivia rest end → Trivia bytes end
   pub only : (end : Bytes) → begins_trivia end ≡ false → Trivia bytes end → Trivia rest end
 
--- behind blanks at the front of the rest, these have been passed too
+-- After blanks the invariant holds again.
 pub Skipped-blanks : (bs bytes text rest : Bytes)
     → Skipped bytes text
     → text ≡ bs ++ rest
@@ -77,11 +77,11 @@ Skipped-blanks (b ∷ bs) bytes text rest s e all =
     } in
     Skipped-blanks bs bytes (bs ++ rest) rest next refl all.1
 
--- nothing has been passed at the start
+-- At the start nothing has been passed.
 pub Skipped-none : (bytes : Bytes) → Skipped bytes bytes
 Skipped-none bytes = record { given = λ end g. g; only = λ end stop g. g }
 
--- behind a comment at the front of the rest, it has been passed too
+-- After a comment the invariant holds again.
 pub Skipped-comment : {bytes rest inner after : Bytes}
     → Skipped bytes rest
     → rest ≡ 40 ∷ 42 ∷ inner
@@ -92,7 +92,7 @@ Skipped-comment {bytes} {rest} {inner} {after} s e c = record {
   only = λ end stop g. let o = at_comment (s.only end stop g) _ e stop in rw (Comment-unique o.1 c) at o.2;
 }
 
--- where a comment isn't closed the bytes have no trivia
+-- If a comment is not closed, the bytes have no trivia.
 pub Skipped-open : {bytes rest inner : Bytes}
     → Skipped bytes rest
     → rest ≡ 40 ∷ 42 ∷ inner
@@ -103,6 +103,6 @@ pub Skipped-open : {bytes rest inner : Bytes}
     → ⊥
 Skipped-open {bytes} {rest} {inner} s e never end stop g = let o = at_comment (s.only end stop g) inner e stop in never o.0 o.1
 
--- what has been passed is a trivia
+-- What has been passed is trivia.
 pub Skipped-done : {bytes rest : Bytes} → Skipped bytes rest → Trivia bytes rest
 Skipped-done {bytes} {rest} s = s.given rest none

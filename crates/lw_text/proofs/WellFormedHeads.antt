@@ -23,17 +23,17 @@ use Rattle.lw_text.proofs.NameTables.{words-site_by_name, listed-site_by_name}
 
 -- ---- names
 
--- a site is a location with an allowed name, or one of six registers of a thread
+-- The site is a location with an allowed name, or one of six registers of a thread.
 abbrev IsRight : SiteSyntax → Type 0
 IsRight (InMemory x) = IsLocationName x
 IsRight (InThread t r) = r < 6
 
--- a site that is read is a location with an allowed name, or one of six registers of a thread
+-- A site that was read satisfies `IsRight`.
 site_right : (arch : Arch) (ts rest : List (List ℕ)) (s : SiteSyntax) → IsSite arch ts s rest → IsRight s
 site_right arch ts rest (InMemory x) p = p.0
 site_right arch ts rest (InThread t r) p = p.4.0
 
--- what holds of each element that is read holds of all on a list
+-- What holds of each element that can be read holds of all elements of a list that was read.
 ended_right : {X : Type 0} {P : List (List ℕ) → X → List (List ℕ) → Type 0} {Q : X → Type 0}
     → ((ts rest : List (List ℕ)) (x : X) → P ts x rest → Q x)
     → (sep close : List ℕ) (xs : List X) (ts rest : List (List ℕ))
@@ -45,12 +45,12 @@ ended_right {P = P} {Q = Q} f sep close (x ∷ xs) ts rest e = (
   elim e.2 [ inl g ↦ subst (AllByRecursion Q) (sym g.0) tt | inr g ↦ ended_right {P = P} {Q = Q} f sep _ xs g.0 _ g.2 ],
 )
 
--- all sites on a list of names that is read are right
+-- All sites of a list of names that was read satisfy `IsRight`.
 listed_right : (arch : Arch) (ts rest : List (List ℕ)) (ss : List SiteSyntax) → Listed arch ts ss rest → AllByRecursion IsRight ss
 listed_right arch ts rest ss (inl p) = ended_right (site_right arch) _ (codes "]") ss p.0 rest p.2
 listed_right arch ts rest ss (inr p) = subst (AllByRecursion IsRight) (sym p.1) tt
 
--- all sites of an initial block that is read are right
+-- All sites of an initial block that was read satisfy `IsRight`.
 block_right : (arch : Arch) (ts rest : List (List ℕ)) (es : List InitializerSyntax)
     → Block arch ts es rest
     → AllByRecursion IsRight (sites_of es)
@@ -61,19 +61,19 @@ block_right arch ts rest es b =
 
 -- ---- words
 
--- the numbers of an initial block that is read are words: below 2 ^ 32
+-- The numbers of an initial block that was read are words: below `2 ^ 32`.
 block_words : (arch : Arch) (ts rest : List (List ℕ)) (es : List InitializerSyntax)
     → Block arch ts es rest
     → AllByRecursion (λ e. IsWordNumber e.word) es
 block_words arch ts rest es b =
     ended_right {P = IsInitializer arch} {Q = λ e. IsWordNumber e.word} (λ ts rest e p. p.2.2.0) _ (codes "}") es b.0 rest b.2
 
--- if two numbers are words, so is the one that a test takes of them
+-- If two numbers are words, so is the one that a test selects.
 either_word : (b : Bool) (v w : ℕ) → IsWordNumber v → IsWordNumber w → IsWordNumber (if b then v else w)
 either_word true v w h k = h
 either_word false v w h k = k
 
--- the word of the last initializer for a site, or the one before all of them, is a word
+-- The word of the last initializer for a site, or the default, is a word.
 last_word : (names : List (List ℕ)) (s : Seen) (es : List InitializerSyntax) (w : ℕ)
     → AllByRecursion (λ e. IsWordNumber e.word) es
     → IsWordNumber w
@@ -83,7 +83,7 @@ last_word names s (e ∷ es) w h k =
     let now = seen_eq (seen_in names e.site) s in
     last_word names s es (if now then e.word else w) h.1 (either_word now e.word w h.0 k)
 
--- what a register or a location begins with is a word
+-- The initial value of a register or location is a word.
 first_word : (names : List (List ℕ)) (es : List InitializerSyntax)
     → AllByRecursion (λ e. IsWordNumber e.word) es
     → (s : Seen)
@@ -92,26 +92,26 @@ first_word names es h s = last_word names s es 0 h (omega arith)
 
 -- ---- terminals
 
--- a terminal's site is right, its thread is there, and its number is a word
+-- The terminal's site satisfies `IsRight`, its thread exists, and its number is a word.
 abbrev IsFit : ℕ → Terminal AtomSyntax → Type 0
 IsFit threads (Atom (Holds s n)) = IsRight s × ThreadExists threads s × IsWordNumber n
 IsFit threads _ = Unit {0}
 
--- a terminal that is read is fit: its site is right, its thread is there and its number is a word
+-- A terminal that was read satisfies `IsFit`.
 terminal_fit : (arch : Arch) (threads : ℕ) (ts rest : List (List ℕ)) (s : Terminal AtomSyntax)
     → IsTerminal arch threads ts s rest
     → IsFit threads s
 terminal_fit arch threads ts rest (Atom (Holds s n)) p = (site_right arch ts p.0 s p.1, p.2, p.3.2.0)
 terminal_fit arch threads ts rest _ p = tt
 
--- all terminals of a proposition that is read are fit
+-- All terminals of a proposition that was read satisfy `IsFit`.
 terminals_fit : (arch : Arch) (threads : ℕ) (ts : List (List ℕ)) (ss : List (Terminal AtomSyntax))
     → Terminals arch threads ts ss
     → AllByRecursion (IsFit threads) ss
 terminals_fit arch threads ts [] p = tt
 terminals_fit arch threads ts (s ∷ ss) p = (terminal_fit arch _ ts p.0 s p.1, terminals_fit arch _ p.0 ss p.2)
 
--- a table of allowed names, with more of them entered, has allowed names alone
+-- Inserting allowed names preserves that all names of a table are allowed.
 table_right : (names ns : List (List ℕ))
     → AllByRecursion IsLocationName names
     → AllByRecursion IsLocationName ns
@@ -125,7 +125,7 @@ table_right names (n ∷ ns) h k = table_right (insert_name names n) ns (one (co
 
 -- ---- the proposition
 
--- a terminal's atom, if it is one, speaks of registers of so many threads and of so many locations, and its numbers are words
+-- The terminal's atom, if it is one, mentions only registers of these threads and these locations, and its numbers are words.
 abbrev IsSpoken : ℕ → ℕ → Terminal Formula → Type 0
 IsSpoken threads locs (Atom p) = MentionsOnly threads locs p
 IsSpoken threads locs _ = Unit {0}
@@ -143,7 +143,7 @@ module _ (threads locs : ℕ) where
   says_speaks (conjunction d) h = says_speaks d h
   says_speaks (or {ss} {ts} d e) h = let k = All-append_inv _ ss _ h in (says_speaks d k.0, says_speaks e k.1.1)
 
--- where terminals are fit and their names in the table, they speak, resolved by it, of threads and locations that there are
+-- If terminals satisfy `IsFit` and their names are in the table, their resolved forms mention only threads and locations in range.
 terminals_spoken : (threads : ℕ) (names : List (List ℕ)) (ss : List (Terminal AtomSyntax))
     → AllByRecursion (IsFit threads) ss
     → AllThere names ss
@@ -157,7 +157,7 @@ terminals_spoken threads names (_ ∷ ss) f n = (tt, terminals_spoken threads na
 
 -- ---- the head
 
--- the head that the parts of a test say is well-formed
+-- The head that the parts of a test say is well-formed.
 head_well_formed : (arch : Arch) (ts : List (List ℕ)) (name : List ℕ) (s : TestSyntax) (p : Formula)
     → IsTestName name
     → ParsesTest arch ts s
@@ -213,7 +213,7 @@ head_well_formed arch ts name s p allowed parts whole =
           (terminals_spoken s.threads (location_table s) s.terminals fit named);
     }
 
--- the head of a text's frame is well-formed
+-- The head of a text's frame is well-formed.
 pub frame_well_formed : (text : List ℕ) (f : TestFrame) → HasFrame text f → IsWellFormedHead f.head
 frame_well_formed text f h =
     subst (λ (g : TestFrame). IsWellFormedHead g.head) (sym h.made)
@@ -221,7 +221,7 @@ frame_well_formed text f h =
 
 -- ---- bodies in memory
 
--- the head of a body in memory, made by its locations' indices, is the head that its text says, made by their names
+-- The head of a body in memory, computed from locations' indices, is the head that its text says, computed from their names.
 pub head_made : {A : Type 0} (arch : Arch) (name : Bytes) (ts : TokenList) (b : ParsedBody A) (says : HasSyntax arch ts b)
     → resolved_head arch name b.parts ≡ head_of_syntax arch name (syntax_of b says.terminals) (formula_of b.parts.prop)
 head_made arch name ts b says =
@@ -238,12 +238,12 @@ head_made arch name ts b says =
     let listed = ap (λ p. filter p (all_registers s.threads ++ locations (length s.locs))) is_seen in
     rw (regs, (ap (λ (f : Seen → ℕ). map f (locations (length s.locs))) word), listed, ← says.names) refl
 
--- The terminals that a body's text has, resolved by the table that the text gives, are the body's proposition.
+-- The terminals of a body's text, resolved by the text's table, are the body's proposition.
 pub body_proposition : {A : Type 0} (arch : Arch) (ts : List (List ℕ)) (b : ParsedBody A) (says : HasSyntax arch ts b)
     → IsProposition (map (resolved (location_table (syntax_of b says.terminals))) says.terminals) (formula_of b.parts.prop)
 body_proposition arch ts b says = rw says.names at says.proposition
 
--- the head that a body in memory is resolved to is well-formed
+-- The resolved head of a body in memory is well-formed.
 pub resolved_well_formed : {A : Type 0} (arch : Arch) (ts : List (List ℕ)) (name : List ℕ) (b : ParsedBody A)
     → IsTestName name
     → HasSyntax arch ts b

@@ -1,4 +1,4 @@
--- The parts of a test are read in one way; where one of them doesn't stand, the tokens are no test's, and the text has no frame.
+-- The parse of a test's parts is unique. If one of them is absent, the tokens are no test, and the text has no frame.
 use Rattle.lw_text.proofs.Common.{◌≡◌, ℕ, zero, suc, ◌≤◌, true, false, List, [], ◌∷◌, ◌++◌, length, map, refl}
 use Rattle.lw_text.proofs.Common.{sym, ap, ◌∙◌, subst, arith, Option, Some, None, MatchOption, IfNone, codes}
 use Rattle.lw_text.proofs.Common.{All, AllByRecursion, list_all, length-map, All-from_recursion}
@@ -28,42 +28,42 @@ use Rattle.lw_text.specs.declared.site.Site.TheVariants as made
 
 -- ---- the table of names
 
--- the table is made of the sites of the block, then of those listed, then of those in the proposition
+-- The table has the sites of the block, then those listed, then those in the proposition.
 pub table_parts : (s : TestSyntax)
     → location_table s ≡ with_sites (with_sites (with_sites [] (sites_of s.initializers)) s.listed) (sites_in s.terminals)
 table_parts s =
     with_sites-append [] (sites_of s.initializers ++ s.listed) (sites_in s.terminals)
     ∙ ap (λ ns. with_sites ns (sites_in s.terminals)) (with_sites-append [] (sites_of s.initializers) s.listed)
 
--- the sites of the syntax of initializers in memory are the syntax of their sites
+-- The sites of the initializers' syntax are the syntax of their sites.
 sites_of_block : (names : NameTable) (es : List MadeInitializer)
     → sites_of (map (named_initializer names) es) ≡ map (λ e. site_by_name names e.site) es
 sites_of_block names [] = refl
 sites_of_block names (e ∷ es) = ap (λ l. site_by_name names e.site ∷ l) (sites_of_block names es)
 
--- ---- threads that are there
+-- ---- threads that exist
 
--- where the thread of a site in memory exists, that of the site's syntax does
+-- If the thread of a site in memory exists, so does that of its syntax.
 there_one : (threads : ℕ) (names : NameTable) (s : MadeSite)
     → thread_exists threads s ≡ true
     → ThreadExists threads (site_by_name names s)
 there_one threads names (made.Location loc) h = tt
 there_one threads names (made.Register t r) h = grind arith
 
--- where the thread of a site's syntax exists, that of the site in memory does
+-- If the thread of a site's syntax exists, so does that of the site in memory.
 one_there : (threads : ℕ) (names : NameTable) (s : MadeSite)
     → ThreadExists threads (site_by_name names s)
     → thread_exists threads s ≡ true
 one_there threads names (made.Location loc) h = refl
 one_there threads names (made.Register t r) h = grind arith
 
--- where the threads of all initializers in memory exist, those of their syntax do
+-- If the threads of all initializers in memory exist, so do those of their syntax.
 pub all_there : (threads : ℕ) (names : NameTable) (es : List MadeInitializer)
     → list_all (λ e. thread_exists threads e.site) es ≡ true
     → AllByRecursion (λ e. ThreadExists threads e.site) (map (named_initializer names) es)
 all_there threads names es h = all_map _ _ es (All-mono _ _ (λ e. there_one _ names _) es (all_pass _ es h))
 
--- where the threads of the syntax of all initializers exist, those of the initializers in memory do
+-- If the threads of the syntax of all initializers exist, so do those of the initializers in memory.
 pub there_all : (threads : ℕ) (names : NameTable) (es : List MadeInitializer)
     → AllByRecursion (λ e. ThreadExists threads e.site) (map (named_initializer names) es)
     → list_all (λ e. thread_exists threads e.site) es ≡ true
@@ -72,7 +72,7 @@ there_all threads names (e ∷ es) h = rw (one_there threads names e.site h.0, t
 
 -- ---- the quantifier
 
--- a quantifier is read in one way
+-- The parse of a quantifier is unique.
 pub Quantified-unique : IsDeterministic Quantified
 Quantified-unique ts Exists NotExists r s e f = absurd (is_no_text (codes "exists") (codes "~") refl (cc))
 Quantified-unique ts Exists Forall r s e f = absurd (is_no_text (codes "exists") (codes "forall") refl (cc))
@@ -82,9 +82,9 @@ Quantified-unique ts Forall Exists r s e f = absurd (is_no_text (codes "exists")
 Quantified-unique ts Forall NotExists r s e f = absurd (is_no_text (codes "forall") (codes "~") refl (cc))
 Quantified-unique ts _ _ r s e f = (refl, cc)
 
--- ---- where the block ends early
+-- ---- if the block ends early
 
--- where tokens are the parts of a test, the empty table has room for the names of the initial block
+-- If tokens are the parts of a test, the empty table has room for the names of the initial block.
 pub few_first : (arch : Arch) (ts : TokenList) (s : TestSyntax) → ParsesTest arch ts s → HasRoomFor [] (sites_of s.initializers)
 few_first arch ts s p = omega (
   arith,
@@ -94,9 +94,9 @@ few_first arch ts s p = omega (
   insert_names-longer (with_sites (with_sites [] (sites_of s.initializers)) s.listed) (site_names (sites_in s.terminals)),
 )
 
--- ---- where the condition ends early
+-- ---- if the condition ends early
 
--- where no proposition stands behind the list and the quantifier, no condition stands
+-- If no proposition follows the list and the quantifier, there is no condition.
 pub no_terminals : {arch : Arch} {threads : ℕ} {before behind : Cursor} {first names : NameTable} {made : List MadeSite}
     → ParsedNameList arch threads before behind first names made
     → (quant : Quant) (end : TokenList)
@@ -110,7 +110,7 @@ no_terminals {arch} {threads} {before} {behind} {first} {names} {made} taken qua
     let v = Quantified-unique (remaining_texts behind) q quant c.behind_quant end (rw u.1 at c.quantifies) quantifies in
     never ss p (rw v.1 at c.says) (rw (ap (with_sites first) u.0 ∙ sym taken.names_are) at fits)
 
--- ---- where the parts end early
+-- ---- if the parts end early
 
 module _ (arch : Arch) (ts a : TokenList) (initializers : List InitializerSyntax) (block : Block arch ts initializers a) where
   at_header : (s : TestSyntax) (p : ParsesTest arch ts s) → (s.initializers ≡ initializers) × Header a s.threads p.behind_header
@@ -118,7 +118,7 @@ module _ (arch : Arch) (ts a : TokenList) (initializers : List InitializerSyntax
       let e = Block-unique arch ts s.initializers initializers p.behind_block a p.block block in
       (e.0, subst (λ l. Header l s.threads p.behind_header) e.1 p.header)
 
-  -- where no header stands behind the block, the tokens are no test's
+  -- If no header follows the block, the tokens are no test.
   pub no_header : ParsesNothing (Header a) → HoldsOfNothing (ParsesTest arch ts)
   no_header never s p = never s.threads p.behind_header (at_header s p).1
 
@@ -133,7 +133,7 @@ module _ (arch : Arch) (ts a : TokenList) (initializers : List InitializerSyntax
         let u = Names-unique 0 s.threads n a p.behind_header b e.1.0 header.0 in
         (e.0, u.0, rw (u.0, u.1) at p.rows, rw u.0 at p.condition)
 
-    -- where the thread of an initializer is not one of those of the header, the tokens are no test's
+    -- If the thread of an initializer is not one of the header's, the tokens are no test.
     pub no_thread : (names : NameTable) (made : List MadeInitializer)
         → initializers ≡ map (named_initializer names) made
         → list_all (λ e. thread_exists n e.site) made ≡ false
@@ -146,7 +146,7 @@ module _ (arch : Arch) (ts a : TokenList) (initializers : List InitializerSyntax
         (subst (λ k. AllByRecursion (λ e. ThreadExists k e.site) s.initializers) h.1 p.there)) in
         cc
 
-    -- where no rows stand behind the header, the tokens are no test's
+    -- If no rows follow the header, the tokens are no test.
     pub no_rows : ParsesNothing (Rows n b) → HoldsOfNothing (ParsesTest arch ts)
     no_rows never s p = never s.rows p.behind_rows (at_rows s p).2
 
@@ -172,7 +172,7 @@ module _ (arch : Arch) (ts a : TokenList) (initializers : List InitializerSyntax
             says = subst (λ ns. IsProposition (map (resolved ns) s.terminals) f) all whole;
           })
 
--- the parts of a test are read in one way
+-- The parse of a test's parts is unique.
 pub ParsesTest-unique : (arch : Arch) (ts : TokenList) (s t : TestSyntax) → ParsesTest arch ts s → ParsesTest arch ts t → s ≡ t
 ParsesTest-unique arch ts s t p q =
     let h = at_condition arch ts _ t.initializers q.block t.threads _ q.header t.rows _ q.rows _ refl s p in
@@ -190,9 +190,9 @@ ParsesTest-unique arch ts s t p q =
     ≡ made t.initializers t.threads t.rows t.listed t.quant t.terminals = cc (h.0, h.1, h.2, u.0, v.0, w) in
     same
 
--- ---- what a body says
+-- ---- the syntax of a body
 
--- a table that has the names of the initializers' sites in memory has those of the sites of their syntax
+-- A table of the names of the initializers' sites in memory is that of their syntax.
 pub first_names : (names : NameTable) (es : List MadeInitializer)
     → names ≡ with_sites [] (map (λ e. site_by_name names e.site) es)
     → names ≡ with_sites [] (sites_of (map (named_initializer names) es))
@@ -200,19 +200,19 @@ first_names names es e = e ∙ ap (λ l. with_sites [] l) (sym (sites_of_block n
 
 -- ---- rows
 
--- a header names at least one thread
+-- A header names at least one thread.
 pub header_some : (ts rest : TokenList) (n : ℕ) → Header ts n rest → 1 ≤ n
 header_some ts rest zero h = absurd h.0
 header_some ts rest (suc n) h = omega arith
 
--- each of the rows up to a token that ends them has a cell for each thread
+-- Each row up to a token that ends the rows has a cell for each thread.
 lines_even : {A : Type 0} (n : ℕ) (rows : List (List (Cell A))) (ts rest : TokenList)
     → ParsesManyTill begins_stop (Row n) ts (all_texts rows) rest
     → AllByRecursion (λ row. length row ≡ n) rows
 lines_even n [] ts rest u = tt
 lines_even n (row ∷ rows) ts rest u = (sym (length-map row _) ∙ u.1.1.1, lines_even n rows u.1.0 rest u.1.2)
 
--- each of a test's rows, which are not too many, has a cell for each thread
+-- Each of a test's rows has a cell for each thread.
 pub Rows-even : {A : Type 0} (n : ℕ) (rows : List (List (Cell A))) (ts rest : TokenList)
     → Rows n ts (all_texts rows) rest
     → All (λ row. length row ≡ n) rows
@@ -220,11 +220,11 @@ Rows-even n rows ts rest r = All-from_recursion (λ row. length row ≡ n) rows 
 
 -- ---- the text
 
--- a text's tokens, if it has some, are no test's
+-- If the text has tokens, they are no test.
 abbrev HasNoTest : Arch → Bytes → Type 0
 HasNoTest arch text = (ts : TokenList) → Tokens text ts → ParsesNoTest arch ts
 
--- where the tokens behind a text's preamble are no test's, it has no frame
+-- If the tokens after a text's preamble are no test, the text has no frame.
 pub no_frame : (text : Bytes) (arch : Arch) (name rest : Bytes)
     → Preamble text arch name rest
     → HasNoTest arch rest
@@ -234,7 +234,7 @@ no_frame text arch name rest preamble never frame h =
     never h.tokens (subst (λ x. Tokens x h.tokens) e.2 h.stream) h.syntax h.condition
     (subst (λ a. ParsesTest a h.tokens h.syntax) e.0 h.parts) h.proposition
 
--- where a lexical fault ends the token stream, or it has none and is no test's, the tokens of the text are no test's
+-- If a lexical fault ends the tokens, or there is none and they are no test, the text's tokens are no test.
 pub no_test : {F : Type 0} (arch : Arch) (o : Option F) (Q : F → Type 0) (len : ℕ) (rest : Bytes) (ts : List Token)
     → MatchOption o (PlacedTokens len rest (with_spans ts)) (λ f. HoldsOfNothing (Tokens rest) × Q f)
     → IfNone o (ParsesNoTest arch (token_texts ts))
@@ -244,7 +244,7 @@ no_test arch None Q len rest ts stream never us other s p parts whole =
     (subst (λ x. ParsesTest arch x s) (Tokens-unique us (token_texts ts) rest other (read_whole len rest ts stream)) parts) whole
 no_test arch (Some f) Q len rest ts stream never us other s p parts whole = stream.0 us other
 
--- where none of the three quantifiers begins, none is read
+-- If tokens start with none of the three quantifiers, there is none.
 pub no_quantifier : (ts : TokenList)
     → begins_token (codes "~") ts ≡ false
     → ((rest : TokenList) → ts ≡ codes "exists" ∷ rest → ⊥)

@@ -1,4 +1,4 @@
--- What the crate's proofs offer to those of other crates.
+-- Lemmas that other crates use.
 pub mod Numbers
 pub mod Places
 pub mod Indices

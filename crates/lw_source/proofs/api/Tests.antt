@@ -10,7 +10,7 @@ use Rattle.lw_source.specs.Spelling.{source_spelling}
 use Rattle.lw_source.specs.Grammar.{source_grammar, HasSource}
 use Rattle.lw_source.proofs.SourceLaws.{source_lawful}
 
--- where the frame's head is well-formed, so is its test, by the rule of cells
+-- If the frame's head is well-formed, so is its test.
 pub well_formed_source : (frame : TestFrame) (test : SourceTest)
     → IsWellFormedHead frame.head
     → length frame.cells ≡ frame.head.threads

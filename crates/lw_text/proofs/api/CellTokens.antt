@@ -1,6 +1,6 @@
 -- Tokens of which none ends a cell.
 use Rattle.lw_text.proofs.Common.{◌≡◌, false, AllByRecursion, TokenList, ends_cell}
 
--- none of the tokens is `|` or `;`
+-- No token is `|` or `;`.
 abbrev pub EndsNoCell : TokenList → Type 0
 EndsNoCell ts = AllByRecursion (λ t. ends_cell t ≡ false) ts

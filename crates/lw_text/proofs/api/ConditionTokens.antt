@@ -1,4 +1,4 @@
--- The tokens of sites and of conditions, which say them again. The crates above that print tests use this.
+-- The tokens of sites and of conditions, and that they say them. The crates that print tests use this.
 use Rattle.lw_text.proofs.Common.{◌≡◌, ℕ, ◌<◌, ◌≤◌, ◌^◌, inl, inr, Bool, true, false, List, [], ◌∷◌, ◌++◌}
 use Rattle.lw_text.proofs.Common.{map, length, refl, sym, ap, ◌∙◌, subst, arith, append_assoc, codes}
 use Rattle.lw_text.proofs.Common.{slice_index_or, flat_map, decimal, AllByRecursion, map-append}
@@ -16,7 +16,7 @@ use Rattle.lw_text.proofs.api.PrintedPropositions.{enclosed, enclosed_if, termin
 
 -- ---- tokens
 
--- a register or a location as a site, by the names of a table
+-- A register or a location as a site, by the names of a table.
 abbrev pub named_site : NameTable → Seen → SiteSyntax
 named_site names (Register t r) = InThread t r
 named_site names (Location x) = InMemory (slice_index_or names x [])
@@ -30,7 +30,7 @@ site_tokens arch (InThread t r) = decimal t ∷ codes ":" ∷ register_name arch
 abbrev pub value_tokens : ℕ → TokenList
 value_tokens n = codes "=" ∷ decimal n ∷ []
 
--- what an atom says, by names
+-- The syntax of an atom, by the names of a table.
 abbrev pub named_claim : NameTable → Formula → AtomSyntax
 named_claim names No = Never
 named_claim names (Reg_is t r n) = Holds (InThread t r) n
@@ -60,7 +60,7 @@ quantifier_tokens Forall = codes "forall" ∷ []
 
 -- ---- what the tokens say
 
--- a site can be printed: it is a location whose name the table has, or a register of one of so many threads
+-- The site can be printed: it is a location whose name is in the table, or a register of one of the threads.
 abbrev pub IsPrintable : ℕ → NameTable → SiteSyntax → Type 0
 IsPrintable threads names (InMemory x) = IsLocationName x × IsInTable names x
 IsPrintable threads names (InThread t r) = (t < threads) × (r < 6)
@@ -76,7 +76,7 @@ IsPrintableTerminal threads names (Atom a) = IsPrintableClaim threads names a
 IsPrintableTerminal threads names _ = Unit {0}
 
 module _ (arch : Arch) (threads : ℕ) (few : threads ≤ most_threads) (names : NameTable) where
-  -- the tokens of a site say it again
+  -- The tokens of a site say it.
   pub site_said : (s : SiteSyntax) (rest : TokenList)
       → IsPrintable threads names s
       → IsSite arch (site_tokens arch s ++ rest) s rest
@@ -84,11 +84,11 @@ module _ (arch : Arch) (threads : ℕ) (few : threads ≤ most_threads) (names :
   site_said (InThread t r) rest h =
       (decimal t, register_name arch r, refl, decimal_is_number t (omega (arith, h.0, few)), (h.1, refl))
 
-  -- the tokens of `=` and a word say that word
+  -- The tokens of `=` and a word say that word.
   pub value_said : (n : ℕ) (rest : TokenList) → n < 2 ^ 32 → Value (value_tokens n ++ rest) n rest
   value_said n rest h = (decimal n, refl, decimal_is_number n h)
 
-  -- a site that can be printed is of a thread that there is
+  -- A site that can be printed is of a thread that exists.
   pub site_exists : (s : SiteSyntax) → IsPrintable threads names s → ThreadExists threads s
   site_exists (InMemory x) h = tt
   site_exists (InThread t r) h = h.0
@@ -106,7 +106,7 @@ module _ (arch : Arch) (threads : ℕ) (few : threads ≤ most_threads) (names :
   )
   terminal_said _ rest h = refl
 
-  -- the tokens of terminals say them again
+  -- The tokens of terminals say them.
   pub terminals_said : (ss : List (Terminal AtomSyntax))
       → AllByRecursion (IsPrintableTerminal threads names) ss
       → Terminals arch threads (flat_map (terminal_tokens arch) ss) ss
@@ -114,7 +114,7 @@ module _ (arch : Arch) (threads : ℕ) (few : threads ≤ most_threads) (names :
   terminals_said (s ∷ ss) h =
       (flat_map (terminal_tokens arch) ss, terminal_said s (flat_map (terminal_tokens arch) ss) h.0, terminals_said ss h.1)
 
--- where all sites have P, and the name of each location that has P has Q, all names of locations among the sites have Q
+-- If all sites have P, and the name of each location with P has Q, then all locations' names among the sites have Q.
 pub all_names : (P : SiteSyntax → Type 0) (Q : Bytes → Type 0)
     → ((x : Bytes) → P (InMemory x) → Q x)
     → (ss : List SiteSyntax)
@@ -124,7 +124,7 @@ all_names P Q f [] h = tt
 all_names P Q f (InMemory x ∷ ss) h = (f x h.0, all_names P Q f ss h.1)
 all_names P Q f (InThread t r ∷ ss) h = all_names P Q f ss h.1
 
--- where all terminals have P, and the site of each atom that has P has Q, all sites of the terminals have Q
+-- If all terminals have P, and the site of each atom with P has Q, then all sites of the terminals have Q.
 pub all_sites : (P : Terminal AtomSyntax → Type 0) (Q : SiteSyntax → Type 0)
     → ((s : SiteSyntax) (n : ℕ) → P (Atom (Holds s n)) → Q s)
     → (ss : List (Terminal AtomSyntax))
@@ -134,20 +134,20 @@ all_sites P Q f [] h = tt
 all_sites P Q f (Atom (Holds s n) ∷ ss) h = (f s n h.0, all_sites P Q f ss h.1)
 all_sites P Q f (_ ∷ ss) h = all_sites P Q f ss h.1
 
--- the names of sites that can be printed are in the table
+-- The names of sites that can be printed are in the table.
 pub sites_in_table : (threads : ℕ) (names : NameTable) (ss : List SiteSyntax)
     → AllByRecursion (IsPrintable threads names) ss
     → AllByRecursion (IsInTable names) (site_names ss)
 sites_in_table threads names = all_names (IsPrintable threads names) (IsInTable names) (λ x h. h.1)
 
--- the sites of terminals that can be printed can be printed
+-- The sites of terminals that can be printed can be printed.
 pub sites_printable : (threads : ℕ) (names : NameTable) (ss : List (Terminal AtomSyntax))
     → AllByRecursion (IsPrintableTerminal threads names) ss
     → AllByRecursion (IsPrintable threads names) (sites_in ss)
 sites_printable threads names = all_sites _ (IsPrintable threads names) (λ s n h. h.0)
 
 module _ (threads : ℕ) (names : NameTable) (table : AllByRecursion IsLocationName names) where
-  -- a register or location of a test can be printed by its names
+  -- A register or location of a test can be printed by its name.
   pub named_printable : (s : Seen) → IsSeenInRange threads (length names) s → IsPrintable threads names (named_site names s)
   named_printable (Register t r) h = h
   named_printable (Location x) h = (All-from_recursion _ _ table x [] h, (x, slice_get-get_or names x [] h))
@@ -155,7 +155,7 @@ module _ (threads : ℕ) (names : NameTable) (table : AllByRecursion IsLocationN
   abbrev AreFine : List (Terminal AtomSyntax) → Type 0
   AreFine ss = AllByRecursion (IsPrintableTerminal threads names) ss
 
-  -- terminals in parentheses can be printed where the terminals can
+  -- Terminals that can be printed can be printed in parentheses.
   enclosed_fine : (ss : List (Terminal AtomSyntax)) → AreFine ss → AreFine (enclosed ss)
   enclosed_fine ss h = (tt, all_append (IsPrintableTerminal threads names) ss (Close ∷ []) h (tt, tt))
 
@@ -178,14 +178,14 @@ module _ (threads : ℕ) (names : NameTable) (table : AllByRecursion IsLocationN
   terminals_fine (Or p q) h = joined_fine false _ _ _ _ tt (terminals_fine p h.0) (terminals_fine q h.1)
   terminals_fine _ h = (tt, tt)
 
-  -- all terminals of a condition of the test can be printed
+  -- All terminals of a test's condition can be printed.
   pub whole_fine : (p : Formula) → MentionsOnly threads (length names) p → AreFine (enclosed (terminals_of (named_claim names) p))
   whole_fine p h = enclosed_fine (terminals_of (named_claim names) p) (terminals_fine p h)
 
--- ---- names are resolved to the numbers again
+-- ---- names are resolved to indices
 
 module _ (threads : ℕ) (names : NameTable) (once : IsDuplicateFree names) where
-  -- a site by its names is resolved to the register or location that was named
+  -- A site's name is resolved to the register or location that was named.
   pub seen_again : (s : Seen) → IsSeenInRange threads (length names) s → seen_in names (named_site names s) ≡ s
   seen_again (Register t r) h = refl
   seen_again (Location x) h = ap (λ (y : ℕ). Location y) (position_of_name-again names once x h)
@@ -225,18 +225,18 @@ module _ (threads : ℕ) (names : NameTable) (once : IsDuplicateFree names) wher
   terminals_again (Or p q) h = joined_again false _ _ _ _ _ _ (terminals_again p h.0) (terminals_again q h.1)
   terminals_again _ h = refl
 
-  -- all terminals of a condition are resolved to those of its formula again
+  -- The terminals of a condition, named and resolved, are those of its formula.
   pub whole_again : (p : Formula)
       → MentionsOnly threads (length names) p
       → map (resolved names) (enclosed (named_terms p)) ≡ enclosed (formula_terms p)
   whole_again p h = enclosed_again (named_terms p) (formula_terms p) (terminals_again p h)
 
--- the tokens of a quantifier say it again
+-- The tokens of a quantifier say it.
 pub quantifier_said : (q : Quant) (rest : TokenList) → Quantified (quantifier_tokens q ++ rest) q rest
 quantifier_said Exists rest = refl
 quantifier_said _ rest = refl
 
--- where the tokens of each element say it, those of all, each with a separator behind it, and the close say the list
+-- If the tokens of each element say it, those of all, each followed by a separator, and the closing token say the list.
 pub ended_said : {X : Type 0} (P : TokenList → X → TokenList → Type 0) (tokens : X → TokenList) (sep close : Bytes) (xs : List X)
     (rest : TokenList)
     → AllByRecursion (λ x. (l : TokenList) → P (tokens x ++ l) x l) xs

@@ -1,4 +1,4 @@
--- A text has at most one frame, whose head is well-formed, with cells for each thread. lw_x86 and lw_bench use this.
+-- A text has at most one frame, whose head is well-formed, with cells for each thread. `lw_x86` and `lw_bench` use this.
 use Rattle.lw_text.proofs.Common.{◌≡◌, length, map, sym, ap, ◌∙◌, subst, length-map-range_with_len, Bytes}
 use Rattle.lw_text.proofs.Common.{Arch, Formula, Tokens, IsProposition, resolved, TestSyntax, location_table}
 use Rattle.lw_text.proofs.Common.{ParsesTest, TestFrame, HasFrame, frame_of_syntax}
@@ -8,7 +8,7 @@ use Rattle.lw_text.proofs.TokenRows.{Tokens-unique}
 use Rattle.lw_text.proofs.Whole.{ParsesTest-unique}
 pub use Rattle.lw_text.proofs.WellFormedHeads.{frame_well_formed}
 
--- a text has one frame, for its preamble, tokens, parts and proposition are each read in one way
+-- A text has at most one frame, since the parses of its preamble, tokens, parts and proposition are unique.
 pub HasFrame-unique : (text : Bytes) (f g : TestFrame) → HasFrame text f → HasFrame text g → f ≡ g
 HasFrame-unique text f g p q =
     let head = Preamble-unique text p.arch p.name p.rest q.arch q.name q.rest p.preamble q.preamble in
@@ -28,6 +28,6 @@ HasFrame-unique text f g p q =
     ∙ ap (λ (c : Formula). frame_of_syntax q.arch q.name q.syntax c) condition
     ∙ sym q.made
 
--- a frame has a column of cells for each thread
+-- A frame has a column of cells for each thread.
 pub frame_columns : (text : Bytes) (f : TestFrame) → HasFrame text f → length f.cells ≡ f.head.threads
 frame_columns text f p = ap (λ g. length g.cells) p.made ∙ length-map-range_with_len _ 0 _ ∙ sym (ap (λ g. g.head.threads) p.made)

@@ -1,9 +1,9 @@
--- The first so many of all numbers are their own indices. The page of a replay is printed by this.
+-- In a range from 0 each number is its own index. The page of a replay is printed by this.
 use Rattle.lw_text.proofs.Common.{◌≡◌, ℕ, ◌<◌, ◌≤◌, List, length, take, get_or, ap, ◌∙◌, arith, zero-add}
 use Rattle.lw_text.proofs.Common.{get_or-take, length-take, range_with_len, get_or-range_with_len}
 use Rattle.lw_text.proofs.Common.{length-range_with_len}
 
--- in a list of the first numbers from 0 up, what stands at the index k is k
+-- In a prefix of the range from 0, the number at index k is k.
 pub is_index : (n len : ℕ) {k x : ℕ} {all xs : List ℕ}
     → all ≡ range_with_len 0 n
     → xs ≡ take len all

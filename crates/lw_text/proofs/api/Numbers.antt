@@ -1,23 +1,23 @@
--- What the tokens of numbers begin with, and that each stands for one number. The crates of the languages use this.
+-- How the tokens of numbers start, and that each represents only one number. The crates of the languages use this.
 use Rattle.lw_text.proofs.Common.{◌≡◌, ℕ, ◌<◌, inl, inr, true, [], ◌∷◌, ap, subst, arith, codes, digit_value}
 use Rattle.lw_text.proofs.Common.{is_ascii_digit, nat_tests, first_byte_is, Bytes, Digits, IsNumber, no_both}
 use Rattle.lw_text.proofs.Numbers.{Digits-unique}
 
--- a digit below ten is a decimal digit
+-- A digit below ten is a decimal digit.
 decimal_first : (b : ℕ) → digit_value b < 10 → is_ascii_digit b ≡ true
 decimal_first b h = grind (arith, nat_tests)
 
--- a number begins with a digit
+-- A number starts with a digit.
 pub number_first : (w : Bytes) (n : ℕ) → IsNumber w n → first_byte_is is_ascii_digit w ≡ true
 number_first [] n (b, inl d) = absurd (omega arith)
 number_first (x ∷ w) n (b, inl d) = decimal_first x d.1.0
 number_first w n (b, inr h) = ap (first_byte_is is_ascii_digit) h.1
 
--- `[` is no number
+-- `[` is no number.
 pub bracket_no_number : (n : ℕ) → IsNumber (codes "[") n → ⊥
 bracket_no_number n h = let k = number_first (codes "[") n h in cc
 
--- a token stands for one number, in either notation
+-- A token represents at most one number, in either notation.
 pub number-unique : (w : Bytes) (m n : ℕ) → IsNumber w m → IsNumber w n → m ≡ n
 number-unique w m n (a, inl p) (b, inl q) = Digits-unique 10 0 w m n p.1 q.1
 number-unique w m n (a, inl p) (b, inr q) = absurd (no_both w q.0 m p.1 q.1)

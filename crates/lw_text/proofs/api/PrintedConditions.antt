@@ -1,4 +1,4 @@
--- Sites and conditions as they are printed: their texts spell tokens. The crates above that print tests use this.
+-- Printed sites and conditions: their texts spell tokens. The crates that print tests use this.
 use Rattle.lw_text.proofs.Common.{◌≡◌, ℕ, suc, ◌+◌, ◌*◌, ◌<◌, ◌≤◌, ◌^◌, Bool, true, false, not, List, [], ◌∷◌}
 use Rattle.lw_text.proofs.Common.{◌++◌, length, refl, sym, ap, ◌∙◌, subst, arith, append_assoc, ◌==◌, codes}
 use Rattle.lw_text.proofs.Common.{slice_index_or, flat_map, decimal, AllByRecursion, not-true, nat_tests}
@@ -20,58 +20,58 @@ use Rattle.lw_text.proofs.api.ConditionTokens.{terminal_tokens, quantifier_token
 
 -- ---- registers
 
--- the name of a register is a name
+-- The name of a register is a name.
 pub register_is_name : (arch : Arch) (r : ℕ) → r < 6 → IsName (register_name arch r)
 register_is_name Source (suc (suc (suc (suc (suc (suc r)))))) h = absurd (omega arith)
 register_is_name X86 (suc (suc (suc (suc (suc (suc r)))))) h = absurd (omega arith)
 register_is_name _ _ h = name_by_test _ refl
 
--- a register's name spells one token, where no name byte follows
+-- A register's name spells one token, if no name byte follows.
 pub Spells-register : (arch : Arch) (r : ℕ) → r < 6 → Spells EndsName 32 (register_name arch r) (register_name arch r ∷ [])
 Spells-register arch r h = Spells-name (register_name arch r) (register_is_name arch r h)
 
--- a name byte makes no symbol with a `:` before it
+-- A name byte makes no symbol with `:` before it.
 no_equals : (b : ℕ) → is_name_byte b ≡ true → is_two_byte_symbol 58 b ≡ false
 no_equals b h = grind (arith, nat_tests)
 
--- a name byte is no `*`
+-- A name byte is no `*`.
 no_star : (b : ℕ) → is_name_byte b ≡ true → (b == 42) ≡ false
 no_star b h = grind (arith, nat_tests)
 
--- a name makes no symbol with a `:` before it
+-- A name makes no symbol with `:` before it.
 name_no_equals : (w rest : Bytes) → IsName w → first_byte_is (is_two_byte_symbol 58) (w ++ rest) ≡ false
 name_no_equals [] rest n = absurd (let h = n.0.some in omega arith)
 name_no_equals (b ∷ w) rest n = no_equals b n.0.all.0
 
--- a `:` spells one token, where no `=` follows
+-- `:` spells one token, if no `=` follows.
 pub Spells-colon : Spells HasNoEquals 1 (58 ∷ []) ((58 ∷ []) ∷ [])
 Spells-colon = Spells-symbol 58 refl (λ rest f. f) (λ rest f. refl) (omega arith)
 
--- no `=` follows a `:` where a blank does
+-- A blank after `:` is no `=`.
 pub blank_no_equals : (rest : Bytes) → IsBlankNext rest → first_byte_is (is_two_byte_symbol 58) rest ≡ false
 blank_no_equals [] h = refl
 blank_no_equals (b ∷ rest) h = not-true (is_two_byte_symbol 58 b) (blank_all (λ c. not (is_two_byte_symbol 58 c)) b refl h)
 
 -- ---- the texts
 
--- A text is not empty, and begins with no `*`.
+-- The text is not empty, and does not start with `*`.
 abbrev pub Starts : Bytes → Type 0
 Starts text = (b : ℕ) × (more : Bytes) × (text ≡ b ∷ more) × ((b == 42) ≡ false)
 
--- a text that begins with no `*` does so with more behind it
+-- A text that does not start with `*` does not do so with more appended.
 starts-then : (a b : Bytes) → Starts a → Starts (a ++ b)
 starts-then a b s = (s.0, s.1 ++ b, ap (λ t. t ++ b) s.2, s.3)
 
--- no `*` stands before such a text, so a `(` there opens no comment
+-- Such a text does not start with `*`, so `(` before it opens no comment.
 starts_no_star : (text rest : Bytes) → Starts text → HasNoStar (text ++ rest)
 starts_no_star text rest s = ap (λ t. first_byte_is (λ b. b == 42) (t ++ rest)) s.2 ∙ s.3
 
--- a name run is not empty and begins with no `*`
+-- A run of name bytes that is not empty does not start with `*`.
 starts_name_run : (w : Bytes) → 0 < length w → AllByRecursion (λ b. is_name_byte b ≡ true) w → Starts w
 starts_name_run [] some all = absurd (omega arith)
 starts_name_run (b ∷ w) some all = (b, w, refl, no_star b all.0)
 
--- each name of a table of locations is a location's
+-- Each name of a table of locations is a location's name.
 pub name_there : (names : NameTable) (x : ℕ)
     → AllByRecursion IsLocationName names
     → x < length names
@@ -80,7 +80,7 @@ name_there names x table h = All-from_recursion IsLocationName names table x [] 
 
 module _ (arch : Arch) (threads : ℕ) (few : threads ≤ most_threads) (names : NameTable)
     (table : AllByRecursion IsLocationName names) where
-  -- the text of a site spells its tokens, where no name byte follows
+  -- The text of a site spells its tokens, if no name byte follows.
   pub site_spelled : (s : Seen)
       → IsSeenInRange threads (length names) s
       → Spells EndsName 43 (site_text arch names s) (site_tokens arch (named_site names s))
@@ -100,7 +100,7 @@ module _ (arch : Arch) (threads : ℕ) (few : threads ≤ most_threads) (names :
   site_starts (Location x) h =
       let n = (name_there names x table h).0 in starts_name_run (slice_index_or names x []) n.0.some n.0.all
 
-  -- the text of a site with its word, as `x=1`, spells their tokens
+  -- The text of a site with its word, such as `x=1`, spells their tokens.
   pub assignment_spelled : (s : Seen) (n : ℕ)
       → IsSeenInRange threads (length names) s
       → n < 2 ^ 32
@@ -147,7 +147,7 @@ module _ (arch : Arch) (threads : ℕ) (few : threads ≤ most_threads) (names :
   }
   part_spelled false text most ss s = record { spells = Spells-within (most + 2) (omega arith) s.spells; starts = s.starts }
 
-  -- two parts with a connective between
+  -- The text of two parts and the connective between them spells their tokens.
   joined_spelled : (a b : Bytes) (m n : ℕ) (ss us : List (Terminal AtomSyntax)) (between : Bytes) (t : Terminal AtomSyntax)
       → ((rest : Bytes) → EndsName (between ++ rest))
       → Spells Anything 4 between (terminal_tokens arch t)
@@ -219,13 +219,13 @@ module _ (arch : Arch) (threads : ℕ) (few : threads ≤ most_threads) (names :
       within _ _ (60 * suc (nodes p + nodes q)) _ (omega arith)
       (joined_spelled _ _ _ _ _ _ (codes " \\/ ") Disjunction (λ rest. refl) disjunction (proposition_spelled p h.0) right)
 
-  -- the text of a proposition in parentheses spells its tokens
+  -- The text of a proposition in parentheses spells its tokens.
   pub whole_spelled : (p : Formula)
       → MentionsOnly threads (length names) p
       → Spells Anything (60 * nodes p + 2) (parenthesized (proposition_text arch names p)) (tokens_of (enclosed (terms p)))
   whole_spelled p h = enclosed_spelled (proposition_text arch names p) _ (terms p) (proposition_spelled p h)
 
--- the text of a quantifier spells its tokens
+-- The text of a quantifier spells its tokens.
 pub quantifier_spelled : (q : Quant) → Spells EndsName 33 (quantifier_text q) (quantifier_tokens q)
 quantifier_spelled Exists = Spells-within 33 (omega arith) (Spells-name _ (name_by_test _ refl))
 quantifier_spelled NotExists =

@@ -1,4 +1,4 @@
--- The terminals of a formula as it is printed, and that they say it again. The crates above that print tests use this.
+-- The printed terminals of a formula, and that they say it. The crates that print tests use this.
 use Rattle.lw_text.proofs.Common.{◌≡◌, Bool, true, false, List, [], ◌∷◌, ◌++◌, refl, if◌then◌else◌, Formula}
 use Rattle.lw_text.proofs.Common.{Yes, No, Reg_is, Word_is, Not, And, Or, is_or, is_binary, Terminal, Open}
 use Rattle.lw_text.proofs.Common.{Close, Negation, Conjunction, Disjunction, Atom, PartLevel}
@@ -13,7 +13,7 @@ enclosed ss = Open ∷ (ss ++ Close ∷ [])
 abbrev pub enclosed_if : {A : Type 0} → Bool → List (Terminal A) → List (Terminal A)
 enclosed_if needed ss = if needed then enclosed ss else ss
 
--- the terminals of a formula, where its atoms say what f has for them
+-- The terminals of a formula, with f of each atom.
 abbrev pub terminals_of : {A : Type 0} → (Formula → A) → Formula → List (Terminal A)
 terminals_of f Yes = Atom (f Yes) ∷ []
 terminals_of f No = Atom (f No) ∷ []
@@ -26,35 +26,35 @@ terminals_of f (Or p q) = terminals_of f p ++ (Disjunction ∷ enclosed_if (is_o
 
 -- ---- what they say
 
--- terminals whose atoms are formulas
+-- Terminals with formulas as atoms.
 abbrev Terms : Type 0
 Terms = List (Terminal Formula)
 
--- the terminals of a formula as it is printed
+-- The printed terminals of a formula.
 abbrev terms : Formula → Terms
 terms p = terminals_of (λ q. q) p
 
--- A formula's terminals say it again, by the level that its outermost connective has.
+-- A formula's terminals derive it, at the level of its outermost connective.
 record Shown (p : Formula) : Type 0 where
   part : is_binary p ≡ false → Derives PartLevel (terms p) p
   conjuncts : is_or p ≡ false → Derives ConjunctionLevel (terms p) p
   whole : Derives DisjunctionLevel (terms p) p
 
--- a formula that no connective of two parts joins is said again at whatever level it stands
+-- A formula without a binary connective outermost is derived at every level.
 plain : (p : Formula) → Derives PartLevel (terms p) p → Shown p
 plain p d = record { part = λ h. d; conjuncts = λ h. part d; whole = conjunction (part d) }
 
--- a formula is a part, in parentheses where it is joined by a connective of two parts
+-- A formula is derived as a part, in parentheses if its outermost connective is binary.
 any_part : (p : Formula) → Shown p → (b : Bool) → is_binary p ≡ b → Derives PartLevel (enclosed_if b (terms p)) p
 any_part p s true e = parens s.whole
 any_part p s false e = s.part e
 
--- a formula is a row of `/\`, in parentheses where it is a `\/`
+-- A formula is derived as a conjunction, in parentheses if it is a disjunction.
 any_conjuncts : (p : Formula) → Shown p → (b : Bool) → is_or p ≡ b → Derives ConjunctionLevel (enclosed_if b (terms p)) p
 any_conjuncts p s true e = part (parens s.whole)
 any_conjuncts p s false e = s.conjuncts e
 
--- each formula's printed terminals say it again
+-- The printed terminals of each formula derive it.
 shown : (p : Formula) → Shown p
 shown Yes = plain Yes atom
 shown No = plain No atom

@@ -5,20 +5,20 @@ use Rattle.lw_text.proofs.Common.{All-append_inv, InMemory, InThread, Terminal, 
 use Rattle.lw_text.proofs.Common.{Disjunction, Atom, is_node, Level, Derives, atom, negated, parens, part}
 use Rattle.lw_text.proofs.Common.{and, conjunction, or, AtomSyntax, Holds, resolved}
 
--- how many of the terminals are nodes
+-- The number of terminals that are nodes.
 abbrev pub count : {A : Type 0} → List (Terminal A) → ℕ
 count ss = length (filter is_node ss)
 
--- a terminal's formula is one node, if the terminal is an atom
+-- The terminal's formula, if the terminal is an atom, has one node.
 abbrev pub IsSingle : Terminal Formula → Type 0
 IsSingle (Atom p) = nodes p ≡ 1
 IsSingle _ = Unit {0}
 
--- the nodes of two rows of terminals are those of both
+-- The number of nodes of a concatenation is the sum.
 pub count_append : {A : Type 0} (ss ts : List (Terminal A)) → count (ss ++ ts) ≡ count ss + count ts
 count_append ss ts = ap length (filter-append _ ss ts) ∙ length-append (filter is_node ss) (filter is_node ts)
 
--- a proposition has as many nodes as its terminals
+-- A proposition has as many nodes as its terminals.
 pub proposition_nodes : {k : Level} {ss : List (Terminal Formula)} {p : Formula}
     → Derives k ss p
     → AllByRecursion IsSingle ss
@@ -36,7 +36,7 @@ proposition_nodes (or {ss} {ts} d e) h =
     let k = All-append_inv IsSingle ss (Disjunction ∷ ts) h in
     omega (arith, proposition_nodes d k.0, proposition_nodes e k.1.1, count_append ss (Disjunction ∷ ts))
 
--- atoms by names are resolved to formulas of one node
+-- Named atoms are resolved to formulas of one node.
 pub resolved_single : (names : List (List ℕ)) (ss : List (Terminal AtomSyntax))
     → AllByRecursion IsSingle (map (resolved names) ss)
 resolved_single names [] = tt
@@ -45,7 +45,7 @@ resolved_single names (Atom (Holds (InThread t r) w) ∷ ss) = (refl, resolved_s
 resolved_single names (Atom _ ∷ ss) = (refl, resolved_single names ss)
 resolved_single names (_ ∷ ss) = (tt, resolved_single names ss)
 
--- resolved terminals have as many nodes among them as before they were resolved
+-- Resolving terminals preserves the number of nodes.
 pub resolved_count : (names : List (List ℕ)) (ss : List (Terminal AtomSyntax)) → count (map (resolved names) ss) ≡ count ss
 resolved_count names [] = refl
 resolved_count names (Open ∷ ss) = resolved_count names ss

@@ -1,4 +1,4 @@
--- Texts that spell tokens, before whatever may follow them. The crates above that print tests use this.
+-- Texts that spell tokens, if what follows them is right. The crates that print tests use this.
 use Rattle.lw_text.proofs.Common.{◌≡◌, ℕ, zero, suc, ◌+◌, ◌*◌, ◌<◌, ◌≤◌, ◌^◌, inl, inr, Bool, true, false}
 use Rattle.lw_text.proofs.Common.{not, List, [], ◌∷◌, ◌++◌, length, refl, sym, ap, ◌∙◌, subst, arith}
 use Rattle.lw_text.proofs.Common.{append_assoc, append-nil, length-append, ◌==◌, ◌&&◌, nat_lt, IsUtf8}
@@ -10,7 +10,7 @@ use Rattle.lw_text.proofs.Common.{is_blank, is_name_byte, first_byte_is, IsName,
 use Rattle.lw_text.proofs.Common.{Digits, IsNumber, IsNameOrNumber, is_two_byte_symbol, is_one_byte_symbol}
 use Rattle.lw_text.proofs.Common.{Tokens, blank_all, name_bytes_ascii}
 
--- ---- what may follow a text: anything, no name byte, a blank, no `*`, or nothing that makes a symbol with a `:`
+-- ---- what may follow a text: anything, no name byte, a blank, no `*`, or nothing that makes a symbol with `:`
 
 -- Anything may follow.
 abbrev pub Anything : Bytes → Type 0
@@ -24,25 +24,25 @@ EndsName rest = first_byte_is is_name_byte rest ≡ false
 abbrev pub IsBlankNext : Bytes → Type 0
 IsBlankNext rest = first_byte_is is_blank rest ≡ true
 
--- No `*` follows, so a `(` opens no comment.
+-- No `*` follows, so `(` opens no comment.
 abbrev pub HasNoStar : Bytes → Type 0
 HasNoStar rest = first_byte_is (λ b. b == 42) rest ≡ false
 
--- No byte follows that makes a symbol of two with `:`.
+-- No byte follows that makes a two-byte symbol with `:`.
 abbrev pub HasNoEquals : Bytes → Type 0
 HasNoEquals rest = first_byte_is (is_two_byte_symbol 58) rest ≡ false
 
--- A text of at most so many bytes, in UTF-8, that spells these tokens before what may follow it.
+-- The text spells these tokens, if what follows it is right; it is UTF-8 and has at most `most` bytes.
 pub record Spells (Follows : Bytes → Type 0) (most : ℕ) (text : Bytes) (tokens : TokenList) : Type 0 where
   pub before : (rest : Bytes) (more : TokenList) → Follows rest → Tokens rest more → Tokens (text ++ rest) (tokens ++ more)
   pub short : length text ≤ most
   pub utf8 : IsUtf8 text
 
--- the empty text spells no token
+-- The empty text spells no token.
 pub Spells-nothing : (F : Bytes → Type 0) → Spells F 0 [] []
 Spells-nothing F = record { before = λ rest more f t. t; short = omega arith; utf8 = IsUtf8-nil }
 
--- a text and another behind it spell the tokens of both
+-- The concatenation of two texts spells the tokens of both, if the second may follow the first.
 pub Spells-then : {F G : Bytes → Type 0} {m n : ℕ} {a b : Bytes} {ts us : TokenList}
     → ((rest : Bytes) → G rest → F (b ++ rest))
     → Spells F m a ts
@@ -56,25 +56,25 @@ Spells-then {F} {G} {m} {n} {a} {b} {ts} {us} joint p q = record {
   utf8 = IsUtf8-append a b p.utf8 q.utf8;
 }
 
--- a text that anything may follow, and another behind it, spell the tokens of both
+-- A text that anything may follow, concatenated with another, spells the tokens of both.
 pub Spells-on : {G : Bytes → Type 0} {m n : ℕ} {a b : Bytes} {ts us : TokenList}
     → Spells Anything m a ts
     → Spells G n b us
     → Spells G (m + n) (a ++ b) (ts ++ us)
 Spells-on p q = Spells-then (λ rest g. tt) p q
 
--- a text that spells its tokens before what F allows spells them before what G allows, where G allows no more
+-- A text that spells tokens before what F allows spells them before what G allows, if G allows no more.
 pub Spells-before : {F : Bytes → Type 0} (G : Bytes → Type 0) {m : ℕ} {a : Bytes} {ts : TokenList}
     → ((rest : Bytes) → G rest → F rest)
     → Spells F m a ts
     → Spells G m a ts
 Spells-before G less p = record { before = λ rest more g t. p.before rest more (less rest g) t; short = p.short; utf8 = p.utf8 }
 
--- a text of at most so many bytes has at most a greater number of them
+-- A text of at most m bytes has at most n bytes, if n is greater.
 pub Spells-within : {F : Bytes → Type 0} {m : ℕ} {a : Bytes} {ts : TokenList} (n : ℕ) → m ≤ n → Spells F m a ts → Spells F n a ts
 Spells-within n le p = record { before = p.before; short = omega (arith, p.short, le); utf8 = p.utf8 }
 
--- a text that spells tokens before the end is, as a whole, these tokens
+-- A text that spells tokens before the end is, as a whole, these tokens.
 pub Spells-whole : {F : Bytes → Type 0} {m : ℕ} {a : Bytes} {ts : TokenList} → F [] → Spells F m a ts → Tokens a ts
 Spells-whole {a = a} {ts = ts} end p =
     subst (λ (t : Bytes). Tokens t ts) (append-nil a)
@@ -82,17 +82,17 @@ Spells-whole {a = a} {ts = ts} end p =
 
 -- ---- blanks
 
--- a blank before a text leaves its tokens as they are
+-- A blank before a text does not change its tokens.
 tokens-blank : (b : ℕ) (rest : Bytes) (ts : TokenList) → is_blank b ≡ true → Tokens rest ts → Tokens (b ∷ rest) ts
 tokens-blank b rest [] h t = blank h t
 tokens-blank b rest (u ∷ us) h t = (t.0, (blank h t.1.0, t.1.1), t.2)
 
--- one byte below 128 is a text of ASCII
+-- One byte below 128 is ASCII.
 ascii_one : (b : ℕ) → b < 128 → IsAscii (b ∷ [])
 ascii_one b h zero = h
 ascii_one b h (suc i) = omega arith
 
--- a blank spells no token
+-- A blank spells no token.
 pub Spells-blank : (b : ℕ) → is_blank b ≡ true → b < 128 → Spells Anything 1 (b ∷ []) []
 Spells-blank b h low = record {
   before = λ rest more f t. tokens-blank b rest more h t;
@@ -100,22 +100,22 @@ Spells-blank b h low = record {
   utf8 = IsUtf8-from_ascii (b ∷ []) (ascii_one b low);
 }
 
--- a space spells no token
+-- A space spells no token.
 pub Spells-space : Spells Anything 1 (32 ∷ []) []
 Spells-space = Spells-blank 32 refl (omega arith)
 
--- the end of a line spells no token
+-- The end of a line spells no token.
 pub Spells-newline : Spells Anything 1 (10 ∷ []) []
 Spells-newline = Spells-blank 10 refl (omega arith)
 
--- before a blank a name ends
+-- A blank ends a name.
 pub blank_ends_name : (rest : Bytes) → IsBlankNext rest → EndsName rest
 blank_ends_name [] h = refl
 blank_ends_name (b ∷ rest) h = not-true (is_name_byte b) (blank_all (λ c. not (is_name_byte c)) b refl h)
 
 -- ---- symbols
 
--- a byte that begins no symbol of two bytes makes none with what follows
+-- A byte that starts no two-byte symbol makes none with what follows.
 no_pair : (b : ℕ)
     → ((c : ℕ) → is_two_byte_symbol b c ≡ false)
     → (rest : Bytes)
@@ -123,7 +123,7 @@ no_pair : (b : ℕ)
 no_pair b h [] = refl
 no_pair b h (c ∷ rest) = h c
 
--- a symbol of one byte spells itself, where nothing follows that would make it another
+-- A one-byte symbol spells itself, if what follows makes it no other symbol.
 pub Spells-symbol : {F : Bytes → Type 0} (b : ℕ)
     → is_one_byte_symbol b ≡ true
     → ((rest : Bytes) → F rest → first_byte_is (is_two_byte_symbol b) rest ≡ false)
@@ -136,7 +136,7 @@ Spells-symbol b single alone plain low = record {
   utf8 = IsUtf8-from_ascii (b ∷ []) (ascii_one b low);
 }
 
--- a symbol of one byte that begins no symbol of two and no comment spells one token
+-- A one-byte symbol that starts no two-byte symbol and no comment spells one token.
 pub Spells-mark : (b : ℕ)
     → is_one_byte_symbol b ≡ true
     → ((c : ℕ) → is_two_byte_symbol b c ≡ false)
@@ -145,12 +145,12 @@ pub Spells-mark : (b : ℕ)
     → Spells Anything 1 (b ∷ []) ((b ∷ []) ∷ [])
 Spells-mark b single alone plain low = Spells-symbol b single (λ rest f. no_pair b alone rest) (λ rest f. rw plain refl) low
 
--- two bytes below 128 are a text of ASCII
+-- Two bytes below 128 are ASCII.
 ascii_two : (b c : ℕ) → b < 128 → c < 128 → IsAscii (b ∷ c ∷ [])
 ascii_two b c h k zero = h
 ascii_two b c h k (suc i) = ascii_one c k i
 
--- two bytes that make a symbol spell it, whatever follows
+-- Two bytes that make a symbol spell it, whatever follows.
 pub Spells-pair : (b c : ℕ)
     → is_two_byte_symbol b c ≡ true
     → b < 128
@@ -164,7 +164,7 @@ Spells-pair b c pair h k = record {
 
 -- ---- words
 
--- a number or a name spells one token, where no name byte follows
+-- A number or a name spells one token, if no name byte follows.
 pub Spells-run : (n : ℕ) (w : Bytes)
     → AllByRecursion (λ b. is_name_byte b ≡ true) w
     → IsNameOrNumber w
@@ -176,17 +176,17 @@ Spells-run n w all kind short = record {
   utf8 = IsUtf8-from_ascii w (name_bytes_ascii w all);
 }
 
--- whether a text is a name, by its bytes: 1 to 32 name bytes, of which the first is no digit
+-- Tests whether a text is a name: it has 1 to 32 name bytes, of which the first is no digit.
 abbrev pub is_name_text : Bytes → Bool
 is_name_text w =
     (nat_lt 0 (length w) && nat_lt (length w) 33) && (list_all is_name_byte w && not (first_byte_is is_ascii_digit w))
 
--- a test that all items of a list pass holds of each
+-- What a test says of all items of a list holds of each.
 pub all_pass : {X : Type 0} (p : X → Bool) (w : List X) → list_all p w ≡ true → AllByRecursion (λ b. p b ≡ true) w
 all_pass p [] h = tt
 all_pass p (b ∷ w) h = let both = and_parts (p b) (list_all p w) h in (both.0, all_pass p w both.1)
 
--- a text that passes the test is a name
+-- A text that passes the test is a name.
 pub name_by_test : (w : Bytes) → is_name_text w ≡ true → IsName w
 name_by_test w h =
     let halves =
@@ -202,40 +202,40 @@ name_by_test w h =
       omega (arith, most),
     )
 
--- a name spells one token, of at most 32 bytes
+-- A name spells one token, of at most 32 bytes.
 pub Spells-name : (w : Bytes) → IsName w → Spells EndsName 32 w (w ∷ [])
 Spells-name w name = Spells-run 32 w name.0.all (inl name) name.1
 
 -- ---- numbers
 
--- decimal digits stand for the number that they come to
+-- Decimal digits represent the number that they evaluate to.
 digits_say : (n : ℕ) (ds : Bytes) (v : ℕ) → AllDigits 10 ds → digits_value_after 10 n ds ≡ v → Digits 10 n ds v
 digits_say n [] v all e = e
 digits_say n (d ∷ ds) v all e =
     (all.0, digits_say (10 * n + digit_value d) ds v all.1 (ap (λ (m : ℕ). digits_value_after 10 m ds) (sym (omega arith)) ∙ e))
 
--- a number's decimal digits are a number
+-- A number's decimal digits are a number.
 pub decimal_is_number : (n : ℕ) → n < 2 ^ 32 → IsNumber (decimal n) n
 decimal_is_number n h =
     let is = decimal_is_IsNumeral n (omega (arith, h)) in (h, inl (is.0.0, digits_say 0 (decimal n) n is.0.1 is.1))
 
--- a decimal digit is a name byte
+-- A decimal digit is a name byte.
 digit_is_name_byte : (d : ℕ) → (48 ≤ d) × (d ≤ 57) → is_name_byte d ≡ true
 digit_is_name_byte d h = grind (arith, nat_tests)
 
--- all decimal digits are name bytes
+-- All decimal digits are name bytes.
 digits_are_name_bytes : (ds : Bytes) → AllDigits 10 ds → AllByRecursion (λ b. is_name_byte b ≡ true) ds
 digits_are_name_bytes [] all = tt
 digits_are_name_bytes (d ∷ ds) all = (digit_is_name_byte d (digit_from_value d all.0), digits_are_name_bytes ds all.1)
 
--- the decimal digits of a number are name bytes
+-- The decimal digits of a number are name bytes.
 pub decimal_is_name_run : (n : ℕ) → n < 2 ^ 32 → AllByRecursion (λ b. is_name_byte b ≡ true) (decimal n)
 decimal_is_name_run n h = digits_are_name_bytes (decimal n) (decimal_is_IsNumeral n (omega (arith, h))).0.1
 
--- the decimal digits of a number below 2 ^ 32 are at most ten
+-- A number below `2 ^ 32` has at most ten decimal digits.
 pub decimal_is_short : (n : ℕ) → n < 2 ^ 32 → length (decimal n) ≤ 10
 decimal_is_short n h = length-decimal-le 10 n (omega arith) (omega (arith, h)) (omega (arith, h))
 
--- the decimal digits of a number spell one token
+-- The decimal digits of a number spell one token.
 pub Spells-number : (n : ℕ) → n < 2 ^ 32 → Spells EndsName 10 (decimal n) (decimal n ∷ [])
 Spells-number n h = Spells-run 10 (decimal n) (decimal_is_name_run n h) (inr (n, decimal_is_number n h)) (decimal_is_short n h)

@@ -1,7 +1,7 @@
 use Rattle.lw_text.proofs.Common.{NotUtf8, TooLong, arith, ◌∙◌, ◌≢◌}
 use Rattle.lw_text.proofs.read.read_frame.Goals as goal
 
--- the two causes that are told of a whole text are not the same
+-- The two causes that concern a whole text differ.
 other : NotUtf8 ≢ TooLong
 other e = cc
 

@@ -59,7 +59,7 @@ finish-requires-clause-within g c =
     let within = rw (c.in_ok-preamble.ensures.same ∙ c.new-lexer.ensures.text) at c.in_ok-stream.ensures.1 in
     HasRows-within len _ c.in_ok-stream.stream.tokens body.parts.threads body.rows c.in_ok-body.ensures.2 within
 
--- a frame is its head and its cells
+-- A frame is its head and its cells.
 same_frame : (f : TestFrame) {h : TestHead} {a : CellGrid} → f.head ≡ h → f.cells ≡ a → f ≡ record { head = h; cells = a }
 same_frame f p q = rw (← p, ← q)
 

@@ -18,7 +18,7 @@ loop-cpu-preserved g c =
     registers_more seen c.loop-cpu.seen c.see_registers.new.seen c.loop-cpu.cpu-index c.loop-cpu.invariant
     (rw at at c.in_ok-see_registers.ensures)
 
--- where an index has passed the first so many numbers, it is that many
+-- An index past the first `len` numbers is `len`.
 passed : (n len i : ℕ) {all xs : List ℕ}
     → all ≡ range_with_len 0 n
     → xs ≡ take len all

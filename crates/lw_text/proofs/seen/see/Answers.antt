@@ -3,7 +3,7 @@ use Rattle.lw_text.proofs.Common.{is_listed, list_any, list_any_at, list_any_mor
 use Rattle.lw_text.proofs.Common.{take_all, ◌∙◌}
 use Rattle.lw_text.proofs.seen.see.Goals as goal
 
--- no element up to one index more passes the test
+-- No element up to the next index passes the test.
 none_more : {X : Type 0} (p : X → Bool) (xs : List X) (i : ℕ) (x : X)
     → list_any p (take i xs) ≡ false
     → i < length xs

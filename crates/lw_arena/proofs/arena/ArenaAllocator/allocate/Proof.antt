@@ -1,4 +1,4 @@
--- `allocate` hands a block out as room for the type that was asked for, with the right to give it back. Assumes `Logic`.
+-- `allocate` returns a block as room for the requested type, with the right to give it back. Assumes `Logic`.
 use Rattle.std.proofs.Common.{◌≡◌, true, false, List, [], ◌∷◌, ◌++◌, refl, subst, lit<, w64, Ok, Err}
 use mir.Syntax.{Ty, Fn}
 use mir.Val.{Val, vint, vptr}
@@ -37,7 +37,7 @@ use Rattle.lw_arena.specs.contracts.arena.ArenaAllocator.allocate.Key.{name as k
 use Rattle.lw_arena.proofs.arena.ArenaAllocator.allocate.Statement.{statement}
 use Rattle.lw_arena.proofs.arena.ArenaAllocator.allocate.Code as code
 
--- what the function still has of each parameter when it returns: nothing
+-- What the function still owns of each parameter when it returns: nothing.
 abbrev stays : Stays ended.signature.params ended.kept
 stays = (
   stay_dropped (slot_at 0 ended.signature.params) ended.kept.0,
@@ -47,7 +47,7 @@ stays = (
   ),
 )
 
--- `allocate` keeps its contract
+-- `allocate` satisfies its contract.
 pub allocate_spec : {M : Type 1} → statement M
 allocate_spec 𝓤 𝓛 𝓜 𝓡 wired =
     let H = 𝓛.H in

@@ -1,4 +1,4 @@
--- `deallocate` makes the room a block again, and puts it on a shelf. Assumes `Logic`.
+-- `deallocate` turns the room back into a block, and adds it to a list of spare blocks. Assumes `Logic`.
 use Rattle.std.proofs.Common.{◌≡◌, ◌^◌, ◌<◌, List, [], ◌∷◌, ◌++◌, refl, sym, ap, ◌∙◌, arith, w64}
 use mir.Syntax.{Ty, Fn}
 use mir.Val.{Val, vint, vptr, vunit}
@@ -37,7 +37,7 @@ use Rattle.lw_arena.specs.contracts.arena.ArenaAllocator.deallocate.Key.{name as
 use Rattle.lw_arena.proofs.arena.ArenaAllocator.deallocate.Statement.{statement}
 use Rattle.lw_arena.proofs.arena.ArenaAllocator.deallocate.Code as code
 
--- what the function still has of each parameter when it returns: nothing
+-- What the function still owns of each parameter when it returns: nothing.
 abbrev stays : Stays ended.signature.params ended.kept
 stays = (
   stay_dropped (slot_at 0 ended.signature.params) ended.kept.0,
@@ -50,7 +50,7 @@ stays = (
   ),
 )
 
--- `deallocate` keeps its contract
+-- `deallocate` satisfies its contract.
 pub deallocate_spec : {M : Type 1} → statement M
 deallocate_spec 𝓤 𝓛 𝓜 𝓡 wired =
     let H = 𝓛.H in

@@ -1,4 +1,4 @@
--- `cut` moves the pointer up by the units in front. Assumes `Logic`.
+-- `cut` advances the pointer by the units in front. Assumes `Logic`.
 use Rattle.std.proofs.Common.{◌≡◌, ℕ, ◌+◌, ◌-◌, ◌*◌, ◌^◌, ◌<◌, ◌≤◌, List, [], ◌∷◌, ◌++◌, refl, ap, ◌∙◌, arith, w64}
 use mir.Syntax.{Fn}
 use mir.Val.{Val, vint, vptr}
@@ -30,14 +30,14 @@ use Rattle.lw_arena.specs.contracts.block.Block.cut.Key.{name as key}
 use Rattle.lw_arena.proofs.block.Block.cut.Statement.{statement}
 use Rattle.lw_arena.proofs.block.Block.cut.Code as code
 
--- what the function still has of each parameter when it returns: nothing
+-- What the function still owns of each parameter when it returns: nothing.
 abbrev stays : Stays ended.signature.params ended.kept
 stays = (
   stay_dropped (slot_at 0 ended.signature.params) ended.kept.0,
   (stay_dropped (slot_at 1 ended.signature.params) ended.kept.1.0, tt),
 )
 
--- `cut` keeps its contract
+-- `cut` satisfies its contract.
 pub cut_spec : {M : Type 1} → statement M
 cut_spec 𝓤 𝓛 𝓜 𝓡 wired =
     let H = 𝓛.H in
@@ -70,7 +70,7 @@ cut_spec 𝓤 𝓛 𝓜 𝓡 wired =
     (λ i. (point_told x.at vss.0 are.0.0 ∙ ap (λ (p : Ptr). point_val p ∷ []) lies) i ++ (are.1.0.0 i ++ [])) refl $
     enter ! C Λ fn (point_val front ∷ vint w64 n ∷ []) Post $
     alloc_all ! (λ l. pass_all ! refl ((tt, (tt, tt)), ((tt, record { fits = are.1.0.1 }), tt)) $ let E : Env 𝓤 𝓛.H = env fn.locals l in
-    -- [the units in front; those behind; the token]
+    -- [the units in front; those after them; the token]
     sets ! (of_opd ! (get_in ! (fld ! refl (stop !)) (sub ! 0 refl (whole !)))) refl (tt, tt) $
     first ! $ blocks ! $
     sets ! (bin ! (get ! refl) (lit ! tt) (omega arith)) refl (tt, record { fits = omega arith }) $

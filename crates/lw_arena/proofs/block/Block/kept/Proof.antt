@@ -1,4 +1,4 @@
--- `kept` takes a block of another allocator's, and lets go of the right to give it back, so it is lent for good. Assumes `Logic`.
+-- `kept` takes a block of another allocator, and gives up the right to give it back, so that it is lent for good. Assumes `Logic`.
 use Rattle.std.proofs.Common.{◌≡◌, ℕ, ◌*◌, ◌^◌, ◌<◌, List, [], ◌∷◌, ◌++◌, None, Some, refl, lit<, w64, arith}
 use mir.Syntax.{Ty, Fn, Args, a_type, dcons, dnil}
 use mir.Val.{Val, vint, vptr, vcons, vnil}
@@ -37,7 +37,7 @@ use Rattle.lw_arena.specs.contracts.block.Block.kept.Key.{name as key}
 use Rattle.lw_arena.proofs.block.Block.kept.Statement.{statement}
 use Rattle.lw_arena.proofs.block.Block.kept.Code as code
 
--- `kept` keeps its contract
+-- `kept` satisfies its contract.
 pub kept_spec : {M : Type 1} → statement M
 kept_spec 𝓤 𝓛 𝓜 𝓡 wired A L g d dd met md =
     let H = 𝓛.H in

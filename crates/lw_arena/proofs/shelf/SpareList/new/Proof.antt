@@ -1,4 +1,4 @@
--- `new` makes a list of nothing: no block, so no memory. Assumes `Logic`.
+-- `new` makes an empty list: it has no block, so it needs no memory. Assumes `Logic`.
 use Rattle.std.proofs.Common.{◌≡◌, List, [], ◌∷◌, ◌++◌, refl, lit<, w64}
 use mir.Syntax.{Fn}
 use mir.Val.{Val, vint}
@@ -25,11 +25,11 @@ use Rattle.lw_arena.specs.contracts.shelf.SpareList.new.Key.{name as key}
 use Rattle.lw_arena.proofs.shelf.SpareList.new.Statement.{statement}
 use Rattle.lw_arena.proofs.shelf.SpareList.new.Code as code
 
--- what the function still has of each parameter when it returns: nothing
+-- What the function still owns of each parameter when it returns: nothing.
 abbrev stays : Stays ended.signature.params ended.kept
 stays = (stay_dropped (slot_at 0 ended.signature.params) ended.kept.0, tt)
 
--- `new` keeps its contract
+-- `new` satisfies its contract.
 pub new_spec : {M : Type 1} → statement M
 new_spec 𝓤 𝓛 𝓜 𝓡 wired =
     let H = 𝓛.H in

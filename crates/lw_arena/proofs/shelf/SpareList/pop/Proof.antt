@@ -1,4 +1,4 @@
--- `pop` reads the node, and the block is whole again. Assumes `Logic`.
+-- `pop` reads the node, and returns the whole block. Assumes `Logic`.
 use Rattle.std.proofs.Common.{◌≡◌, ℕ, zero, suc, ◌+◌, ◌≤◌, List, [], ◌∷◌, ◌++◌, refl, ap, ◌∙◌, arith}
 use seplogic.Ra.Ura.{Ura}
 use mir.Syntax.{Fn}
@@ -35,12 +35,12 @@ use Rattle.lw_arena.specs.contracts.shelf.SpareList.pop.Key.{name as key}
 use Rattle.lw_arena.proofs.shelf.SpareList.pop.Statement.{statement}
 use Rattle.lw_arena.proofs.shelf.SpareList.pop.Code as code
 
--- what the function still has of each parameter when it returns: nothing
+-- What the function still owns of each parameter when it returns: nothing.
 abbrev stays : Stays ended.signature.params ended.kept
 stays = (stay_dropped (slot_at 0 ended.signature.params) ended.kept.0, tt)
 
 module _ {M : Type 1} {𝓤 : Ura M} {𝓛 : Logic 𝓤} {K : Type 0} {Γ : List (Item 𝓤)} {G : Goal 𝓤 𝓛.H} (k : ℕ) where
-  -- of some blocks, the node at the front, what is behind it, and the others
+  -- A nonempty list is the node at its front, the rest of that node's block, and the other blocks.
   opens : K → (n : ℕ) (p : Ptr) → 1 ≤ n
       → ((m b o : ℕ) (next : Ptr) → n ≡ suc m → p ≡ block_ptr b o
       → Seq K 𝓛 (‵ (fat full_share node_type b o (node_val next)) ∷ ‵ (fwand (froom node_type b o) (froom (units k) b o)) ∷ ‵ (chain k m next) ∷ Γ) G)
@@ -49,7 +49,7 @@ module _ {M : Type 1} {𝓤 : Ura M} {𝓛 : Logic 𝓤} {K : Type 0} {Γ : List
   opens t (suc m) p some then_walk =
       fpick t (λ next. fsplit t $ in_a_block t p (λ q. link k q next) (id⊢ 𝓤 (never 𝓤)) (λ b o lies. fsplit t $ then_walk m b o next refl lies))
 
--- `pop` keeps its contract
+-- `pop` satisfies its contract.
 pub pop_spec : {M : Type 1} → statement M
 pop_spec 𝓤 𝓛 𝓜 𝓡 wired =
     let H = 𝓛.H in
@@ -75,7 +75,7 @@ pop_spec 𝓤 𝓛 𝓜 𝓡 wired =
     (λ i. (point_told l.first vss.0 are.0.0 ∙ ap (λ (p : Ptr). point_val p ∷ []) lies) i ++ []) refl $
     enter ! C Λ fn (point_val here ∷ []) Post $
     alloc_all ! (λ d. pass_all ! refl ((tt, (tt, tt)), tt) $ let E : Env 𝓤 𝓛.H = env fn.locals d in
-    -- [the node; what is behind it; the other blocks; the token]
+    -- [the node; the rest of its block; the other blocks; the token]
     sets ! (of_opd ! (get_in ! (fld ! refl (stop !)) (sub ! 0 refl (whole !)))) refl (tt, tt) $
     first ! $ blocks ! $
     sets_last ! (of_opd ! (load ! (through ! refl (fld ! refl (stop !))) (look_in ! 0 (sub ! 0 refl (whole !))))) refl (ptr_typed next) $

@@ -1,4 +1,4 @@
--- `push` writes a node at the front of the block. Assumes `Logic`.
+-- `push` writes a node at the start of the block. Assumes `Logic`.
 use Rattle.std.proofs.Common.{◌≡◌, ℕ, suc, ◌+◌, ◌≤◌, List, [], ◌∷◌, ◌++◌, refl, ap, ◌∙◌, arith}
 use mir.Syntax.{Ty, Fn}
 use mir.Val.{Val}
@@ -32,18 +32,18 @@ use Rattle.lw_arena.specs.contracts.shelf.SpareList.push.Key.{name as key}
 use Rattle.lw_arena.proofs.shelf.SpareList.push.Statement.{statement}
 use Rattle.lw_arena.proofs.shelf.SpareList.push.Code as code
 
--- the machine type of a node, as the struct by its name
+-- The machine type of a node, as the struct with its name.
 abbrev named_node : Ty
 named_node = lone (header.the_row).mir
 
--- what the function still has of each parameter when it returns: nothing
+-- What the function still owns of each parameter when it returns: nothing.
 abbrev stays : Stays ended.signature.params ended.kept
 stays = (
   stay_dropped (slot_at 0 ended.signature.params) ended.kept.0,
   (stay_dropped (slot_at 1 ended.signature.params) ended.kept.1.0, tt),
 )
 
--- `push` keeps its contract
+-- `push` satisfies its contract.
 pub push_spec : {M : Type 1} → statement M
 push_spec 𝓤 𝓛 𝓜 𝓡 wired =
     let H = 𝓛.H in
@@ -87,7 +87,7 @@ push_spec 𝓤 𝓛 𝓜 𝓡 wired =
     exec ! C Λ E (after 4 fn.body) (at_ret E Post) $
     sets ! (agg ! (and_then ! (get ! refl) (no_more !))) refl (tt, (tt, tt)) $
     returns ! (look_at ! 0 refl) $ free_all ! refl $
-    -- [the node; what is behind it; the list]
+    -- [the node; the rest of its block; the list]
     use1 𝓛 (‵ (fat full_share node_type b o (node_val l.first))) (𝓛.laws.at_raw full_share named_node b o (node_val l.first)) $
     fjoin ! $ fjoin ! $ fpack ! Ptr (λ next. fsep (link k here next) (chain k l.count next)) l.first $
     let y : (list.the_row).Denot = record { first = here; units = k; count = suc l.count } in

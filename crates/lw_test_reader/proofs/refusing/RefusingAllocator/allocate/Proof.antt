@@ -1,4 +1,4 @@
--- It counts the growth, and refuses it, or answers what the allocator inside answers. Assumes `Logic`.
+-- It counts the growth, and refuses it, or returns the inner allocator's result. Assumes `Logic`.
 use Rattle.lw_test_reader.proofs.Steps.{ℕ, ◌^◌, ◌<◌, ◌≡◌, Bool, true, false, List, [], ◌∷◌, Ok, Err, refl, w64, Bor, Ura}
 use Rattle.lw_test_reader.proofs.Steps.{Ty, Fn, a_type, dnil, dcons, Val, vint, vptr, vbool, inst_fn, SProp, ent}
 use Rattle.lw_test_reader.proofs.Steps.{Lft, Share, ftrue, flft, froom, Memory, size, align, capped, Routine, WpFn, Tables, Logic}
@@ -72,7 +72,7 @@ module _ (Z : Al) {M : Type 1} {𝓤 : Ura M} (𝓛 : Logic 𝓤) (at_mem : Memo
     leave v answer =
         qed 𝓛 (‵ (Answer.own_val answer (v ∷ [])) ∷ raw (left answer) ∷ tokens ∷ []) ∵
         nothing ! $ nothing ! $ fjoin ! $ nothing ! $ fjoin ! $ nothing ! $ fjoin ! $
-        -- [what is left of the parameters; the answer; what comes with it; the tokens]
+        -- [what remains of the parameters; the result; what comes with it; the tokens]
         move ! (3 ∷ 0 ∷ 1 ∷ 2 ∷ []) $
         by ! (leaves 𝓛 (ended Z) (stayed Z) clauses bound v answer (tt, (tt, (tt, tt))) (tt, (tt, (tt, tt))))
 
@@ -129,7 +129,7 @@ module _ (Z : Al) {M : Type 1} {𝓤 : Ura M} (𝓛 : Logic 𝓤) (at_mem : Memo
         (and_then ! (get ! refl) (and_then ! (get ! refl) (and_then ! (get ! refl) (no_more !)))) (λ v.
         use1 𝓛 (later (raw (Answered Z 𝓛 at_mem run h τ v) ⊛ ‵ (flft κ q)))
         (Takes-gives Z 𝓛 at_mem run κ q at h n a τ v) $ await ! tt $ split ! $
-        -- [what was answered; the token of κ; the token of ρ]
+        -- [the result; the token of κ; the token of ρ]
         answers Z ! at_mem run h τ v
         (λ b o ok. lands_as ! ok refl (Answer-typed true b o) $ returns ! (look_at ! 0 refl) $ free_all ! refl $
         move ! (2 ∷ 3 ∷ []) $ join ! $ by ! (granted b o))

@@ -1,4 +1,4 @@
--- It gives the block back to the allocator inside. Assumes `Logic`.
+-- It gives the block back to the inner allocator. Assumes `Logic`.
 use Rattle.lw_test_reader.proofs.Steps.{◌≡◌, ℕ, ◌^◌, ◌<◌, List, [], ◌∷◌, refl, w64, Bor, Ura, Ty, Fn, a_type, dnil, dcons, Val}
 use Rattle.lw_test_reader.proofs.Steps.{vint, vptr, vunit, inst_fn, SProp, ent, never_e, Lft, Share, Fml, ftrue, ffalse}
 use Rattle.lw_test_reader.proofs.Steps.{fsep, flft, froom, Memory, size, align, capped, Routine, WpFn, Tables, Logic, Item, ⋆}
@@ -80,7 +80,7 @@ module _ (Z : Al) {M : Type 1} {𝓤 : Ura M} (𝓛 : Logic 𝓤) (at_mem : Memo
     given_back x =
         qed 𝓛 (tokens ∷ []) ∵ nothing ! $ feq_i ! (List Val) (vunit ∷ []) (vunit ∷ []) refl $
         nothing ! $ nothing ! $ fjoin ! $ nothing ! $ fjoin ! $ nothing ! $ fjoin ! $ nothing ! $ fjoin ! $
-        -- [what is left of the parameters; the answer; nothing; the tokens]
+        -- [what remains of the parameters; the result; nothing; the tokens]
         move ! (3 ∷ 0 ∷ 1 ∷ 2 ∷ []) $
         by ! (leaves 𝓛 (ended Z) (stayed Z) clauses (bound x) vunit tt (tt, (tt, (tt, (tt, tt)))) (tt, (tt, (tt, (tt, tt)))))
 

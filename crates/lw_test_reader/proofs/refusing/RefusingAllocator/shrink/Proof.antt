@@ -1,4 +1,4 @@
--- It answers what the allocator inside answers. Assumes `Logic`.
+-- It returns the inner allocator's result. Assumes `Logic`.
 use Rattle.lw_test_reader.proofs.Steps.{◌≡◌, ℕ, ◌^◌, ◌<◌, Bool, List, [], ◌∷◌, refl, sym, subst, T, w64, Bor, Ura, Fn, a_type}
 use Rattle.lw_test_reader.proofs.Steps.{dnil, dcons, Val, vint, vptr, has_ty, WT, inst_fn, SProp, ent, never_e, Lft, Share, Fml}
 use Rattle.lw_test_reader.proofs.Steps.{ftrue, flft, Memory, Routine, WpFn, Tables, Logic, Item, ⋆, ‵, raw, ◌⊛◌, some, later}
@@ -96,7 +96,7 @@ module _ (Z : Al) (X : RattleType) {M : Type 1} {𝓤 : Ura M} (𝓛 : Logic �
           use0 𝓛 (‵ (Answer.own_val answer (answer_val c.0 c.1.0 c.1.1 ∷ []))) (result_own 𝓛 c.0 c.1.0 c.1.1) $
           rewrite ! 0 (λ (w : Val). ‵ (Answer.own_val answer (w ∷ []))) (sym is) refl $
           nothing ! $ nothing ! $ fjoin ! $ nothing ! $ fjoin ! $ nothing ! $ fjoin ! $ nothing ! $ fjoin ! $ nothing ! $ fjoin ! $
-          -- [what is left of the parameters; the answer; the block; the tokens]
+          -- [what remains of the parameters; the result; the block; the tokens]
           move ! (3 ∷ 0 ∷ 1 ∷ 2 ∷ []) $ by ! (leaves 𝓛 (ended Z X) (stayed Z X) clauses (bound (block_ptr b o)) v answer
           (tt, (tt, (tt, (tt, (tt, tt))))) (tt, (tt, (tt, (tt, (tt, tt))))))
 

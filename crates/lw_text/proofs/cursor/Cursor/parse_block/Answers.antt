@@ -28,7 +28,7 @@ returns-then-accept g c =
       leaves = IsSuffix-join c.initializers.invariant.leaves c.accept.ensures.leaves;
     }
 
--- Where no `}` stands, a site is read where the cursor was.
+-- If no `}` is next, a site is read at the same position.
 kept : (g : Over) (c : After-parse_site g) → remaining_texts c.accept.new.self ≡ remaining_texts c.initializers.self
 kept g c = ap remaining_texts (c.accept.ensures.kept c.if-accept.false)
 
@@ -46,7 +46,7 @@ entry_read g c = record {
       (remaining_texts c.parse_site.new.self, rw same at c.in_ok-site.ensures.is, c.in_ok-word.ensures.0));
 }
 
--- What is left behind it and its mark is left of the text.
+-- What remains after the initializer and its mark is a suffix of the text.
 leaves : (g : Over) (c : In_ok-expect_either g) → IsSuffix (remaining c.args.self.now) (remaining c.expect_either.new.self)
 leaves g c =
     IsSuffix-join c.initializers.invariant.leaves
@@ -86,7 +86,7 @@ returns-then-branch g c =
     rw c.in_ok-push.ensures.ok
     (record { is = whole.whole; names_are = whole.names_are; within = whole.within; leaves = leaves g d.In_ok-expect_either })
 
--- what is less than what is less
+-- The order of numbers is transitive.
 less : (k m n : ℕ) → k < m → m < n → k < n
 less k m n p q = omega arith
 

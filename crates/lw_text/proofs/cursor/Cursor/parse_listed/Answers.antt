@@ -42,7 +42,7 @@ returns-then-accept g c =
     let whole = read_end c.sites.invariant.read _ (c.accept-in-sites.ensures.taken c.if-accept.true) in
     record { is = inl whole.whole; there = whole.there; names_are = whole.names_are; within = whole.within }
 
--- Where no `]` stands, a site is read where the cursor was.
+-- If no `]` is next, a site is read at the same position.
 kept : (g : Over) (c : After-parse_site g) → remaining_texts c.accept-in-sites.new.self ≡ remaining_texts c.sites.self
 kept g c = ap remaining_texts (c.accept-in-sites.ensures.kept c.if-accept.false)
 

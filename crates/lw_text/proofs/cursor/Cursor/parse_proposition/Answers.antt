@@ -6,7 +6,7 @@ use Rattle.lw_text.proofs.PropositionCases.{terminals_none, terminals_end, termi
 use Rattle.lw_text.proofs.PropositionCases.{terminals_more, once_here, room_left}
 use Rattle.lw_text.proofs.cursor.Cursor.parse_proposition.Goals as goal
 
--- a reader of tokens may say that they end too early
+-- A reader of tokens may report that they end too early.
 of_reader : IsOfReader Unterminated
 of_reader = (λ e. cc, λ e. cc)
 

@@ -3,7 +3,7 @@ use Rattle.lw_text.proofs.Common.{get_or_from_slice_get, refl, slice_get_within,
 use Rattle.lw_text.proofs.token_stream.TokenStream.fault_of.Goals.{in-Some, in-None}
 use Rattle.lw_text.proofs.token_stream.TokenStream.fault_of.Goals as goal
 
--- a fault within the length, or the one at the end
+-- The position of the fault, or that of the end, is within the length.
 fault_within : (o : Option Fault) (end : Fault) (len : ℕ) → IfSome o (λ f. f.at ≤ len) → end.at ≡ len → (unwrap_or o end).at ≤ len
 fault_within None end len within at = omega arith
 fault_within (Some f) end len within at = within
