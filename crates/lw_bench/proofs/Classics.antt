@@ -1,5 +1,5 @@
--- The classic tests: that they are well-formed, what searches through their runs forbid, and a run of store buffering in x86 in
--- which both loads are early.
+-- The classic tests: they are well-formed, searches through their runs find what is forbidden, and a run of store buffering in x86 has both
+-- loads early.
 use Rattle.lw_bench.proofs.Common.{◌≡◌, ℕ, zero, suc, ◌^◌, ◌<◌, ◌≤◌, ◌==◌, not, Bool, true, false, List, []}
 use Rattle.lw_bench.proofs.Common.{◌∷◌, refl, sym, ap, ◌∙◌, subst, arith, slice_index, length, None, Some}
 use Rattle.lw_bench.proofs.Common.{slice_get, codes, replicate, slice_index_or, Contains, is_ascii_digit}
@@ -17,16 +17,16 @@ use Rattle.lw_bench.proofs.Common.{store_buffering_in_x86, message_passing_in_x8
 use Rattle.lw_bench.proofs.Searches.{ends_so, searched, machine_ends_so, machine_searched}
 use Rattle.lw_litmus.specs.declared.instr.Instr.TheVariants as instr
 
--- whether an outcome shows that not both loads of store buffering were early
+-- Tests whether the outcome has not both loads of store buffering early.
 abbrev is_late : FinalState → Bool
 is_late o = not (is_true store_buffering.head.condition o)
 
--- within five steps every run of store buffering on one memory ends, with an outcome in which not both loads were early
+-- Within five steps every run of store buffering by interleaving ends, with an outcome that has not both loads early.
 search_of_store_buffering : ends_so store_buffering.threads is_late 5 (initial_state store_buffering) ≡ true
 unfolding ends_so
 search_of_store_buffering = refl
 
--- by interleaving no outcome of store buffering has both loads early
+-- By interleaving, no outcome of store buffering has both loads early.
 pub store_buffering_forbidden : (o : FinalState)
     → SourceOutcome store_buffering o
     → is_true store_buffering.head.condition o ≡ false
@@ -36,18 +36,18 @@ store_buffering_forbidden o run =
     (searched store_buffering.threads is_late 5 run.0 (initial_state store_buffering) run.1.end search_of_store_buffering
     run.1.ran run.1.final))
 
--- whether an outcome shows that the flag was not read without the message
+-- Tests whether the outcome has not the flag without the message.
 abbrev lacks_message : FinalState → Bool
 lacks_message o = not (is_true message_passing_in_x86.head.condition o)
 
--- within seven events every run of message passing over flat memory ends, and its outcome has not the flag without the message
+-- Within seven events every run of message passing over flat memory ends, with an outcome that has not the flag without the message.
 search_of_message_passing : machine_ends_so message_passing_in_x86.threads lacks_message 7
     (initial_machine_state message_passing_in_x86 message_passing_in_x86.head.init_words)
     ≡ true
 unfolding machine_ends_so
 search_of_message_passing = refl
 
--- no outcome of message passing in x86 has the flag without the message
+-- No outcome of message passing in x86 has the flag without the message.
 pub message_passing_forbidden : (o : FinalState)
     → IsMachineOutcome flat_memory message_passing_in_x86 message_passing_in_x86.head.init_words o
     → is_true message_passing_in_x86.head.condition o ≡ false
@@ -58,9 +58,9 @@ message_passing_forbidden o run =
     (initial_machine_state message_passing_in_x86 message_passing_in_x86.head.init_words) run.1.end search_of_message_passing
     run.1.ran run.1.final))
 
--- ---- the x86 tests are well-formed, so what they do over flat memory they do over caches
+-- ---- the x86 tests are well-formed, so their outcomes over flat memory are those over caches
 
--- a letter that is no reserved name is a location's name
+-- A letter that is no reserved name is a location's name.
 pub one_letter : (w : List ℕ) (b : ℕ)
     → w ≡ b ∷ []
     → is_name_byte b ≡ true
@@ -69,7 +69,7 @@ pub one_letter : (w : List ℕ) (b : ℕ)
     → IsLocationName w
 one_letter w b is word front free = rw is ((record { some = omega arith; all = (word, tt); front = front }, omega arith), free)
 
--- `x` is not in a table of `y` alone: so no name stands twice in the table of both
+-- `x` is not in the table of `y`, so the table of both has no duplicates.
 apart : Contains (codes "y" ∷ []) (codes "x") → ⊥
 apart c = go c.0 c.1 c.2
   where
@@ -77,7 +77,7 @@ apart c = go c.0 c.1 c.2
     go zero l e = absurd (false≢true (ap (λ (bytes : List ℕ). slice_index bytes 0 == 120) e))
     go (suc k) l e = omega (arith, l)
 
--- the head of a test of two threads is well-formed, where its name and its condition are
+-- The head of a test of two threads is well-formed if its name and its condition are.
 head_formed : (name : List ℕ) (arch : Arch) (quant : Quant) (condition : Formula)
     → IsTestName name
     → nodes condition ≤ 256
@@ -106,12 +106,12 @@ head_formed name arch quant condition named few speaks = record {
     zeros : AllByRecursion IsWordNumber (replicate 6 0)
     zeros = (omega arith, (omega arith, (omega arith, (omega arith, (omega arith, (omega arith, tt))))))
 
--- a well-formed instruction of a test of two locations that is no jump
+-- The instruction is a well-formed one of a test of two locations, and no jump.
 record IsPlain (i : Instr) : Type 0 where
   formed : IsWellFormedStatement x86_language 2 i
   goes_on : branch_target (x86_operation i) ≡ None
 
--- a store of a word to one of the two locations is a plain instruction
+-- A store of a word to one of the two locations is a plain instruction.
 store_plain : (x n : ℕ) → x < 2 → n < 2 ^ 32 → IsPlain (instr.Store x (Number n))
 store_plain x n there word = record {
   formed = (
@@ -122,7 +122,7 @@ store_plain x n there word = record {
   goes_on = refl;
 }
 
--- a load of one of the two locations is a plain instruction
+-- A load of one of the two locations is a plain instruction.
 load_plain : (d x : ℕ) → d < 6 → x < 2 → IsPlain (instr.Load d x)
 load_plain d x register there = record {
   formed = (
@@ -133,7 +133,7 @@ load_plain d x register there = record {
   goes_on = refl;
 }
 
--- two plain instructions are a well-formed thread
+-- Two plain instructions are a well-formed thread.
 two_formed : {first second : Instr} → IsPlain first → IsPlain second → IsWellFormedThread x86_language 2 (first ∷ second ∷ [])
 two_formed {first} {second} a b = record {
   short = omega arith;
@@ -153,7 +153,7 @@ two_formed {first} {second} a b = record {
     forward (suc zero) s e = no_jump s 1 (subst IsPlain (same_Some second s e) b)
     forward (suc (suc k)) s e = cc
 
--- an x86 test of two well-formed threads and two locations, with a well-formed head
+-- The x86 test has two well-formed threads, two locations and a well-formed head.
 record IsOfTwo (test : X86Test) : Type 0 where
   first : List Instr
   second : List Instr
@@ -165,7 +165,7 @@ record IsOfTwo (test : X86Test) : Type 0 where
   first_formed : IsWellFormedThread x86_language 2 first
   second_formed : IsWellFormedThread x86_language 2 second
 
--- an x86 test of two well-formed threads, with a well-formed head, is well-formed
+-- Such a test is well-formed.
 program_formed : (test : X86Test) → IsOfTwo test → IsWellFormedProgram test
 program_formed test two = record {
   head = two.head;
@@ -178,7 +178,7 @@ program_formed test two = record {
       (All-nil (IsWellFormedThread x86_language 2))));
 }
 
--- store buffering in x86 is well-formed
+-- Store buffering in x86 is well-formed.
 pub store_buffering_formed : IsWellFormedProgram store_buffering_in_x86
 store_buffering_formed = program_formed store_buffering_in_x86 (record {
   first = instr.Store 0 (Number 1) ∷ instr.Load 0 1 ∷ [];
@@ -195,7 +195,7 @@ store_buffering_formed = program_formed store_buffering_in_x86 (record {
   second_formed = two_formed (store_plain 1 1 (omega arith) (omega arith)) (load_plain 0 0 (omega arith) (omega arith));
 })
 
--- message passing in x86 is well-formed
+-- Message passing in x86 is well-formed.
 pub message_passing_formed : IsWellFormedProgram message_passing_in_x86
 message_passing_formed = program_formed message_passing_in_x86 (record {
   first = instr.Store 0 (Number 1) ∷ instr.Store 1 (Number 1) ∷ [];
@@ -214,71 +214,71 @@ message_passing_formed = program_formed message_passing_in_x86 (record {
 
 -- ---- both threads store, both load, and then both drain
 
--- the events of the run in which both loads are early
+-- The events of the run with both loads early.
 early_events : List Event
 early_events = Step 0 ∷ Step 1 ∷ Step 0 ∷ Step 1 ∷ Drain 0 ∷ Drain 1 ∷ []
 
--- a processor at this position with this store buffer, whose registers are all 0
+-- A processor at this position with this store buffer, whose registers are all 0.
 abbrev at : ℕ → List (ℕ × ℕ) → Processor
 at k buffer = record { position = k; regs = replicate 6 0; zero_flag = false; buffer = buffer }
 
--- the state in which store buffering begins
+-- The initial state of store buffering.
 abbrev beginning : MachineState (List ℕ)
 beginning = initial_machine_state store_buffering_in_x86 (replicate 2 0)
 
--- the state in which the first thread's store waits in its store buffer, and nothing else is done
+-- The state in which the first thread's store is in its store buffer, and nothing else is done.
 abbrev one_stored : MachineState (List ℕ)
 one_stored = state (at 1 ((0, 1) ∷ []) ∷ at 0 [] ∷ []) (0 ∷ 0 ∷ [])
 
--- the state in which both stores wait in their store buffers, and nothing is loaded
+-- The state in which both stores are in their store buffers, and nothing is loaded.
 abbrev both_stored : MachineState (List ℕ)
 both_stored = state (at 1 ((0, 1) ∷ []) ∷ at 1 ((1, 1) ∷ []) ∷ []) (0 ∷ 0 ∷ [])
 
--- the state in which the first thread has loaded 0, and both stores wait
+-- The state in which the first thread has loaded 0, and both stores are in their store buffers.
 abbrev one_loaded : MachineState (List ℕ)
 one_loaded = state (at 2 ((0, 1) ∷ []) ∷ at 1 ((1, 1) ∷ []) ∷ []) (0 ∷ 0 ∷ [])
 
--- the state in which both threads have loaded 0, and both stores wait
+-- The state in which both threads have loaded 0, and both stores are in their store buffers.
 abbrev both_loaded : MachineState (List ℕ)
 both_loaded = state (at 2 ((0, 1) ∷ []) ∷ at 2 ((1, 1) ∷ []) ∷ []) (0 ∷ 0 ∷ [])
 
--- the state in which both threads have loaded 0, and the first store is in memory
+-- The state in which both threads have loaded 0, and the first store is in memory.
 abbrev one_drained : MachineState (List ℕ)
 one_drained = state (at 2 [] ∷ at 2 ((1, 1) ∷ []) ∷ []) (1 ∷ 0 ∷ [])
 
--- the state in which both threads have loaded 0, and both stores are in memory: the end of the run
+-- The final state: both threads have loaded 0, and both stores are in memory.
 abbrev both_drained : MachineState (List ℕ)
 both_drained = state (at 2 [] ∷ at 2 [] ∷ []) (1 ∷ 1 ∷ [])
 
--- the event is carried out in the first state and leads to the second
+-- The event leads from the first state to the second.
 abbrev Leads : Event → MachineState (List ℕ) → MachineState (List ℕ) → Type 0
 Leads e s mid = MachineTransition flat_memory store_buffering_in_x86.threads e s (Ok tt) mid
 
--- the first thread's store goes into its store buffer
+-- The first thread's store enters its store buffer.
 first_stores : Leads (Step 0) beginning one_stored
 first_stores = (at 1 ((0, 1) ∷ []), 0 ∷ 0 ∷ [], (refl, refl, refl), refl)
 
--- the second thread's store goes into its store buffer
+-- The second thread's store enters its store buffer.
 second_stores : Leads (Step 1) one_stored both_stored
 second_stores = (at 1 ((1, 1) ∷ []), 0 ∷ 0 ∷ [], (refl, refl, refl), refl)
 
--- the first thread loads 0, which memory still has
+-- The first thread loads 0, which memory still has.
 first_loads : Leads (Step 0) both_stored one_loaded
 first_loads = (at 2 ((0, 1) ∷ []), 0 ∷ 0 ∷ [], (Some 0, refl, refl, (refl, refl)), refl)
 
--- the second thread loads 0, which memory still has
+-- The second thread loads 0, which memory still has.
 second_loads : Leads (Step 1) one_loaded both_loaded
 second_loads = (at 2 ((1, 1) ∷ []), 0 ∷ 0 ∷ [], (Some 0, refl, refl, (refl, refl)), refl)
 
--- the first store reaches memory
+-- The first store reaches memory.
 first_drains : Leads (Drain 0) both_loaded one_drained
 first_drains = (at 2 [], 1 ∷ 0 ∷ [], (None, refl, refl, (refl, refl)), refl)
 
--- the second store reaches memory
+-- The second store reaches memory.
 second_drains : Leads (Drain 1) one_drained both_drained
 second_drains = (at 2 [], 1 ∷ 1 ∷ [], (None, refl, refl, (refl, refl)), refl)
 
--- the events in which both loads are early are a run of the flat machine, to the end
+-- The events with both loads early are a run of the flat machine to a final state.
 early_run : MachineRunsTo flat_memory store_buffering_in_x86.threads early_events beginning both_drained
 unfolding early_events
 early_run = (
@@ -291,7 +291,7 @@ early_run = (
   ),
 )
 
--- store buffering in x86 has an outcome with both loads early
+-- Store buffering in x86 has an outcome with both loads early.
 pub store_buffering_allowed : (o : FinalState)
     × IsMachineOutcome flat_memory store_buffering_in_x86 store_buffering_in_x86.head.init_words o
     × (is_true store_buffering_in_x86.head.condition o ≡ true)

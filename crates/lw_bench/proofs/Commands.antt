@@ -1,5 +1,4 @@
--- That the task or the protocol that the functions find is what the arguments give, or that the arguments give none: case by case
--- of their comparisons.
+-- The task or protocol that the functions find is the one that the arguments name, or they name none: case by case of the comparisons.
 use Rattle.lw_bench.proofs.Common.{◌≡◌, ◌≤◌, ◌<◌, ◌-◌, ◌==◌, ℕ, Bool, true, false, not, nat_eq, Option, Some}
 use Rattle.lw_bench.proofs.Common.{None, List, [], ◌∷◌, length, map, take, drop, inl, inr, refl, sym, ap, ◌∙◌}
 use Rattle.lw_bench.proofs.Common.{subst, codes, arith, Bor, MatchOption, slice_index_or, take_all}
@@ -8,39 +7,39 @@ use Rattle.lw_bench.proofs.Common.{Protocol, Task, States, Compile, Schedules, p
 use Rattle.lw_bench.proofs.Common.{IsProtocolOption, IsCommand}
 use Rattle.lw_bench.specs.declared.command.Task.TheVariants.{Replay}
 
--- the arguments in memory
+-- The arguments in memory.
 abbrev pub Arguments : Type 0
 Arguments = List (Bor (List ℕ))
 
--- the bytes of the arguments
+-- The bytes of the arguments.
 abbrev pub texts : Arguments → List (List ℕ)
 texts words = map (λ (w : Bor (List ℕ)). w.now) words
 
--- what is read behind the last argument: a text of no bytes
+-- The default past the last argument: an empty text.
 abbrev pub no_argument : Bor (List ℕ)
 no_argument = record { ref_ptr = (0, 0); now = [] }
 
--- the bytes of the argument at an index; none behind the last
+-- The bytes of the argument at an index; empty past the last.
 abbrev pub argument_at : Arguments → ℕ → List ℕ
 argument_at words k = (slice_index_or words k no_argument).now
 
--- the arguments behind the first
+-- The arguments after the first.
 abbrev behind : Arguments → Arguments
 behind words = take (length words - 1) (drop 1 words)
 
--- an answer r about the arguments is right by the definition `Is`: what it has is theirs, and where it has nothing there is none
+-- The result r is right by the definition `Is`: its value is the arguments', and if it has none they have none.
 abbrev Gives : {X : Type 0} → (List (List ℕ) → X → Type 0) → List (List ℕ) → Option X → Type 0
 Gives Is words r = MatchOption r (HoldsOfNothing (Is words)) (Is words)
 
--- equal lists of arguments are equal behind their first
+-- Equal lists of arguments have equal tails.
 rest_same : {a b : List ℕ} {l k : List (List ℕ)} → a ∷ l ≡ b ∷ k → l ≡ k
 rest_same same = cc
 
--- the empty list has no first item
+-- The empty list has no first item.
 is_none : (a : List ℕ) (l : List (List ℕ)) → [] ≡ a ∷ l → ⊥
 is_none a l same = cc
 
--- where a comparison says that two arguments do not differ, they are equal
+-- If the comparison says that two arguments do not differ, they are equal.
 is_equal : (a b : List ℕ) (differs : Bool) → differs ≡ not (pointwise nat_eq a b) → differs ≡ false → a ≡ b
 is_equal a b differs is same = (pointwise_decides unsigned_Decides a b).0 (denied (pointwise nat_eq a b) (sym is ∙ same))
   where
@@ -48,7 +47,7 @@ is_equal a b differs is same = (pointwise_decides unsigned_Decides a b).0 (denie
     denied true e = refl
     denied false e = cc
 
--- where a comparison says that two arguments differ, they are not equal
+-- If the comparison says that two arguments differ, they are unequal.
 is_unequal : (a b : List ℕ) (differs : Bool) → differs ≡ not (pointwise nat_eq a b) → differs ≡ true → a ≡ b → ⊥
 is_unequal a b differs is other same =
     denied (pointwise nat_eq a b) ((pointwise_decides unsigned_Decides a b).1 same) (sym is ∙ other)
@@ -57,12 +56,12 @@ is_unequal a b differs is other same =
     denied true e n = cc
     denied false e n = cc
 
--- where there is an argument, the bytes of all are those of the first and of those behind it
+-- The bytes of all arguments are those of the first, followed by those of the others.
 one_first : (words : Arguments) → 1 ≤ length words → texts words ≡ argument_at words 0 ∷ texts (behind words)
 one_first [] many = absurd (omega (arith, many))
 one_first (x ∷ rest) many = ap (λ (l : Arguments). x.now ∷ texts l) (sym (take_all (length (x ∷ rest) - 1) rest (omega arith)))
 
--- where there are two arguments, the bytes of all are those at index 0 and at index 1
+-- The bytes of two arguments are those at index 0 and at index 1.
 two_arguments : (words : Arguments)
     → 2 ≤ length words
     → length words < 3
@@ -75,7 +74,7 @@ two_arguments _ many few = absurd (omega (arith, many))
 
 module _ (words : Arguments) (many : 2 ≤ length words) (few : length words < 3) (differs : Bool)
     (is : differs ≡ not (pointwise nat_eq (argument_at words 0) (codes "--protocol"))) where
-  -- where the first of two arguments is `--protocol`, they give the protocol that the second names, or none if it names none
+  -- If the first of two arguments is `--protocol`, they name the protocol that the second names, or none.
   pub option_told : (r : Option Protocol)
       → differs ≡ false
       → MatchOption r (HoldsOfNothing (λ p. protocol_name p ≡ argument_at words 1)) (λ p. protocol_name p ≡ argument_at words 1)
@@ -90,12 +89,12 @@ module _ (words : Arguments) (many : 2 ≤ length words) (few : length words < 3
       go p (inl e) = none p (sym (cons_head _ _ _ _ (rest_same (sym (two_arguments words many few) ∙ e))))
       go p (inr e) = is_none _ _ (sym e.0 ∙ two_arguments words many few)
 
-  -- where the first of two arguments is not `--protocol`, they give no protocol
+  -- If the first of two arguments is not `--protocol`, they name no protocol.
   pub other_option : (p : Protocol) → differs ≡ true → IsProtocolOption (texts words) p → ⊥
   other_option p other (inl e) = is_unequal _ _ _ is other (cons_head _ _ _ _ (sym (two_arguments words many few) ∙ e))
   other_option p other (inr e) = is_none _ _ (sym e.0 ∙ two_arguments words many few)
 
--- one argument, or more than two, give no protocol
+-- One argument, or more than two, name no protocol.
 pub no_option : (words : Arguments) (p : Protocol)
     → (length words ≡ 2 → ⊥)
     → (length words == 0) ≡ false
@@ -109,14 +108,15 @@ no_option (x ∷ words) p other some (inr e) = is_none _ _ (sym e.0)
 
 -- ---- a task, by its name
 
--- behind the name of a command that is not `replay` stands nothing
+-- Nothing follows the name of a command other than `replay`.
 named_alone : (name : List ℕ) (l : List (List ℕ)) (t : Task) → (name ≡ codes "replay" → ⊥) → IsCommand (name ∷ l) t → l ≡ []
 named_alone name l (Replay schedule protocol) other said = absurd (other (cons_head _ _ _ _ said.1))
 named_alone name l States other said = rest_same said
 named_alone name l Compile other said = rest_same said
 named_alone name l Schedules other said = rest_same said
 
--- where the first argument is the name of a task without further ones, all give that task if nothing is behind it, else none
+-- If the first argument is the name of a task without further arguments, all arguments name that task if it is the only one, and none
+-- otherwise.
 pub alone_told : (words : Arguments) (name : List ℕ) (task : Task) (r : Option Task)
     → 1 ≤ length words
     → argument_at words 0 ≡ name
@@ -141,7 +141,7 @@ alone_told words name task r many is other named = go r
         no_texts [] e = refl
         no_texts (x ∷ o) e = absurd (is_none _ _ (sym e))
 
--- where the first argument is `replay`: what `replay` and those behind it give is what all give
+-- If the first argument is `replay`, the task of all arguments is that of `replay` with the others.
 pub replay_told : (words : Arguments) (r : Option Task)
     → 1 ≤ length words
     → argument_at words 0 ≡ codes "replay"
@@ -150,7 +150,7 @@ pub replay_told : (words : Arguments) (r : Option Task)
 replay_told words r many is told =
     subst (λ l. Gives IsCommand l r) (sym (one_first words many ∙ ap (λ n. n ∷ texts (behind words)) is)) told
 
--- where the arguments behind the schedule are no option of a protocol, `replay` with the schedule and these is no command
+-- If the arguments after the schedule are no option of a protocol, `replay` with the schedule and these is no command.
 pub no_replay : (words : Arguments)
     → 1 ≤ length words
     → HoldsOfNothing (IsProtocolOption (texts (behind words)))
@@ -163,7 +163,7 @@ no_replay words many none (Replay schedule protocol) said =
 no_replay words many none Compile said = omega (arith, cons_head 114 99 _ _ (cons_head _ _ _ _ said))
 no_replay words many none _ said = omega (arith, cons_head 114 115 _ _ (cons_head _ _ _ _ said))
 
--- no arguments name no task
+-- No arguments name no task.
 pub no_arguments : (words : Arguments) (t : Task) → length words < 1 → IsCommand (texts words) t → ⊥
 no_arguments (x ∷ words) t few said = absurd (omega (arith, few))
 no_arguments [] (Replay schedule protocol) few said = is_none _ _ said.1
@@ -171,7 +171,7 @@ no_arguments [] States few said = is_none _ _ said
 no_arguments [] Compile few said = is_none _ _ said
 no_arguments [] Schedules few said = is_none _ _ said
 
--- where the first argument is none of the four names, the arguments name no task
+-- If the first argument is none of the four names, the arguments name no task.
 pub no_command : (words : Arguments) (t : Task)
     → 1 ≤ length words
     → (argument_at words 0 ≡ codes "states" → ⊥)

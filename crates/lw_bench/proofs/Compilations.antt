@@ -2,8 +2,8 @@
 use Rattle.lw_bench.proofs.Common.{◌↔◌, FinalState, flat_memory, Protocol, SourceOutcome, SourceTest, X86Test}
 use Rattle.lw_bench.proofs.Common.{IsMachineOutcome, IsWellFormedProgram, OutcomeOverCaches}
 
--- where a program has its source's outcomes over flat memory, and outcomes over caches are those over flat memory, it has its
--- source's over caches
+-- If a program has its source's outcomes over flat memory, and outcomes over caches are those over flat memory, it has its source's over
+-- caches.
 pub by_flat : (test : SourceTest) (program : X86Test)
     → ((protocol : Protocol) (p : X86Test) (o : FinalState)
     → IsWellFormedProgram p

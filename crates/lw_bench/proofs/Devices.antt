@@ -1,26 +1,26 @@
--- What came in from a reader and went out to a writer, with one piece more; and what that is of the whole input, of which a run
--- takes 65,537 bytes at most.
+-- The bytes read from a reader and written to a writer, with one more piece; and how they relate to the whole input, of which a run reads
+-- at most 65,537 bytes.
 use Rattle.lw_bench.proofs.Common.{arith, inl, inr, refl, ◌≡◌, ◌≢◌, ℕ, zero, suc, ◌-◌, ◌<◌, ◌≤◌, Option, Some}
 use Rattle.lw_bench.proofs.Common.{None, List, [], ◌∷◌, ◌++◌, length, length-append, take, drop, sym, ap, ◌∙◌}
 use Rattle.lw_bench.proofs.Common.{subst, append_assoc, length-take-le, take-append-drop, take-append-le}
 use Rattle.lw_bench.proofs.Common.{Appends, Consumes, IsAtEnd, Keeps, IsInput, TakesInput, TakesSome}
 use Rattle.lw_bench.proofs.Common.{ReadsMore, LosesInput, WritesPrefix}
 
--- bytes that were added, and then more, were all added
+-- Appending some bytes, and then more, appends the concatenation.
 Appends-more : (a b c : Option (List ℕ)) (xs ys : List ℕ) → Appends a b xs → Appends b c ys → Appends a c (xs ++ ys)
 Appends-more None b c xs ys h k = tt
 Appends-more (Some x) None c xs ys h k = absurd h
 Appends-more (Some x) (Some y) None xs ys h k = absurd k
 Appends-more (Some x) (Some y) (Some z) xs ys h k = k ∙ ap (λ w. w ++ ys) h ∙ append_assoc x xs ys
 
--- bytes that were taken, and then more, were all taken
+-- Consuming some bytes, and then more, consumes the concatenation.
 Consumes-more : (a b c : Option (List ℕ)) (xs ys : List ℕ) → Consumes a b xs → Consumes b c ys → Consumes a c (xs ++ ys)
 Consumes-more None b c xs ys h k = tt
 Consumes-more (Some x) None c xs ys h k = absurd h
 Consumes-more (Some x) (Some y) None xs ys h k = absurd k
 Consumes-more (Some x) (Some y) (Some z) xs ys h k = h ∙ ap (λ w. xs ++ w) k ∙ sym (append_assoc xs ys z)
 
--- where the first n bytes of the rest were written too, what is left to write is the rest behind them
+-- If the first n bytes of the rest are written too, what remains to be written is the rest after them.
 pub puts_more : (a b c : Option (List ℕ)) (bytes rest : List ℕ) (n : ℕ)
     → WritesPrefix a b bytes rest
     → Appends b c (take n rest)
@@ -34,7 +34,7 @@ puts_more a b c bytes rest n puts more = record {
   appended = Appends-more a b c puts.written (take n rest) puts.appended more;
 }
 
--- The first `count` bytes of a buffer came in, behind the bytes `before`; the buffer has no more room than may still be read.
+-- The first `count` bytes of a buffer were read, after the bytes `before`; the buffer is no larger than what may still be read.
 pub record IsFront (before buffer : List ℕ) (count : ℕ) : Type 0 where
   pub room : ℕ
   pub short : length before < 65537
@@ -43,7 +43,7 @@ pub record IsFront (before buffer : List ℕ) (count : ℕ) : Type 0 where
   pub whole : length buffer ≡ room
   pub within : count ≤ length buffer
 
--- where the first bytes of a buffer came in and were put behind those before, the reader gave so many bytes
+-- If the first bytes of a buffer were read and appended to those before, the reader supplied these bytes.
 pub gets_front : {before after : List ℕ} (known left : Option (List ℕ)) (buffer behind : List ℕ) (count : ℕ)
     → IsFront before buffer count
     → Consumes known left (take count buffer) × (count ≡ 0 → 0 < length buffer → IsAtEnd left)
@@ -63,12 +63,12 @@ gets_front {before} known left buffer behind count front consumed added =
       ended = λ none. consumed.1 none (omega (arith, front.whole, front.some));
     }
 
--- no bytes have been taken at the start
+-- At the start no bytes have been consumed.
 pub takes_none : (known : Option (List ℕ)) (bytes : List ℕ) → bytes ≡ [] → Consumes known known bytes
 takes_none None bytes none = tt
 takes_none (Some x) bytes none = ap (λ (b : List ℕ). b ++ x) (sym none)
 
--- bytes that came in behind those taken are taken with them: all bytes that are there now were taken since the start
+-- Bytes that were read after those consumed are consumed with them: all bytes read so far were consumed since the start.
 pub gets_more : (a b c : Option (List ℕ)) (before after : List ℕ) (n : ℕ)
     → Consumes a b before
     → ReadsMore b c before after n
@@ -76,30 +76,30 @@ pub gets_more : (a b c : Option (List ℕ)) (before after : List ℕ) (n : ℕ)
 gets_more a b c before after n before_that gets =
     subst (Consumes a c) (sym gets.added) (Consumes-more a b c before gets.got before_that gets.consumed)
 
--- what was taken up to the end is the input
+-- What was consumed up to the end is the input.
 pub input_ended : (a b : Option (List ℕ)) (bytes : List ℕ) → Consumes a b bytes → IsAtEnd b → IsInput a bytes
 input_ended None b bytes h end = tt
 input_ended (Some x) None bytes h end = absurd h
 input_ended (Some x) (Some y) bytes h end = (y, h, inl end)
 
--- 65,537 bytes that were taken are the input, so far as it may be read
+-- If 65,537 bytes were consumed, they are the input as far as it may be read.
 pub input_full : (a b : Option (List ℕ)) (bytes : List ℕ) → Consumes a b bytes → length bytes ≡ 65537 → IsInput a bytes
 input_full None b bytes h full = tt
 input_full (Some x) None bytes h full = absurd h
 input_full (Some x) (Some y) bytes h full = (y, h, inr full)
 
--- ---- what was taken
+-- ---- what was consumed
 
--- two texts one behind the other, without as many bytes at the front as the first has, are the second
+-- A concatenation without the first text is the second.
 behind : (bytes rest : List ℕ) → drop (length bytes) (bytes ++ rest) ≡ rest
 behind [] rest = refl
 behind (b ∷ bytes) rest = behind bytes rest
 
--- where an input is some bytes and a rest, what is left of it without so many bytes is the rest
+-- If an input is some bytes followed by a rest, what remains without these bytes is the rest.
 left_is : (input bytes rest : List ℕ) → input ≡ bytes ++ rest → drop (length bytes) input ≡ rest
 left_is input bytes rest is = ap (drop (length bytes)) is ∙ behind bytes rest
 
--- of an input of at most n bytes nothing is left without its first n
+-- Nothing remains of an input of at most n bytes without its first n.
 none_behind : (n : ℕ) (input : List ℕ) → length input ≤ n → drop n input ≡ []
 none_behind n [] le = drop_nil n
   where
@@ -109,7 +109,7 @@ none_behind n [] le = drop_nil n
 none_behind zero (b ∷ input) le = absurd (omega arith)
 none_behind (suc n) (b ∷ input) le = none_behind n input (omega (arith, le))
 
--- where the end was reached the whole input was taken
+-- If the end was reached, the whole input was consumed.
 pub taken_ended : (a b : Option (List ℕ)) (bytes : List ℕ)
     → Consumes a b bytes
     → IsAtEnd b
@@ -121,36 +121,36 @@ taken_ended (Some x) (Some y) bytes h end le =
     let short : length x ≤ 65537 = omega (arith, ap length h, length-append bytes y, ap length end, le) in
     ap Some (end ∙ sym (none_behind 65537 x short))
 
--- where 65,537 bytes were taken, all was taken that a run takes of its input
+-- If 65,537 bytes were consumed, all was consumed that a run reads of its input.
 pub taken_full : (a b : Option (List ℕ)) (bytes : List ℕ) → Consumes a b bytes → length bytes ≡ 65537 → TakesInput a b
 taken_full None b bytes h full = tt
 taken_full (Some x) None bytes h full = absurd h
 taken_full (Some x) (Some y) bytes h full = ap Some (sym (subst (λ n. drop n x ≡ y) full (left_is x _ y h)))
 
--- where at most 65,537 bytes were taken, a part of what a run may take of its input was taken
+-- If at most 65,537 bytes were consumed, a part of what a run may read of its input was consumed.
 taken_some : (a b : Option (List ℕ)) (bytes : List ℕ) → Consumes a b bytes → length bytes ≤ 65537 → TakesSome a b
 taken_some None b bytes h le = tt
 taken_some (Some x) None bytes h le = absurd h
 taken_some (Some x) (Some y) bytes h le = (length bytes, le, ap Some (sym (left_is x bytes y h)))
 
--- where bytes were taken, and then more came in and were lost, a part of what a run may take of its input was taken
+-- If bytes were consumed, and then more were read and lost, a part of what a run may read of its input was consumed.
 pub taken_lost : (a b c : Option (List ℕ)) (bytes : List ℕ) → Consumes a b bytes → LosesInput b c bytes → TakesSome a c
 taken_lost a b c bytes h loses =
     taken_some a c (bytes ++ loses.got) (Consumes-more a b c bytes loses.got h loses.consumed)
     (omega (arith, length-append bytes loses.got, loses.limit))
 
--- where the whole input was taken, a part of it was taken
+-- If the whole input was consumed, a part of it was.
 pub all_is_some : (a b : Option (List ℕ)) → TakesInput a b → TakesSome a b
 all_is_some None b h = tt
 all_is_some (Some x) b h = (65537, omega arith, h)
 
--- from a reader that keeps its bytes none were taken
+-- If a reader keeps its bytes, none were consumed.
 kept_consumes : (a b : Option (List ℕ)) → Keeps a b → Consumes a b []
 kept_consumes None b h = tt
 kept_consumes (Some x) None h = absurd h
 kept_consumes (Some x) (Some y) h = sym h
 
--- a reader that failed and kept its bytes lost none
+-- A reader that failed and kept its bytes lost none.
 pub loses_none : (known left : Option (List ℕ)) (before : List ℕ)
     → length before < 65537
     → Keeps known left
@@ -158,7 +158,7 @@ pub loses_none : (known left : Option (List ℕ)) (before : List ℕ)
 loses_none known left before short kept =
     record { got = []; limit = omega (arith, short); consumed = kept_consumes known left kept }
 
--- bytes that came into the front of a buffer can be lost: with those before they are no more than may be read
+-- Bytes that were read into a buffer may be lost: with those before they are no more than may be read.
 pub loses_front : (known left : Option (List ℕ)) (before buffer : List ℕ) (count : ℕ)
     → IsFront before buffer count
     → Consumes known left (take count buffer)
@@ -169,7 +169,7 @@ loses_front known left before buffer count front consumed = record {
   consumed = consumed;
 }
 
--- where some bytes came in, fewer are still to be read
+-- If some bytes were read, fewer remain to be read.
 pub fewer_left : (known left : Option (List ℕ)) (before after : List ℕ) (count : ℕ)
     → ReadsMore known left before after count
     → count ≢ 0

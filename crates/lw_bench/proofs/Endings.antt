@@ -1,4 +1,4 @@
--- The endings of runs: one that reports a fault is an ending of the task that has the fault.
+-- The endings of runs: an ending that reports a fault is one of a task that has the fault.
 use Rattle.lw_bench.proofs.Common.{◌≡◌, Some, None, inl, inr, Bytes, BenchFault, Memory, RunFaultIsTrue}
 use Rattle.lw_bench.proofs.Common.{IsNotDeviceFault, Task, Ending, Answer, Refusal, EndsTask, Reports}
 use Rattle.lw_bench.proofs.Common.{TaskFaultIsTrue}

@@ -1,4 +1,4 @@
--- The report of store buffering in x86 instructions, byte by byte: its outcomes show four states, and each of these is one of an outcome.
+-- The report of store buffering in x86, byte by byte: its outcomes have four states, and each state is that of an outcome.
 use Rattle.lw_bench.proofs.Common.{◌≡◌, ℕ, zero, suc, ◌<◌, ◌&&◌, ◌==◌, true, false, Bool, Option, Some, None}
 use Rattle.lw_bench.proofs.Common.{List, [], ◌∷◌, refl, sym, subst, arith, slice_get, slice_set}
 use Rattle.lw_bench.proofs.Common.{slice_index_or, length, Contains, and_parts, nat_lt, option_map, none-some}
@@ -17,9 +17,9 @@ use Rattle.lw_bench.proofs.Classics.{store_buffering_formed}
 use Rattle.lw_bench.proofs.Searches.{done_after, event_after, machine_ends_so, machine_searched}
 use Rattle.lw_tso.specs.Runs as machine
 
--- ---- runs by events that are carried out
+-- ---- runs by computation
 
--- where what an act leaves can be computed over flat memory, the act does that
+-- If the effect's result over flat memory can be computed, the effect leads to it.
 act_does : (act : EventEffect) (m : List ℕ) (r : Processor × List ℕ) → act_after act m ≡ Some r → EffectLeadsTo m act r.0 r.1
 act_does act m r h = subst (λ o. Leaves o r.0 r.1) (sym h) (refl, refl)
 
@@ -53,12 +53,12 @@ module _ (program : List (List Instr)) where
   and_on more None = None
   and_on more (Some s) = more s
 
-  -- the state behind events, where each is possible in turn
+  -- Computes the state after events, if each is enabled in turn.
   unfoldable pub state_after : List Event → MachineState (List ℕ) → Option (MachineState (List ℕ))
   state_after [] s = Some s
   state_after (e ∷ es) s = and_on (state_after es) (event_after program e s)
 
-  -- events that are possible in turn are a run to the state that is computed
+  -- Events that are enabled in turn are a run to the computed state.
   pub state_ran : (events : List Event) (s end : MachineState (List ℕ))
       → state_after events s ≡ Some end
       → MachineRunsTo flat_memory program events s end
@@ -76,30 +76,30 @@ module _ (program : List (List Instr)) where
 
 -- ---- the states of store buffering
 
--- the threads of store buffering in x86
+-- The threads of store buffering in x86.
 abbrev sb : List (List Instr)
 sb = store_buffering_in_x86.threads
 
--- the state in which store buffering in x86 begins
+-- The initial state of store buffering in x86.
 abbrev start : MachineState (List ℕ)
 start = initial_machine_state store_buffering_in_x86 store_buffering_in_x86.head.init_words
 
--- a state of the report with the words of the two registers, and whether the condition holds
+-- A state of the report, with the words of the two registers and the truth of the condition.
 abbrev two : ℕ → ℕ → Bool → ProjectedState
 two a b holds = record { words = a ∷ b ∷ []; holds = holds }
 
--- the four states of the report
+-- The four states of the report.
 abbrev states : List ProjectedState
 states = two 0 0 true ∷ two 0 1 false ∷ two 1 0 false ∷ two 1 1 false ∷ []
 
--- some outcome shows this state
+-- Some outcome has this state.
 abbrev Shows : ProjectedState → Type 0
 Shows s =
     (o : FinalState)
     × IsMachineOutcome flat_memory store_buffering_in_x86 store_buffering_in_x86.head.init_words o
     × (project_state store_buffering_in_x86.head o ≡ s)
 
--- where a run by these events comes to a final state, and its outcome shows s, some outcome shows s
+-- If a run by these events reaches a final state whose outcome has the state s, some outcome has s.
 shows : (events : List Event) (end : MachineState (List ℕ)) (s : ProjectedState)
     → state_after sb events start ≡ Some end
     → IsTrue (machine.is_final sb end)
@@ -111,34 +111,34 @@ shows events end s ran final is = (
   is,
 )
 
--- the end of both threads, each with the word that it has read
+-- The final state of both threads, each with the word that it has read.
 abbrev end_with : ℕ → ℕ → MachineState (List ℕ)
 end_with a b = state (ended a ∷ ended b ∷ []) (1 ∷ 1 ∷ [])
   where
     ended : ℕ → Processor
     ended w = record { position = 2; regs = w ∷ 0 ∷ 0 ∷ 0 ∷ 0 ∷ 0 ∷ []; zero_flag = false; buffer = [] }
 
--- both loads read before either store is in memory
+-- Both loads read before either store is in memory.
 both_early : Shows (two 0 0 true)
 unfolding state_after
 both_early = shows (Step 0 ∷ Step 1 ∷ Step 0 ∷ Step 1 ∷ Drain 0 ∷ Drain 1 ∷ []) (end_with 0 0) _ refl refl refl
 
--- the first thread's load is early, and the second's is not
+-- The first thread's load is early, and the second's is not.
 first_early : Shows (two 0 1 false)
 unfolding state_after
 first_early = shows (Step 0 ∷ Drain 0 ∷ Step 0 ∷ Step 1 ∷ Drain 1 ∷ Step 1 ∷ []) (end_with 0 1) _ refl refl refl
 
--- the second thread's load is early, and the first's is not
+-- The second thread's load is early, and the first's is not.
 second_early : Shows (two 1 0 false)
 unfolding state_after
 second_early = shows (Step 1 ∷ Drain 1 ∷ Step 1 ∷ Step 0 ∷ Drain 0 ∷ Step 0 ∷ []) (end_with 1 0) _ refl refl refl
 
--- both loads read what the other thread stored
+-- Both loads read what the other thread stored.
 none_early : Shows (two 1 1 false)
 unfolding state_after
 none_early = shows (Step 0 ∷ Drain 0 ∷ Step 1 ∷ Drain 1 ∷ Step 0 ∷ Step 1 ∷ []) (end_with 1 1) _ refl refl refl
 
--- each of the four states is shown
+-- Some outcome has each of the four states.
 each_shown : (s : ProjectedState) → Contains states s → Shows s
 each_shown s (k, there, is) = go k there is
   where
@@ -149,20 +149,20 @@ each_shown s (k, there, is) = go k there is
     go (suc (suc (suc zero))) l e = subst Shows e none_early
     go (suc (suc (suc (suc k)))) l e = absurd (omega (arith, l))
 
--- the word that a thread's first register ends with
+-- The final word of a thread's first register.
 abbrev read_of : ℕ → FinalState → ℕ
 read_of t o = final_word o (Register t 0)
 
--- whether both registers have 0 or 1
+-- Tests whether both registers have 0 or 1.
 abbrev is_small : FinalState → Bool
 is_small o = nat_lt (read_of 0 o) 2 && nat_lt (read_of 1 o) 2
 
--- within seven events every run of store buffering in x86 ends, with 0 or 1 in both registers
+-- Within seven events every run of store buffering in x86 ends, with 0 or 1 in both registers.
 search : machine_ends_so sb is_small 7 start ≡ true
 unfolding machine_ends_so
 search = refl
 
--- two words of which each is 0 or 1 are one of the four states
+-- Two words, each 0 or 1, are one of the four states.
 two_shown : (a b : ℕ) → a < 2 → b < 2 → Contains states (two a b ((a == 0) && (b == 0)))
 two_shown zero zero l m = (0, omega arith, refl)
 two_shown zero (suc zero) l m = (1, omega arith, refl)
@@ -171,7 +171,7 @@ two_shown (suc zero) (suc zero) l m = (3, omega arith, refl)
 two_shown (suc (suc a)) b l m = absurd (omega (arith, l))
 two_shown a (suc (suc b)) l m = absurd (omega (arith, m))
 
--- a state that is shown is one of the four
+-- The state of each outcome is one of the four.
 all_shown : (s : ProjectedState) → Shows s → Contains states s
 all_shown s (o, outcome, is) =
     let small =
@@ -180,33 +180,33 @@ all_shown s (o, outcome, is) =
     let both = and_parts (nat_lt (read_of 0 o) 2) _ small in
     subst (Contains states) is (two_shown (read_of 0 o) (read_of 1 o) (ltb-true _ 2 both.0) (ltb-true _ 2 both.1))
 
--- a state's words come before another's
+-- A state's words are less than another's.
 abbrev IsFirst : ProjectedState → ProjectedState → Type 0
 IsFirst a b = slice_cmp nat_cmp a.words b.words ≡ Less
 
--- the states are sorted by their words
+-- The states are sorted by their words.
 abbrev Ascend : List ProjectedState → Type 0
 Ascend [] = Unit {0}
 Ascend (s ∷ ss) = AllByRecursion (IsFirst s) ss × Ascend ss
 
--- states that are sorted one by one are so in all pairs
+-- Sorted states are sorted in all pairs.
 ascending : (ss : List ProjectedState) → Ascend ss → AllPairs IsFirst ss
 ascending [] up = λ i j d l m. absurd (omega (arith, m))
 ascending (s ∷ ss) up = AllPairs-cons IsFirst s ss (All-from_recursion (IsFirst s) ss up.0) (ascending ss up.1)
 
--- the four states are sorted
+-- The four states are sorted.
 states_ascend : AllPairs IsFirst states
 states_ascend = ascending states ((refl, (refl, (refl, tt))), ((refl, (refl, tt)), ((refl, tt), (tt, tt))))
 
 -- ---- the limits
 
--- the threads of store buffering have no jump back
+-- The threads of store buffering have no backward jump.
 forward : All (JumpsForward x86_language) sb
 forward =
     All-weaker _ _ (λ (code : List Instr) (is : IsWellFormedThread x86_language 2 code). is.forward) sb
     store_buffering_formed.code
 
--- store buffering has not too many items for a list
+-- Store buffering does not have too many items for a list.
 few_items : HasTooManyItems x86_language sb → ⊥
 few_items (paths, choice, many) = go ((choices_are_all x86_language sb paths forward).1 choice)
   where
@@ -214,17 +214,17 @@ few_items (paths, choice, many) = go ((choices_are_all x86_language sb paths for
     go (zero, l, e) = omega (arith, subst (λ p. 128 < items_at_choice x86_language sb p) (sym e) many)
     go (suc k, l, e) = omega (arith, l)
 
--- store buffering has not too many orders for a list
+-- Store buffering does not have too many orders for a list.
 few_orders : IsWithinOrderLimit x86_language sb
 few_orders = (total_of x86_language sb, total_is x86_language sb forward, omega arith)
 
 -- ---- the report
 
--- the four states are those of the outcomes of store buffering in x86, sorted, each once
+-- The four states are those of the outcomes of store buffering in x86, sorted, without duplicates.
 are : AreStatesOf store_buffering_in_x86.head (OutcomeOf (Of_x86 store_buffering_in_x86)) states
 are = record { sorted = states_ascend; exactly = λ s. (each_shown s, all_shown s) }
 
--- the report of the example is the report of store buffering in x86
+-- The report of the example is the report of store buffering in x86.
 pub store_buffering_reported : IsStatesReport (Of_x86 store_buffering_in_x86) store_buffering_report
 unfolding digits
 store_buffering_reported = record { within = (few_items, few_orders); is = record { states = states; are = are; is = refl } }

@@ -1,4 +1,4 @@
--- The text of examples/SB-x86.litmus says store buffering in x86 instructions: token by token, by the grammar.
+-- The text of examples/SB-x86.litmus says store buffering in x86: token by token, by the grammar.
 use Rattle.lw_bench.proofs.Common.{◌≡◌, ℕ, zero, suc, inl, inr, true, Some, List, [], ◌∷◌, ◌++◌, codes, refl}
 use Rattle.lw_bench.proofs.Common.{arith, slice_get, same_Some, none-some, sym, ap, ◌∙◌, Bytes, Number, X86}
 use Rattle.lw_bench.proofs.Common.{Exists, TestFrame, HasProgram, HasTest, Of_x86, store_buffering_in_x86}
@@ -18,46 +18,46 @@ use Rattle.lw_litmus.specs.declared.instr.Instr.TheVariants as instr
 
 -- ---- the tokens
 
--- the tokens of `MOV [x],$1`
+-- The tokens of `MOV [x],$1`.
 abbrev store_tokens : Bytes → TokenList
 store_tokens x = codes "MOV" ∷ codes "[" ∷ x ∷ codes "]" ∷ codes "," ∷ codes "$" ∷ codes "1" ∷ []
 
--- the tokens of `MOV EAX,[x]`
+-- The tokens of `MOV EAX,[x]`.
 abbrev load_tokens : Bytes → TokenList
 load_tokens x = codes "MOV" ∷ codes "EAX" ∷ codes "," ∷ codes "[" ∷ x ∷ codes "]" ∷ []
 
--- the tokens of `exists (0:EAX=0 /\ 1:EAX=0)`
+-- The tokens of `exists (0:EAX=0 /\ 1:EAX=0)`.
 abbrev condition_tokens : TokenList
 condition_tokens =
     codes "exists" ∷ codes "(" ∷ codes "0" ∷ codes ":" ∷ codes "EAX" ∷ codes "=" ∷ codes "0" ∷ codes "/\\" ∷ codes "1" ∷ codes ":"
     ∷ codes "EAX" ∷ codes "=" ∷ codes "0" ∷ codes ")" ∷ []
 
--- a row of two cells, and what stands behind it
+-- A row of two cells, and the rest.
 abbrev row_tokens : TokenList → TokenList → TokenList → TokenList
 row_tokens a b rest = a ++ codes "|" ∷ (b ++ codes ";" ∷ rest)
 
--- the tokens of the row of loads and of the condition
+-- The tokens of the row of loads and of the condition.
 abbrev behind_stores : TokenList
 behind_stores = row_tokens (load_tokens (codes "y")) (load_tokens (codes "x")) condition_tokens
 
--- the tokens of both rows and of the condition
+-- The tokens of both rows and of the condition.
 abbrev behind_header : TokenList
 behind_header = row_tokens (store_tokens (codes "x")) (store_tokens (codes "y")) behind_stores
 
--- the header and all behind it
+-- The header and the rest.
 abbrev behind_block : TokenList
 behind_block = codes "P0" ∷ codes "|" ∷ codes "P1" ∷ codes ";" ∷ behind_header
 
--- all tokens: the empty initial block, and the rest
+-- All tokens: the empty initial block, and the rest.
 abbrev all_tokens : TokenList
 all_tokens = codes "{" ∷ codes "}" ∷ behind_block
 
--- the text behind the notes is these tokens
+-- The text after the notes is these tokens.
 stream : Tokens store_buffering_body all_tokens
 unfolding are_tokens
 stream = tokens_stand 120 store_buffering_body all_tokens refl
 
--- what stands before them: the language, the name and the notes
+-- The preamble before them: the language, the name and the notes.
 preamble : Preamble store_buffering_text X86 (codes "SB-x86") store_buffering_body
 preamble = (
   codes " SB-x86\n(*" ++ (store_buffering_notes ++ (codes "*)\n" ++ store_buffering_body)),
@@ -78,7 +78,7 @@ preamble = (
 
 -- ---- the frame
 
--- what the tokens of the example say
+-- The syntax that the example's tokens say.
 abbrev syntax : TestSyntax
 syntax = record {
   initializers = [];
@@ -90,23 +90,23 @@ syntax = record {
   terminals = Open ∷ Atom (Holds (InThread 0 0) 0) ∷ Conjunction ∷ Atom (Holds (InThread 1 0) 0) ∷ Close ∷ [];
 }
 
--- the frame that the text has: its head, and the tokens of its cells
+-- The frame of the text: its head, and the tokens of its cells.
 abbrev frame : TestFrame
 frame = frame_of_syntax X86 (codes "SB-x86") syntax both_loads_are_early
 
--- `0` is the number 0
+-- `0` is the number 0.
 zero_number : IsNumber (codes "0") 0
 zero_number = (omega arith, inl (omega arith, (omega arith, refl)))
 
--- `1` is the number 1
+-- `1` is the number 1.
 one_number : IsNumber (codes "1") 1
 one_number = (omega arith, inl (omega arith, (omega arith, refl)))
 
--- `EAX` is register 0
+-- `EAX` is register 0.
 eax : IsRegisterName X86 (codes "EAX") 0
 eax = (omega arith, refl)
 
--- the tokens of the condition say the quantifier and the terminals
+-- The tokens of the condition say the quantifier and the terminals.
 condition : Condition X86 2 condition_tokens [] Exists syntax.terminals
 condition = record {
   behind_list = condition_tokens;
@@ -129,12 +129,12 @@ condition = record {
   );
 }
 
--- where a test of all tokens of a cell finds none that ends a cell, none of them does
+-- If a test finds that no token of a cell ends a cell, none does.
 plain : (cell : TokenList) → list_all (λ t. not (ends_cell t)) cell ≡ true → AllByRecursion (λ t. ends_cell t ≡ false) cell
 plain [] h = tt
 plain (t ∷ cell) h = let parts = and_parts (not (ends_cell t)) _ h in (not-true _ parts.0, plain cell parts.1)
 
--- all tokens are the block, the header, the rows and the condition of this syntax
+-- All tokens are the block, the header, the rows and the condition of this syntax.
 parts : ParsesTest X86 all_tokens syntax
 parts = record {
   behind_block = behind_block;
@@ -180,15 +180,15 @@ parts = record {
   few_nodes = omega arith;
 }
 
--- the terminal that says that a thread's EAX is 0
+-- The terminal that says that a thread's EAX is 0.
 abbrev equals_zero : ℕ → List (Terminal Formula)
 equals_zero t = Atom (Reg_is t 0 0) ∷ []
 
--- the terminals between parentheses say that both loads are early
+-- The terminals in parentheses say that both loads are early.
 both : Derives DisjunctionLevel (Open ∷ ((equals_zero 0 ++ Conjunction ∷ equals_zero 1) ++ Close ∷ [])) both_loads_are_early
 both = conjunction (part (parens (conjunction (and (part atom) atom))))
 
--- the text of the example has this frame
+-- The text of the example has this frame.
 framed : HasFrame store_buffering_text frame
 framed = record {
   short = omega arith;
@@ -208,32 +208,32 @@ framed = record {
 
 -- ---- the cells
 
--- what a cell with the store says
+-- The syntax of a cell with the store.
 abbrev says_store : Bytes → CellSyntax (ParsesStatement x86_spelling)
 says_store x = record { labels = []; stmt = Some (printed_form (x ∷ []) (instr.Store 0 (Number 1))) }
 
--- what a cell with the load says
+-- The syntax of a cell with the load.
 abbrev says_load : Bytes → CellSyntax (ParsesStatement x86_spelling)
 says_load x = record { labels = []; stmt = Some (printed_form (x ∷ []) (instr.Load 0 0)) }
 
--- the tokens of a store say it
+-- The tokens of a store say it.
 store_said : (x : Bytes) → IsLocationName x → ParsesCell x86_grammar (store_tokens x) (says_store x)
 store_said x place =
     (store_tokens x, refl, ((1, omega arith, refl), (refl, (refl, ((refl, place), (refl, (refl, (refl, (one_number, tt)))))))))
 
--- the tokens of a load say it
+-- The tokens of a load say it.
 load_said : (x : Bytes) → IsLocationName x → ParsesCell x86_grammar (load_tokens x) (says_load x)
 load_said x place = (load_tokens x, refl, ((2, omega arith, refl), (refl, (eax, (refl, (refl, ((refl, place), (refl, tt))))))))
 
--- `x` is a location's name
+-- `x` is a location's name.
 x_index : IsLocationName (codes "x")
 x_index = one_letter (codes "x") 120 refl refl refl refl
 
--- `y` is a location's name
+-- `y` is a location's name.
 y_index : IsLocationName (codes "y")
 y_index = one_letter (codes "y") 121 refl refl refl refl
 
--- a thread's column: a store, and below it a load
+-- A thread's column: a store, and below it a load.
 column : (x y : Bytes)
     → IsLocationName x
     → IsLocationName y
@@ -253,7 +253,7 @@ column x y x_is y_is =
     forward (suc zero) s e = no_label s 1 (ap x86_grammar.label_of (sym (same_Some _ s e)))
     forward (suc (suc k)) s e = cc
 
--- the frame says store buffering in x86
+-- The frame says store buffering in x86.
 says : HasProgram frame store_buffering_in_x86
 says = record {
   arch = refl;
@@ -263,6 +263,6 @@ says = record {
   made = refl;
 }
 
--- the text of the example says store buffering in x86
+-- The text of the example says store buffering in x86.
 pub store_buffering_read : HasTest store_buffering_text (Of_x86 store_buffering_in_x86)
 store_buffering_read = record { frame = frame; has_frame = framed; says = says }

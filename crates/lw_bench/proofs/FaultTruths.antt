@@ -1,5 +1,5 @@
--- That what a refused run tells is so: a fault is told as it was found, or as memory that ran out; and what is so of the bytes
--- that were read is so of the whole input.
+-- What a failed run reports is true: a fault is reported as it was found, or as memory that ran out; and what is true of the bytes read is
+-- true of the whole input.
 use Rattle.lw_bench.proofs.Common.{◌≡◌, ◌≢◌, ◌⊎◌, inl, inr, Bool, true, false, ℕ, Option, Some, None, List}
 use Rattle.lw_bench.proofs.Common.{[], ◌++◌, length, ap, ◌∙◌, subst, length-append, if◌then◌else◌, arith}
 use Rattle.lw_bench.proofs.Common.{IfSome, append-nil, CellCause, CellFault, ScheduleCause, ScheduleFault}
@@ -13,13 +13,13 @@ use Rattle.lw_base.specs.declared.fault.CellCause.TheVariants as cell
 use Rattle.lw_base.specs.declared.fault.ScheduleCause.TheVariants as schedule
 use Rattle.lw_text.specs.declared.fault.TextCause.TheVariants as text
 
--- A fault that is told as it is, unless memory ran out.
+-- A fault that is reported as it is, unless memory ran out.
 module _ (P : BenchFault → Type 0) (memory : P Memory) where
   text_by : (f : TextFault) (cause : TextCause) → (cause ≢ text.Memory → P (Text f)) → P (text_fault f cause)
   text_by f text.Memory known = memory
   text_by f _ known = known (λ same. cc)
 
-  -- what holds of `Memory`, and of a text's fault whose cause is not memory, holds of the fault that is told of a text
+  -- What holds of `Memory`, and of a text's fault whose cause is not memory, holds of the fault reported for a text.
   pub text_is_told : (f : TextFault) → (f.cause ≢ text.Memory → P (Text f)) → P (text_run_fault f)
   text_is_told f known = text_by f f.cause known
 
@@ -27,7 +27,7 @@ module _ (P : BenchFault → Type 0) (memory : P Memory) where
   cell_by f cell.Memory known = memory
   cell_by f _ known = known (λ same. cc)
 
-  -- what holds of `Memory`, and of a cell's fault whose cause is not memory, holds of the fault that is told of a cell
+  -- What holds of `Memory`, and of a cell's fault whose cause is not memory, holds of the fault reported for a cell.
   pub cell_is_told : (f : CellFault) → (f.cause ≢ cell.Memory → P (Cell f)) → P (cell_run_fault f)
   cell_is_told f known = cell_by f f.cause known
 
@@ -37,31 +37,31 @@ module _ (P : BenchFault → Type 0) (memory : P Memory) where
   schedule_by f schedule.Memory known = memory
   schedule_by f _ known = known (λ same. cc)
 
-  -- what holds of `Memory`, and of a schedule's fault whose cause is not memory, holds of the fault that is told of a schedule
+  -- What holds of `Memory`, and of a schedule's fault whose cause is not memory, holds of the fault reported for a schedule.
   pub schedule_is_told : (f : ScheduleFault) → (f.cause ≢ schedule.Memory → P (Schedule f)) → P (schedule_run_fault f)
   schedule_is_told f known = schedule_by f f.cause known
 
--- memory that ran out is no device's fault
+-- `Memory` is no device's fault.
 pub memory_no_device : IsNotDeviceFault Memory
 memory_no_device = (λ same. cc, λ same. cc)
 
--- what is told of a text's fault is no device's
+-- The fault reported for a text is no device's.
 pub text_no_device : (f : TextFault) → IsNotDeviceFault (text_run_fault f)
 text_no_device f = text_is_told IsNotDeviceFault memory_no_device f (λ known. (λ same. cc, λ same. cc))
 
--- what is told of a cell's fault is no device's
+-- The fault reported for a cell is no device's.
 pub cell_no_device : (f : CellFault) → IsNotDeviceFault (cell_run_fault f)
 cell_no_device f = cell_is_told IsNotDeviceFault memory_no_device f (λ known. (λ same. cc, λ same. cc))
 
--- what is told of a schedule's fault is no device's
+-- The fault reported for a schedule is no device's.
 pub schedule_no_device : (f : ScheduleFault) → IsNotDeviceFault (schedule_run_fault f)
 schedule_no_device f = schedule_is_told IsNotDeviceFault memory_no_device f (λ known. (λ same. cc, λ same. cc))
 
--- a fault that is memory that ran out is no device's
+-- A fault that equals `Memory` is no device's.
 pub memory_is_no_device : (f : BenchFault) → f ≡ Memory → IsNotDeviceFault f
 memory_is_no_device f is = rw is memory_no_device
 
--- where a test was read, `Memory`, or a fault that tells of the test, is what a run tells of the bytes
+-- If a test was read, `Memory`, or a fault that is true of the test, is one that a run may report of the bytes.
 pub told_of_test : (Tells : LitmusTest → BenchFault → Type 0) (bytes : List ℕ) (test : LitmusTest) (f : BenchFault)
     → HasTest bytes test
     → (f ≡ Memory) ⊎ Tells test f
@@ -69,9 +69,9 @@ pub told_of_test : (Tells : LitmusTest → BenchFault → Type 0) (bytes : List 
 told_of_test Tells bytes test f has (inl is) = rw is (inl tt)
 told_of_test Tells bytes test f has (inr told) = inr (test, has, told)
 
--- Bytes that came in: the whole input, or more than a test has.
+-- Bytes that were read: the whole input, or more than a test has.
 module _ (input bytes : List ℕ) (is : (rest : List ℕ) × (input ≡ bytes ++ rest) × ((rest ≡ []) ⊎ (length bytes ≡ 65537))) where
-  -- a text that is too long, whatever stands behind what was read
+  -- A text is too long, whatever follows what was read.
   long_text : (f : TextFault) → length bytes ≡ 65537 → TextFaultIsTrue bytes f → TextFaultIsTrue input f
   long_text f long told =
       let total = ap length is.1 ∙ length-append bytes is.0 in
@@ -85,7 +85,7 @@ module _ (input bytes : List ℕ) (is : (rest : List ℕ) × (input ≡ bytes ++
         in_memory = told.in_memory;
       }
 
-  -- what a text's fault tells of the bytes that were read holds of the whole input
+  -- If a text's fault is true of the bytes read, it is true of the whole input.
   pub text_in_whole : (f : TextFault) → TextFaultIsTrue bytes f → TextFaultIsTrue input f
   text_in_whole f told = go is.2
     where
@@ -93,11 +93,11 @@ module _ (input bytes : List ℕ) (is : (rest : List ℕ) × (input ≡ bytes ++
       go (inl none) = rw (← is.1 ∙ ap (λ rest. bytes ++ rest) none ∙ append-nil bytes) at told
       go (inr long) = long_text f long told
 
-  -- what a cell's fault tells of the bytes that were read holds of the whole input
+  -- If a cell's fault is true of the bytes read, it is true of the whole input.
   pub cell_in_whole : (f : CellFault) → CellFaultIsTrueOf bytes f → CellFaultIsTrueOf input f
   cell_in_whole f told = subst (λ t. CellFaultIsTrueOf t f) (whole input bytes is told.has_frame.short) told
 
-  -- what the reading of a test tells of the bytes holds of the whole input
+  -- If a fault of reading a test is true of the bytes read, it is true of the whole input.
   pub test_in_whole : (f : BenchFault) → ReadFaultIsTrue bytes f → ReadFaultIsTrue input f
   test_in_whole (Text f) told = text_in_whole f told
   test_in_whole (Cell f) told = cell_in_whole f told
@@ -105,14 +105,14 @@ module _ (input bytes : List ℕ) (is : (rest : List ℕ) × (input ≡ bytes ++
   test_in_whole (Limit f) told = told
   test_in_whole _ told = tt
 
-  -- what a run tells of the bytes that were read holds of the whole input
+  -- If a run's fault is true of the bytes read, it is true of the whole input.
   pub run_in_whole : (Tells : LitmusTest → BenchFault → Type 0) (f : BenchFault)
       → RunFaultIsTrue Tells bytes f
       → RunFaultIsTrue Tells input f
   run_in_whole Tells f (inl told) = inl (test_in_whole f told)
   run_in_whole Tells f (inr (test, has, told)) = inr (test, in_whole input bytes is test has, told)
 
--- what a run tells of the bytes that were read is told of the input
+-- If a run's fault is true of the bytes read, it is true of the input, if that is known.
 pub told_of_input : (Tells : LitmusTest → BenchFault → Type 0) (known : Option (List ℕ)) (bytes : List ℕ) (f : BenchFault)
     → IsInput known bytes
     → RunFaultIsTrue Tells bytes f
@@ -120,16 +120,16 @@ pub told_of_input : (Tells : LitmusTest → BenchFault → Type 0) (known : Opti
 told_of_input Tells None bytes f is told = tt
 told_of_input Tells (Some input) bytes f is told = run_in_whole input bytes is Tells f told
 
--- what is told of all bytes is told of a reader's, where these are known
+-- What holds of all bytes holds of a reader's, if these are known.
 pub some_told : (Tells : List ℕ → BenchFault → Type 0) (known : Option (List ℕ)) (f : BenchFault)
     → ((bytes : List ℕ) → Tells bytes f)
     → IfSome known (λ bytes. Tells bytes f)
 some_told Tells None f told = tt
 some_told Tells (Some input) f told = told input
 
--- What is told of known bytes where a device failed, or memory ran out before they were read: nothing.
+-- If a device failed or memory ran out before the bytes were read, a fault claims nothing of them.
 module _ (Tells : List ℕ → BenchFault → Type 0) (known : Option (List ℕ)) where
-  -- where the reader failed or memory ran out, what is told of all bytes at these faults is told of a reader's known bytes
+  -- If the reader failed or memory ran out, what holds of all bytes at these faults holds of a reader's known bytes.
   pub device_told : (f : BenchFault) (failed : Bool)
       → ((bytes : List ℕ) → Tells bytes Read)
       → ((bytes : List ℕ) → Tells bytes Memory)

@@ -6,7 +6,7 @@ use Rattle.lw_bench.proofs.Common.{thread_code, IsFencedCode, IsFencedTest, left
 use Rattle.lw_bench.proofs.Searches.{machine_ends_so, machine_searched}
 use Rattle.lw_litmus.specs.declared.instr.Instr.TheVariants as instr
 
--- `MOV [x],1; MFENCE; MOV EAX,[y]` beside `MOV [y],1; MFENCE; MOV EAX,[x]`
+-- `MOV [x],1; MFENCE; MOV EAX,[y]` in parallel with `MOV [y],1; MFENCE; MOV EAX,[x]`.
 abbrev fenced : X86Test
 fenced = record {
   head = store_buffering_in_x86.head;
@@ -15,11 +15,11 @@ fenced = record {
       ∷ (instr.Store 1 (Number 1) ∷ instr.Mfence ∷ instr.Load 0 0 ∷ []) ∷ [];
 }
 
--- of three instructions the second, as the place of a fence
+-- The second of three instructions, as the position of a fence.
 abbrev second : List Bool
 second = false ∷ true ∷ false ∷ []
 
--- the fenced test is store buffering with those fences inserted
+-- The fenced test is store buffering with those fences inserted.
 fences_inserted : IsFencedTest store_buffering_in_x86 fenced
 fences_inserted = record { head = refl; as_many = refl; threads = threads }
   where
@@ -28,16 +28,16 @@ fences_inserted = record { head = refl; as_many = refl; threads = threads }
     threads (suc zero) within = left_out second (thread_code fenced.threads 1) (refl, tt)
     threads (suc (suc t)) within = absurd (omega (arith, within))
 
--- whether an outcome shows that not both loads were early
+-- Tests whether the outcome has not both loads early.
 abbrev is_late : FinalState → Bool
 is_late o = not (is_true fenced.head.condition o)
 
--- within nine events every run of the fenced test ends, with an outcome in which not both loads were early
+-- Within nine events every run of the fenced test ends, with an outcome that has not both loads early.
 search : machine_ends_so fenced.threads is_late 9 (initial_machine_state fenced fenced.head.init_words) ≡ true
 unfolding machine_ends_so
 search = refl
 
--- no outcome of the fenced test has both loads early
+-- No outcome of the fenced test has both loads early.
 forbidden : (o : FinalState)
     → IsMachineOutcome flat_memory fenced fenced.head.init_words o
     → is_true fenced.head.condition o ≡ false
@@ -47,7 +47,7 @@ forbidden o run =
     (machine_searched fenced.threads is_late 9 run.0 (initial_machine_state fenced fenced.head.init_words) run.1.end search
     run.1.ran run.1.final))
 
--- some way to insert fences forbids the outcome with both loads early
+-- Some way to insert fences forbids the outcome with both loads early.
 pub fenced_store_buffering : (test : X86Test)
     × IsFencedTest store_buffering_in_x86 test
     × ((o : FinalState) → IsMachineOutcome flat_memory test test.head.init_words o → is_true test.head.condition o ≡ false)

@@ -1,5 +1,5 @@
--- A report or a list of schedules that is made of a listing is that of the set of its outcomes: of any set, and whatever it is
--- that a schedule leads to.
+-- A report or a list of schedules rendered from a listing is that of the set of its outcomes: for any set, and any relation of schedules to
+-- outcomes.
 use Rattle.lw_bench.proofs.Common.{◌≡◌, ◌⊎◌, inl, inr, ℕ, ◌<◌, ◌↔◌, List, [], ◌∷◌, zero, suc, Some, map, refl}
 use Rattle.lw_bench.proofs.Common.{sym, ap, ◌∙◌, subst, slice_get, arith, All, Contains, slice_index_or, Less}
 use Rattle.lw_bench.proofs.Common.{same_Some, cases_lt, All-map, All-weaker, slice_get-get_or}
@@ -11,7 +11,7 @@ use Rattle.lw_bench.proofs.Common.{ListedState, projection_of, IsFirstWithWords,
 
 module _ (head : TestHead) (Has : FinalState → Type 0) (entries : OutcomeEntries)
     (same : (o : FinalState) → Contains (outcomes_of entries) o ↔ Has o) where
-  -- where a set has exactly the listed outcomes, the states of these are the states of the set
+  -- If a set has exactly the listed outcomes, their states are the states of the set.
   states_of_set : (states : List ProjectedState)
       → AreStatesOf head (Contains (outcomes_of entries)) states
       → AreStatesOf head Has states
@@ -23,7 +23,7 @@ module _ (head : TestHead) (Has : FinalState → Type 0) (entries : OutcomeEntri
     );
   }
 
-  -- a report of the states of a listing is the report of the set of its outcomes
+  -- A report of the states of a listing is the report of the set of its outcomes.
   pub report_is : (claim : Claim) (states : List ListedState) (text : List ℕ)
       → AreListedStates head (outcomes_of entries) states
       → text ≡ report_text head claim (map projection_of states)
@@ -32,7 +32,7 @@ module _ (head : TestHead) (Has : FinalState → Type 0) (entries : OutcomeEntri
       record { states = map projection_of states; are = states_of_set (map projection_of states) listed.are; is = is }
 
   module _ (sorted : IsStrictlySorted entries) where
-    -- of two outcomes of a sorted listing the one behind is larger
+    -- Of two outcomes of a sorted listing the later is greater.
     larger : (i j : ℕ) (o other : FinalState)
         → slice_get (outcomes_of entries) i ≡ Some o
         → slice_get (outcomes_of entries) j ≡ Some other
@@ -43,7 +43,7 @@ module _ (head : TestHead) (Has : FinalState → Type 0) (entries : OutcomeEntri
         let later = get_or_from_slice_get (outcomes_of entries) j other o to in
         (λ k. final_state_cmp (sym first k) (sym later k)) ∙ sorted i j o lt (slice_get_within _ j other to)
 
-    -- an outcome of a sorted listing is the same as one that is not before it, or smaller
+    -- An outcome of a sorted listing is equal to, or less than, one that is not before it.
     least : (i j : ℕ) (o other : FinalState)
         → slice_get (outcomes_of entries) i ≡ Some o
         → slice_get (outcomes_of entries) j ≡ Some other
@@ -58,7 +58,7 @@ module _ (head : TestHead) (Has : FinalState → Type 0) (entries : OutcomeEntri
       ]
     ]
 
-    -- the outcome that shows a state first in the listing is the smallest of the set that shows it
+    -- The first outcome of the listing with a state is the least of the set with it.
     smallest : (s : ListedState) (shows : IsFirstWithWords head (outcomes_of entries) s)
         → IsSmallestOf head Has s.words shows.outcome
     smallest s shows = record {
@@ -75,7 +75,7 @@ module _ (head : TestHead) (Has : FinalState → Type 0) (entries : OutcomeEntri
     }
 
     module _ (Leads : List Event → FinalState → Type 0) (lead : All (λ e. Leads e.1 e.0) entries) where
-      -- the schedule of the entry at an index leads to the outcome of that entry
+      -- The schedule of the entry at an index reaches the outcome of that entry.
       leads_at : (i : ℕ) (o : FinalState)
           → slice_get (outcomes_of entries) i ≡ Some o
           → Leads (slice_index_or (schedules_of entries) i []) o
@@ -89,7 +89,7 @@ module _ (head : TestHead) (Has : FinalState → Type 0) (entries : OutcomeEntri
           go (e ∷ es) zero all at = subst (Leads e.1) (same_Some e.0 o at) (all 0 e (omega arith))
           go (e ∷ es) (suc k) all at = go es k (λ j d lt. all (suc j) d (omega (arith, lt))) at
 
-      -- a list of the schedules of a listing is the list of schedules of the set of its outcomes
+      -- A list of the schedules of a listing is the list of schedules of the set of its outcomes.
       pub schedule_list_is : (states : List ListedState) (text : List ℕ)
           → AreListedStates head (outcomes_of entries) states
           → text ≡ schedule_list_text head (map (scheduled (schedules_of entries)) states)

@@ -1,13 +1,13 @@
--- A frame says one test, of its own language.
+-- A frame says at most one test, of its own language.
 use Rattle.lw_bench.proofs.Common.{◌≡◌, sym, ap, ◌∙◌, Arch, Source, X86, TestFrame, SourceTest, X86Test}
 use Rattle.lw_bench.proofs.Common.{HoldsOfNothing, HasSource, HasProgram, LitmusTest, Of_source, Of_x86}
 use Rattle.lw_bench.proofs.Common.{FrameHasTest}
 
--- the two languages differ
+-- The two languages differ.
 apart : (let arch : Arch = Source in arch) ≡ X86 → ⊥
 apart same = cc
 
--- a frame of the source language that says no source test says no test
+-- A frame of the source language that says no source test says no test.
 pub no_source : (frame : TestFrame)
     → frame.head.arch ≡ Source
     → HoldsOfNothing (HasSource frame)
@@ -15,7 +15,7 @@ pub no_source : (frame : TestFrame)
 no_source frame is none (Of_source s) says = none s says
 no_source frame is none (Of_x86 t) says = absurd (apart (sym is ∙ says.arch))
 
--- a frame of x86 that says no x86 test says no test
+-- A frame of x86 that says no x86 test says no test.
 pub no_program : (frame : TestFrame)
     → frame.head.arch ≡ X86
     → HoldsOfNothing (HasProgram frame)

@@ -1,11 +1,11 @@
--- What is said of the input, from what is said of the bytes of it that were read.
+-- What holds of the input, from what holds of the bytes that were read.
 use Rattle.lw_bench.proofs.Common.{◌≡◌, ◌≤◌, ◌⊎◌, inl, inr, ℕ, Option, Some, None, List, [], ◌++◌, length}
 use Rattle.lw_bench.proofs.Common.{sym, ap, ◌∙◌, subst, arith, append-nil, Appends, IsInput, LitmusTest}
 use Rattle.lw_bench.proofs.Common.{HasTest, IsOutputOf, Writes}
 
--- Bytes that came in: the whole input, or more than a test has.
+-- Bytes that were read: the whole input, or more than a test has.
 module _ (input bytes : List ℕ) (is : (rest : List ℕ) × (input ≡ bytes ++ rest) × ((rest ≡ []) ⊎ (length bytes ≡ 65537))) where
-  -- bytes that are not too many for a test are the whole input
+  -- Bytes that are not too many for a test are the whole input.
   pub whole : length bytes ≤ 65536 → bytes ≡ input
   whole short = go is.2
     where
@@ -13,11 +13,11 @@ module _ (input bytes : List ℕ) (is : (rest : List ℕ) × (input ≡ bytes ++
       go (inl none) = sym (is.1 ∙ ap (λ rest. bytes ++ rest) none ∙ append-nil bytes)
       go (inr long) = absurd (omega arith)
 
-  -- a test that the bytes say is one that the whole input says
+  -- A test that the bytes say is one that the whole input says.
   pub in_whole : (test : LitmusTest) → HasTest bytes test → HasTest input test
   in_whole test has = subst (λ t. HasTest t test) (whole has.has_frame.short) has
 
--- what is written is made of the test that the whole input is
+-- What is written is rendered from the test that the whole input says.
 pub output_written : (IsMade : LitmusTest → List ℕ → Type 0) (known before after : Option (List ℕ)) (bytes made : List ℕ)
     → IsInput known bytes
     → IsOutputOf IsMade bytes made

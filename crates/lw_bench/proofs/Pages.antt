@@ -1,4 +1,4 @@
--- That the page of a replay, which is written part by part, is the page by the definitions.
+-- The page of a replay, written part by part, is the page of the definitions.
 use Rattle.lw_bench.proofs.Common.{◌≡◌, ℕ, suc, ◌<◌, ◌≤◌, ◌+◌, Some, List, [], ◌∷◌, ◌++◌, length, map, drop}
 use Rattle.lw_bench.proofs.Common.{slice_get, refl, sym, ap, ◌∙◌, append_assoc, codes, Result, Ok, Err, OnOk}
 use Rattle.lw_bench.proofs.Common.{is_ok, if◌then◌else◌, arith, option_map, decimal, append-nil, drop-cons}
@@ -8,7 +8,7 @@ use Rattle.lw_bench.proofs.Common.{register_name, stop_code, stop_name, State, T
 use Rattle.lw_bench.proofs.Common.{numbered, first_lines, end_text, register_names, thread_line, word_line}
 use Rattle.lw_bench.proofs.Common.{processor_title, processor_lines, source_page, machine_page}
 
--- what is left from an index on is the item there, and what is left behind it
+-- The items from an index on are the item there, followed by those from the next index on.
 drop_at : {X : Type 0} (xs : List X) (k : ℕ) (x : X) → slice_get xs k ≡ Some x → drop k xs ≡ x ∷ drop (k + 1) xs
 drop_at xs k x at =
     let next : suc k ≡ k + 1 = omega arith in
@@ -16,21 +16,21 @@ drop_at xs k x at =
     ∙ ap (λ y. y ∷ drop (suc k) xs) (get_or_from_slice_get xs k x x at)
     ∙ ap (λ (n : ℕ). x ∷ drop n xs) next
 
--- the item at an index of a list to which f was applied is f of the item there
+-- The item at an index of a mapped list is the image of the item there.
 pub told_of : {X Y : Type 0} (f : X → Y) (xs : List X) (k : ℕ) (x : X) (y : Y)
     → slice_get xs k ≡ Some x
     → slice_get (map f xs) k ≡ Some y
     → y ≡ f x
 told_of {X} {Y} f xs k x y at read = let e : Some (f x) ≡ Some y = sym (slice_get-map f xs k ∙ ap (option_map f) at) ∙ read in cc
 
--- Items are written one behind another, each with its index: what is written, `out`, with the texts of those from k on, is
--- `start` with the texts of all.
+-- Items are written in sequence, each with its index: `out` followed by the texts of those from k on is `start` followed by the texts of
+-- all.
 pub record AllWritten {X : Type 0} (tell : ℕ → X → List ℕ) (xs : List X) (start : List ℕ) (k : ℕ) (out : List ℕ) : Type 0 where
   pub left : out ++ numbered tell k (drop k xs) ≡ start ++ numbered tell 0 xs
 
 module _ {X : Type 0} {tell : ℕ → X → List ℕ} {xs : List X} {start out : List ℕ} {k : ℕ}
     (told : AllWritten tell xs start k out) where
-  -- where the first k items are written, and then the text of the one at k, the first k + 1 are written
+  -- Writing the text of the item at k extends the first k items written to `k + 1`.
   pub AllWritten-step : (x : X) (part new : List ℕ)
       → slice_get xs k ≡ Some x
       → part ≡ tell k x
@@ -52,12 +52,12 @@ module _ {X : Type 0} {tell : ℕ → X → List ℕ} {xs : List X} {start out :
           ap (numbered tell k) (drop_at xs k x at)
           ∙ ap (λ (n : ℕ). tell k x ++ numbered tell n (drop (k + 1) xs)) (let e : suc k ≡ k + 1 = omega arith in e)
 
-  -- where as many items are written as there are, all are: what is written is `start` with the texts of all
+  -- If all items are written, `out` is `start` followed by the texts of all.
   pub AllWritten-of_every : length xs ≤ k → out ≡ start ++ numbered tell 0 xs
   AllWritten-of_every whole =
       sym (append-nil out) ∙ ap (λ (rest : List X). out ++ numbered tell k rest) (sym (drop_all k xs whole)) ∙ told.left
 
--- where a title, then the parts, and then the line's end were written, the whole line was
+-- If a title, then the parts, and then the line's end were written, the whole line was.
 pub line_ended : {T E : Type 0} {first out new whole : List ℕ} (answer : Result T E) (start title parts : List ℕ)
     → first ≡ start ++ title
     → out ≡ first ++ parts
@@ -72,11 +72,11 @@ line_ended (Ok x) start title parts begun told is ended =
     ∙ append_assoc start title (parts ++ 10 ∷ [])
     ∙ ap (λ t. start ++ t) is
 
--- a processor's title is a `P`, its number and a word, behind which the rest of the line stands
+-- A processor's title is `P`, its number and a word, and the rest of the line follows.
 pub titled : (cpu : ℕ) (word rest : List ℕ) → (80 ∷ (decimal cpu ++ word)) ++ rest ≡ processor_title cpu (word ++ rest)
 titled cpu word rest = ap (λ t. 80 ∷ t) (append_assoc (decimal cpu) word rest)
 
--- three parts that were written in turn are written one behind the other
+-- Three parts written in turn are their concatenation.
 pub three_written : {one two new : List ℕ} (start a b c : List ℕ)
     → one ≡ start ++ a
     → two ≡ one ++ b
@@ -85,16 +85,16 @@ pub three_written : {one two new : List ℕ} (start a b c : List ℕ)
 three_written {one} {two} {new} start a b c e f g =
     both_written _ two new _ c (both_written _ one two a b e f) g ∙ ap (λ t. start ++ t) (append_assoc a b c)
 
--- in the list of a language's register names the name of register k stands at k
+-- In the list of a language's register names, the name of register k is at index k.
 pub register_at : (arch : Arch) (k : ℕ) → k < 6 → slice_get (register_names arch) k ≡ Some (register_name arch k)
 register_at arch (suc (suc (suc (suc (suc (suc k)))))) below = absurd (omega (arith, below))
 register_at arch _ below = refl
 
--- how five parts and a rest are grouped makes no difference
+-- Concatenation of five parts and a rest is associative.
 in_front : (a b c d e rest : List ℕ) → (a ++ (b ++ (c ++ (d ++ e)))) ++ rest ≡ a ++ (b ++ (c ++ (d ++ (e ++ rest))))
 in_front a b c d e rest = simp append_assoc
 
--- the first lines of a page, as they are written, are those of the replay
+-- The first lines of a page, as they are written, are those of the replay.
 pub first_told : (head : TestHead) (r : Replay) (name : List ℕ)
     → name ≡ head.name
     → (codes "Test " ++ (name ++ (codes "\nSteps " ++ (decimal r.done ++ codes "\nEnd "))))
@@ -105,7 +105,7 @@ first_told head r name is =
     (in_front (codes "Test ") head.name (codes "\nSteps ") (decimal r.done) (codes "\nEnd ")
     (end_text r.done r.end ++ codes "\n"))
 
--- where the text of an end was written, and that is how the replay ended, the text of the replay's end was written
+-- If the text of an end was written, and the replay ended so, the text of the replay's end was written.
 pub ended_as : {T E : Type 0} {end known : End} (answer : Result T E) (start new text : List ℕ) (done : ℕ)
     → end ≡ known
     → text ≡ end_text done known ++ codes "\n"
@@ -114,7 +114,7 @@ pub ended_as : {T E : Type 0} {end known : End} (answer : Result T E) (start new
 ended_as answer start new text done is told written =
     on_ok_weaker answer (λ e. e ∙ ap (λ t. start ++ t) (told ∙ ap (λ (e : End). end_text done e ++ codes "\n") (sym is))) written
 
--- the text that is written of a refused event, with its number and name, is that of the end
+-- The text written for a refused event, with its code and name, is that of the end.
 pub stop_told : (done number : ℕ) (name : List ℕ) (stop : Stop) (end : End)
     → end ≡ Stopped stop
     → number ≡ stop_code stop
@@ -128,7 +128,7 @@ stop_told done number name stop end e n m =
 
 -- ---- a page, by its parts
 
--- The text of a source test's page grows from `start` by the first lines, the threads, and the words.
+-- The text of a source test's page, from `start`: the first lines, the threads, and the words.
 pub record SourceParts (head : TestHead) (r : Replay) (s : State) (start new : List ℕ) : Type 0 where
   pub one : List ℕ
   pub two : List ℕ
@@ -138,7 +138,7 @@ pub record SourceParts (head : TestHead) (r : Replay) (s : State) (start new : L
   pub memory : new ≡ two ++ word_line (codes "Memory") head.locs words
   pub is_memory : words ≡ s.words
 
--- the parts of a page, one behind the other, are the page of a source test
+-- The parts of a page in sequence are the page of a source test.
 pub source_page_told : (head : TestHead) (r : Replay) (s : State) (start new : List ℕ)
     → SourceParts head r s start new
     → new ≡ start ++ source_page head r s
@@ -147,7 +147,7 @@ source_page_told head r s start new parts =
     three_written start _ _ (line s.words) parts.begun parts.threads
     (parts.memory ∙ ap (λ (ws : List ℕ). parts.two ++ line ws) parts.is_memory)
 
--- The text of an x86 test's page grows from `start` by the first lines, the processors, memory's words, and the content.
+-- The text of an x86 test's page, from `start`: the first lines, the processors, memory's words, and the content.
 pub record MachineParts (head : TestHead) (r : Replay) (processors : List Processor) (held : ℕ → ℕ → LineState)
     (memory content start new : List ℕ) : Type 0 where
   pub one : List ℕ
@@ -162,7 +162,7 @@ pub record MachineParts (head : TestHead) (r : Replay) (processors : List Proces
   pub is_memory : in_memory ≡ memory
   pub is_content : in_content ≡ content
 
--- the parts of a page, one behind the other, are the page of an x86 test
+-- The parts of a page in sequence are the page of an x86 test.
 pub machine_page_told : (head : TestHead) (r : Replay) (processors : List Processor) (held : ℕ → ℕ → LineState)
     (memory content start new : List ℕ)
     → MachineParts head r processors held memory content start new

@@ -1,8 +1,8 @@
--- Pages of replays: from what was read to what they tell.
+-- Pages of replays: from what was read to what they say.
 use Rattle.lw_bench.proofs.Common.{◌≡◌, ℕ, List, subst, Event, End, IsSchedule, Protocol, LitmusTest}
 use Rattle.lw_bench.proofs.Common.{head_of_test, IsPageOf, IsReplayPage}
 
--- where a schedule was read as events, the page of the replay by these events is the page of the replay by the schedule
+-- If a schedule was read as events, the page of the replay by these events is the page of the replay by the schedule.
 pub page_told : {locs : List (List ℕ)} {events listed : List Event} (protocol : Protocol) (test : LitmusTest)
     (schedule page : List ℕ) (end : End)
     → locs ≡ (head_of_test test).locs

@@ -1,4 +1,4 @@
--- What a run over devices promises, at each of its ends: from what reading, making and writing promise.
+-- What a run over devices promises, for each of its endings: from what reading, rendering and writing promise.
 use Rattle.lw_bench.proofs.Common.{◌≡◌, ◌↔◌, Bool, true, false, if◌then◌else◌, Result, Ok, Err, refl, inl, ap}
 use Rattle.lw_bench.proofs.Common.{Bytes, Option, Some, None, IfSome, Appends, BenchFault, Memory, Read}
 use Rattle.lw_bench.proofs.Common.{Write, LitmusTest, IsInput, TakesInput, TakesSome, IsReachedOnMachine}
@@ -14,7 +14,7 @@ module _ {R W : Type 0} (readers : Devices R) (writers : Devices W) (Tells : Lit
     (w : W) where
   module _ {T : Type 0} (IsMade : T → LitmusTest → Bytes → Type 0) (machine : IfSome (readers.bytes r) IsReachedOnMachine)
       (caches : IfSome (readers.bytes r) IsReachedOverCaches) where
-    -- where the reader failed, or memory ran out before all was read, the run is as promised: it tells that fault
+    -- If the reader failed, or memory ran out before everything was read, the run satisfies its contract: it reports that fault.
     pub unread : (f : BenchFault)
         → f ≡ (if readers.failed s then Read else Memory)
         → TakesSome (readers.bytes r) (readers.bytes s)
@@ -34,7 +34,7 @@ module _ {R W : Type 0} (readers : Devices R) (writers : Devices W) (Tells : Lit
 
     module _ (bytes : Bytes) (input : IsInput (readers.bytes r) bytes) (taken : TakesInput (readers.bytes r) (readers.bytes s))
         (reading : readers.failed s ≡ false) where
-      -- where all was read, and nothing is made of the text, the run is as promised: it tells why
+      -- If everything was read, but nothing can be rendered from the text, the run satisfies its contract: it reports why.
       pub unmade : (f : BenchFault)
           → RunFaultIsTrue Tells bytes f
           → IsNotDeviceFault f
@@ -52,7 +52,7 @@ module _ {R W : Type 0} (readers : Devices R) (writers : Devices W) (Tells : Lit
         untouched = λ other. refl;
       }
 
-      -- where the writer failed, the run is as promised: it tells the writer's fault
+      -- If the writer failed, the run satisfies its contract: it reports the writer's fault.
       pub unwritten : (v : W) → writers.failed v ≡ true → IsRun readers writers IsMade Tells r s w v (Err Write)
       unwritten v failed = record {
         written = tt;
@@ -66,7 +66,7 @@ module _ {R W : Type 0} (readers : Devices R) (writers : Devices W) (Tells : Lit
         untouched = λ other. absurd (other refl);
       }
 
-      -- where what is made of the test was written, the run is as promised: it answers
+      -- If the output of the test was written, the run satisfies its contract: it succeeds.
       pub done : (v : W) (answer : T) (made : Bytes)
           → IsOutputOf (IsMade answer) bytes made
           → Appends (writers.bytes w) (writers.bytes v) made
@@ -84,7 +84,7 @@ module _ {R W : Type 0} (readers : Devices R) (writers : Devices W) (Tells : Lit
         untouched = tt;
       }
 
--- where what was written is made of the test by a rule P, it is so by each rule Q that follows from P
+-- If what was written satisfies a rule P of the test, it satisfies each rule Q that P implies.
 writes_weaker : (P Q : LitmusTest → Bytes → Type 0)
     → ((test : LitmusTest) (made : Bytes) → P test made → Q test made)
     → (known before after : Option Bytes)
@@ -94,7 +94,7 @@ writes_weaker P Q weaker None before after writes = tt
 writes_weaker P Q weaker (Some text) before after (made, makes, appended) =
     (made, record { test = makes.test; has_test = makes.has_test; is = weaker makes.test made makes.is }, appended)
 
--- A run that answers otherwise than the one that it consists of.
+-- A run whose result is computed from that of another.
 module _ {R W T U : Type 0} (readers : Devices R) (writers : Devices W) (P : T → LitmusTest → Bytes → Type 0)
     (Q : U → LitmusTest → Bytes → Type 0) (Tells : LitmusTest → BenchFault → Type 0) (r s : R) (w v : W) where
   same_fault : (f other : BenchFault) (failed : Bool)
@@ -102,7 +102,7 @@ module _ {R W T U : Type 0} (readers : Devices R) (writers : Devices W) (P : T �
       → (let b : Result U BenchFault = Err f in b) ≡ Err other ↔ failed ≡ true
   same_fault f other failed told = (λ same. told.0 (ap (λ e. Err e) (err_is same)), λ yes. ap (λ e. Err e) (err_is (told.1 yes)))
 
-  -- where a run consists of another and that is refused, its fault is the run's
+  -- If a run consists of another that fails, its fault is that one's.
   pub refused : (f : BenchFault) → IsRun readers writers P Tells r s w v (Err f) → IsRun readers writers Q Tells r s w v (Err f)
   refused f run = record {
     written = tt;
@@ -121,7 +121,7 @@ module _ {R W T U : Type 0} (readers : Devices R) (writers : Devices W) (P : T �
       → (let b : Result U BenchFault = Ok other_answer in b) ≡ Err other ↔ failed ≡ true
   no_fault answer other_answer other failed told = (λ same. absurd (ok_apart same), λ yes. absurd (ok_apart (told.1 yes)))
 
-  -- where a run consists of another that answers, so does it, and what it writes is made by its own rule Q, which follows from P
+  -- If a run consists of another that succeeds, so does it, and its output satisfies its own rule Q, which P implies.
   pub answered : (answer : T) (other : U)
       → ((test : LitmusTest) (made : Bytes) → P answer test made → Q other test made)
       → IsRun readers writers P Tells r s w v (Ok answer)

@@ -1,4 +1,5 @@
--- Exhaustive searches through the runs of small tests: where a search finds that all ends are so, the end of every run is.
+-- Exhaustive searches through the runs of small tests: if a search finds that all final states pass a test, every run's final state passes
+-- it.
 use Rattle.lw_bench.proofs.Common.{◌≡◌, ℕ, zero, suc, ◌<◌, ◌&&◌, Bool, true, false, if◌then◌else◌, List, []}
 use Rattle.lw_bench.proofs.Common.{◌∷◌, length, map, Result, Ok, Err, Option, Some, None, refl, sym, ap, ◌∙◌}
 use Rattle.lw_bench.proofs.Common.{subst, slice_get, slice_set, option_map, IsTrue, and_parts, agree_below}
@@ -10,7 +11,7 @@ use Rattle.lw_bench.proofs.Common.{EventResult, EffectTransition, ProcessorTrans
 use Rattle.lw_bench.proofs.Common.{Processor, state, Leaves, act_after, done_does, no_eviction}
 use Rattle.lw_tso.specs.Runs as machine
 
--- a test that is asked under a condition passes where the condition holds
+-- A conditional test passes unconditionally if its condition holds.
 if_so : (b : Bool) (x : Bool) → (if b then x else true) ≡ true → b ≡ true → x ≡ true
 if_so true x so is = so
 if_so false x so is = absurd (false≢true is)
@@ -22,7 +23,7 @@ module _ (program : List (List Stmt)) (ok : FinalState → Bool) where
   after_ok so (Ok s) = so s
   after_ok so (Err stop) = true
 
-  -- whether within n steps every run from the state ends, and with an outcome that passes the test `ok`
+  -- Tests whether every run from the state ends within n steps, with an outcome that passes the test `ok`.
   unfoldable pub ends_so : ℕ → State → Bool
   ends_so zero s = false
   ends_so (suc n) s =
@@ -36,7 +37,7 @@ module _ (program : List (List Stmt)) (ok : FinalState → Bool) where
       go None at done = absurd (let e : ◌≡◌ {A = Result State Stop} (Err NoCpu) (Ok mid) = done in cc)
       go (Some th) at done = slice_get_within s.threads t th at
 
-  -- where the search from a state passes, every run from there to an end has an outcome that passes `ok`
+  -- If the search from a state passes, every run from there to a final state has an outcome that passes `ok`.
   pub searched : (n : ℕ) (order : List ℕ) (s end : State)
       → ends_so n s ≡ true
       → SourceRunsTo program (map Step order) s end
@@ -54,30 +55,30 @@ module _ (program : List (List Stmt)) (ok : FinalState → Bool) where
 
 -- ---- x86 tests, over flat memory
 
--- what an act leaves is what is computed for it
+-- The result of an effect is the computed one.
 leaves_is : (o : Option (Processor × List ℕ)) (q : Processor) (n : List ℕ) → Leaves o q n → o ≡ Some (q, n)
 leaves_is None q n d = absurd d
 leaves_is (Some end) q n d = ap₂ (λ r k. Some (r, k)) (sym d.0) (sym d.1)
 
--- an act that is done over flat memory is the one that is computed
+-- An effect that is executed over flat memory is the computed one.
 act_is : (t : ℕ) (act : EventEffect) (p q : Processor) (m n : List ℕ)
     → EffectTransition flat_memory t act p m (Ok tt) q n
     → act_after act m ≡ Some (q, n)
 act_is t act p q m n d = leaves_is (act_after act m) q n (done_does t act p q m n d)
 
 module _ (program : List (List Instr)) where
-  -- the state after an event of a processor, if there is such a processor and the event is possible
+  -- The state after an event of a processor, if that exists and the event is enabled.
   abbrev pub done_after : Option Processor → Event → MachineState (List ℕ) → Option (MachineState (List ℕ))
   done_after None e s = None
   done_after (Some p) e s =
       option_map (λ (r : Processor × List ℕ). state (slice_set s.processors (cpu_of e) r.0) r.1)
       (act_after (event_effect program (length s.memory) e p) s.memory)
 
-  -- the state after an event over flat memory, as it is computed; None where the event is not possible
+  -- Computes the state after an event over flat memory; `None` if the event is not enabled.
   abbrev pub event_after : Event → MachineState (List ℕ) → Option (MachineState (List ℕ))
   event_after e s = done_after (slice_get s.processors (cpu_of e)) e s
 
-  -- an event that is done leads to the state that is computed
+  -- An event that is executed leads to the computed state.
   pub event_is : (e : Event) (s after : MachineState (List ℕ))
       → MachineTransition flat_memory program e s (Ok tt) after
       → event_after e s ≡ Some after
@@ -95,7 +96,7 @@ module _ (program : List (List Instr)) where
     reached_ok so None = true
     reached_ok so (Some s) = so s
 
-    -- whether within n events every run from the state ends, and with an outcome that passes the test `ok`
+    -- Tests whether every run from the state ends within n events, with an outcome that passes the test `ok`.
     unfoldable pub machine_ends_so : ℕ → MachineState (List ℕ) → Bool
     machine_ends_so zero s = false
     machine_ends_so (suc n) s =
@@ -124,7 +125,7 @@ module _ (program : List (List Instr)) where
         go None d = let e : ◌≡◌ {A = EventResult} (Ok tt) (Err NoCpu) = d.0 in cc
         go (Some p) d = no_eviction program (length s.memory) t x p d.0 s.memory d.1 (done_does t _ p d.0 s.memory d.1 d.2)
 
-    -- where the search from a state passes, every run of the machine from there to an end has an outcome that passes `ok`
+    -- If the search from a state passes, every run of the machine from there to a final state has an outcome that passes `ok`.
     pub machine_searched : (n : ℕ) (events : List Event) (s end : MachineState (List ℕ))
         → machine_ends_so n s ≡ true
         → machine.MachineRunsTo flat_memory program events s end

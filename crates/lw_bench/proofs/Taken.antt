@@ -1,16 +1,16 @@
--- That a run takes from its reader what it may take, whichever fault it tells.
+-- A run reads from its reader what it may read, whichever fault it reports.
 use Rattle.lw_bench.proofs.Common.{◌≡◌, Bool, true, false, ℕ, Option, List, if◌then◌else◌, subst, sym}
 use Rattle.lw_bench.proofs.Common.{TakesInput, TakesSome, TakesBeforeFault, BenchFault, Memory, Read}
 use Rattle.lw_bench.proofs.Devices.{all_is_some}
 
 module _ (before after : Option (List ℕ)) where
-  -- where the whole input was taken, a run that tells any fault has taken what it takes at that fault
+  -- If the whole input was consumed, a run that reports any fault has consumed what it may at that fault.
   pub taken_at : (f : BenchFault) → TakesInput before after → TakesBeforeFault f before after
   taken_at Memory taken = all_is_some before after taken
   taken_at Read taken = all_is_some before after taken
   taken_at _ taken = taken
 
-  -- where a part of the input was taken, and the reader failed or memory ran out, the run has taken what it takes at that fault
+  -- If a part of the input was consumed, and the reader failed or memory ran out, the run has consumed what it may at that fault.
   pub some_taken_at : (f : BenchFault) (failed : Bool)
       → f ≡ (if failed then Read else Memory)
       → TakesSome before after

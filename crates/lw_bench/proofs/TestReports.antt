@@ -9,7 +9,7 @@ use Rattle.lw_bench.proofs.ListingTexts.{report_is, schedule_list_is}
 
 module _ (test : LitmusTest) (entries : OutcomeEntries) (list : IsListOf test entries) (head : TestHead)
     (same : head ≡ head_of_test test) where
-  -- the report that is made of a test's list is the test's report
+  -- The report rendered from a test's list is the test's report.
   pub report_of_list : (states : List ListedState) (text : List ℕ)
       → AreListedStates head (outcomes_of entries) states
       → text ≡ report_text head Exact (map projection_of states)
@@ -18,7 +18,7 @@ module _ (test : LitmusTest) (entries : OutcomeEntries) (list : IsListOf test en
       report_is _ _ _ list.exactly Exact states text (subst (λ d. AreListedStates d (outcomes_of entries) states) same listed)
       (subst (λ d. text ≡ report_text d Exact (map projection_of states)) same is)
 
-  -- the list of schedules that is made of a test's list is the test's list of schedules
+  -- The list of schedules rendered from a test's list is the test's list of schedules.
   pub schedules_of_list : (states : List ListedState) (text : List ℕ)
       → AreListedStates head (outcomes_of entries) states
       → text ≡ schedule_list_text head (map (scheduled (schedules_of entries)) states)
@@ -31,7 +31,7 @@ module _ (test : LitmusTest) (entries : OutcomeEntries) (list : IsListOf test en
         (subst (λ d. AreListedStates d (outcomes_of entries) states) same listed) (rw same at is);
   }
 
-  -- the outcomes of a test's list are of the test's threads and locations
+  -- The outcomes of a test's list have the test's threads and locations.
   pub outcomes_there : All (HasOutcomeShape head.threads (length head.locs)) (outcomes_of entries)
   outcomes_there =
       All-map (HasOutcomeShape head.threads (length head.locs)) (λ (e : FinalState × List Event). e.0) entries
@@ -39,7 +39,7 @@ module _ (test : LitmusTest) (entries : OutcomeEntries) (list : IsListOf test en
       (λ (e : FinalState × List Event). HasOutcomeShape head.threads (length head.locs) e.0) (λ e is. rw (← same) at is.outcome)
       entries list.entries_are)
 
-  -- the schedules of the list speak of the test's locations
+  -- The schedules of the list name only the test's locations.
   pub schedules_there : All (AllByRecursion (IsEvent head.locs)) (schedules_of entries)
   schedules_there =
       All-map (AllByRecursion (IsEvent head.locs)) (λ (e : FinalState × List Event). e.1) entries

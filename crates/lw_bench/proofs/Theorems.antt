@@ -1,5 +1,5 @@
--- The theorems on tests as values, by those of the crates below. That outcomes over caches are those over flat memory is a premise,
--- which the laws meet by a call.
+-- The theorems on tests as values, from those of the crates below. A premise is that outcomes over caches are those over flat memory; the
+-- laws prove it by a call.
 use Rattle.lw_bench.proofs.Common.{◌≡◌, ◌↔◌, ℕ, List, Bool, refl, sym, subst, FinalState, Bytes}
 use Rattle.lw_bench.proofs.Common.{SourceOutcome, SourceTest, X86Test, IsWellFormedSource}
 use Rattle.lw_bench.proofs.Common.{IsWellFormedProgram, flat_memory, Protocol, IsMachineOutcome}
@@ -19,14 +19,14 @@ CachesAreFlat =
 
 -- ---- texts
 
--- a test that a text says is well-formed
+-- A test that a text says is well-formed.
 pub well_formed : (text : Bytes) (test : LitmusTest) → HasTest text test → IsWellFormedTest test
 well_formed text (Of_source test) h =
     well_formed_source _ test (frame_well_formed text _ h.has_frame) (frame_columns text _ h.has_frame) h.says
 well_formed text (Of_x86 test) h =
     well_formed_program _ _ (frame_well_formed text _ h.has_frame) (frame_columns text _ h.has_frame) h.says
 
--- a text has one report, where it says one test
+-- A text has at most one report, if it says at most one test.
 pub one_report_of : ((text : Bytes) (s t : LitmusTest) → HasTest text s → HasTest text t → s ≡ t)
     → (text a b : Bytes)
     → IsOutputOf IsStatesReport text a
@@ -38,7 +38,7 @@ one_report_of one text a b m n =
 
 -- ---- compiled programs
 
--- a compiled program has over caches the outcomes of its source test by interleaving
+-- A compiled program's outcomes over caches are those of its source test by interleaving.
 pub outcomes_over_caches : CachesAreFlat
     → (s : SourceTest) (p : X86Test) (starts : List (List ℕ))
     → IsWellFormedSource s
@@ -50,7 +50,7 @@ outcomes_over_caches caches s p starts ok compiled protocol o =
     let same = same_outcomes s p starts o ok compiled in
     ((λ outcome. same.0 (over.0 outcome)), (λ outcome. over.1 (same.1 outcome)))
 
--- a program compiled with any choice of fences has at least its source test's outcomes
+-- A program compiled with any choice of fences has at least its source test's outcomes.
 pub outcomes_with_fences : {fences : List (List Bool)} {s : SourceTest} {p : X86Test} {starts : List (List ℕ)}
     → CachesAreFlat
     → IsWellFormedSource s
@@ -61,9 +61,9 @@ pub outcomes_with_fences : {fences : List (List Bool)} {s : SourceTest} {p : X86
 outcomes_with_fences {s} {p} caches ok compiled protocol o outcome =
     (caches protocol p o (is_program_with _ s p _ ok compiled)).1 (has_outcomes _ s p _ o ok compiled outcome)
 
--- ---- the program that runs for a test
+-- ---- the program that is run for a test
 
--- the program that runs for a test reaches exactly the test's outcomes on the machine
+-- The program that is run for a test has exactly the test's outcomes on the machine.
 pub program_runs : (test : LitmusTest) (program : X86Test)
     → IsWellFormedTest test
     → IsProgramRunFor test program
@@ -77,13 +77,13 @@ program_runs (Of_x86 test) program ok runs = record {
       ((λ outcome. subst (λ X. X) same outcome), (λ outcome. subst (λ X. X) (sym same) outcome));
 }
 
--- for each well-formed test a program runs that reaches its outcomes on the machine
+-- For each well-formed test there is a program to run that has its outcomes on the machine.
 pub has_program : (test : LitmusTest) → IsWellFormedTest test → (program : X86Test) × IsProgramOf test program
 has_program (Of_source test) ok =
     let some = some_program test ok in (some.0, program_runs (Of_source test) some.0 ok (some.1, some.2))
 has_program (Of_x86 test) ok = (test, program_runs (Of_x86 test) test ok refl)
 
--- the program that runs for a test reaches exactly the test's outcomes over caches
+-- The program that is run for a test has exactly the test's outcomes over caches.
 pub runs_over_caches : CachesAreFlat
     → (test : LitmusTest) (program : X86Test)
     → IsWellFormedTest test
@@ -95,14 +95,14 @@ runs_over_caches caches (Of_x86 test) program ok runs =
 
 -- ---- outcomes
 
--- each source test has an outcome
+-- Each source test has an outcome.
 pub source_outcome : (s : SourceTest) → IsWellFormedSource s → (o : FinalState) × SourceOutcome s o
 source_outcome s ok =
     let some = some_program s ok in
     let o = has_outcome some.0 (is_program s some.0 some.1 ok some.2) in
     (o.0, (same_outcomes s some.0 some.1 o.0 ok some.2).0 o.1)
 
--- each x86 test has an outcome over caches
+-- Each x86 test has an outcome over caches.
 pub cached_outcome : CachesAreFlat
     → (protocol : Protocol) (p : X86Test)
     → IsWellFormedProgram p
@@ -111,7 +111,7 @@ cached_outcome caches protocol p ok = let o = has_outcome p ok in (o.0, (caches 
 
 -- ---- texts of compiled programs
 
--- A text says one test. It is a premise here, which the laws meet by a call.
+-- A text says at most one test. It is a premise here; the laws prove it by a call.
 abbrev HasOneTest : Type 0
 HasOneTest = (text : Bytes) (s t : LitmusTest) → HasTest text s → HasTest text t → s ≡ t
 
@@ -119,7 +119,7 @@ HasOneTest = (text : Bytes) (s t : LitmusTest) → HasTest text s → HasTest te
 abbrev ReadsBack : Type 0
 ReadsBack = (p : X86Test) → IsWellFormedProgram p → IsTextOf (canonical_text p) p
 
--- the compilation of a source test's text says an x86 test with the same outcomes
+-- The compiled text of a source test's text says an x86 test with the same outcomes.
 pub compiled_text_read : HasOneTest
     → ReadsBack
     → (text made : Bytes) (source : SourceTest)

@@ -1,4 +1,4 @@
--- Texts as rows of tokens, by a test that computes: for the texts of examples, which stand here byte by byte.
+-- Texts as sequences of tokens, by a test that computes: for the texts of examples, which are given byte by byte.
 use Rattle.lw_bench.proofs.Common.{◌≡◌, ℕ, zero, suc, ◌<◌, ◌==◌, ◌&&◌, ◌⊎◌, not, Bool, true, false}
 use Rattle.lw_bench.proofs.Common.{if◌then◌else◌, Option, Some, None, [], ◌∷◌, ◌++◌, refl, sym, inl, inr}
 use Rattle.lw_bench.proofs.Common.{arith, Bytes, and_parts, false≢true, nat_lt, none-some, same_Some, ◌||◌}
@@ -10,16 +10,16 @@ use Rattle.lw_bench.proofs.Common.{all_pass, is_name_text, name_by_test}
 
 -- ---- one token
 
--- whether a text is one digit, or a name
+-- Tests whether a text is one digit, or a name.
 abbrev is_kind_text : Bytes → Bool
 is_kind_text (d ∷ []) = is_ascii_digit d || is_name_text (d ∷ [])
 is_kind_text w = is_name_text w
 
--- whether a text is a name or a digit, and ends where this rest begins
+-- Tests whether a text is a name or a digit, and ends before this rest.
 abbrev is_name_shaped : Bytes → Bytes → Bool
 is_name_shaped t rest = list_all is_name_byte t && (not (first_byte_is is_name_byte rest) && is_kind_text t)
 
--- whether a text is a symbol, and ends where this rest begins
+-- Tests whether a text is a symbol, and ends before this rest.
 abbrev is_symbol_text : Bytes → Bytes → Bool
 is_symbol_text [] rest = false
 is_symbol_text (b ∷ []) rest =
@@ -27,20 +27,20 @@ is_symbol_text (b ∷ []) rest =
 is_symbol_text (b ∷ c ∷ []) rest = is_two_byte_symbol b c
 is_symbol_text (b ∷ c ∷ d ∷ more) rest = false
 
--- whether a text is a token, and ends where this rest begins
+-- Tests whether a text is a token, and ends before this rest.
 abbrev pub is_token_text : Bytes → Bytes → Bool
 is_token_text t rest = is_name_shaped t rest || is_symbol_text t rest
 
--- where one of two tests passes, the first does or the second
+-- If a disjunction of tests is true, the first or the second is.
 either : (a b : Bool) → (a || b) ≡ true → (a ≡ true) ⊎ (b ≡ true)
 either true b h = inl refl
 either false b h = inr h
 
--- a decimal digit is below ten
+-- A decimal digit is below ten.
 digit_small : (d : ℕ) → is_ascii_digit d ≡ true → digit_value d < 10
 digit_small d h = grind (arith, nat_tests)
 
--- what passes `is_kind_text` is a name or a number
+-- A text that passes `is_kind_text` is a name or a number.
 kind_of : (w : Bytes) → is_kind_text w ≡ true → IsNameOrNumber w
 kind_of [] h = inl (name_by_test [] h)
 kind_of (d ∷ []) h = go (either (is_ascii_digit d) (is_name_text (d ∷ [])) h)
@@ -51,7 +51,7 @@ kind_of (d ∷ []) h = go (either (is_ascii_digit d) (is_name_text (d ∷ [])) h
     go (inr name) = inl (name_by_test (d ∷ []) name)
 kind_of (d ∷ e ∷ w) h = inl (name_by_test (d ∷ e ∷ w) h)
 
--- what passes `is_symbol_text` is a symbol
+-- A text that passes `is_symbol_text` is a symbol.
 symbol_of : (t rest : Bytes) → is_symbol_text t rest ≡ true → IsSymbol t rest
 symbol_of [] rest h = absurd (false≢true h)
 symbol_of (b ∷ []) rest h =
@@ -61,7 +61,7 @@ symbol_of (b ∷ []) rest h =
 symbol_of (b ∷ c ∷ []) rest h = h
 symbol_of (b ∷ c ∷ d ∷ more) rest h = absurd (false≢true h)
 
--- what passes `is_token_text` is a token
+-- A text that passes `is_token_text` is a token.
 pub token_of : (t rest : Bytes) → is_token_text t rest ≡ true → IsToken t rest
 token_of t rest h = go (either (is_name_shaped t rest) (is_symbol_text t rest) h)
   where
@@ -72,15 +72,15 @@ token_of t rest h = go (either (is_name_shaped t rest) (is_symbol_text t rest) h
         inl (record { all = all_pass is_name_byte t parts.0; longest = not-true _ ends.0; kind = kind_of t ends.1 })
     go (inr symbol) = inr (symbol_of t rest symbol)
 
--- ---- rows
+-- ---- sequences
 
--- what stands behind a token, where the text begins with it
+-- Returns what follows a token, if the text starts with it.
 abbrev behind : Bytes → Bytes → Option Bytes
 behind [] text = Some text
 behind (a ∷ t) [] = None
 behind (a ∷ t) (b ∷ text) = if a == b then behind t text else None
 
--- the text is the token, and then what stands behind it
+-- The text is the token, followed by the rest.
 behind_is : (t text rest : Bytes) → behind t text ≡ Some rest → text ≡ t ++ rest
 behind_is [] text rest h = same_Some text rest h
 behind_is (a ∷ t) [] rest h = absurd (none-some rest h)
@@ -94,12 +94,12 @@ behind_is (a ∷ t) (b ∷ text) rest h = go (a == b) refl h (behind_is t text r
     go true is found on = rw (sym (eqb-true a b is), on found) refl
     go false is found on = absurd (none-some rest found)
 
--- whether t is a token before what stands behind it, and that passes `more`; false where the text does not begin with t
+-- Tests whether t is a token before the rest, and `more` is true of that; false if the text does not start with t.
 abbrev goes_on : (Bytes → Bool) → Bytes → Option Bytes → Bool
 goes_on more t None = false
 goes_on more t (Some rest) = is_token_text t rest && more rest
 
--- whether the text is a row of these tokens, by at most n blanks and tokens
+-- Tests whether the text is a sequence of these tokens, with at most n blanks and tokens.
 unfoldable pub are_tokens : ℕ → Bytes → TokenList → Bool
 are_tokens zero text ts = false
 are_tokens (suc n) [] [] = true
@@ -123,7 +123,7 @@ module _ (t : Bytes) (ts : TokenList) (more : Bytes → Bool) (rows : (rest : By
   blank_or_first b text true so is on h = let row = on h in (row.0, (blank is row.1.0, row.1.1), row.2)
   blank_or_first b text false so is on h = first (b ∷ text) (behind t (b ∷ text)) refl h
 
--- a text that passes `are_tokens` is a row of these tokens
+-- A text that passes `are_tokens` is a sequence of these tokens.
 pub tokens_stand : (n : ℕ) (text : Bytes) (ts : TokenList) → are_tokens n text ts ≡ true → Tokens text ts
 unfolding are_tokens
 tokens_stand zero text ts h = absurd (false≢true h)
@@ -134,13 +134,13 @@ tokens_stand (suc n) (b ∷ text) (t ∷ ts) h =
     blank_or_first t ts (λ rest. are_tokens n rest ts) (λ rest so. tokens_stand n rest ts so) b text (is_blank b)
     (are_tokens n text (t ∷ ts)) refl (λ so. tokens_stand n text (t ∷ ts) so) h
 
--- ---- a comment with no other inside
+-- ---- a comment without inner comments
 
--- whether a byte is neither a `(` nor a `*`
+-- Tests whether a byte is neither `(` nor `*`.
 abbrev is_plain : ℕ → Bool
 is_plain b = not (b == 40) && not (b == 42)
 
--- a comment with no `(` and no `*` inside ends at its `*)`
+-- A comment without `(` and `*` inside ends at its `*)`.
 pub plain_comment : (inside rest : Bytes) → list_all is_plain inside ≡ true → Comment (inside ++ 42 ∷ 41 ∷ rest) rest
 plain_comment [] rest h = closed
 plain_comment (b ∷ inside) rest h =
@@ -151,7 +151,7 @@ plain_comment (b ∷ inside) rest h =
 
 -- ---- bytes
 
--- a text whose bytes are all below 128 is ASCII
+-- A text whose bytes are all below 128 is ASCII.
 pub ascii_by_test : (w : Bytes) → list_all (λ b. nat_lt b 128) w ≡ true → IsAscii w
 ascii_by_test [] h i = omega arith
 ascii_by_test (b ∷ w) h zero = ltb-true b 128 (and_parts (nat_lt b 128) _ h).0

@@ -1,2 +1,2 @@
--- What proofs of other crates cite: what makes some entries the list of a test.
+-- Lemmas that other crates use: when entries are the list of a test.
 pub mod TestLists

@@ -1,4 +1,4 @@
--- What makes some entries the list of a test.
+-- When entries are the list of a test.
 use Rattle.lw_bench.proofs.Common.{◌≡◌, ◌↔◌, refl, All, Contains, Result, Ok, Err, IfOk, FinalState}
 use Rattle.lw_bench.proofs.Common.{IsListedOutcome, OutcomeEntries, outcomes_of, IsStrictlySorted}
 use Rattle.lw_bench.proofs.Common.{ListsMachine, ReplaysToOverCaches, OutcomeOverCaches, Protocol, Mesi}
@@ -6,8 +6,8 @@ use Rattle.lw_bench.proofs.Common.{SourceOutcome, SourceTest, X86Test, Of_source
 use Rattle.lw_bench.proofs.Common.{IsWellFormedSource, IsWellFormedProgram, same_outcomes}
 use Rattle.lw_bench.proofs.Theorems.{CachesAreFlat}
 
--- Entries that are sorted, are exactly a source test's outcomes, and have each a schedule of its compiled program that leads there, are
--- the test's list.
+-- Sorted entries that have exactly a source test's outcomes, each with a schedule of its compiled program that reaches it, are the test's
+-- list.
 pub source_list : (test : SourceTest) (entries : OutcomeEntries)
     → IsWellFormedSource test
     → IsStrictlySorted entries
@@ -38,8 +38,7 @@ pub source_listed : {E : Type 0} (test : SourceTest) (r : Result OutcomeEntries 
 source_listed test (Ok l) ok sorted exactly lists of = source_list test l ok sorted exactly lists of
 source_listed test (Err e) ok sorted exactly lists of = tt
 
--- Entries that are sorted, are exactly an x86 test's outcomes over caches, and have each a schedule that leads there, are the test's
--- list.
+-- Sorted entries that have exactly an x86 test's outcomes over caches, each with a schedule that reaches it, are the test's list.
 pub x86_list : CachesAreFlat
     → (test : X86Test) (entries : OutcomeEntries)
     → IsWellFormedProgram test

@@ -7,7 +7,7 @@ use Rattle.lw_bench.proofs.input.pull_chunk.Goals as goal
 pub returns-in_default-clause-err : goal.returns-in_default-clause-err
 returns-in_default-clause-err g c = rw c.in_default.ensures.failed refl
 
--- no more is asked for than is still to be read
+-- The chunk is no larger than what may still be read.
 is_room : (g : _) (c : After-extend_from_slice g) → c.min-room.result ≤ 65537 - length c.args.bytes.now.items
 is_room g c = omega (arith, c.min-room.ensures, c.len.ensures, c.args.bytes.now.ok.0)
 
