@@ -1,5 +1,5 @@
--- The instructions of a lowering carry out its statement: the last one does to its processor and to the memory what the statement does to
--- its thread, and one before it leaves the memory and the store buffer as they are.
+-- The instructions of a lowering execute its statement: the last one does to its processor and to memory what the statement does to its
+-- thread, and an instruction before it leaves memory and the store buffer unchanged.
 use Rattle.lw_fence.proofs.Common.{◌≡◌, ℕ, ◌+◌, ◌<◌, ◌==◌, ◌%◌, ◌^◌, add_comm, Bool, true, false, not}
 use Rattle.lw_fence.proofs.Common.{true≢false, None, Some, List, [], ◌∷◌, ◌++◌, length, if◌then◌else◌, refl}
 use Rattle.lw_fence.proofs.Common.{sym, ap, ap₂, ◌∙◌, subst, subst₂, arith, slice_set, slice_index, eqb-true}
@@ -17,30 +17,30 @@ use Rattle.lw_fence.proofs.CodeLayout.{chosen}
 use Rattle.lw_litmus.specs.declared.operation.Operation.TheVariants as operation
 use Rattle.lw_litmus.specs.declared.instr.Instr.TheVariants as x86
 
--- a store buffer: locations with words, the oldest entry first
+-- A store buffer: locations with words, the oldest entry first.
 abbrev pub Buffer : Type 0
 Buffer = List (ℕ × ℕ)
 
--- How a statement of the thread v has changed a store buffer b and a memory m, to c and n.
+-- How a statement of the thread v changes a store buffer b and a memory m, to c and n.
 pub data Stored (s : Stmt) (v : Thread) (b : Buffer) (m : List ℕ) (c : Buffer) (n : List ℕ) : Type 0 where
-  -- not at all: it has no location
+  -- Not at all, if it has no location.
   apart : IsLocal s → c ≡ b → n ≡ m → Stored s v b m c n
-  -- a store is now the newest entry
+  -- A store becomes the newest entry.
   buffered : (x : ℕ) (w : Operand) → s ≡ Store x w → c ≡ b ++ (x, operand_value w v.regs) ∷ [] → n ≡ m → Stored s v b m c n
-  -- any other is done at once, where the buffer is empty
+  -- Any other statement takes effect at once, if the buffer is empty.
   at_once : is_store (source_operation s) ≡ false
       → b ≡ []
       → c ≡ []
       → n ≡ words_after (source_operation s) v m
       → Stored s v b m c n
 
--- The statement s of the thread v, carried out over the buffer b and the memory m, has left q and n.
+-- After the statement s of the thread v is executed over the buffer b and the memory m, the processor is q and the memory n.
 pub record Carried (starts : List ℕ) (s : Stmt) (v : Thread) (b : Buffer) (m : List ℕ) (q : Processor) (n : List ℕ) : Type 0 where
   pub position : q.position ≡ slice_index starts (thread_after (source_operation s) v m).position
   pub regs : q.regs ≡ (thread_after (source_operation s) v m).regs
   pub stored : Stored s v b m q.buffer n
 
--- The instruction i of the processor p, whatever is still in its buffer, carries out s. A load finds the buffer empty.
+-- The instruction i of the processor p, whatever its buffer holds, executes s. A load requires an empty buffer.
 pub record Ends (starts : List ℕ) (v : Thread) (s : Stmt) (p : Processor) (i : Instr) : Type 0 where
   pub empty : is_load (source_operation s) ≡ true → p.buffer ≡ []
   pub carries : (b : Buffer) (m : List ℕ)
@@ -49,26 +49,26 @@ pub record Ends (starts : List ℕ) (v : Thread) (s : Stmt) (p : Processor) (i :
       → EffectLeadsTo m (step_effect (Some i) (record p { buffer = b })) q n
       → Carried starts s v b m q n
 
--- The instruction before i leads the processor p to q, and there i carries out the statement s of the thread v.
+-- The instruction before i leads the processor p to q, where i executes the statement s of the thread v.
 pub record Led (starts : List ℕ) (v : Thread) (s : Stmt) (p : Processor) (i : Instr) (q : Processor) : Type 0 where
   pub position : q.position ≡ p.position + 1
   pub buffer : q.buffer ≡ p.buffer
   pub ends : Ends starts v s q i
 
--- A lowering carries out the statement s of the thread v on the processor p, which is at the lowering's first instruction.
+-- A lowering executes the statement s of the thread v on the processor p, which is at the lowering's first instruction.
 abbrev pub Serves : List ℕ → Thread → Stmt → Processor → Lowered → Type 0
 Serves starts v s p (One i) = Ends starts v s p i
 Serves starts v s p (Two i j) =
     (m : List ℕ) (q : Processor) (n : List ℕ) → EffectLeadsTo m (step_effect (Some i) p) q n → Led starts v s p j q × (n ≡ m)
 
--- an operation without a location is no store and no load
+-- An operation without a location is no store and no load.
 pub quiet : (o : Operation) → location_of o ≡ None → (is_store o ≡ false) × (is_load o ≡ false)
 quiet (operation.Store x w) none = absurd cc
 quiet (operation.Load d x) none = absurd cc
 quiet o none = (refl, refl)
 
 module _ (starts : List ℕ) (v : Thread) where
-  -- what is left is what an act says
+  -- The state after an instruction is that of its effect.
   carried : (s : Stmt) (b : Buffer) (m k n : List ℕ) (r q : Processor)
       → r.position ≡ slice_index starts (thread_after (source_operation s) v m).position
       → r.regs ≡ (thread_after (source_operation s) v m).regs
@@ -79,7 +79,7 @@ module _ (starts : List ℕ) (v : Thread) where
       subst₂ (λ c l. Carried starts s v b m c l) (sym d.0) (sym d.1)
       (record { position = position; regs = regs; stored = stored })
 
-  -- a statement without a location, whatever the memory and the buffer are
+  -- An instruction executes a statement without a location, whatever the memory and the buffer.
   local_ends : {s : Stmt} {p : Processor} {i : Instr} {k : ℕ} {regs : List ℕ} {flag : Bool}
       → IsLocal s
       → ((b : Buffer)
@@ -96,7 +96,7 @@ module _ (starts : List ℕ) (v : Thread) where
         (apart l refl refl) (subst (λ act. EffectLeadsTo m act q n) (goes b) done);
   }
 
-  -- the terms of a sum in the other sequence
+  -- Wrapping addition is commutative, here with the destination as an operand.
   swapped : (d a b : ℕ)
       → (d == b) ≡ true
       → wrapping_sum (slice_index v.regs d) (slice_index v.regs a) ≡ wrapping_sum (slice_index v.regs a) (slice_index v.regs b)
@@ -126,7 +126,7 @@ module _ (starts : List ℕ) (v : Thread) where
           (load refl) done);
     }
 
-    -- where the word of a was moved to d
+    -- The word of register a was moved to d.
     module _ (d a : ℕ) (there : d < length v.regs) (moved : p.regs ≡ slice_set v.regs d (slice_index v.regs a)) where
       word : slice_index p.regs d ≡ slice_index v.regs a
       word = ap (λ r. slice_index r d) moved ∙ get_or-set_same v.regs d (slice_index v.regs a) 0 there
@@ -155,12 +155,12 @@ module _ (starts : List ℕ) (v : Thread) where
       add_ends : (w : Operand) → operand_value w p.regs ≡ operand_value w v.regs → Ends starts v (Sum d a w) p (x86.Add d w)
       add_ends w right = local_ends refl (λ b. refl) (sym next) (ap (slice_set p.regs d) (ap₂ wrapping_sum word right) ∙ set _)
 
-  -- The lowerings of a statement, at the first instruction of which the processor p is.
+  -- The lowerings of a statement, with the processor p at the first instruction.
   module _ (p : Processor) (regs : p.regs ≡ v.regs) where
     abbrev From : Stmt → Lowered → Type 0
     From s r = slice_index starts (v.position + 1) ≡ p.position + length (instrs_of r) → Serves starts v s p r
 
-    -- an instruction that only goes on, before the last one
+    -- An instruction before the last only advances.
     leads : (s : Stmt) (r q : Processor) (i : Instr) (m n : List ℕ)
         → r.position ≡ p.position + 1
         → r.buffer ≡ p.buffer
@@ -175,7 +175,7 @@ module _ (starts : List ℕ) (v : Thread) where
         let once = once_done p.buffer FenceWaits _ m n q done in
         leads (Load d x) _ q (x86.Load d x) m n refl refl (load_ends _ (omega arith) d x regs once.0) once.1
 
-    -- where a register is moved first
+    -- A lowering that moves a register first.
     moved_serves : (s : Stmt) (d a : ℕ) (last : Instr)
         → ((q : Processor)
         → slice_index starts (v.position + 1) ≡ q.position + 1
@@ -195,7 +195,7 @@ module _ (starts : List ℕ) (v : Thread) where
     jumps true to next = refl
     jumps false to next = sym next
 
-    -- a jump behind a comparison, of which the flag tells
+    -- A jump after a comparison, by the flag that the comparison sets.
     jump_serves : {s : Stmt} (a k to : ℕ) {i : Instr} (told : Bool → Bool)
         → IsLocal s
         → ((q : Processor)
@@ -214,7 +214,7 @@ module _ (starts : List ℕ) (v : Thread) where
         ∙ jump
         ∙ ap (λ t. slice_index starts t.position) (sym after)) (regs ∙ ap (λ t. t.regs) (sym after))) done
 
-    -- the lowering of the statement, with a fence or without
+    -- The lowering of a statement, with or without a fence, executes the statement.
     pub lowered_serves : (s : Stmt) {fence : Bool}
         → length v.regs ≡ 6
         → All IsRegisterIndex (registers_of (source_operation s))

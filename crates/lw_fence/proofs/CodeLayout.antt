@@ -1,4 +1,4 @@
--- Where the instructions of a statement stand in the compiled code.
+-- The positions of a statement's instructions in the compiled code.
 use Rattle.lw_fence.proofs.Common.{◌≡◌, ◌↔◌, ℕ, zero, suc, ◌+◌, ◌*◌, ◌<◌, ◌≤◌, List, [], ◌∷◌, ◌++◌, length}
 use Rattle.lw_fence.proofs.Common.{Some, Bool, true, false, if◌then◌else◌, sym, refl, ap, ◌∙◌, subst, subst₂}
 use Rattle.lw_fence.proofs.Common.{arith, slice_get, slice_index, length-append, append_assoc, drop, get_or}
@@ -8,17 +8,17 @@ use Rattle.lw_fence.proofs.Common.{X86, at_index, Stmt, IfEq, SourceTest, X86Tes
 use Rattle.lw_fence.proofs.Common.{NeedsFence, lowered, instrs_of, lowered_code, starts_from}
 use Rattle.lw_fence.proofs.Common.{IsCompiledThread, IsCompiled, IsThreadWith, IsCompiledWith}
 
--- what holds of both of two lowerings holds of the one that a test chooses
+-- What holds of both of two lowerings holds of the one that a test selects.
 pub chosen : (P : Lowered → Type 0) (b : Bool) (r s : Lowered) → (b ≡ true → P r) → (b ≡ false → P s) → P (if b then r else s)
 chosen P true r s first second = first refl
 chosen P false r s first second = second refl
 
--- the instructions stand in the code at this index
+-- The instructions are in the code at this index.
 abbrev pub StandsAt : List Instr → ℕ → List Instr → Type 0
 StandsAt code pc [] = Unit {0}
 StandsAt code pc (i ∷ is) = (slice_get code pc ≡ Some i) × StandsAt code (pc + 1) is
 
--- instructions between others stand in the whole code at the index behind those before them
+-- Instructions in the middle of a code are in it at the length of those before them.
 has_all : (is pre post : List Instr) → StandsAt (pre ++ (is ++ post)) (length pre) is
 has_all [] pre post = tt
 has_all (i ∷ is) pre post =
@@ -27,35 +27,35 @@ has_all (i ∷ is) pre post =
     let next : length (pre ++ i ∷ []) ≡ length pre + 1 = omega (arith, length-append pre (i ∷ [])) in
     (here, subst₂ (λ l k. StandsAt l k is) (append_assoc pre (i ∷ []) (is ++ post)) next (has_all is _ post))
 
--- a lowering is as long whatever its jumps lead to
+-- The length of a lowering does not depend on its jumps' targets.
 pub as_long : (starts : List ℕ) (f : Bool) (x : Stmt)
     → length (instrs_of (lowered [] f x)) ≡ length (instrs_of (lowered starts f x))
 as_long starts f (IfEq r n to) = refl
 as_long starts f x = refl
 
--- the index behind the first statement's lowering, which begins at n: where the next statement's begins
+-- The index after the first statement's lowering, which starts at n: the start of the next statement's.
 abbrev pub behind_first : ℕ → List Bool → Stmt → ℕ
 behind_first n fences x = n + length (instrs_of (lowered [] (get_or fences 0 false) x))
 
--- the instructions begin with the first statement's lowering
+-- The instructions start with the first statement's lowering.
 pub lowered_code_cons : (starts : List ℕ) (fences : List Bool) (x : Stmt) (code : List Stmt)
     → lowered_code starts fences (x ∷ code)
     ≡ instrs_of (lowered starts (get_or fences 0 false) x) ++ lowered_code starts (drop 1 fences) code
 lowered_code_cons starts [] x code = refl
 lowered_code_cons starts (f ∷ fences) x code = refl
 
--- the starts begin with the first statement's; the next is behind its lowering
+-- The list of starts begins with the first statement's start n, followed by those after its lowering.
 pub starts_cons : (n : ℕ) (fences : List Bool) (x : Stmt) (code : List Stmt)
     → starts_from n fences (x ∷ code) ≡ n ∷ starts_from (behind_first n fences x) (drop 1 fences) code
 starts_cons n [] x code = refl
 starts_cons n (f ∷ fences) x code = refl
 
--- without the first flag, each other flag stands at the index before
+-- Without the first flag, each other flag is at the index before.
 pub next_fence : (fences : List Bool) (j : ℕ) → get_or (drop 1 fences) j false ≡ get_or fences (suc j) false
 next_fence [] j = refl
 next_fence (f ∷ fences) j = refl
 
--- the first statement's lowering and the others' are as long as all of them together
+-- The length of all lowerings is the sum of that of the first and those of the others.
 lowered_code_long : (starts : List ℕ) (n : ℕ) (fences : List Bool) (x : Stmt) (code : List Stmt)
     → n + length (lowered_code starts fences (x ∷ code))
     ≡ behind_first n fences x + length (lowered_code starts (drop 1 fences) code)
@@ -66,12 +66,12 @@ lowered_code_long starts n fences x code = omega (
   length-append (instrs_of (lowered starts (get_or fences 0 false) x)) (lowered_code starts (drop 1 fences) code),
 )
 
--- the first start is where the thread begins
+-- The first start is where the thread begins.
 pub begins : (n : ℕ) (fences : List Bool) (code : List Stmt) → slice_index (starts_from n fences code) 0 ≡ n
 begins n fences [] = refl
 begins n fences (x ∷ code) = ap (λ l. slice_index l 0) (starts_cons n fences x code)
 
--- the last start is behind all instructions
+-- The last start is after all instructions.
 ends : (starts : List ℕ) (n : ℕ) (fences : List Bool) (code : List Stmt)
     → slice_index (starts_from n fences code) (length code) ≡ n + length (lowered_code starts fences code)
 ends starts n fences [] = omega arith
@@ -80,7 +80,7 @@ ends starts n fences (x ∷ code) =
     ∙ ends starts (behind_first n fences x) (drop 1 fences) code
     ∙ sym (lowered_code_long starts n fences x code)
 
--- The lowerings, cut at the lowering of the statement j, and where that starts and the next one.
+-- The lowerings, split at the lowering of statement j, and the starts of that and of the next one.
 record Cut (starts : List ℕ) (n : ℕ) (fences : List Bool) (code : List Stmt) (j : ℕ) (f : Bool) (x : Stmt) : Type 0 where
   before : List Instr
   behind : List Instr
@@ -88,7 +88,7 @@ record Cut (starts : List ℕ) (n : ℕ) (fences : List Bool) (code : List Stmt)
   here : slice_index (starts_from n fences code) j ≡ n + length before
   next : slice_index (starts_from n fences code) (j + 1) ≡ n + (length before + length (instrs_of (lowered starts f x)))
 
--- the instructions are cut at any statement's lowering
+-- The instructions can be split at any statement's lowering.
 cut : (starts : List ℕ) (n : ℕ) (fences : List Bool) (code : List Stmt) (j : ℕ) (x : Stmt)
     → slice_get code j ≡ Some x
     → Cut starts n fences code j (get_or fences j false) x
@@ -126,20 +126,20 @@ cut starts n fences (y ∷ code) (suc j) x e =
           ∙ omega (arith, c.next, long, first);
     }
 
--- Statement j's lowering stands at its start, with a fence or without, and the next start is behind it.
+-- The lowering of statement j is at its start, with or without a fence, and the next start is after it.
 pub record Stands (instrs : List Instr) (starts : List ℕ) (j : ℕ) (x : Stmt) : Type 0 where
   pub fence : Bool
   pub has : StandsAt instrs (slice_index starts j) (instrs_of (lowered starts fence x))
   pub next : slice_index starts (j + 1) ≡ slice_index starts j + length (instrs_of (lowered starts fence x))
 
--- A thread that is laid out in x86, wherever its fences stand: each statement's lowering stands at its start.
+-- A thread laid out in x86, whatever its fences: each statement's lowering is at its start.
 pub record Laid (code : List Stmt) (instrs : List Instr) (starts : List ℕ) : Type 0 where
   pub first : slice_index starts 0 ≡ 0
   pub last : slice_index starts (length code) ≡ length instrs
   pub short : length instrs ≤ 2 * length code
   pub at : (j : ℕ) (x : Stmt) → slice_get code j ≡ Some x → Stands instrs starts j x
 
--- A thread in x86 whose fences stand before the loads that need them, and nowhere else.
+-- A thread in x86 with fences exactly before the loads that need them.
 pub record Placed (code : List Stmt) (instrs : List Instr) (starts : List ℕ) : Type 0 where
   pub laid : Laid code instrs starts
   pub needed : (j : ℕ) (x : Stmt) (at : slice_get code j ≡ Some x) → ((laid.at j x at).fence ≡ true) ↔ NeedsFence code j
@@ -149,7 +149,7 @@ lowered_short : (r : Lowered) → length (instrs_of r) ≤ 2
 lowered_short (One i) = omega arith
 lowered_short (Two i j) = omega arith
 
--- there are at most two instructions for each statement
+-- There are at most two instructions for each statement.
 lowered_code_short : (starts : List ℕ) (fences : List Bool) (code : List Stmt)
     → length (lowered_code starts fences code) ≤ 2 * length code
 lowered_code_short starts fences [] = omega arith
@@ -161,7 +161,7 @@ lowered_code_short starts fences (x ∷ code) = omega (
   lowered_code_short starts (drop 1 fences) code,
 )
 
--- in a thread with any fences each statement's lowering stands at its start, and the next start is behind it
+-- In a thread with any fences each statement's lowering is at its start, and the next start is after it.
 stands : {fences : List Bool} {code : List Stmt} {instrs : List Instr} {starts : List ℕ}
     → IsThreadWith fences code instrs starts
     → (j : ℕ) (x : Stmt)
@@ -177,7 +177,7 @@ stands {fences} {code} {instrs} {starts} c j x e =
       next = omega (arith, ap (λ s. slice_index s (j + 1)) c.starts_are, here, a.next);
     }
 
--- a thread that is lowered with any fences is laid out
+-- A thread lowered with any fences is laid out.
 laid_with : {fences : List Bool} {code : List Stmt} {instrs : List Instr} {starts : List ℕ}
     → IsThreadWith fences code instrs starts
     → Laid code instrs starts
@@ -188,7 +188,7 @@ laid_with {fences} {code} {instrs} {starts} c = record {
   at = stands c;
 }
 
--- a compiled thread is laid out, with fences before the loads that need them and no others
+-- A compiled thread is laid out, with fences exactly before the loads that need them.
 pub placed : {code : List Stmt} {instrs : List Instr} {starts : List ℕ}
     → IsCompiledThread code instrs starts
     → Placed code instrs starts
@@ -202,7 +202,7 @@ placed {code} c = record {
       );
 }
 
--- thread t of a compiled source is laid out, with its fences where they are needed
+-- Thread t of a compiled source is laid out, with fences exactly where they are needed.
 pub placed_at : (s : SourceTest) (p : X86Test) (starts : List (List ℕ))
     → IsCompiled s p starts
     → (t : ℕ)
@@ -213,19 +213,19 @@ placed_at s p starts compiled t within =
     let begins = at_index starts t [] (omega (arith, compiled.as_many_starts)) in
     placed (compiled.threads t _ _ _ (at_index s.threads t [] within) instrs begins)
 
--- A source that is laid out in x86, wherever its fences stand: each of its threads is.
+-- A source laid out in x86, whatever its fences: each of its threads is.
 pub record LaidOut (s : SourceTest) (p : X86Test) (starts : List (List ℕ)) : Type 0 where
-  -- the program's head is the source's, but for the language
+  -- The program's head is the source's, except for the language.
   pub head : p.head ≡ record s.head { arch = X86 }
   pub as_many : length p.threads ≡ length s.threads
   pub at : (t : ℕ) → t < length s.threads → Laid (thread_code s.threads t) (thread_code p.threads t) (thread_code starts t)
 
--- a compiled source is laid out
+-- A compiled source is laid out.
 pub laid_out : (s : SourceTest) (p : X86Test) (starts : List (List ℕ)) → IsCompiled s p starts → LaidOut s p starts
 laid_out s p starts compiled =
     record { head = compiled.head; as_many = compiled.as_many; at = λ t within. (placed_at s p starts compiled t within).laid }
 
--- a source in x86 is laid out with any fences
+-- A source in x86 with any fences is laid out.
 pub laid_out_with : (fences : List (List Bool)) (s : SourceTest) (p : X86Test) (starts : List (List ℕ))
     → IsCompiledWith fences s p starts
     → LaidOut s p starts
@@ -238,7 +238,7 @@ laid_out_with fences s p starts compiled = record {
       laid_with (compiled.threads t _ _ _ (at_index s.threads t [] within) instrs begins);
 }
 
--- Statement x, which stands at i, behind those that have been walked over.
+-- Statement x at index i, after those that were passed.
 module _ (fences : List Bool) (code : List Stmt) (i : ℕ) (x : Stmt) (within : i < length code)
     (as_many : length fences ≡ length code) (is : x ≡ get_or code i x) where
   here : drop i code ≡ x ∷ drop (suc i) code
@@ -250,7 +250,7 @@ module _ (fences : List Bool) (code : List Stmt) (i : ℕ) (x : Stmt) (within : 
   fence_here : drop i fences ≡ fence ∷ drop (suc i) fences
   fence_here = drop-cons fences i false (omega (arith, within, as_many))
 
-  -- one statement further: all instructions are those made so far, this statement's, and those of the rest
+  -- One more statement: all instructions are those emitted so far, this statement's, and those of the rest.
   pub lowered_code_on : (starts : List ℕ) (out : List Instr) {new : List Instr}
       → lowered_code starts fences code ≡ out ++ lowered_code starts (drop i fences) (drop i code)
       → new ≡ out ++ instrs_of (lowered starts (get_or fences i false) x)
@@ -262,7 +262,7 @@ module _ (fences : List Bool) (code : List Stmt) (i : ℕ) (x : Stmt) (within : 
       ∙ sym (append_assoc out (instrs_of (lowered starts fence x)) rest)
       ∙ rw (more, add-one) refl
 
-  -- one statement further: all starts are those noted so far, this statement's, which is n, and those of the rest
+  -- One more statement: all starts are those listed so far, this statement's start n, and those of the rest.
   pub starts_on : (k n : ℕ) (out new : List ℕ)
       → starts_from 0 fences code ≡ out ++ starts_from n (drop i fences) (drop i code)
       → k ≡ length (instrs_of (lowered [] (get_or fences i false) x))

@@ -1,4 +1,4 @@
--- The threads of a test, compiled one after another.
+-- The threads of a test, compiled in sequence.
 use Rattle.lw_fence.proofs.Common.{◌≡◌, ℕ, ◌+◌, ◌⊎◌, inl, inr, List, [], ◌∷◌, ◌++◌, length, length-append}
 use Rattle.lw_fence.proofs.Common.{Some, sym, ap, ◌∙◌, subst, subst₂, arith, slice_get, same_Some}
 use Rattle.lw_fence.proofs.Common.{slice_get_within, get_append, Stmt, Instr, IsCompiledThread}
@@ -14,7 +14,7 @@ pub record AreCompiled (codes : List (List Stmt)) (n : ℕ) (threads : List (Lis
       → IsCompiledThread code instrs begins
 
 module _ (codes : List (List Stmt)) where
-  -- before the first thread, none is compiled
+  -- Before the first thread, none is compiled.
   pub none_compiled : (threads : List (List Instr)) {starts : List (List ℕ)}
       → threads ≡ []
       → starts ≡ []
@@ -26,7 +26,7 @@ module _ (codes : List (List Stmt)) where
         absurd (omega (arith, slice_get_within threads t instrs there, ap length no_threads));
   }
 
-  -- if the first n threads are compiled, and the next one to `instrs` and `begins`, then with these behind them n + 1 are
+  -- Appending the compiled next thread extends the first n compiled threads to `n + 1`.
   pub one_compiled : (n : ℕ) (threads : List (List Instr)) {next : List (List Instr)} (starts : List (List ℕ))
       {more : List (List ℕ)} {code : List Stmt} (instrs : List Instr) (begins : List ℕ)
       → AreCompiled codes n threads starts

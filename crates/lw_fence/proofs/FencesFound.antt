@@ -6,32 +6,32 @@ use Rattle.lw_fence.proofs.Common.{slice_get_within, cases_lt, false≢true, and
 use Rattle.lw_fence.proofs.Common.{get_some, Stmt, is_load, source_operation, HasOperation}
 use Rattle.lw_fence.proofs.Common.{IsReachableFromStore, NeedsFence}
 
--- whether a load is there
+-- Tests whether the statement is a load.
 abbrev loads : Option Stmt → Bool
 loads o = option_map_or (λ s. is_load (source_operation s)) o false
 
--- a position of a load is one of the code
+-- The position of a load is within the code.
 load_within : (code : List Stmt) (j : ℕ) → HasOperation is_load code j → j < length code
 load_within code j h =
     ⊎_elim (λ lt. lt) (λ past. absurd (false≢true (subst (λ o. loads o ≡ true) (slice_get_past code j past) h)))
     (cases_lt j (length code))
 
 module _ (code : List Stmt) (marks : List Bool) where
-  -- a load is there, and a mark
+  -- Tests whether position j is marked and has a load.
   abbrev is_needed : ℕ → Bool
   is_needed j = loads (slice_get code j) && slice_index_or marks j false
 
-  -- The fences that are found for the first statements: a flag for each, set where a load is marked.
+  -- The fences found for the first statements: a flag for each, set if the statement is a marked load.
   pub record Found (index : ℕ) (fences : List Bool) : Type 0 where
     pub as_many : length fences ≡ index
     pub each : (j : ℕ) (b : Bool) → slice_get fences j ≡ Some b → b ≡ is_needed j
 
-  -- before the first statement no fence is found
+  -- Before the first statement no fence is found.
   pub found_none : (fences : List Bool) → fences ≡ [] → Found 0 fences
   found_none fences e =
       record { as_many = ap length e; each = λ j b at. absurd (omega (arith, slice_get_within fences j b at, ap length e)) }
 
-  -- one statement more: its fence is found by whether it is a load and marked
+  -- One more statement: its flag is set if it is a marked load.
   pub found_more : (index : ℕ) (fences : List Bool) {new : List Bool} (b : Bool) {s : Stmt}
       → Found index fences
       → slice_get code index ≡ Some s
@@ -50,7 +50,7 @@ module _ (code : List Stmt) (marks : List Bool) where
           let here = is ∙ ap (λ (o : Option Stmt). loads o && slice_index_or marks index false) (sym at) in
           sym last.1 ∙ subst (λ (k : ℕ). b ≡ is_needed k) (sym (last.0 ∙ found.as_many)) here
 
-  -- where the marks are those behind stores, the fences that are found are exactly the needed ones
+  -- If the marks are the positions reachable from stores, the fences found are exactly the needed ones.
   pub needed : ((j : ℕ) → j ≤ length code → (slice_index_or marks j false ≡ true) ↔ IsReachableFromStore code j)
       → (fences : List Bool)
       → Found (length code) fences

@@ -1,5 +1,5 @@
--- One pass forward over the statements of a thread marks the positions that a flow path reaches from a store that may still
--- wait in the store buffer.
+-- One forward pass over the statements of a thread marks the positions that a flow path reaches from a store that may still be in the store
+-- buffer.
 use Rattle.lw_fence.proofs.Common.{◌≡◌, ◌↔◌, ℕ, zero, suc, ◌+◌, ◌<◌, ◌≤◌, ◌⊎◌, inl, inr, List, [], ◌∷◌, ◌++◌}
 use Rattle.lw_fence.proofs.Common.{length, take, replicate, get_or, set, Option, Some, None, Bool, true}
 use Rattle.lw_fence.proofs.Common.{false, if◌then◌else◌, ◌||◌, ◌&&◌, refl, sym, ap, ap₂, ◌∙◌, subst, ⊎_elim}
@@ -11,11 +11,11 @@ use Rattle.lw_fence.proofs.Common.{source_operation, may_wait, with_mark, mark_s
 use Rattle.lw_fence.proofs.Common.{preserves_pending_stores, HasKind, HasOperation, IsFlowPath}
 use Rattle.lw_fence.proofs.Common.{IsReachableFromStore}
 
--- behind the statement at i a store may wait in the store buffer
+-- After the statement at i a store may be in the store buffer.
 abbrev pub MayWait : List Stmt → Option Stmt → ℕ → Type 0
 MayWait code o i = HasKind is_store o ⊎ (HasKind preserves_pending_stores o × IsReachableFromStore code i)
 
--- a flow path goes on by one step more
+-- A flow path can be extended by one step.
 longer_path : (code : List Stmt) (s : ℕ) (between : List ℕ) (i j : ℕ)
     → IsFlowPath code (s ∷ (between ++ i ∷ []))
     → IsFlowSuccessor source_language (slice_get code i) i j
@@ -23,7 +23,7 @@ longer_path : (code : List Stmt) (s : ℕ) (between : List ℕ) (i j : ℕ)
 longer_path code s [] i j path f = (path.0, (f, tt))
 longer_path code s (k ∷ between) i j path f = (path.0, longer_path code k between i j path.1 f)
 
--- if stores may wait past the statements at the positions `between`, and past that at i, then past all of these
+-- If stores may stay buffered past the statements at the positions `between`, and past that at i, then past all of these.
 more_passed : (code : List Stmt) (between : List ℕ) (i : ℕ)
     → AllByRecursion (HasOperation preserves_pending_stores code) between
     → HasKind preserves_pending_stores (slice_get code i)
@@ -31,7 +31,7 @@ more_passed : (code : List Stmt) (between : List ℕ) (i : ℕ)
 more_passed code [] i a p = (p, tt)
 more_passed code (k ∷ between) i a p = (a.0, more_passed code between i a.1 p)
 
--- a step from a position where a store may wait leads to one that is behind a store
+-- A step from a position after which a store may be buffered leads to one that is reachable from a store.
 by_step : (code : List Stmt) (i j : ℕ)
     → IsFlowSuccessor source_language (slice_get code i) i j
     → MayWait code (slice_get code i) i
@@ -47,7 +47,7 @@ by_step code i j f (inr p) =
       waits = more_passed code b.between i b.waits p.0;
     }
 
--- if a store may wait behind the statement x at i, each position to which x leads is behind a store
+-- If a store may be buffered after the statement x at i, each successor of x is reachable from a store.
 pub step_from : (code : List Stmt) {i : ℕ} (j : ℕ) {x : Stmt}
     → slice_get code i ≡ Some x
     → IsSuccessor (source_operation x) i j
@@ -56,7 +56,7 @@ pub step_from : (code : List Stmt) {i : ℕ} (j : ℕ) {x : Stmt}
 step_from code {i = i} j e =
     subst (λ o. IsFlowSuccessor source_language o i j → MayWait code o i → IsReachableFromStore code j) e (by_step code i j)
 
--- a position behind a store is led to by a step from one where a store may wait: the path's last step
+-- A position that is reachable from a store is a successor of one after which a store may be buffered, by the path's last step.
 last_step : (code : List Stmt) (j i : ℕ) (between : List ℕ)
     → MayWait code (slice_get code i) i
     → IsFlowPath code (i ∷ (between ++ j ∷ []))
@@ -66,49 +66,49 @@ last_step code j i [] w path passed = (i, path.0, w)
 last_step code j i (k ∷ between) w path passed =
     last_step code j k between (inr (passed.0, by_step code i k path.0 w)) path.1 passed.1
 
--- whether a position is marked; behind the end of the marks none is
+-- Tests whether a position is marked; past the end of the marks none is.
 abbrev pub at : List Bool → ℕ → Bool
 at marks j = get_or marks j false
 
--- a mark is an old one or the one that was set
+-- After a mark is set, a marked position was marked before or is that one.
 set_sound : (marks : List Bool) (a j : ℕ) → at (set marks a true) j ≡ true → (at marks j ≡ true) ⊎ (j ≡ a)
 set_sound marks a j h = ⊎_elim inr (λ ne. inl (sym (get_or-set_other marks a j true _ ne) ∙ h)) (cases_eq j a)
 
--- setting a mark takes no other away
+-- Setting a mark preserves the others.
 set_keeps : (marks : List Bool) (a j : ℕ) → at marks j ≡ true → at (set marks a true) j ≡ true
 set_keeps (b ∷ marks) zero zero h = refl
 set_keeps (b ∷ marks) (suc a) (suc j) h = set_keeps marks a j h
 set_keeps _ _ _ h = h
 
--- a position that is marked once one more, if there is one, has been marked, was marked before or is that one
+-- After an optional position is marked, a marked position was marked before or is that one.
 mark_sound : (o : Option ℕ) (marks : List Bool) (j : ℕ) → at (with_mark o marks) j ≡ true → (at marks j ≡ true) ⊎ (o ≡ Some j)
 mark_sound None marks j h = inl h
 mark_sound (Some a) marks j h = ⊎_elim inl (λ same. inr (ap Some (sym same))) (set_sound marks a j h)
 
--- a position that was marked stays marked when one more is
+-- Marking an optional position preserves the others.
 mark_keeps : (o : Option ℕ) (marks : List Bool) (j : ℕ) → at marks j ≡ true → at (with_mark o marks) j ≡ true
 mark_keeps None marks j h = h
 mark_keeps (Some a) marks j h = set_keeps marks a j h
 
--- a position that is to be marked is marked then, if the list of marks reaches so far
+-- A position within the list of marks is marked after it is set.
 mark_there : (o : Option ℕ) (marks : List Bool) (j : ℕ) → o ≡ Some j → j < length marks → at (with_mark o marks) j ≡ true
 mark_there o marks j e lt = ap (λ p. at (with_mark p marks) j) e ∙ get_or-set_same marks j true false lt
 
--- with one position more marked there are as many marks, set or not
+-- Marking a position preserves the number of marks.
 mark_length : (o : Option ℕ) (marks : List Bool) → length (with_mark o marks) ≡ length marks
 mark_length None marks = refl
 mark_length (Some a) marks = length-set marks a true
 
--- the next position, where the operation goes on
+-- The next position, if the operation falls through.
 abbrev next_of : Operation → ℕ → Option ℕ
 next_of o i = if falls_through o then Some (i + 1) else None
 
--- the next position is given only where the operation goes on
+-- There is a next position only if the operation falls through.
 next_sound : (b : Bool) (i j : ℕ) → (if b then Some (i + 1) else None) ≡ Some j → (b ≡ true) × (j ≡ i + 1)
 next_sound true i j e = (refl, same_Some j (i + 1) (sym e))
 next_sound false i j e = absurd cc
 
--- what is marked behind an operation was marked before, or is a position to which the operation leads
+-- After an operation's successors are marked, a marked position was marked before or is a successor.
 spread_sound : (o : Operation) (i : ℕ) (marks : List Bool) (j : ℕ)
     → at (mark_successors o i marks) j ≡ true
     → (at marks j ≡ true) ⊎ IsSuccessor o i j
@@ -116,11 +116,11 @@ spread_sound o i marks j h =
     ⊎_elim (λ led. ⊎_elim (λ old. inl old) (λ e. inr (inr e)) (mark_sound (branch_target o) marks j led))
     (λ e. inr (inl (next_sound (falls_through o) i j e))) (mark_sound (next_of o i) _ j h)
 
--- the marks behind an operation include those before it
+-- Marking an operation's successors preserves the other marks.
 spread_keeps : (o : Operation) (i : ℕ) (marks : List Bool) (j : ℕ) → at marks j ≡ true → at (mark_successors o i marks) j ≡ true
 spread_keeps o i marks j h = mark_keeps (next_of o i) _ j (mark_keeps (branch_target o) marks j h)
 
--- each position to which an operation leads is marked behind it
+-- Each successor of the operation is marked then.
 spread_there : (o : Operation) (i : ℕ) (marks : List Bool) (j : ℕ)
     → IsSuccessor o i j
     → j < length marks
@@ -131,11 +131,11 @@ spread_there o i marks j (inl next) lt =
     (omega (arith, lt, mark_length (branch_target o) marks))
 spread_there o i marks j (inr target) lt = mark_keeps _ _ j (mark_there (branch_target o) marks j target lt)
 
--- the list of marks is as long behind an operation as before it
+-- Marking an operation's successors preserves the number of marks.
 spread_length : (o : Operation) (i : ℕ) (marks : List Bool) → length (mark_successors o i marks) ≡ length marks
 spread_length o i marks = mark_length (next_of o i) _ ∙ mark_length (branch_target o) marks
 
--- if the test by a mark says that a store may wait at a statement, then one may
+-- If the test by a mark says that a store may be buffered after a statement, one may be.
 wait_sound : (code : List Stmt) (i : ℕ) (x : Stmt) (b : Bool)
     → may_wait (source_operation x) b ≡ true
     → (b ≡ true → IsReachableFromStore code i)
@@ -150,7 +150,7 @@ wait_sound code i x b h d = go (is_store (source_operation x)) (preserves_pendin
     go false true b h d = inr (refl, d h)
     go false false b h d = absurd (false≢true h)
 
--- if a store may wait at a statement, then the test by its mark says so
+-- If a store may be buffered after a statement, the test by its mark says so.
 wait_there : {code : List Stmt} {i : ℕ} (x : Stmt) (b : Bool)
     → MayWait code (Some x) i
     → (IsReachableFromStore code i → b ≡ true)
@@ -162,7 +162,7 @@ wait_there x b (inr waits) d = go (is_store (source_operation x)) _ b waits.0 (d
     go true w b e f = refl
     go false w b e f = ap₂ (λ (p q : Bool). p && q) e f
 
--- a position to which the operation at i leads is behind i, and at most the end n
+-- A successor of the operation at i is after i, and at most the end n.
 pub forward : (n i j : ℕ) (o : Operation)
     → ForSome (branch_target o) (λ to. (i < to) × (to ≤ n))
     → i < n
@@ -171,7 +171,8 @@ pub forward : (n i j : ℕ) (o : Operation)
 forward n i j o ok lt (inl next) = (omega (arith, next.1), omega (arith, next.1))
 forward n i j o ok lt (inr target) = ok j target
 
--- The marks when i statements have been passed: sound, and there for all that these lead to.
+-- The marks after i statements were passed: only reachable positions are marked, and all successors of these statements that are reachable
+-- from a store are.
 pub record Marked (code : List Stmt) (i : ℕ) (marks : List Bool) : Type 0 where
   pub as_many : length marks ≡ suc (length code)
   pub sound : (j : ℕ) → at marks j ≡ true → IsReachableFromStore code j
@@ -205,7 +206,7 @@ module _ (code : List Stmt)
       let l = last_step code j b.store b.between (inl b.stores) b.path b.waits in
       m.there l.0 j (omega (arith, le, some_forward l.0 j (slice_get code l.0) refl l.1)) l.1 l.2
 
-  -- what holds at an index, which is i
+  -- What holds at an index, which is i.
   here : (P : Option Stmt → ℕ → Type 0) (k i : ℕ) (x : Stmt)
       → slice_get code i ≡ Some x
       → k ≡ i
@@ -213,7 +214,7 @@ module _ (code : List Stmt)
       → P (Some x) i
   here P k i x e same h = subst (λ o. P o i) e (subst (λ n. P (slice_get code n) n) same h)
 
-  -- the next statement: where a store may wait there, the positions to which it leads are marked too
+  -- The next statement: if a store may be buffered after it, its successors are marked too.
   pub mark_step : (i : ℕ) (x : Stmt) (marks : List Bool) (b : Bool)
       → slice_get code i ≡ Some x
       → may_wait (source_operation x) (at marks i) ≡ b
@@ -241,7 +242,7 @@ module _ (code : List Stmt)
       not_here : MayWait code (Some x) i → ⊥
       not_here g = false≢true (sym c ∙ wait_there x _ g (λ d. behind_marked m i (omega arith) d))
 
-  -- before the first statement no position is marked
+  -- Before the first statement no position is marked.
   pub first_marks : Marked code 0 (replicate (suc (length code)) false)
   first_marks = record {
     as_many = length-replicate (suc (length code)) false;
@@ -253,7 +254,7 @@ module _ (code : List Stmt)
       none_marked (suc n) (suc j) = none_marked n j
       none_marked _ _ = refl
 
-  -- when all statements have been passed, exactly the positions behind a store are marked
+  -- When all statements have been passed, exactly the positions reachable from stores are marked.
   pub marked_behind_stores : (marks : List Bool)
       → Marked code (length code) marks
       → (j : ℕ)
@@ -261,6 +262,6 @@ module _ (code : List Stmt)
       → (at marks j ≡ true) ↔ IsReachableFromStore code j
   marked_behind_stores marks right j le = ((λ h. right.sound j h), (λ b. behind_marked right j le b))
 
--- A list's first n items were borrowed and are `new` now, as many: then these are the first n of the whole list.
+-- If a list's first n items were borrowed and replaced by the same number, the new ones are the first n of the whole list.
 pub given_back : {X : Type 0} (xs new ys : List X) (n : ℕ) → n ≡ length xs → length new ≡ length xs → take n (new ++ ys) ≡ new
 given_back xs new ys n e f = ap (λ (k : ℕ). take k (new ++ ys)) (e ∙ sym f) ∙ take-append_seam new ys

@@ -1,4 +1,4 @@
--- A source in x86 with more fences is that with fewer, with MFENCEs inserted.
+-- A source in x86 with more fences is the one with fewer, with MFENCEs inserted.
 use Rattle.lw_fence.proofs.Common.{◌≡◌, ℕ, zero, suc, ◌+◌, ◌<◌, ◌≤◌, ◌==◌, List, [], ◌∷◌, ◌++◌, length, map}
 use Rattle.lw_fence.proofs.Common.{drop, get_or, replicate, Some, Bool, true, false, not, subst₂, TestHead}
 use Rattle.lw_fence.proofs.Common.{⊎_elim, sym, refl, ap, ap₂, ◌∙◌, subst, arith, slice_get, slice_index}
@@ -15,47 +15,47 @@ use Rattle.lw_fence.proofs.CodeLayout.{chosen, behind_first, lowered_code_cons, 
 use Rattle.lw_fence.proofs.CodeLayout.{begins}
 use Rattle.lw_litmus.specs.declared.instr.Instr.TheVariants as instr
 
--- the marks of a lowering's instructions: of the fence that is there by the second flag, and not by the first
+-- The marks of a lowering's instructions: the fence that is present by the second flag, and absent by the first.
 abbrev lowered_marks : Stmt → Bool → Bool → List Bool
 lowered_marks (Load d x) false true = true ∷ false ∷ []
 lowered_marks x f g = replicate (length (instrs_of (lowered [] f x))) false
 
--- the marks of a thread's instructions: of each fence that the second flags have, and the first have not
+-- The marks of a thread's instructions: each fence that the second flags have and the first have not.
 abbrev marks : List Bool → List Bool → List Stmt → List Bool
 marks fs gs [] = []
 marks fs gs (x ∷ code) = lowered_marks x (get_or fs 0 false) (get_or gs 0 false) ++ marks (drop 1 fs) (drop 1 gs) code
 
--- where a fence is by the first flags, one is by the second
+-- Each flag that is set in fs is set in gs.
 abbrev Among : List Bool → List Bool → Type 0
 Among fs gs = (j : ℕ) → get_or fs j false ≡ true → get_or gs j false ≡ true
 
--- where one list's flags are among another's, so are those behind the first flags
+-- The property of `Among` holds of the flags after the first.
 among_rest : (fs gs : List Bool) → Among fs gs → Among (drop 1 fs) (drop 1 gs)
 among_rest fs gs among j set = next_fence gs j ∙ among (suc j) (sym (next_fence fs j) ∙ set)
 
 -- ---- a lowering
 
--- where no instruction is marked, the marks are on fences alone
+-- If no instruction is marked, only fences are.
 unmarked : (is : List Instr) → MarksAreFences (replicate (length is) false) is
 unmarked [] = tt
 unmarked (i ∷ is) = unmarked is
 
--- where nothing is marked, all instructions are kept
+-- If no instruction is marked, all are kept.
 all_kept : (is : List Instr) → kept (replicate (length is) false) is ≡ is
 all_kept [] = refl
 all_kept (i ∷ is) = ap (λ (js : List Instr). i ∷ js) (all_kept is)
 
--- of n marks that are not set, n are not set
+-- Of n unset marks, n are unset.
 none_out : (n : ℕ) → count_by not (replicate n false) ≡ n
 none_out zero = refl
 none_out (suc n) = sum_by-cons (λ (m : Bool). cond (not m) 1 0) false (replicate n false) ∙ omega (arith, none_out n)
 
--- of a lowering's marks as many are not set as the lowering by the first flag has instructions
+-- A lowering's marks have as many unset as the lowering by the first flag has instructions.
 marks_out : (x : Stmt) (f g : Bool) → count_by not (lowered_marks x f g) ≡ length (instrs_of (lowered [] f x))
 marks_out (Load d x) false true = refl
 marks_out x f g = none_out (length (instrs_of (lowered [] f x)))
 
--- a lowering by the second flag has a mark for each instruction
+-- A lowering by the second flag has a mark for each instruction.
 marks_long : (x : Stmt) (f g : Bool) → (f ≡ true → g ≡ true) → length (lowered_marks x f g) ≡ length (instrs_of (lowered [] g x))
 marks_long (Load d x) false true among = refl
 marks_long (Load d x) false false among = refl
@@ -67,7 +67,7 @@ module _ (starts begins : List ℕ) (block : ℕ → ℕ) (leads : (to : ℕ) �
   abbrev led : List Instr → List Instr
   led is = map (retarget_to_blocks block) is
 
-  -- of a lowering with no jump nothing is left out, and nothing changes
+  -- A lowering without a jump and without marks is unchanged.
   all_led : (is : List Instr) → led is ≡ is → led (kept (replicate (length is) false) is) ≡ is
   all_led is same = ap led (all_kept is) ∙ same
 
@@ -78,7 +78,7 @@ module _ (starts begins : List ℕ) (block : ℕ → ℕ) (leads : (to : ℕ) �
       chosen (λ r. led (instrs_of r) ≡ instrs_of r) (d == a) (One last) (Two (instr.Set d (Register a)) last)
       (λ is. ap (λ (i : Instr). i ∷ []) same) (λ is. ap (λ (i : Instr). instr.Set d (Register a) ∷ i ∷ []) same)
 
-  -- what is kept of the lowering with more fences is that with fewer
+  -- The lowering with more fences, without the marked ones, is that with fewer.
   lowered_led : (x : Stmt) (f g : Bool)
       → (f ≡ true → g ≡ true)
       → led (kept (lowered_marks x f g) (instrs_of (lowered begins g x))) ≡ instrs_of (lowered starts f x)
@@ -102,7 +102,7 @@ module _ (starts begins : List ℕ) (block : ℕ → ℕ) (leads : (to : ℕ) �
   lowered_led (IfNe a n to) f g among = ap (λ (index : ℕ). instr.Cmp a (Number n) ∷ instr.Jne index ∷ []) (leads to)
   lowered_led (Goto to) f g among = ap (λ (index : ℕ). instr.Jmp index ∷ []) (leads to)
 
--- what is marked in a lowering is a fence
+-- Only fences are marked in a lowering.
 lowered_fences : (begins : List ℕ) (x : Stmt) (f g : Bool)
     → (f ≡ true → g ≡ true)
     → MarksAreFences (lowered_marks x f g) (instrs_of (lowered begins g x))
@@ -119,7 +119,7 @@ lowered_fences begins x f g among = unmarked (instrs_of (lowered [] f x))
 
 -- ---- a thread
 
--- what is marked in a thread is a fence
+-- Only fences are marked in a thread.
 fences_marked : (fs gs : List Bool) (code : List Stmt) (begins : List ℕ)
     → Among fs gs
     → MarksAreFences (marks fs gs code) (lowered_code begins gs code)
@@ -135,7 +135,7 @@ fences_marked fs gs (x ∷ code) begins among =
     (lowered_fences begins x f g (among 0)) rest in
     subst (λ (is : List Instr). MarksAreFences (own ++ others) is) (sym (lowered_code_cons begins gs x code)) both
 
--- the instructions with more fences, the marked ones left out and jumps led on by `block`, are those with fewer
+-- The instructions with more fences, without the marked ones and with jumps retargeted by `block`, are those with fewer.
 lowered_code_led : (fs gs : List Bool) (code : List Stmt) (starts begins : List ℕ) (block : ℕ → ℕ)
     → ((to : ℕ) → block (slice_index begins to) ≡ slice_index starts to)
     → Among fs gs
@@ -156,7 +156,7 @@ lowered_code_led fs gs (x ∷ code) starts begins block leads among =
     (lowered_code_led (drop 1 fs) (drop 1 gs) code starts begins block leads (among_rest fs gs among))
     ∙ sym (lowered_code_cons starts fs x code)
 
--- before the first instruction behind the marks `pre`, as many instructions are kept as `pre` has unset marks
+-- Before the first instruction after the marks `pre`, the number of instructions kept is that of unset marks in `pre`.
 before_all : (pre rest : List Bool) → unmarked_count_before (pre ++ rest) (length pre) ≡ count_by not pre
 before_all [] rest = kept_first rest
 before_all (mark ∷ pre) rest =
@@ -164,7 +164,7 @@ before_all (mark ∷ pre) rest =
     ∙ ap (λ (n : ℕ). cond (not mark) 1 0 + n) (before_all pre rest)
     ∙ sym (sum_by-cons (λ (m : Bool). cond (not m) 1 0) mark pre)
 
--- Before the start of a statement, behind any instructions, as many are kept as its start with fewer fences says.
+-- Before the start of a statement, after any instructions, the number of instructions kept is the statement's start with fewer fences.
 starts_kept : (fs gs : List Bool) (code : List Stmt) (pre : List Bool)
     → Among fs gs
     → (to : ℕ)
@@ -194,7 +194,7 @@ starts_kept fs gs (x ∷ code) pre among (suc to) =
     ∙ ap (λ (n : ℕ). slice_index (starts_from n (drop 1 fs) code) to) out
     ∙ ap (λ (starts : List ℕ). slice_index starts (suc to)) (sym (starts_cons (count_by not pre) fs x code))
 
--- a thread with more fences is that with fewer, with MFENCEs inserted
+-- A thread with more fences is the one with fewer, with MFENCEs inserted.
 thread_fenced : (fs gs : List Bool) {code : List Stmt} {instrs others : List Instr} {starts begins : List ℕ}
     → Among fs gs
     → IsThreadWith fs code instrs starts
@@ -214,7 +214,7 @@ thread_fenced fs gs {code = code} {instrs = instrs} {others = others} among one 
 
 -- ---- a test
 
--- where each flag that is set in one list is set in the other, it is so behind their ends too
+-- If each flag set in one list is set in the other, so it is past their ends.
 among_of : (fs gs : List Bool) → ((j : ℕ) → slice_get fs j ≡ Some true → slice_get gs j ≡ Some true) → Among fs gs
 among_of fs gs each j set = ⊎_elim within past (cases_lt j (length fs))
   where
@@ -225,7 +225,7 @@ among_of fs gs each j set = ⊎_elim within past (cases_lt j (length fs))
     past beyond = absurd (false≢true (sym (get_or_past fs j false beyond) ∙ set))
 
 module _ (fences others : List (List Bool)) (s : SourceTest) (p q : X86Test) (starts begins : List (List ℕ)) where
-  -- a test with more fences is that with fewer, with MFENCEs inserted
+  -- A test with more fences is the one with fewer, with MFENCEs inserted.
   pub more_fences : AreSubset fences others
       → IsCompiledWith fences s p starts
       → IsCompiledWith others s q begins
@@ -243,6 +243,6 @@ module _ (fences others : List (List Bool)) (s : SourceTest) (p q : X86Test) (st
         thread_fenced (thread_code fences t) (thread_code others t) (among_of _ _ (among t)) one other;
   }
 
--- no fence at all is among any others
+-- No fences are a subset of any fences.
 pub none_among : (fences : List (List Bool)) → AreSubset [] fences
 none_among fences t j set = absurd cc

@@ -1,4 +1,4 @@
--- What one processor's events do over the flat memory, and one source thread's steps, within any whole state.
+-- The events of one processor over flat memory, and the steps of one source thread, within any whole state.
 use Rattle.lw_fence.proofs.Common.{◌≡◌, ℕ, List, [], ◌∷◌, ◌++◌, map, Some, refl, sym, ap, ◌∙◌, subst}
 use Rattle.lw_fence.proofs.Common.{slice_get, slice_set, set-set, map-append, RunsTo-append, thread_code}
 use Rattle.lw_fence.proofs.Common.{Event, Step, Drain, flat_memory, Memory, get-set_same, set-get_same, Stmt}
@@ -8,14 +8,14 @@ use Rattle.lw_fence.proofs.Common.{step_effect, drain_effect, MachineState, Mach
 use Rattle.lw_fence.proofs.Common.{EffectLeadsTo, state, event_of_effect}
 use Rattle.lw_interleaving.specs.Runs.{SourceTransition as SourceDone}
 
--- a run of the machine, and a further one, are a run of both lists of events
+-- A run of the machine followed by another is a run by both lists of events.
 pub run_append : {M : Type 0} (mem : Memory M) (program : List (List Instr)) (es fs : List Event) (s mid end : MachineState M)
     → MachineRunsTo mem program es s mid
     → MachineRunsTo mem program fs mid end
     → MachineRunsTo mem program (es ++ fs) s end
 run_append mem program es fs s mid end r q = RunsTo-append (MachineTransition mem program) es fs s mid end r q
 
--- a run of the source by some steps, and a further one, are a run by both lists of steps
+-- A run of the source followed by another is a run by both lists of steps.
 pub source_append : (program : List (List Stmt)) (ts us : List ℕ) (s mid end : State)
     → SourceRunsTo program (map Step ts) s mid
     → SourceRunsTo program (map Step us) mid end
@@ -24,14 +24,14 @@ source_append program ts us s mid end r q =
     subst (λ (es : List Event). SourceRunsTo program es s end) (sym (map-append Step ts us))
     (RunsTo-append (SourceDone program) (map Step ts) (map Step us) s mid end r q)
 
--- These events lead processor t from p to q, and the memory from m to n, whatever the other processors are.
+-- These events lead processor t from p to q, and memory from m to n, whatever the other processors.
 pub record Moves (program : List (List Instr)) (t : ℕ) (p : Processor) (m : List ℕ) (es : List Event) (q : Processor)
     (n : List ℕ) : Type 0 where
   pub on : (processors : List Processor)
       → slice_get processors t ≡ Some p
       → MachineRunsTo flat_memory program es (state processors m) (state (slice_set processors t q) n)
 
--- Some steps of thread t lead it from th to `end`, and the memory from m to n, whatever the other threads are.
+-- Some steps of thread t lead it from th to `end`, and memory from m to n, whatever the other threads.
 pub record Turns (program : List (List Stmt)) (t : ℕ) (th : Thread) (m : List ℕ) (end : Thread) (n : List ℕ) : Type 0 where
   pub order : List ℕ
   pub on : (threads : List Thread)
@@ -39,7 +39,7 @@ pub record Turns (program : List (List Stmt)) (t : ℕ) (th : Thread) (m : List 
       → SourceRunsTo program (map Step order) (state_of threads m) (state_of (slice_set threads t end) n)
 
 module _ (program : List (List Instr)) (t : ℕ) where
-  -- what a processor moves by some events, and then by further ones, it moves by both lists of events
+  -- A processor's moves compose.
   pub moves_on : (p : Processor) {q : Processor} (r : Processor) {m n k : List ℕ} (es : List Event) {fs : List Event}
       → Moves program t p m es q n
       → Moves program t q n fs r k
@@ -50,7 +50,7 @@ module _ (program : List (List Instr)) (t : ℕ) where
         run_append flat_memory program es fs _ _ _ (a.on processors was) (rw (set-set processors t q r) at second);
   }
 
-  -- what a processor's next instruction does is its step in the whole machine
+  -- The effect of a processor's next instruction is its step in the whole machine.
   pub step_moves : (p q : Processor) (m n : List ℕ) {i : Instr}
       → slice_get (thread_code program t) p.position ≡ Some i
       → EffectLeadsTo m (step_effect (Some i) p) q n
@@ -63,7 +63,7 @@ module _ (program : List (List Instr)) (t : ℕ) where
     );
   }
 
-  -- what the drain of a processor's oldest entry does is its drain in the whole machine
+  -- The effect of draining a processor's oldest entry is its drain in the whole machine.
   pub drain_moves : {p : Processor} (q : Processor) (m n : List ℕ)
       → EffectLeadsTo m (drain_effect p.buffer p) q n
       → Moves program t p m (Drain t ∷ []) q n
@@ -72,11 +72,11 @@ module _ (program : List (List Instr)) (t : ℕ) where
   }
 
 module _ (program : List (List Stmt)) (t : ℕ) where
-  -- a thread stays as it is by no steps
+  -- A thread is unchanged by no steps.
   pub turns_none : (th : Thread) (m : List ℕ) → Turns program t th m th m
   turns_none th m = record { order = []; on = λ threads was. ap (λ l. state_of l m) (set-get_same _ t th was) }
 
-  -- where a thread gets by some steps, and then by further ones, it gets by both lists of steps
+  -- A thread's moves compose.
   pub turns_on : (th : Thread) {mid : Thread} (end : Thread) (m n : List ℕ) {k : List ℕ}
       → Turns program t th m mid n
       → Turns program t mid n end k
@@ -91,7 +91,7 @@ module _ (program : List (List Stmt)) (t : ℕ) where
         second);
   }
 
-  -- one step of a thread, by its next statement
+  -- One step of a thread, by its next statement.
   pub turn : (th : Thread) (m : List ℕ) (x : Stmt)
       → slice_get (thread_code program t) th.position ≡ Some x
       → Turns program t th m (thread_after (source_operation x) th m) (words_after (source_operation x) th m)

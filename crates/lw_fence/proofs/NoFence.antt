@@ -1,21 +1,21 @@
--- Where no statement needs a fence, the compiled program is the one without fences.
+-- If no statement needs a fence, the compiled program is the one without fences.
 use Rattle.lw_fence.proofs.Common.{◌≡◌, ◌↔◌, ℕ, zero, suc, ◌+◌, List, [], ◌∷◌, ◌++◌, length, replicate, Some}
 use Rattle.lw_fence.proofs.Common.{Bool, true, false, sym, refl, ap, ◌∙◌, subst, length-replicate, slice_get}
 use Rattle.lw_fence.proofs.Common.{get_or_from_slice_get, Stmt, Instr, SourceTest, X86Test, lowered}
 use Rattle.lw_fence.proofs.Common.{instrs_of, lowered_code, starts_from, IsCompiledThread, IsCompiled}
 use Rattle.lw_fence.proofs.Common.{IsThreadWith, NeedsFence, IsCompiledWithoutFences, NeedsNoFence}
 
--- no flag is set: there is no fence before any statement
+-- No flag is set: there is no fence before any statement.
 abbrev AreNone : List Bool → Type 0
 AreNone fences = (j : ℕ) → slice_get fences j ≡ Some true → ⊥
 
--- of flags that are all unset none is set
+-- A list of unset flags has none set.
 replicate_none : (n : ℕ) → AreNone (replicate n false)
 replicate_none zero j at = absurd cc
 replicate_none (suc n) zero at = absurd cc
 replicate_none (suc n) (suc j) at = replicate_none n j at
 
--- where no flag is set, the instructions are those without fences
+-- If no flag is set, the instructions are those without fences.
 lowered_code_none : (starts : List ℕ) (fences : List Bool) (code : List Stmt)
     → AreNone fences
     → lowered_code starts fences code ≡ lowered_code starts [] code
@@ -26,7 +26,7 @@ lowered_code_none starts (false ∷ fences) (x ∷ code) none =
     ap (λ (is : List Instr). instrs_of (lowered starts false x) ++ is)
     (lowered_code_none starts fences code (λ j at. none (suc j) at))
 
--- where no flag is set, the starts are those without fences
+-- If no flag is set, the starts are those without fences.
 starts_none : (n : ℕ) (fences : List Bool) (code : List Stmt) → AreNone fences → starts_from n fences code ≡ starts_from n [] code
 starts_none n fences [] none = refl
 starts_none n [] (x ∷ code) none = refl
@@ -61,7 +61,7 @@ module _ (s : SourceTest) (p : X86Test) (starts : List (List ℕ)) (needless : N
   needless_at t code at =
       subst (λ (c : List Stmt). (j : ℕ) → NeedsFence c j → ⊥) (get_or_from_slice_get s.threads t code [] at) (needless t)
 
-  -- if no statement needs a fence, what a source is compiled to is what it is without fences, and the other way round
+  -- If no statement needs a fence, a program is compiled from the source if and only if it is compiled without fences.
   pub without_needless_fences : IsCompiled s p starts ↔ IsCompiledWithoutFences s p starts
   without_needless_fences = (
     (λ c. record {

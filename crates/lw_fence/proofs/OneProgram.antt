@@ -4,7 +4,7 @@ use Rattle.lw_fence.proofs.Common.{ap₂, ◌∙◌, arith, slice_get, slice_get
 use Rattle.lw_fence.proofs.Common.{SourceTest, X86Test, lowered_code, starts_from, IsCompiledThread}
 use Rattle.lw_fence.proofs.Common.{IsCompiled}
 
--- two lists of as many items, the same at each index, are one
+-- Two lists of the same length with equal items are equal.
 same_lists : {X : Type 0} (xs ys : List X)
     → length xs ≡ length ys
     → ((k : ℕ) (x y : X) → slice_get xs k ≡ Some x → slice_get ys k ≡ Some y → x ≡ y)
@@ -16,7 +16,7 @@ same_lists {X} (x ∷ xs) (y ∷ ys) as_many same =
     ap₂ (λ (z : X) (zs : List X). z ∷ zs) (same 0 x y refl refl)
     (same_lists xs ys (omega arith) (λ k a b at and. same (suc k) a b at and))
 
--- two lists of as many flags, set at the same indices, are one
+-- Two lists of flags of the same length, set at the same indices, are equal.
 same_flags : (fs gs : List Bool)
     → length fs ≡ length gs
     → ((k : ℕ) → slice_get fs k ≡ Some true → slice_get gs k ≡ Some true)
@@ -67,7 +67,7 @@ module _ (s : SourceTest) (p q : X86Test) (starts begins : List (List ℕ)) (c :
           let b = get_some q.threads t (omega (arith, lt, d.as_many, c.as_many_starts)) in
           one_start code.0 a.0 b.0 x y (c.threads t code.0 a.0 x code.1 a.1 e) (d.threads t code.0 b.0 y code.1 b.1 f)
 
-  -- what a source is compiled to is one program, with one list of starts
+  -- The compiled program of a source is unique, and so are its starts.
   pub one_program : (p ≡ q) × (starts ≡ begins)
   one_program = (same_test, all_starts)
     where

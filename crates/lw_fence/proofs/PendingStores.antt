@@ -1,5 +1,5 @@
--- What a thread of the source owes: how far its processor is ahead of it, by local statements and by stores that are still in
--- the store buffer.
+-- The statements that a thread of the source still has to execute: how far its processor is ahead of it, by local statements and by stores
+-- that are still in the store buffer.
 use Rattle.lw_fence.proofs.Common.{◌≡◌, ◌≢◌, ℕ, List, [], ◌∷◌, ◌++◌, Some, None, refl, inl, inr, subst}
 use Rattle.lw_fence.proofs.Common.{subst₂, slice_get, slice_set, thread_code, operand_value, Operand, Stmt}
 use Rattle.lw_fence.proofs.Common.{Store, Load, Swap, FetchAdd, location_of, source_operation, Thread}
@@ -8,11 +8,11 @@ use Rattle.lw_fence.proofs.Common.{preserves_pending_stores, HasKind, IsReachabl
 use Rattle.lw_fence.proofs.Marks.{step_from}
 use Rattle.lw_fence.proofs.Moves.{Turns, turns_none, turns_on, turn}
 
--- a statement is local: it neither reads nor writes a location
+-- The statement is local: it neither reads nor writes a location.
 abbrev pub IsLocal : Stmt → Type 0
 IsLocal s = location_of (source_operation s) ≡ None
 
--- The thread comes from one state to another by local statements and by stores, and these are the stores.
+-- The thread reaches one state from another by local statements and by stores, and these are the stores.
 pub data HasPendingStores (code : List Stmt) : Thread → List (ℕ × ℕ) → Thread → Type 0 where
   nothing : {th : Thread} → HasPendingStores code th [] th
   local : {th end : Thread} {buffer : List (ℕ × ℕ)} (s : Stmt)
@@ -25,7 +25,7 @@ pub data HasPendingStores (code : List Stmt) : Thread → List (ℕ × ℕ) → 
       → HasPendingStores code (advance th) buffer end
       → HasPendingStores code th ((x, operand_value v th.regs) ∷ buffer) end
 
--- what a thread owes up to one state, and then up to another, it owes up to the other
+-- Pending statements compose.
 pub owes_on : {code : List Stmt} {th : Thread} (mid : Thread) {end : Thread} {buffer newer : List (ℕ × ℕ)}
     → HasPendingStores code th buffer mid
     → HasPendingStores code mid newer end
@@ -34,14 +34,14 @@ owes_on mid nothing more = more
 owes_on {code = code} mid {end = end} {newer = newer} (local s at l o) more = local s at l (owes_on _ o more)
 owes_on _ (store {buffer = rest} x v at o) more = store x v at (owes_on _ o more)
 
--- A store may wait past a local statement.
+-- A store may stay buffered past a local statement.
 local_waits : (s : Stmt) → IsLocal s → HasKind preserves_pending_stores (Some s)
 local_waits (Load d x) l = absurd cc
 local_waits (Swap d x a) l = absurd cc
 local_waits (FetchAdd d x a) l = absurd cc
 local_waits s l = refl
 
--- From a position behind a store that may still wait, what a thread owes leads to such a position again.
+-- If a thread's position is reachable from a store, so is its position after its pending statements.
 still_behind : (code : List Stmt) (th end : Thread) (buffer : List (ℕ × ℕ))
     → HasPendingStores code th buffer end
     → IsReachableFromStore code th.position
@@ -52,7 +52,7 @@ still_behind code th end buffer (local s at l o) b =
 still_behind code th end buffer (store {buffer = rest} x v at o) b =
     still_behind code _ end rest o (step_from code _ at (inl (refl, refl)) (inr (refl, b)))
 
--- If a thread owes a store, then what it owes leads to a position behind a store that may still wait.
+-- If a thread has a pending store, its position after its pending statements is reachable from a store.
 pub after_store : (code : List Stmt) (th end : Thread) {buffer : List (ℕ × ℕ)}
     → HasPendingStores code th buffer end
     → buffer ≢ []
@@ -71,7 +71,7 @@ module _ (program : List (List Stmt)) (t : ℕ) where
       subst₂ (λ a n. Turns program t th m a n) (thread_alone (source_operation s) th m [] l)
       (words_alone (source_operation s) th m l) (turn program t th m s at)
 
-  -- A thread whose processor's store buffer is empty can do all that it owes, and catches up.
+  -- A thread whose processor's store buffer is empty can execute all its pending statements, and catches up.
   pub catch_up : (th end : Thread) (buffer : List (ℕ × ℕ)) (m : List ℕ)
       → HasPendingStores (thread_code program t) th buffer end
       → buffer ≡ []
@@ -81,13 +81,13 @@ module _ (program : List (List Stmt)) (t : ℕ) where
       turns_on program t th end m m (local_turn th m s at l) (catch_up _ end buffer m o e)
   catch_up th end buffer m (store x v at o) e = absurd cc
 
-  -- The thread has carried out the oldest store, and owes what comes behind it.
+  -- The thread has executed the oldest store, and the later statements are still pending.
   pub record Stored (th : Thread) (m : List ℕ) (oldest : ℕ × ℕ) (newer : List (ℕ × ℕ)) (end : Thread) : Type 0 where
     pub mid : Thread
     pub turns : Turns program t th m mid (slice_set m oldest.0 oldest.1)
     pub owes : HasPendingStores (thread_code program t) mid newer end
 
-  -- where the store buffer has an entry, the thread can do its steps up to the oldest store, and owes the newer ones
+  -- If the store buffer has an entry, the thread can execute its statements up to the oldest store, and the newer ones are still pending.
   pub first_store : (th end : Thread) {buffer : List (ℕ × ℕ)} (m : List ℕ) (oldest : ℕ × ℕ) (newer : List (ℕ × ℕ))
       → HasPendingStores (thread_code program t) th buffer end
       → buffer ≡ oldest ∷ newer

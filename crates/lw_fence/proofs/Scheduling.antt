@@ -10,14 +10,14 @@ use Rattle.lw_fence.proofs.Common.{step-decompose, is_store, source_operation, I
 use Rattle.lw_fence.proofs.Common.{thread_events, after_step, compiled_schedule, get-map}
 use Rattle.lw_fence.proofs.CodeLayout.{placed_at, starts_many}
 
--- If a call is refused that has pushed `more` behind the old events, the old ones are still the first.
+-- If a call that has appended `more` to the old events fails, the old ones are still the first.
 pub kept : {T E : Type 0} (r : Result T E) (old more : List Event) {new : List Event}
     → new ≡ old ++ more
     → OnErr r (take (length old) new ≡ old)
 kept (Ok x) old more is = tt
 kept (Err e) old more is = ap (take (length old)) is ∙ take-append_seam old more
 
--- the code that is read for a thread that is there is its code
+-- The code read for a thread in range is the thread's.
 pub code_read : {X : Type 0} (program : List (List X)) {lists : List (List X)} (t : ℕ) {i : ℕ} {code : List X} (list : List X)
     → lists ≡ program
     → i ≡ t
@@ -29,7 +29,7 @@ code_read {X} program t list same index within is read =
     let at = is ∙ ap₂ (λ (l : List (List X)) (k : ℕ). slice_index_or l k list) same index in
     read ∙ get_or_read program t list within at []
 
--- a thread that has a statement at this index is one of the program
+-- A thread that has a statement at this index is one of the program.
 pub thread_of_index : {X : Type 0} (program : List (List X)) (t index : ℕ)
     → index < length (thread_code program t)
     → t < length program
@@ -38,14 +38,14 @@ thread_of_index program t index there = elim (cases_lt t (length program)) [
   | inr past ↦ absurd (omega (arith, there, ap length (get_or_past program t [] past)))
 ]
 
--- The starts that were read, `begins`, are those of thread t, and have the start of its statement at `index`, and the next one.
+-- The starts that were read, `begins`, are those of thread t, and include the starts of its statement at `index` and of the next one.
 pub record HasStart (program : List (List Stmt)) (starts : List (List ℕ)) (t index : ℕ) (begins : List ℕ) : Type 0 where
   pub within : t < length program
   pub same : begins ≡ thread_code starts t
   pub next : index + 1 < length begins
   pub grows : slice_index begins index ≤ slice_index begins (index + 1)
 
--- the starts that are read for a statement of a compiled source are its thread's
+-- The starts read for a statement of a compiled source are its thread's.
 pub has_start : {s : SourceTest} {p : X86Test} {starts lists : List (List ℕ)} {t i index : ℕ} {begins list : List ℕ}
     → IsCompiled s p starts
     → index < length (thread_code s.threads t)
@@ -75,7 +75,7 @@ has_start {s = s} {p = p} {starts = starts} {t = t} {index = index} {begins = be
           grows = rw here (omega (arith, stands.next));
         }
 
--- the events that are pushed for a statement are those by which it is carried out
+-- The events appended for a statement are those that execute it.
 pub events_of_statement : (t index : ℕ) (program : List (List Stmt)) (starts : List (List ℕ)) {code : List Stmt} {begins : List ℕ}
     {stmt : Stmt}
     → code ≡ thread_code program t
@@ -89,7 +89,7 @@ events_of_statement t index program starts {code = code} {stmt = stmt} same begi
     let at : slice_get code index ≡ Some stmt = at_index code index stmt there ∙ ap Some (sym is) in
     ap₂ (λ b o. statement_events t b index o) (sym begin) (ap (λ c. slice_get c index) (sym same) ∙ at)
 
--- a step that is possible is answered by no stop
+-- A step that is enabled succeeds.
 pub answered_ok : (step : Result State Stop) (answer : Result (Unit {0}) Stop) (before after : SourceRunState) (mid : State)
     → IsStepResult step answer before after
     → step ≡ Ok mid
@@ -97,7 +97,7 @@ pub answered_ok : (step : Result State Stop) (answer : Result (Unit {0}) Stop) (
 answered_ok (Ok s) answer before after mid done e = ap is_ok done.0
 answered_ok (Err stop) answer before after mid done e = absurd (let bad : Err stop ≡ Ok mid = e in cc)
 
--- A step of the order's next thread that is possible, and how the rest of the order goes on.
+-- A step of the order's next thread that is enabled, followed by the rest of the order.
 pub record Turn (program : List (List Stmt)) (order : List ℕ) (i t : ℕ) (s : State) : Type 0 where
   pub mid : State
   pub step : source_step program t s ≡ Ok mid
@@ -111,7 +111,7 @@ module _ (program : List (List Stmt)) (order : List ℕ) (i t : ℕ) (within : i
   next_is : drop i order ≡ t ∷ drop (i + 1) order
   next_is = drop_more order i t within ∙ ap (λ (u : ℕ). u ∷ drop (i + 1) order) (sym is)
 
-  -- the next step of a run is its thread's turn: of the rest of the order, its first step and those behind it
+  -- The next step of a run is its thread's turn, and the steps after it are those of the rest of the order.
   pub next_turn : (s : State) → (end : State) × SourceRunsTo program (map Step (drop i order)) s end → Turn program order i t s
   next_turn s possible =
       let ran = subst (λ (ts : List ℕ). SourceRunsTo program (map Step ts) s possible.0) next_is possible.1 in
@@ -125,7 +125,7 @@ module _ (program : List (List Stmt)) (order : List ℕ) (i t : ℕ) (within : i
         there = slice_get_within (thread_code program t) d.thread.position d.stmt d.at;
       }
 
-  -- the position that is read for a thread is where it stands
+  -- The position read for a thread is the thread's.
   pub placed_in : (s : State) (turn : Turn program order i t s) (index : ℕ)
       → slice_get (map (λ (th : Thread). th.position) s.threads) t ≡ Some index
       → index ≡ turn.thread.position
@@ -133,11 +133,11 @@ module _ (program : List (List Stmt)) (order : List ℕ) (i t : ℕ) (within : i
       let a = get-map (λ (th : Thread). th.position) s.threads t index at in
       a.2 ∙ ap (λ (th : Thread). th.position) (same_Some a.0 turn.thread (sym a.1 ∙ turn.was))
 
-  -- the events of thread t for the statement of this number
+  -- The events of thread t for the statement at this index.
   abbrev Events : List (List ℕ) → ℕ → List Event
   Events starts index = statement_events t (thread_code starts t) index (slice_get (thread_code program t) index)
 
-  -- the schedule from here, by this step's events
+  -- The schedule from here on starts with this step's events.
   schedule_next : (starts : List (List ℕ)) (s : State) {mid : State} (index : ℕ)
       → slice_get (map (λ (th : Thread). th.position) s.threads) t ≡ Some index
       → source_step program t s ≡ Ok mid
@@ -151,7 +151,7 @@ module _ (program : List (List Stmt)) (order : List ℕ) (i t : ℕ) (within : i
       (λ (es : List Event) (o : Result State Stop). es ++ after_step o (compiled_schedule program starts (drop (i + 1) order)))
       events step
 
-  -- if the events pushed so far and those to come are the whole, so they are when those of the order's next thread are pushed
+  -- Appending the events of the order's next thread preserves that the events so far and those to come are the whole schedule.
   pub one_further : (starts : List (List ℕ)) (s mid : State) (index : ℕ) (events : List Event) {more whole : List Event}
       → slice_get (map (λ (th : Thread). th.position) s.threads) t ≡ Some index
       → source_step program t s ≡ Ok mid

@@ -1,4 +1,4 @@
--- A processor with an empty buffer carries out a statement by its lowering, and then a drain where it is a store.
+-- A processor with an empty buffer executes a statement by its lowering, followed by a drain if it is a store.
 use Rattle.lw_fence.proofs.Common.{◌≡◌, ℕ, List, [], ◌∷◌, ◌++◌, length, replicate, Some, Bool, false, refl}
 use Rattle.lw_fence.proofs.Common.{sym, ap, ◌∙◌, subst, subst₂, if◌then◌else◌, slice_get, slice_set}
 use Rattle.lw_fence.proofs.Common.{slice_index, append-nil, thread_code, operand_value, Event, Step, Drain}
@@ -10,7 +10,7 @@ use Rattle.lw_fence.proofs.CodeLayout.{StandsAt, Stands}
 use Rattle.lw_fence.proofs.Steps.{Allowed}
 use Rattle.lw_litmus.specs.Programs as programs
 
--- a processor is known by its position, its registers, its zero flag and its store buffer
+-- A processor is determined by its position, its registers, its zero flag and its store buffer.
 same_processor : (q : Processor) {k : ℕ} (regs : List ℕ) {b : List (ℕ × ℕ)}
     → q.position ≡ k
     → q.regs ≡ regs
@@ -18,19 +18,19 @@ same_processor : (q : Processor) {k : ℕ} (regs : List ℕ) {b : List (ℕ × �
     → q ≡ record { position = k; regs = regs; zero_flag = q.zero_flag; buffer = b }
 same_processor q regs e f g = λ i. record { position = e i; regs = f i; zero_flag = q.zero_flag; buffer = g i }
 
--- a processor at this instruction, with a thread's registers and an empty buffer
+-- A processor at this instruction, with a thread's registers and an empty buffer.
 abbrev pub standing : ℕ → Thread → Bool → Processor
 standing k th z = record { position = k; regs = th.regs; zero_flag = z; buffer = [] }
 
--- a drain of the thread, where the statement is a store
+-- A drain of the thread, if the statement is a store.
 abbrev drains : ℕ → Bool → List Event
 drains t store = if store then Drain t ∷ [] else []
 
--- the events by which a statement is carried out: so many steps, and a drain where it is a store
+-- The events that execute a statement: n steps, and a drain if it is a store.
 abbrev pub events_for : ℕ → ℕ → Stmt → List Event
 events_for t n x = replicate n (Step t) ++ drains t (is_store (source_operation x))
 
--- Processor t carries out a statement, from where it starts to where the next one does.
+-- Processor t executes a statement, from the statement's start to the next one's.
 pub record Turned (program : List (List Instr)) (t : ℕ) (starts : List ℕ) (th : Thread) (z : Bool) (m : List ℕ) (x : Stmt)
     (es : List Event) : Type 0 where
   pub flag : Bool
@@ -42,7 +42,7 @@ module _ (program : List (List Instr)) (t : ℕ) (starts : List ℕ) (th : Threa
   abbrev begin : Processor
   begin = standing (slice_index starts th.position) th z
 
-  -- The steps were those of the lowering: what is left is the drain of a store.
+  -- After the steps of the lowering, only the drain of a store remains.
   arrived : {es : List Event} (q : Processor) (n : List ℕ)
       → Moves program t begin m es q n
       → Carried starts x th [] m q n
@@ -95,7 +95,7 @@ module _ (program : List (List Instr)) (t : ℕ) (starts : List ℕ) (th : Threa
       arrived b.0 b.1 (moves_on program t begin b.0 (Step t ∷ []) first (step_moves program t a.0 b.0 m b.1 at b.2))
       (rw l.0.buffer at (l.0.ends.carries a.0.buffer m (λ e. l.0.buffer) b.0 b.1 b.2))
 
-  -- processor t carries out the statement x, at which its thread stands: the steps of its lowering, and a drain if it stores
+  -- Processor t executes the statement x at its thread's position: the steps of the lowering, and a drain if it is a store.
   pub statement_turned : {code : List Stmt}
       → Allowed code th.position x
       → length th.regs ≡ 6

@@ -1,5 +1,5 @@
--- A processor runs ahead of its source thread: the thread owes the local statements that the processor has carried out and
--- the stores that are still in the store buffer, and the processor may stand in the middle of a statement.
+-- A processor runs ahead of its source thread: pending are the local statements that the processor has executed and the stores that are
+-- still in the store buffer, and the processor may be in the middle of a statement.
 use Rattle.lw_fence.proofs.Common.{◌≡◌, ◌≢◌, ℕ, List, [], ◌∷◌, Some, sym, ◌∙◌, subst, subst₂, slice_get}
 use Rattle.lw_fence.proofs.Common.{slice_index, ◌↔◌, ◌+◌, length, Option, None, Bool, true, false, refl, ap}
 use Rattle.lw_fence.proofs.Common.{⊎_elim, arith, append-nil, thread_code, Stmt, Instr, Thread, Processor}
@@ -15,7 +15,7 @@ use Rattle.lw_fence.proofs.PendingStores.{catch_up, after_store}
 use Rattle.lw_fence.proofs.Steps.{Sane, Allowed, stays_sane}
 use Rattle.lw_fence.proofs.CodeLayout.{Placed, StandsAt}
 
--- The processor is at the first instruction of the statement at which v is, or in its middle, before its last instruction.
+-- The processor is at the first instruction of v's next statement, or in its middle, before its last instruction.
 pub data Stage (code : List Stmt) (instrs : List Instr) (starts : List ℕ) (v : Thread) (p : Processor) : Type 0 where
   whole : p.position ≡ slice_index starts v.position → p.regs ≡ v.regs → Stage code instrs starts v p
   midway : (s : Stmt) (i : Instr)
@@ -24,7 +24,8 @@ pub data Stage (code : List Stmt) (instrs : List Instr) (starts : List ℕ) (v :
       → Ends starts v s p i
       → Stage code instrs starts v p
 
--- How far the processor p is ahead of the thread th: by what leads th to `ahead`, at whose statement the processor is.
+-- How far the processor p is ahead of the thread th: by the pending statements that lead th to `ahead`, at whose statement the processor
+-- is.
 pub record ThreadSimulation (code : List Stmt) (instrs : List Instr) (starts : List ℕ) (th : Thread)
     (p : Processor) : Type 0 where
   pub ahead : Thread
@@ -32,14 +33,14 @@ pub record ThreadSimulation (code : List Stmt) (instrs : List Instr) (starts : L
   pub stage : Stage code instrs starts ahead p
   pub sane : Sane code ahead
 
--- The source follows an event of processor t that leaves q and the memory n: thread t takes some steps, and lags behind again.
+-- The source follows an event of processor t that leads to q and the memory n: thread t takes some steps, and is simulated again.
 pub record Followed (program : List (List Stmt)) (t : ℕ) (instrs : List Instr) (starts : List ℕ) (th : Thread) (m : List ℕ)
     (q : Processor) (n : List ℕ) : Type 0 where
   pub now : Thread
   pub turns : Turns program t th m now n
   pub lag : ThreadSimulation (thread_code program t) instrs starts now q
 
--- A drain leaves a processor at the stage of its statement at which it was.
+-- A drain preserves the processor's stage.
 drained_stage : {code : List Stmt} {instrs : List Instr} {starts : List ℕ} {v : Thread} {p : Processor} (newer : List (ℕ × ℕ))
     → p.buffer ≢ []
     → Stage code instrs starts v p
@@ -48,7 +49,7 @@ drained_stage newer full (whole position regs) = whole position regs
 drained_stage newer full (midway s i at here ends) =
     midway s i at here (record { empty = λ load. absurd (full (ends.empty load)); carries = ends.carries })
 
--- When the machine drains a store, the thread of the source carries that store out.
+-- When the machine drains a store, the thread of the source executes that store.
 pub drained : (program : List (List Stmt)) (t : ℕ) {instrs : List Instr} {starts : List ℕ} {th : Thread} {p : Processor}
     (m : List ℕ) (q : Processor) (n : List ℕ)
     → ThreadSimulation (thread_code program t) instrs starts th p
@@ -68,7 +69,7 @@ drained program t {instrs = instrs} {starts = starts} {th = th} {p = p} m q n la
         } in
         subst₂ (λ c l. Followed program t instrs starts th m c l) (sym d.0) (sym d.1) left
 
--- Thread th owes what leads it to v, at whose statement its processor p is, over the memory m.
+-- Thread th has pending statements that lead it to v, at whose statement its processor p is, over the memory m.
 module _ (program : List (List Stmt)) (t : ℕ) (instrs : List Instr) (starts : List ℕ)
     (allowed : (j : ℕ) (s : Stmt) → slice_get (thread_code program t) j ≡ Some s → Allowed (thread_code program t) j s)
     (placed : Placed (thread_code program t) instrs starts) (th : Thread) (p : Processor) (m : List ℕ) (v : Thread)
@@ -79,18 +80,18 @@ module _ (program : List (List Stmt)) (t : ℕ) (instrs : List Instr) (starts : 
   abbrev Goal : Processor → List ℕ → Type 0
   Goal q n = Followed program t instrs starts th m q n
 
-  -- Whatever the act does, the source follows.
+  -- Whatever the effect does, the source follows.
   abbrev After : EventEffect → Type 0
   After act = (q : Processor) (n : List ℕ) → EffectLeadsTo m act q n → Goal q n
 
-  -- an instruction that stands here
+  -- The instruction at the processor's position.
   here : (i : Instr)
       → slice_get instrs p.position ≡ Some i
       → After (step_effect (Some i) p)
       → After (step_effect (slice_get instrs p.position) p)
   here i at after = subst (λ o. After (step_effect o p)) (sym at) after
 
-  -- The last instruction of a statement: the thread owes the statement too, or it catches up, and carries the statement out.
+  -- The last instruction of a statement: either the statement becomes pending too, or the thread catches up and executes it.
   carried : (s : Stmt)
       → slice_get code v.position ≡ Some s
       → (q : Processor) (n : List ℕ)
@@ -133,7 +134,7 @@ module _ (program : List (List Stmt)) (t : ℕ) (instrs : List Instr) (starts : 
         };
       }
 
-  -- the first instruction of a lowering
+  -- The first instruction of a lowering.
   lowered_begun : (s : Stmt)
       → slice_get code v.position ≡ Some s
       → (r : Lowered)
@@ -155,7 +156,7 @@ module _ (program : List (List Stmt)) (t : ℕ) (instrs : List Instr) (starts : 
         };
       }
 
-  -- a load without a fence, where a store may still wait
+  -- A load without a fence is not reachable from a store, so no store is pending.
   unfenced : {s : Stmt}
       → slice_get code v.position ≡ Some s
       → (fence : Bool)

@@ -4,7 +4,7 @@ use Rattle.lw_fence.proofs.CompiledThreads.{none_compiled, one_compiled}
 use Rattle.lw_fence.proofs.compiler.compile_threads.Given as given
 use Rattle.lw_fence.proofs.compiler.compile_threads.Goals as goal
 
--- the thread of this turn is well-formed
+-- The thread of this turn is well-formed.
 thread_known : (g : given.Over) (c : goal.After-as_slice g)
     → IsWellFormedThread source_language (length c.args.source.now.head.locs) c.as_slice.result.now
 thread_known g c =
