@@ -1,10 +1,10 @@
--- The numbers below n, sorted by their times: an order in which what is earlier stands before what is later.
+-- The numbers below n, sorted by their times: an order in which earlier ones precede later ones.
 use Rattle.lw_axiomatic.proofs.Common.{◌≡◌, ℕ, zero, suc, ◌<◌, ◌≤◌, ◌⊎◌, inl, inr, refl, ap, ◌∙◌, arith}
 use Rattle.lw_axiomatic.proofs.Common.{if◌then◌else◌, List, [], ◌∷◌, length, nat_lt, cases_Bool, cases_eq}
 use Rattle.lw_axiomatic.proofs.Common.{nat_tests, index_in, Before, IsOrder}
 
 module _ (r : ℕ → ℕ) where
-  -- each is no later than all behind it
+  -- The time t is at most that of each number in the list.
   abbrev NoLater : ℕ → List ℕ → Type 0
   NoLater t [] = Unit {0}
   NoLater t (x ∷ xs) = (t ≤ r x) × NoLater t xs
@@ -54,7 +54,7 @@ module _ (r : ℕ → ℕ) where
     ])
   ]
 
-  -- so what is earlier stands before
+  -- If t is at most the time of each number in a list, it is at most that of a member.
   later_in : (t j : ℕ) (xs : List ℕ) → NoLater t xs → index_in xs j < length xs → t ≤ r j
   later_in t j [] h l = absurd (omega arith)
   later_in t j (x ∷ xs) h l = elim (cases_eq x j) [
@@ -83,7 +83,7 @@ module _ (r : ℕ → ℕ) where
     ]
   ]
 
-  -- the numbers below n, each inserted by its time
+  -- The numbers below n, inserted by their times.
   abbrev pub by_time : ℕ → List ℕ
   by_time zero = []
   by_time (suc n) = insert n (by_time n)
@@ -101,10 +101,10 @@ module _ (r : ℕ → ℕ) where
   stands_by_time (suc n) i l =
       stands_insert n i (by_time n) (elim (cases_eq n i) [ inl e ↦ inl e | inr ne ↦ inr (stands_by_time n i (omega arith)) ])
 
-  -- the numbers by time are an order of all numbers below n
+  -- The numbers sorted by time are an order of all numbers below n.
   pub is_order : (n : ℕ) → IsOrder n (by_time n)
   is_order n = (length_by_time n, λ i l. omega (arith, stands_by_time n i l, length_by_time n))
 
-  -- what is earlier stands before what is later
+  -- An earlier number precedes a later one.
   pub earlier : (n i j : ℕ) → i < n → j < n → r i < r j → Before (by_time n) i j
   earlier n i j li lj lt = earlier_first (by_time n) i j (sorted_by_time n) (stands_by_time n i li) (stands_by_time n j lj) lt

@@ -1,4 +1,4 @@
--- The laws of one location, of candidates that keep the axiom of coherence.
+-- The coherence laws of one location hold of candidates that satisfy the axiom of coherence.
 use Rattle.lw_axiomatic.proofs.Common.{◌≡◌, ℕ, ◌<◌, ◌⊎◌, inl, inr, Option, Some, None, refl, sym, ap, ◌∙◌}
 use Rattle.lw_axiomatic.proofs.Common.{subst, arith, cases_order, none-some, same_Some, FinalState}
 use Rattle.lw_axiomatic.proofs.Common.{x86_language, X86Test, Coherence, IsReadFrom, IsCandidate, CoWW, CoWR}
@@ -32,7 +32,7 @@ module _ {test : X86Test} {x : Execution} {o : FinalState} (candidate : IsCandid
   rf_up : (w r : MemoryEvent) → Rf x86_language test x w r → c w < c r
   rf_up w r rf = coherence.1 w r (inr (inl rf))
 
-  -- two writes to a location are one, or one comes before the other
+  -- Two writes to a location are equal, or one precedes the other in coherence order.
   pub two_writes : (w v : MemoryEvent) (l : ℕ)
       → Writes x86_language test x w l
       → Writes x86_language test x v l
@@ -43,7 +43,7 @@ module _ {test : X86Test} {x : Execution} {o : FinalState} (candidate : IsCandid
     | inr (inr more) ↦ inr (inr (l, wv, ww, more))
   ]
 
-  -- what a read reads, where it cannot read what was there before some write
+  -- A read that does not read from before a write reads from it or from a later one.
   read_after : (r w : MemoryEvent) (l : ℕ)
       → Reads x86_language test x r l
       → Writes x86_language test x w l
@@ -76,7 +76,7 @@ module _ {test : X86Test} {x : Execution} {o : FinalState} (candidate : IsCandid
   apart : (a b : MemoryEvent) → Po x a b → a ≡ b → ⊥
   apart a b po same = omega (arith, po.3, ap (λ (z : MemoryEvent). z.position) same)
 
-  -- a write, and behind it a write: in coherence order they stand so too
+  -- Two writes in program order have the same coherence order.
   pub co_ww : CoWW test x
   co_ww w v l po ww wv = elim (two_writes w v l ww wv) [
     | inl same ↦ absurd (apart w v po same)
@@ -84,13 +84,13 @@ module _ {test : X86Test} {x : Execution} {o : FinalState} (candidate : IsCandid
     | inr (inr more) ↦ absurd (omega (arith, co_up v w more, on_one w v l po (inr ww) (inr wv)))
   ]
 
-  -- a write, and behind it a read: it reads from that write or a later one in coherence order
+  -- A read after a write reads from it, or from a later write in coherence order.
   pub co_wr : CoWR test x
   co_wr w r l po writing reading =
       read_after r w l reading writing (λ fr. omega (arith, fr_up r w fr, on_one w r l po (inr writing) (inl reading)))
       (λ same. apart w r po (sym same))
 
-  -- a read, and behind it a write: what is read comes before the write in coherence order
+  -- A write after a read comes after the write that is read, in coherence order.
   pub co_rw : CoRW test x
   co_rw r w v l po reading writing rf =
       let one : rf.0 ≡ l = same_Some rf.0 l (sym rf.2.1 ∙ reading.1) in
@@ -101,7 +101,7 @@ module _ {test : X86Test} {x : Execution} {o : FinalState} (candidate : IsCandid
         | inr (inr more) ↦ absurd (omega (arith, rf_up v r rf, on_one r w l po (inl reading) (inr writing), co_up w v more))
       ]
 
-  -- a read, and behind it a read: the second reads from the same write or a later one in coherence order
+  -- The second of two reads in program order reads from the same write, or from a later one in coherence order.
   pub co_rr : CoRR test x
   co_rr r s v l po reading too rf =
       let one : rf.0 ≡ l = same_Some rf.0 l (sym rf.2.1 ∙ reading.1) in

@@ -7,7 +7,7 @@ use Rattle.lw_axiomatic.proofs.Decisions.{Decidable, decided_as, decided_located
 use Rattle.lw_axiomatic.proofs.Decisions.{decided_writes, decided_true, same_event}
 use Rattle.lw_axiomatic.proofs.Numberings.{numbering}
 
--- the ranks of a candidate put the writes of each location in order
+-- The ranks of a candidate order the writes of each location.
 pub ranks_are_an_order : (test : X86Test) (x : Execution) (o : FinalState)
     → IsCandidate x86_language test x o
     → IsCoherenceOrder x86_language test x (λ w v. nat_lt (x.co w) (x.co v))
@@ -22,7 +22,7 @@ ranks_are_an_order test x o candidate = record {
   ];
 }
 
--- and each such order has ranks
+-- Each such order has ranks.
 module _ (test : X86Test) (x : Execution) (before : MemoryEvent → MemoryEvent → Bool)
     (order : IsCoherenceOrder x86_language test x before) where
   abbrev Precedes : MemoryEvent → MemoryEvent → Type 0
@@ -50,7 +50,7 @@ module _ (test : X86Test) (x : Execution) (before : MemoryEvent → MemoryEvent 
   acyclic : Acyclic Precedes
   acyclic = numbering x Precedes decided (λ w v p. (p.1.0, p.2.0)) none
 
-  -- a coherence order has ranks, by which one write of a location is before another exactly where the order says so
+  -- A coherence order has ranks: one write of a location precedes another in it if and only if its rank is lower.
   pub order_has_ranks : (rank : MemoryEvent → ℕ)
       × ((w v : MemoryEvent) (l : ℕ)
       → Writes x86_language test x w l

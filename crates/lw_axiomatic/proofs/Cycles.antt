@@ -1,4 +1,4 @@
--- The axioms by ranks are the axioms by cycles.
+-- The axioms by ranks are equivalent to those by cycles.
 use Rattle.lw_axiomatic.proofs.Common.{◌↔◌, inl, inr, Language, Test, X86Test, x86_language, Coherence}
 use Rattle.lw_axiomatic.proofs.Common.{GlobalHappensBefore, OnOneLocation, HappensBefore, HasNoCycle}
 use Rattle.lw_axiomatic.proofs.Common.{Execution, IsSequentiallyConsistent, ScOrder}
@@ -6,7 +6,7 @@ use Rattle.lw_axiomatic.proofs.Decisions.{decided_or, decided_po, decided_rf, de
 use Rattle.lw_axiomatic.proofs.Decisions.{decided_po_loc, decided_ppo, decided_rfe}
 use Rattle.lw_axiomatic.proofs.Numberings.{no_cycle, numbering}
 
--- coherence by ranks is that the relations on one location go round in no cycle
+-- Coherence by ranks holds if and only if the relations on one location have no cycle.
 pub coherence_by_cycles : (test : X86Test) (x : Execution) → Coherence test x ↔ HasNoCycle (OnOneLocation test x)
 coherence_by_cycles test x = (
   no_cycle (OnOneLocation test x),
@@ -21,7 +21,7 @@ coherence_by_cycles test x = (
       ]),
 )
 
--- global happens-before by ranks is that it goes round in no cycle
+-- Global happens-before by ranks holds if and only if its relations have no cycle.
 pub happens_before_by_cycles : (test : X86Test) (x : Execution) → GlobalHappensBefore test x ↔ HasNoCycle (HappensBefore test x)
 happens_before_by_cycles test x = (
   no_cycle (HappensBefore test x),
@@ -36,7 +36,7 @@ happens_before_by_cycles test x = (
       ]),
 )
 
--- sequential consistency by ranks is that the relations together go round in no cycle
+-- Sequential consistency by ranks holds if and only if its relations have no cycle.
 pub sequence_by_cycles : {S : Type 0} (language : Language S) (test : Test S) (x : Execution)
     → IsSequentiallyConsistent language test x ↔ HasNoCycle (ScOrder language test x)
 sequence_by_cycles language test x = (

@@ -1,4 +1,4 @@
--- The relations of an execution's events can be decided.
+-- The relations of an execution's events are decidable.
 use Rattle.lw_axiomatic.proofs.Common.{◌≡◌, ℕ, ◌<◌, ◌⊎◌, inl, inr, Bool, true, Option, Some, None, refl, sym}
 use Rattle.lw_axiomatic.proofs.Common.{ap, ap₂, ◌∙◌, subst, arith, List, [], ◌∷◌, Contains, true≢false}
 use Rattle.lw_axiomatic.proofs.Common.{ForSome, cases_Bool, cases_lt, cases_eq, none-some, same_Some}
@@ -8,53 +8,53 @@ use Rattle.lw_axiomatic.proofs.Common.{reads, operation_is, location, Reads, Wri
 use Rattle.lw_axiomatic.proofs.Common.{Rfe}
 use Rattle.lw_litmus.specs.Operations as operations
 
--- a statement of which it is known that it holds, or that it does not
+-- The statement holds, or does not hold.
 abbrev pub Decidable : Type 0 → Type 0
 Decidable P = P ⊎ (P → ⊥)
 
--- of two that can be decided, whether one holds can be decided
+-- The disjunction of decidable statements is decidable.
 pub decided_or : {P Q : Type 0} → Decidable P → Decidable Q → Decidable (P ⊎ Q)
 decided_or (inl p) d = inl (inl p)
 decided_or (inr not) (inl q) = inl (inr q)
 decided_or (inr not) (inr never) = inr (λ h. elim h [ inl p ↦ not p | inr q ↦ never q ])
 
--- of two that can be decided, whether both hold can be decided
+-- The conjunction of two decidable statements is decidable.
 pub decided_and : {P Q : Type 0} → Decidable P → Decidable Q → Decidable (P × Q)
 decided_and (inl p) (inl q) = inl (p, q)
 decided_and (inl p) (inr not) = inr (λ h. not h.1)
 decided_and (inr not) d = inr (λ h. not h.0)
 
--- of three that can be decided, whether all hold can be decided
+-- The conjunction of three decidable statements is decidable.
 pub decided_three : {P Q R : Type 0} → Decidable P → Decidable Q → Decidable R → Decidable (P × Q × R)
 decided_three (inl p) (inl q) (inl r) = inl (p, q, r)
 decided_three (inl p) (inl q) (inr not) = inr (λ h. not h.2)
 decided_three (inl p) (inr not) d = inr (λ h. not h.1)
 decided_three (inr not) d e = inr (λ h. not h.0)
 
--- whether something does not hold can be decided where that it holds can
+-- The negation of a decidable statement is decidable.
 decided_not : {P : Type 0} → Decidable P → Decidable (P → ⊥)
 decided_not (inl p) = inr (λ not. not p)
 decided_not (inr not) = inl not
 
--- what comes to the same as something that can be decided can be decided
+-- A statement equivalent to a decidable one is decidable.
 pub decided_as : {P Q : Type 0} → (P → Q) → (Q → P) → Decidable P → Decidable Q
 decided_as to from (inl p) = inl (to p)
 decided_as to from (inr not) = inr (λ q. not (from q))
 
--- whether a number is less than another can be decided
+-- The order of numbers is decidable.
 pub decided_less : (a b : ℕ) → Decidable (a < b)
 decided_less a b = elim (cases_lt a b) [ inl l ↦ inl l | inr ge ↦ inr (λ l. omega (arith, l, ge)) ]
 
--- whether a test passes can be decided
+-- The truth of a test is decidable.
 pub decided_true : (b : Bool) → Decidable (b ≡ true)
 decided_true b = elim (cases_Bool b) [ inl t ↦ inl t | inr f ↦ inr (λ t. true≢false (sym t ∙ f)) ]
 
--- whether an optional number is this one can be decided
+-- Whether an optional number is this one is decidable.
 pub decided_number : (o : Option ℕ) (l : ℕ) → Decidable (o ≡ Some l)
 decided_number None l = inr (λ e. none-some l e)
 decided_number (Some m) l = elim (cases_eq m l) [ inl e ↦ inl (ap Some e) | inr ne ↦ inr (λ e. ne (same_Some m l e)) ]
 
--- whether two events are one can be decided
+-- Equality of events is decidable.
 pub same_event : (a b : MemoryEvent) → Decidable (a ≡ b)
 same_event a b = elim (cases_eq a.thread b.thread) [
   | inl threads ↦ elim (cases_eq a.position b.position) [
@@ -64,12 +64,12 @@ same_event a b = elim (cases_eq a.thread b.thread) [
   | inr ne ↦ inr (λ e. ne (ap (λ (z : MemoryEvent). z.thread) e))
 ]
 
--- whether an optional event is this one can be decided
+-- Whether an optional event is this one is decidable.
 decided_event : (o : Option MemoryEvent) (e : MemoryEvent) → Decidable (o ≡ Some e)
 decided_event None e = inr (λ same. none-some e same)
 decided_event (Some v) e = elim (same_event v e) [ inl is ↦ inl (ap Some is) | inr ne ↦ inr (λ same. ne (same_Some v e same)) ]
 
--- whether a position is on a path can be decided
+-- Whether a position is on a path is decidable.
 pub decided_in : (path : List ℕ) (j : ℕ) → Decidable (Contains path j)
 decided_in [] j = inr (λ c. not-Contains-nil j c)
 decided_in (k ∷ path) j = elim (cases_eq k j) [
@@ -80,7 +80,7 @@ decided_in (k ∷ path) j = elim (cases_eq k j) [
   ]
 ]
 
--- whether something holds of some location, where it can hold of one location alone
+-- Whether a property holds of some location is decidable, if it can hold of only one.
 pub decided_located : (o : Option ℕ) (P : ℕ → Type 0)
     → ((l : ℕ) → P l → o ≡ Some l)
     → ((l : ℕ) → Decidable (P l))
@@ -93,14 +93,14 @@ module _ (x : Execution) where
   decided_of_it : (e : MemoryEvent) → Decidable (IsEvent x e)
   decided_of_it e = decided_in (thread_code x.paths e.thread) e.position
 
-  -- program order can be decided
+  -- Program order is decidable.
   pub decided_po : (a b : MemoryEvent) → Decidable (Po x a b)
   decided_po a b =
       decided_as (λ h. (h.0, h.1, h.2.0, h.2.1)) (λ h. (h.0, h.1, (h.2, h.3)))
       (decided_three (decided_of_it a) (decided_of_it b)
       (decided_and (cases_eq a.thread b.thread) (decided_less a.position b.position)))
 
-  -- what v reads from is before w
+  -- Whether an event's source comes before w in coherence order is decidable.
   decided_before : (o : Option MemoryEvent) (w : MemoryEvent) → Decidable (ForSome o (λ v. x.co v < x.co w))
   decided_before None w = inl (λ v is. absurd (none-some v is))
   decided_before (Some u) w = elim (decided_less (x.co u) (x.co w)) [
@@ -114,13 +114,13 @@ module _ {S : Type 0} (language : Language S) (test : Test S) (x : Execution) wh
       decided_three (decided_of_it x e) (decided_number (location language test e) l)
       (decided_true (operation_is language test reads e))
 
-  -- whether an event writes a location can be decided
+  -- Whether an event writes a location is decidable.
   pub decided_writes : (e : MemoryEvent) (l : ℕ) → Decidable (Writes language test x e l)
   decided_writes e l =
       decided_three (decided_of_it x e) (decided_number (location language test e) l)
       (decided_true (operation_is language test operations.writes e))
 
-  -- reads-from can be decided
+  -- Reads-from is decidable.
   pub decided_rf : (w r : MemoryEvent) → Decidable (Rf language test x w r)
   decided_rf w r =
       decided_as (λ h. (h.0, h.1.0, h.1.1, h.1.2)) (λ h. (h.0, (h.1, h.2, h.3)))
@@ -128,7 +128,7 @@ module _ {S : Type 0} (language : Language S) (test : Test S) (x : Execution) wh
       (λ l. Writes language test x w l × Reads language test x r l × (x.rf r ≡ Some w)) (λ l h. h.0.1)
       (λ l. decided_three (decided_writes w l) (decided_reads r l) (decided_event (x.rf r) w)))
 
-  -- coherence order can be decided
+  -- Coherence order is decidable.
   pub decided_co : (w v : MemoryEvent) → Decidable (Co language test x w v)
   decided_co w v =
       decided_as (λ h. (h.0, h.1.0, h.1.1, h.1.2)) (λ h. (h.0, (h.1, h.2, h.3)))
@@ -136,7 +136,7 @@ module _ {S : Type 0} (language : Language S) (test : Test S) (x : Execution) wh
       (λ l. Writes language test x w l × Writes language test x v l × (x.co w < x.co v)) (λ l h. h.0.1)
       (λ l. decided_three (decided_writes w l) (decided_writes v l) (decided_less (x.co w) (x.co v))))
 
-  -- from-reads can be decided
+  -- From-reads is decidable.
   pub decided_fr : (r w : MemoryEvent) → Decidable (Fr language test x r w)
   decided_fr r w =
       decided_as (λ h. (h.0, h.1.0, h.1.1, h.1.2.0, h.1.2.1)) (λ h. (h.0, (h.1, h.2, (h.3, h.4))))
@@ -146,7 +146,7 @@ module _ {S : Type 0} (language : Language S) (test : Test S) (x : Execution) wh
       decided_three (decided_reads r l) (decided_writes w l)
       (decided_and (decided_not (same_event r w)) (decided_before x (x.rf r) w))))
 
-  -- program order on one location can be decided
+  -- Program order on one location is decidable.
   pub decided_po_loc : (a b : MemoryEvent) → Decidable (PoLoc language test x a b)
   decided_po_loc a b =
       decided_as (λ h. (h.1.0, h.0, h.1.1, h.1.2)) (λ h. (h.1, (h.0, h.2, h.3)))
@@ -155,10 +155,10 @@ module _ {S : Type 0} (language : Language S) (test : Test S) (x : Execution) wh
       decided_three (decided_po x a b) (decided_number (location language test a) l)
       (decided_number (location language test b) l)))
 
-  -- preserved program order can be decided
+  -- Preserved program order is decidable.
   pub decided_ppo : (a b : MemoryEvent) → Decidable (Ppo language test x a b)
   decided_ppo a b = decided_and (decided_po x a b) (decided_true _)
 
-  -- reads-from between two threads can be decided
+  -- Reads-from between two threads is decidable.
   pub decided_rfe : (w r : MemoryEvent) → Decidable (Rfe language test x w r)
   decided_rfe w r = decided_and (decided_rf w r) (decided_not (cases_eq w.thread r.thread))

@@ -6,16 +6,16 @@ use Rattle.lw_axiomatic.proofs.Common.{thread_code, not-Contains-nil, Contains-h
 use Rattle.lw_axiomatic.proofs.Common.{Contains-cons, Contains-map, from_map, MemoryEvent}
 use Rattle.lw_axiomatic.proofs.Decisions.{Decidable}
 
--- the event of a statement, by its thread and its position
+-- The event of a statement, by its thread and its position.
 abbrev pub event : ℕ → ℕ → MemoryEvent
 event t j = record { thread = t; position = j }
 
--- the events of all paths, thread by thread, from thread t on
+-- The events of all paths, thread by thread, from thread t on.
 abbrev pub events_from : ℕ → List (List ℕ) → List MemoryEvent
 events_from t [] = []
 events_from t (path ∷ paths) = map (event t) path ++ events_from (suc t) paths
 
--- where the first of the paths is thread t's, each event on them is in their list
+-- If the first path is thread t's, each event of the paths is in their list.
 pub listed : (t k u : ℕ) (paths : List (List ℕ)) (j : ℕ)
     → u ≡ t + k
     → Contains (thread_code paths k) j
@@ -30,7 +30,7 @@ listed t (suc k) u (path ∷ paths) j at c =
     Contains-append_right (map (event t) path) (events_from (suc t) paths) (event u j)
     (listed (suc t) k u paths j (omega (arith, at)) c)
 
--- each event in the list is at a position of one of the paths
+-- Each event in the list is at a position of one of the paths.
 from_listed : (t : ℕ) (paths : List (List ℕ)) (e : MemoryEvent)
     → Contains (events_from t paths) e
     → (k : ℕ) × (e.thread ≡ t + k) × Contains (thread_code paths k) e.position
@@ -79,12 +79,12 @@ module _ (rank : MemoryEvent → ℕ) where
     ]
   ]
 
-  -- an event of the paths of which none of them has a lower rank
+  -- An event of the paths whose rank is least.
   pub record IsFirst (paths : List (List ℕ)) (e : MemoryEvent) : Type 0 where
     pub there : Contains (thread_code paths e.thread) e.position
     pub least : (f : MemoryEvent) → Contains (thread_code paths f.thread) f.position → rank e ≤ rank f
 
-  -- paths have no event, or one of them is the first by ranks
+  -- Paths have no event, or have a first one by ranks.
   pub first_of : (paths : List (List ℕ))
       → ((f : MemoryEvent) → Contains (thread_code paths f.thread) f.position → ⊥) ⊎ ((e : MemoryEvent) × IsFirst paths e)
   first_of paths = elim (first_in (events_from 0 paths)) [
@@ -101,7 +101,7 @@ module _ (rank : MemoryEvent → ℕ) where
         ))
   ]
 
--- ---- the first of those that are such
+-- ---- the first of those with a property
 
 module _ (rank : MemoryEvent → ℕ) (P : MemoryEvent → Type 0) (decide : (e : MemoryEvent) → Decidable (P e)) where
   abbrev IsLeast : List MemoryEvent → MemoryEvent → Type 0
@@ -155,7 +155,7 @@ module _ (rank : MemoryEvent → ℕ) (P : MemoryEvent → Type 0) (decide : (e 
     ]
   ]
 
-  -- where P can be decided: no event of the paths has P, or of those that have it one has the lowest rank
+  -- If P is decidable: no event of the paths has P, or one of those with P has the least rank.
   pub least_event : (paths : List (List ℕ))
       → ((f : MemoryEvent) → Contains (thread_code paths f.thread) f.position → P f → ⊥)
       ⊎ ((e : MemoryEvent) × P e × ((f : MemoryEvent) → Contains (thread_code paths f.thread) f.position → P f → rank e ≤ rank f))

@@ -1,4 +1,4 @@
--- A test that is fenced on all paths has executions that are fenced.
+-- The executions of a test that is fenced on all paths are fenced.
 use Rattle.lw_axiomatic.proofs.Common.{AreOnPath, HasFenceOnPath, IsLocationOnlyWrittenBy, IsOfOneThread}
 use Rattle.lw_axiomatic.proofs.Common.{IsFencedWhereShared, IsFencedWhereOthersWrite, writes, location_of}
 use Rattle.lw_axiomatic.proofs.Common.{option_and_then, ◌≡◌, ℕ, ◌<◌, inl, inr, Bool, true, false, Option}
@@ -11,7 +11,7 @@ use Rattle.lw_axiomatic.proofs.Common.{MemoryEvent, Execution, IsEvent, operatio
 use Rattle.lw_axiomatic.proofs.Common.{HasFenceBetween, IsFenced, IsFencedInAllThreads, first_state}
 use Rattle.lw_axiomatic.proofs.Paths.{goes_path}
 
--- an event of a kind has an instruction of that kind
+-- An event of a kind has an instruction of that kind.
 instr_of : (kind : Operation → Bool) (o : Option Instr)
     → option_map_or kind (option_map x86_operation o) false ≡ true
     → (i : Instr) × (o ≡ Some i) × (kind (x86_operation i) ≡ true)
@@ -19,7 +19,7 @@ instr_of kind None e = absurd (true≢false (sym e))
 instr_of kind (Some i) e = (i, refl, e)
 
 module _ {test : X86Test} {x : Execution} {o : FinalState} (candidate : IsCandidate x86_language test x o) where
-  -- an event's thread is one of the test
+  -- An event's thread is one of the test's.
   pub thread_there : (e : MemoryEvent) → IsEvent x e → e.thread < length test.threads
   thread_there e c = elim (cases_lt e.thread (length test.threads)) [
     | inl h ↦ h
@@ -28,7 +28,7 @@ module _ {test : X86Test} {x : Execution} {o : FinalState} (candidate : IsCandid
         absurd (not-Contains-nil e.position (subst (λ (path : List ℕ). Contains path e.position) none c)))
   ]
 
-  -- the path of each thread is a whole flow path of its code
+  -- The path of each thread is a whole flow path of its code.
   pub path_of : (t : ℕ)
       → t < length test.threads
       → IsFlowPathFrom x86_language (thread_code test.threads t) 0 (thread_code x.paths t)
@@ -37,7 +37,7 @@ module _ {test : X86Test} {x : Execution} {o : FinalState} (candidate : IsCandid
       goes_path x86_language x t (thread_code test.threads t) (thread_code x.paths t)
       (first_state (slice_index_or test.head.init_regs t [])) g.0 g.1
 
-  -- a store and a load of an execution are on a path of their thread
+  -- A store and a load of an execution are on a path of their thread.
   pub on_path : (a b : MemoryEvent)
       → AreStoreAndLoad test x a b
       → (load : Instr) × AreOnPath (thread_code test.threads a.thread) (thread_code x.paths a.thread) a.position b.position load
@@ -61,7 +61,7 @@ module _ {test : X86Test} {x : Execution} {o : FinalState} (candidate : IsCandid
         },
       )
 
-  -- and so is a fence
+  -- So is a fence.
   fence_of : (a b : MemoryEvent)
       → AreStoreAndLoad test x a b
       → HasFenceOnPath (thread_code test.threads a.thread) (thread_code x.paths a.thread) a.position b.position
@@ -73,7 +73,7 @@ module _ {test : X86Test} {x : Execution} {o : FinalState} (candidate : IsCandid
     ap (λ o. option_map_or needs_empty_buffer (option_map x86_operation o) false) f.at ∙ f.is,
   )
 
-  -- what no other thread's code writes no other thread writes
+  -- If no other thread's code writes a location, no other thread does.
   pub of_one_thread : (a b : MemoryEvent) (pair : AreStoreAndLoad test x a b)
       → IsLocationOnlyWrittenBy test a.thread (on_path a b pair).0
       → IsOfOneThread test x b
@@ -87,13 +87,13 @@ module _ {test : X86Test} {x : Execution} {o : FinalState} (candidate : IsCandid
       ∙ at_b in
       own c.thread c.position l i.0 i.1 i.2 located_c located_b ∙ pair.po.2
 
-  -- the executions of a test that is fenced in all threads are fenced
+  -- The executions of a test that is fenced in all threads are fenced.
   pub fenced_executions : IsFencedInAllThreads test → IsFenced test x
   fenced_executions fenced a b pair =
       let on = on_path a b pair in
       fence_of a b pair (fenced a.thread (thread_code x.paths a.thread) a.position b.position on.0 on.1)
 
-  -- the executions of a test that is fenced before loads of what other threads write are fenced before such loads
+  -- The executions of a test that is fenced before loads of what other threads write are fenced before such loads.
   pub fenced_where_shared : IsFencedWhereOthersWrite test → IsFencedWhereShared test x
   fenced_where_shared fenced a b pair =
       let on = on_path a b pair in

@@ -1,5 +1,5 @@
--- A run along an order of the items of a choice of paths is an execution: each read reads from the newest write that is before
--- it in the order, and coherence order is that in which writes reach memory.
+-- A run along an order of the items of a path assignment is an execution: each read reads from the newest write before it in the order, and
+-- coherence order is the order in which writes reach memory.
 use Rattle.lw_axiomatic.proofs.Common.{◌≡◌, ℕ, zero, suc, ◌+◌, ◌<◌, ◌≤◌, inl, inr, Bool, true, false, Option}
 use Rattle.lw_axiomatic.proofs.Common.{Some, None, refl, sym, ap, ap₂, ◌∙◌, subst, arith, if◌then◌else◌, List}
 use Rattle.lw_axiomatic.proofs.Common.{[], ◌∷◌, length, slice_get, Contains, true≢false, ◌==◌, ◌||◌, map}
@@ -34,7 +34,7 @@ use Rattle.lw_axiomatic.proofs.Seen.{sees_newest, source_word}
 use Rattle.lw_axiomatic.proofs.Indices as places
 use Rattle.lw_axiomatic.proofs.Prefixes as prefixes
 
--- ---- the newest of those that pass a test
+-- ---- the newest number that passes a test
 
 module _ (time : MemoryEvent → ℕ) (test : MemoryEvent → Bool) where
   abbrev is_newer : MemoryEvent → Option MemoryEvent → Bool
@@ -104,7 +104,7 @@ module _ (time : MemoryEvent → ℕ) (test : MemoryEvent → Bool) where
         })
       ]
 
--- where a number is in a list, it stands at the index that `index_in` finds
+-- A number in a list is at the index that `index_in` finds.
 index_get : (xs : List ℕ) (i : ℕ) → index_in xs i < length xs → slice_get xs (index_in xs i) ≡ Some i
 index_get [] i l = absurd (omega (arith, l))
 index_get (x ∷ xs) i l = elim (cases_eq x i) [
@@ -266,12 +266,12 @@ module _ {test : X86Test} {paths : List (List ℕ)} (given : KeptOrder test path
       newest = newest;
     }
 
-    -- ---- what the machine holds all along
+    -- ---- what the machine holds throughout
 
     abbrev IsInv : ℕ → (ℕ → List ℕ) → MachineState (List ℕ) → Type 0
     IsInv = Inv x given
 
-    -- the item that has its turn at an index
+    -- The item whose turn is at an index.
     record TurnAt (k : ℕ) : Type 0 where
       now_at : Turn x given k
       out : X86ItemTransition flat_memory test.threads (at now_at.index) (S k) (S (suc k))
@@ -294,7 +294,7 @@ module _ {test : X86Test} {paths : List (List ℕ)} (given : KeptOrder test path
     at_index : (k : ℕ) → k < length given.order → TurnAt k
     at_index k l = let g = get_some given.order k l in turn_at k g.0 g.1
 
-    -- what the execution says of a step is what the machine did
+    -- The execution agrees with the machine on a step.
     module _ (k : ℕ) (ta : TurnAt k) where
       abbrev t : ℕ
       t = (at ta.now_at.index).thread
@@ -412,9 +412,9 @@ module _ {test : X86Test} {paths : List (List ℕ)} (given : KeptOrder test path
             word_from None new is = is
             word_from (Some v) new is = (new.0, is)
 
-    -- ---- each thread goes along its path
+    -- ---- each thread follows its path
 
-    -- where no step of a thread has its turn, the thread stays as it is
+    -- If no step of a thread has its turn, the thread is unchanged.
     one_still : (k t : ℕ) (ta : TurnAt k)
         → ((j : ℕ) → Contains (thread_code paths t) j → doneP (event t j) ≡ k → ⊥)
         → (p q : Processor)
@@ -447,7 +447,7 @@ module _ {test : X86Test} {paths : List (List ℕ)} (given : KeptOrder test path
       ]
     ]
 
-    -- there are as many processors as threads all along
+    -- The number of processors is always that of threads.
     many : (k : ℕ) → k ≤ length given.order → length (S k).processors ≡ length test.threads
     many zero le =
         ap (λ (z : MachineState (List ℕ)). length z.processors)
@@ -497,7 +497,7 @@ module _ {test : X86Test} {paths : List (List ℕ)} (given : KeptOrder test path
       abbrev code : List Instr
       code = thread_code test.threads t
 
-      -- a step of the thread that has its turn
+      -- A step of the thread whose turn it is.
       module _ (j m : ℕ) (ta : TurnAt m) (this : at ta.now_at.index ≡ item t j false) where
         f : (at ta.now_at.index).is_drain ≡ false
         f = ap (λ (a : Item). a.is_drain) this
@@ -553,7 +553,7 @@ module _ {test : X86Test} {paths : List (List ℕ)} (given : KeptOrder test path
               (subst (λ h. IsSuccessor (x86_operation (r m ta).statement) h (c m ta).new.position) position_is leads) in
               (follows_within x86_language code j (c m ta).new.position (forward given t) follows).1
 
-      -- the rest of its path leads on from a state
+      -- The rest of its path starts from a state.
       abbrev GoesFrom : List ℕ → Type 0
       GoesFrom rest =
           (k low : ℕ) (p : Processor)
@@ -575,7 +575,7 @@ module _ {test : X86Test} {paths : List (List ℕ)} (given : KeptOrder test path
           let placed = step_placed given (event t j) (later j (inl refl)).1 in
           by_turn (λ k low p. goes rest k low p) placed.index placed.below placed.is placed.index_is
         where
-          -- the steps behind it have their turns later
+          -- The later steps have their turns later.
           behind : (h : ℕ) → IsMember h rest → doneP (event t j) < doneP (event t h)
           behind h there =
               in_order given (item t j false) (item t h false) (step_placed given (event t j) (later j (inl refl)).1)
@@ -617,7 +617,7 @@ module _ {test : X86Test} {paths : List (List ℕ)} (given : KeptOrder test path
                     (state_is j (index_in given.order i) ta this p unmoved) rest_goes,
               )
 
-    -- ---- so it is an execution with the outcome of its end
+    -- ---- so it is an execution with the outcome of its final state
 
     at_end : S (length given.order) ≡ end
     at_end =

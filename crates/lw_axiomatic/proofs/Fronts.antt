@@ -1,5 +1,4 @@
--- The front of a path, its positions up to the first that does not pass a test, and its tail, the rest; and those of all paths,
--- thread by thread.
+-- The front of a path, its positions up to the first that fails a test, and its tail, the rest; and those of all paths, thread by thread.
 use Rattle.lw_axiomatic.proofs.Common.{◌≡◌, ℕ, zero, suc, ◌+◌, ◌<◌, inl, inr, Bool, true, false}
 use Rattle.lw_axiomatic.proofs.Common.{if◌then◌else◌, List, [], ◌∷◌, ◌++◌, length, refl, sym, ap, ap₂, ◌∙◌}
 use Rattle.lw_axiomatic.proofs.Common.{subst, arith, Contains, cases_Bool, get_or_past, thread_code}
@@ -7,26 +6,26 @@ use Rattle.lw_axiomatic.proofs.Common.{not-Contains-nil, Contains-head, Contains
 use Rattle.lw_axiomatic.proofs.Common.{IsAscendingFrom, IsAscendingFrom-lower_bound}
 use Rattle.lw_axiomatic.proofs.Indices.{in_list}
 
--- ---- of one path
+-- ---- one path
 
 module _ (passes : ℕ → Bool) where
-  -- the positions of a path up to the first that does not pass
+  -- The positions of a path up to the first that fails.
   abbrev pub front : List ℕ → List ℕ
   front [] = []
   front (j ∷ path) = if passes j then j ∷ front path else []
 
-  -- the positions of a path from the first on that does not pass
+  -- The positions of a path from the first that fails.
   abbrev pub tail : List ℕ → List ℕ
   tail [] = []
   tail (j ∷ path) = if passes j then tail path else j ∷ path
 
-  -- a path is its front and then its tail
+  -- A path is its front followed by its tail.
   parted : (path : List ℕ) → path ≡ front path ++ tail path
   parted [] = refl
   parted (j ∷ path) =
       elim (cases_Bool (passes j)) [ inl p ↦ rw p (ap (λ (rest : List ℕ). j ∷ rest) (parted path)) | inr f ↦ rw f refl ]
 
-  -- what is in the front of a path is on the path, and passes
+  -- A position in the front is on the path, and passes.
   in_front : (path : List ℕ) (j : ℕ) → Contains (front path) j → Contains path j × (passes j ≡ true)
   in_front [] j c = absurd (not-Contains-nil j c)
   in_front (h ∷ path) j c = elim (cases_Bool (passes h)) [
@@ -37,7 +36,7 @@ module _ (passes : ℕ → Bool) where
     | inr f ↦ absurd (not-Contains-nil j (rw f at c))
   ]
 
-  -- where all passes that is before what passes, each position of a path that passes is in its front
+  -- If every position before one that passes does so too, each position that passes is in the front.
   to_front : (low : ℕ) (path : List ℕ) (j : ℕ)
       → IsAscendingFrom low path
       → ((h k : ℕ) → Contains path h → Contains path k → h < k → passes k ≡ true → passes h ≡ true)
@@ -55,7 +54,7 @@ module _ (passes : ℕ → Bool) where
         (to_front (suc h) path j up.1 (λ i k ci ck. down i k (Contains-tail h i path ci) (Contains-tail h k path ck)) r p)))
   ]
 
-  -- the first that does not pass
+  -- The first position that fails is the head of the tail.
   first_behind : (low : ℕ) (path : List ℕ) (j : ℕ)
       → IsAscendingFrom low path
       → Contains path j
@@ -72,20 +71,20 @@ module _ (passes : ℕ → Bool) where
         (rest.0, rw here rest.1))
   ]
 
--- ---- of all paths, thread by thread
+-- ---- all paths, thread by thread
 
 module _ (passes : ℕ → ℕ → Bool) where
-  -- the fronts of paths, of which the first is thread t's
+  -- The fronts of paths, of which the first is thread t's.
   abbrev pub fronts : ℕ → List (List ℕ) → List (List ℕ)
   fronts t [] = []
   fronts t (path ∷ paths) = front (passes t) path ∷ fronts (suc t) paths
 
-  -- the tails of paths, of which the first is thread t's
+  -- The tails of paths, of which the first is thread t's.
   abbrev pub tails : ℕ → List (List ℕ) → List (List ℕ)
   tails t [] = []
   tails t (path ∷ paths) = tail (passes t) path ∷ tails (suc t) paths
 
-  -- there are as many fronts as paths
+  -- The number of fronts is that of paths.
   pub as_many_fronts : (t : ℕ) (paths : List (List ℕ)) → length (fronts t paths) ≡ length paths
   as_many_fronts t [] = refl
   as_many_fronts t (path ∷ paths) = ap suc (as_many_fronts (suc t) paths)
@@ -96,7 +95,7 @@ module _ (passes : ℕ → ℕ → Bool) where
   no_path : (k : ℕ) → thread_code none k ≡ []
   no_path k = get_or_past none k [] (omega arith)
 
-  -- the front at k is that of the path at k, which is thread u's
+  -- The front at k is that of the path at k, which is thread u's.
   pub front_at : (t k u : ℕ) (paths : List (List ℕ))
       → u ≡ t + k
       → thread_code (fronts t paths) k ≡ front (passes u) (thread_code paths k)
@@ -104,7 +103,7 @@ module _ (passes : ℕ → ℕ → Bool) where
   front_at t zero u (path ∷ paths) e = let same : t ≡ u = omega (arith, e) in ap (λ n. front (passes n) path) same
   front_at t (suc k) u (path ∷ paths) e = front_at (suc t) k u paths (omega (arith, e))
 
-  -- the tail at k is that of the path at k, which is thread u's
+  -- The tail at k is that of the path at k, which is thread u's.
   pub tail_at : (t k u : ℕ) (paths : List (List ℕ))
       → u ≡ t + k
       → thread_code (tails t paths) k ≡ tail (passes u) (thread_code paths k)
@@ -112,14 +111,14 @@ module _ (passes : ℕ → ℕ → Bool) where
   tail_at t zero u (path ∷ paths) e = let same : t ≡ u = omega (arith, e) in ap (λ n. tail (passes n) path) same
   tail_at t (suc k) u (path ∷ paths) e = tail_at (suc t) k u paths (omega (arith, e))
 
-  -- a thread's path is its front and then its tail
+  -- A thread's path is its front followed by its tail.
   pub parted_at : (t : ℕ) (paths : List (List ℕ))
       → thread_code paths t ≡ thread_code (fronts 0 paths) t ++ thread_code (tails 0 paths) t
   parted_at t paths =
       parted (passes t) (thread_code paths t)
       ∙ ap₂ (λ (a b : List ℕ). a ++ b) (sym (front_at 0 t t paths (omega arith))) (sym (tail_at 0 t t paths (omega arith)))
 
-  -- what is in a front is on its path, and passes
+  -- A position in a front is on its path, and passes.
   pub from_fronts : (t j : ℕ) (paths : List (List ℕ))
       → Contains (thread_code (fronts 0 paths) t) j
       → Contains (thread_code paths t) j × (passes t j ≡ true)
@@ -127,7 +126,7 @@ module _ (passes : ℕ → ℕ → Bool) where
       in_front (passes t) (thread_code paths t) j
       (subst (λ (path : List ℕ). Contains path j) (front_at 0 t t paths (omega arith)) c)
 
-  -- where on a thread's path all passes that is before what passes, each of its positions that passes is in its front
+  -- If every position before one that passes does so too, each of a thread's positions that pass is in its front.
   pub to_fronts : (t j : ℕ) (paths : List (List ℕ))
       → IsAscendingFrom 0 (thread_code paths t)
       → ((h k : ℕ)
@@ -143,7 +142,7 @@ module _ (passes : ℕ → ℕ → Bool) where
       subst (λ (path : List ℕ). Contains path j) (sym (front_at 0 t t paths (omega arith)))
       (to_front (passes t) 0 (thread_code paths t) j up down c p)
 
-  -- the first on a path that does not pass begins the tail
+  -- The first position of a path that fails is the head of its tail.
   pub tail_from : (t j : ℕ) (paths : List (List ℕ))
       → IsAscendingFrom 0 (thread_code paths t)
       → Contains (thread_code paths t) j

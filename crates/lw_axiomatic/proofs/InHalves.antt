@@ -1,4 +1,4 @@
--- One event for a locked instruction is two with the axiom of atomicity.
+-- The axioms with one event for a locked instruction are equivalent to those with two and the axiom of atomicity.
 use Rattle.lw_axiomatic.proofs.Common.{◌≡◌, ◌≢◌, ◌↔◌, ℕ, ◌+◌, ◌*◌, ◌<◌, ◌≤◌, ◌⊎◌, ◌||◌, inl, inr, Bool, true}
 use Rattle.lw_axiomatic.proofs.Common.{false, refl, sym, ap, ap₂, ◌∙◌, subst, arith, true≢false}
 use Rattle.lw_axiomatic.proofs.Common.{if◌then◌else◌, not, option_map_or, Option, Some, None, cases_Bool}
@@ -14,14 +14,14 @@ use Rattle.lw_axiomatic.proofs.Decisions.{same_event}
 use Rattle.lw_axiomatic.proofs.EventKinds.{load_no_writes}
 use Rattle.lw_litmus.specs.Operations as operations
 
--- a locked instruction reads and writes
+-- A locked instruction reads and writes.
 locked_kinds : (q : Option Operation)
     → option_map_or is_locked q false ≡ true
     → (option_map_or reads q false ≡ true) × (option_map_or writes q false ≡ true)
 locked_kinds None e = absurd (true≢false (sym e))
 locked_kinds (Some o) e = (or_right (is_load o) _ e, or_right (is_store o) _ e)
 
--- only a locked instruction both reads and writes
+-- Only a locked instruction both reads and writes.
 both_locked : (q : Option Operation)
     → option_map_or reads q false ≡ true
     → option_map_or writes q false ≡ true
@@ -30,7 +30,7 @@ both_locked None a b = absurd (true≢false (sym a))
 both_locked (Some o) a b =
     elim (or_cases (is_load o) _ a) [ inl load ↦ absurd (true≢false (sym b ∙ load_no_writes o load)) | inr locked ↦ locked ]
 
--- a test that fails passes when it is negated
+-- The negation of a test that fails passes.
 is_not : (b : Bool) → b ≡ false → not b ≡ true
 is_not true e = absurd (true≢false e)
 is_not false e = refl
@@ -39,7 +39,7 @@ module _ (test : X86Test) (x : Execution) where
   abbrev is : (Operation → Bool) → MemoryEvent → Bool
   is = operation_is x86_language test
 
-  abbrev first : MemoryEvent → Half  -- an event, or a locked instruction's read; and an event, or a locked instruction's write
+  abbrev first : MemoryEvent → Half  -- An event, or a locked instruction's read; and an event, or a locked instruction's write.
   first e = record { event = e; is_second = false }
 
   abbrev last : MemoryEvent → Half
@@ -75,7 +75,7 @@ module _ (test : X86Test) (x : Execution) where
     second_low true = omega arith
     second_low false = omega arith
 
-    -- the numbers of events, doubled: a locked instruction's write comes right behind its read
+    -- The ranks of events, doubled: a locked instruction's write comes immediately after its read.
     module _ (rank : MemoryEvent → ℕ) where
       abbrev doubled : Half → ℕ
       doubled h = 2 * rank h.event + second h.is_second
@@ -86,7 +86,7 @@ module _ (test : X86Test) (x : Execution) where
       within : (a b : Half) → AreHalves test x a b → doubled a < doubled b
       within a b (ia, ib, same, f, s) = omega (arith, ap rank same, second_false a.is_second f, second_true b.is_second s)
 
-      -- a read that is not behind the write of its own instruction
+      -- From-reads increases the doubled ranks.
       fr_up : ((r w : MemoryEvent) → Fr x86_language test x r w → rank r < rank w)
           → (r w : Half)
           → HalvesFr test x r w
@@ -119,7 +119,7 @@ module _ (test : X86Test) (x : Execution) where
       | inr (inr (inr fr)) ↦ fr_up axioms.coherence.0 (λ r w f. axioms.coherence.1 r w (inr (inr (inr f)))) a b fr
     ]
 
-    -- what is kept of two halves is kept of their events
+    -- Preserved program order of halves is that of their events.
     kept : (a b : Half)
         → Po x a.event b.event
         → (reads_first test x a || (writes_last test x b || (holds_all test x a || holds_all test x b))) ≡ true
@@ -185,7 +185,7 @@ module _ (test : X86Test) (x : Execution) where
       happens_before = (doubled axioms.happens_before.0, happens_before_in_halves);
     }
 
-  -- ---- and back: an event has the number of its last half
+  -- ---- back: an event has the rank of its last half
 
   module _ {o : FinalState} (candidate : IsCandidate x86_language test x o) (axioms : SatisfiesSplitAxioms test x) where
     abbrev c : Half → ℕ
@@ -194,11 +194,11 @@ module _ (test : X86Test) (x : Execution) where
     abbrev g : Half → ℕ
     g = axioms.happens_before.0
 
-    -- the two halves of one instruction
+    -- The two halves of one instruction.
     halves_of : (e : MemoryEvent) → IsEvent x e → is is_locked e ≡ true → AreHalves test x (first e) (last e)
     halves_of e there locked = (first_is e there, last_is e there, refl, refl, locked)
 
-    -- the first is no later than the last
+    -- The first half is no later than the last.
     first_last_c : (e : MemoryEvent) (l : ℕ) → IsEvent x e → location x86_language test e ≡ Some l → c (first e) ≤ c (last e)
     first_last_c e l there at = elim (cases_Bool (is is_locked e)) [
       | inl locked ↦
@@ -218,7 +218,7 @@ module _ (test : X86Test) (x : Execution) where
       | inr free ↦ omega (arith, ap (λ b. g (record { event = e; is_second = b })) free)
     ]
 
-    -- a locked instruction comes before a write, if its read does
+    -- A locked instruction precedes a write in coherence order, if its read does so in from-reads.
     from_locked : (r w : MemoryEvent) → Fr x86_language test x r w → is is_locked r ≡ true → HalvesCo test x (last r) (last w)
     from_locked r w (l, reads_l, writes_l, differ, before) locked =
         let own : Writes x86_language test x r l = (reads_l.0, reads_l.1, (locked_kinds _ locked).1) in
@@ -344,13 +344,13 @@ module _ (test : X86Test) (x : Execution) where
       );
     }
 
--- a candidate keeps the axioms with one event for a locked instruction exactly where it keeps them with two
+-- A candidate satisfies the axioms with one event for a locked instruction if and only if it satisfies those with two.
 pub same_axioms : (test : X86Test) (x : Execution) (o : FinalState)
     → IsCandidate x86_language test x o
     → SatisfiesAxioms test x ↔ SatisfiesSplitAxioms test x
 same_axioms test x o candidate = (in_halves test x, from_halves test x candidate)
 
--- both forms of the axioms allow the same outcomes
+-- Both forms of the axioms allow the same outcomes.
 pub same_outcomes : (test : X86Test) (o : FinalState) → IsAllowed test o ↔ IsAllowedBySplitAxioms test o
 same_outcomes test o = (
   λ a. record { execution = a.execution; candidate = a.candidate; axioms = in_halves test a.execution a.axioms },

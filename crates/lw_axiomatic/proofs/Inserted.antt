@@ -1,5 +1,5 @@
--- Codes with MFENCEs inserted. The code with them is called the longer one here, the code without them the shorter one. Each
--- instruction of the shorter code has one index in the longer one, in the same order, and does the same to its thread there.
+-- Codes with MFENCEs inserted. The code with them is called the longer one here, the code without them the shorter one. Each instruction of
+-- the shorter code has one index in the longer one, in the same order, and has the same effect on its thread there.
 use Rattle.lw_axiomatic.proofs.Common.{◌-◌, List, Instr, IsFencedCode, ℕ, slice_get, ◌≡◌, Some, EndsBlock}
 use Rattle.lw_axiomatic.proofs.Common.{◌<◌, length, ◌⊎◌, get_some, IsInserted, inl, ◌∙◌, ap, inr, arith, ◌≤◌}
 use Rattle.lw_axiomatic.proofs.Common.{◌+◌, zero, suc, cases_lt, cases_order, slice_get_within}
@@ -8,7 +8,7 @@ use Rattle.lw_axiomatic.proofs.Common.{location_of, word_written, ThreadState, i
 use Rattle.lw_axiomatic.proofs.Common.{sym, state_after, guard_holds, IsInsertedAt, Guard, Zero, NotZero}
 use Rattle.lw_axiomatic.proofs.Common.{Always, Je, Jmp, Jne, Mfence}
 
--- ---- Indices.
+-- ---- indices
 
 module _ {code fenced : List Instr} (f : IsFencedCode code fenced) where
   -- The instruction at this index of the longer code is one of the inserted MFENCEs.
@@ -123,7 +123,7 @@ module _ {code fenced : List Instr} (f : IsFencedCode code fenced) where
       let there = kept_index-kept (f.block index) (block-in_range index kept) in
       index-unique (kept_index (f.block index)) index there.0 kept there.1
 
--- ---- What an instruction does.
+-- ---- effects of instructions
 
 module _ (block : ℕ → ℕ) where
   -- A test of operations that does not depend on the target of a branch has the same value on an instruction in both codes.

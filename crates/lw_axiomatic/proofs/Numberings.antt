@@ -1,5 +1,5 @@
--- Numberings and cycles: what goes up by ranks has no cycle; and a relation of finitely many events that can be decided and
--- has no cycle goes up by some numbers.
+-- Numberings and cycles: a relation along which ranks increase has no cycle; and a decidable relation of finitely many events that has no
+-- cycle increases some numbers.
 use Rattle.lw_axiomatic.proofs.Common.{◌≡◌, ℕ, zero, suc, ◌+◌, ◌*◌, ◌<◌, ◌≤◌, ◌⊎◌, inl, inr, refl, sym, ap}
 use Rattle.lw_axiomatic.proofs.Common.{◌∙◌, subst, arith, List, [], ◌∷◌, Contains, cases_lt, not-Contains-nil}
 use Rattle.lw_axiomatic.proofs.Common.{Contains-head, Contains-tail, Contains-cons, Acyclic, Walk, HasNoCycle}
@@ -7,18 +7,18 @@ use Rattle.lw_axiomatic.proofs.Common.{MemoryEvent, Execution, IsEvent}
 use Rattle.lw_axiomatic.proofs.EventLists.{events_from, listed}
 use Rattle.lw_axiomatic.proofs.Decisions.{Decidable, decided_or, decided_and, same_event}
 
--- ---- what goes up has no cycle
+-- ---- increasing relations have no cycle
 
 module _ {E : Type 0} (R : E → E → Type 0) (acyclic : Acyclic R) where
   walk_up : (n : ℕ) (a b : E) → Walk R n a b → acyclic.0 a + n ≤ acyclic.0 b
   walk_up zero a b same = omega (arith, ap acyclic.0 same)
   walk_up (suc n) a b (c, step, walk) = omega (arith, acyclic.1 a c step, walk_up n c b walk)
 
-  -- a relation along which ranks go up has no cycle
+  -- A relation along which ranks increase has no cycle.
   pub no_cycle : HasNoCycle R
   no_cycle n e walk = omega (arith, walk_up (suc n) e e walk)
 
--- ---- the ranks of what is related to an event
+-- ---- the ranks of the events related to an event
 
 -- The least number above the ranks of those events of a list that are in the relation R to b.
 record Top (R : MemoryEvent → MemoryEvent → Type 0) (rank : MemoryEvent → ℕ) (b : MemoryEvent)
@@ -27,7 +27,7 @@ record Top (R : MemoryEvent → MemoryEvent → Type 0) (rank : MemoryEvent → 
   above : (a : MemoryEvent) → Contains events a → R a b → rank a < top
   least : (m : ℕ) → ((a : MemoryEvent) → Contains events a → R a b → rank a < m) → top ≤ m
 
--- where the relation can be decided, there is such a least number above the ranks of the events that are in it to b
+-- If the relation is decidable, there is a least number above the ranks of the events related to b.
 top_of : (R : MemoryEvent → MemoryEvent → Type 0)
     → ((a b : MemoryEvent) → Decidable (R a b))
     → (rank : MemoryEvent → ℕ) (b : MemoryEvent) (events : List MemoryEvent)
@@ -64,13 +64,13 @@ top_of R decide rank b (e ∷ events) =
       }
     ]
 
--- ---- without an event, its neighbours are related by way of it
+-- ---- without an event, its neighbours are related through it
 
 module _ (R : MemoryEvent → MemoryEvent → Type 0) (e : MemoryEvent) where
   abbrev Past : MemoryEvent → MemoryEvent → Type 0
   Past a b = R a b ⊎ (R a e × R e b)
 
-  -- a walk by way of it is no shorter
+  -- A walk through it is no shorter.
   longer : (n : ℕ) (a b : MemoryEvent) → Walk Past n a b → (m : ℕ) × (n ≤ m) × Walk R m a b
   longer zero a b same = (0, omega arith, same)
   longer (suc n) a b (c, inl step, walk) = let w = longer n c b walk in (suc w.0, omega (arith, w.1), (c, step, w.2))
@@ -84,24 +84,24 @@ module _ (R : MemoryEvent → MemoryEvent → Type 0) (e : MemoryEvent) where
       by_length zero le w = omega (arith, le)
       by_length (suc m) le w = none m a w
 
--- of two numbers, the first where a decided statement holds, else the second
+-- The first of two numbers if a decidable statement holds, and the second otherwise.
 abbrev chosen : {P : Type 0} → Decidable P → ℕ → ℕ → ℕ
 chosen (inl p) m n = m
 chosen (inr not) m n = n
 
--- where the decided statement holds, the first number is chosen
+-- If the statement holds, the first number is selected.
 is_chosen : {P : Type 0} (d : Decidable P) (m n : ℕ) → P → chosen d m n ≡ m
 is_chosen (inl p) m n h = refl
 is_chosen (inr not) m n h = absurd (not h)
 
--- where the decided statement does not hold, the second number is chosen
+-- If the statement does not hold, the second number is selected.
 not_chosen : {P : Type 0} (d : Decidable P) (m n : ℕ) → (P → ⊥) → chosen d m n ≡ n
 not_chosen (inl p) m n h = absurd (h p)
 not_chosen (inr not) m n h = refl
 
 -- ---- numbers for the events of a list
 
--- numbers for the events of a list, which go up along a relation of them
+-- Numbers for the events of a list, which increase along a relation of them.
 abbrev Numbered : List MemoryEvent → (MemoryEvent → MemoryEvent → Type 0) → Type 0
 Numbered events R =
     (rank : MemoryEvent → ℕ) × ((a b : MemoryEvent) → Contains events a → Contains events b → R a b → rank a < rank b)
@@ -111,7 +111,7 @@ module _ (R : MemoryEvent → MemoryEvent → Type 0) (decide : (a b : MemoryEve
   t : Top R rest.0 e events
   t = top_of R decide rest.0 e events
 
-  -- right behind all that are related to it
+  -- The rank immediately above those of all related events.
   abbrev rank : MemoryEvent → ℕ
   rank a = chosen (same_event a e) (2 * t.top + 1) (2 * rest.0 a + 2)
 
@@ -139,7 +139,7 @@ module _ (R : MemoryEvent → MemoryEvent → Type 0) (decide : (a b : MemoryEve
     ]
   ]
 
--- where a relation can be decided and has no cycle, the events of a list have numbers that go up along it
+-- If a relation is decidable and has no cycle, the events of a list have numbers that increase along it.
 numbered : (events : List MemoryEvent) (R : MemoryEvent → MemoryEvent → Type 0)
     → ((a b : MemoryEvent) → Decidable (R a b))
     → HasNoCycle R
@@ -153,7 +153,7 @@ numbered (e ∷ events) R decide none =
 
 -- ---- the events of an execution
 
--- a relation of an execution's events that can be decided and has no cycle goes up by some ranks
+-- A decidable relation of an execution's events that has no cycle increases some ranks.
 pub numbering : (x : Execution) (R : MemoryEvent → MemoryEvent → Type 0)
     → ((a b : MemoryEvent) → Decidable (R a b))
     → ((a b : MemoryEvent) → R a b → IsEvent x a × IsEvent x b)

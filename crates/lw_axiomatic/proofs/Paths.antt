@@ -1,16 +1,16 @@
--- What a thread by itself makes of its words: where it leads, and what it does not depend on. In either language.
+-- The run of a thread on the words that it reads: where it leads, and what it does not depend on. In either language.
 use Rattle.lw_axiomatic.proofs.Common.{◌≡◌, ℕ, inl, inr, true, false, Some, Option, refl, sym, ap, ◌∙◌, subst}
 use Rattle.lw_axiomatic.proofs.Common.{true≢false, List, [], ◌∷◌, slice_get, Operation, Set, Sum, Compare}
 use Rattle.lw_axiomatic.proofs.Common.{Fence, Branch, Store, or_cases, or_right, is_load, is_store, writes}
 use Rattle.lw_axiomatic.proofs.Common.{IsSuccessor, IsFlowSuccessor, IsFlowPathFrom, ThreadState, state_after}
 use Rattle.lw_axiomatic.proofs.Common.{MemoryEvent, Execution, reads, ThreadExecutes, Language, branch_leads}
 
--- an operation leads its thread to a successor
+-- An operation leads its thread to a successor.
 pub state_leads : (o : Operation) (s : ThreadState) (w : ℕ) → IsSuccessor o s.position (state_after o s w).position
 state_leads (Branch c to) s w = branch_leads c to s.position s.regs s.zero_flag
 state_leads o s w = inl (refl, refl)
 
--- the positions that a thread goes through are a whole flow path of its code
+-- The positions of a thread's run are a whole flow path of its code.
 pub goes_path : {S : Type 0} (language : Language S) (x : Execution) (t : ℕ) (code : List S) (path : List ℕ) (s end : ThreadState)
     → ThreadExecutes language x t code path s end
     → IsFlowPathFrom language code s.position path
@@ -26,7 +26,7 @@ goes_path {S} language x t code (j ∷ path) s end goes =
       goes_path language x t code path next end goes.4,
     )
 
--- what an operation that does not read makes of its thread does not depend on the word
+-- The state after an operation that does not read does not depend on the word.
 pub unread : (o : Operation) (s : ThreadState) (v w : ℕ) → reads o ≡ false → state_after o s v ≡ state_after o s w
 unread (Set d u) s v w e = refl
 unread (Sum d a u) s v w e = refl
@@ -36,7 +36,7 @@ unread Fence s v w e = refl
 unread (Branch c to) s v w e = refl
 unread _ s v w e = absurd (true≢false e)
 
--- what writes and does not read is a store
+-- An operation that writes and does not read is a store.
 pub writes_unread : (o : Operation) → reads o ≡ false → writes o ≡ true → is_store o ≡ true
 writes_unread o r w = elim (or_cases (is_store o) _ w) [
   | inl store ↦ store

@@ -1,4 +1,4 @@
--- The word that a processor sees at its turn is that of the newest write that is before its read.
+-- The word that a processor reads at its turn is that of the newest write before the read.
 use Rattle.lw_axiomatic.proofs.Common.{◌≡◌, ℕ, suc, ◌<◌, ◌≤◌, ◌⊎◌, inl, inr, ⊎_elim, true, false, Option}
 use Rattle.lw_axiomatic.proofs.Common.{Some, None, refl, sym, ap, ap₂, ◌∙◌, subst, arith, if◌then◌else◌, List}
 use Rattle.lw_axiomatic.proofs.Common.{[], ◌∷◌, slice_get, Contains, ◌==◌, eq-eqb, ne_eqb, option_map}
@@ -82,7 +82,7 @@ module _ {test : X86Test} (x : Execution) (given : KeptOrder test x.paths) where
     ]
   ]
 
-  -- the word of the event that is read from, or the initial word of the location
+  -- The word of the event that is read from, or the initial word of the location.
   abbrev pub source_word : ℕ → Option MemoryEvent → ℕ
   source_word l None = slice_index test.head.init_words l
   source_word l (Some v) = x.written v
@@ -102,7 +102,7 @@ module _ {test : X86Test} (x : Execution) (given : KeptOrder test x.paths) where
     e_done : finish e ≡ k
     e_done = ap (λ b. turn given (item t j b)) (sym f) ∙ (turn_is given now_at.index now_at.below ∙ now_at.index_is)
 
-    -- an own store that has not reached memory waits
+    -- An own store that has not reached memory waits.
     waiting_in : (v : MemoryEvent) (l : ℕ)
         → Writes x86_language test x v l
         → Po x v e
@@ -130,7 +130,7 @@ module _ {test : X86Test} (x : Execution) (given : KeptOrder test x.paths) where
           ))
     ]
 
-    -- and what waits is an own store that has not
+    -- A store that waits is an own one that has not reached memory.
     from_waiting : (w l : ℕ)
         → IsMember w (W t)
         → entered t w ≡ Some l
@@ -163,7 +163,7 @@ module _ {test : X86Test} (x : Execution) (given : KeptOrder test x.paths) where
               omega (arith, co.later, turn_w)),
         )
 
-    -- so what is seen is the word of the newest write before it
+    -- The word that is read is that of the newest write before the read.
     pub sees_newest : (l : ℕ) (q : Option MemoryEvent)
         → IsNewest test x finish reach e l q
         → seen p.buffer s.memory l ≡ source_word l q
@@ -173,7 +173,7 @@ module _ {test : X86Test} (x : Execution) (given : KeptOrder test x.paths) where
           | inr h ↦ ap (λ o. found_or o (slice_index s.memory l)) h.found ∙ from_memory h (inv.memory l) q new
         ]
       where
-        -- where no own store to the location waits, what is before the read has reached memory
+        -- If no own store to the location waits, the writes before the read have reached memory.
         early : HasNone t (W t) p.buffer l
             → (v : MemoryEvent)
             → Writes x86_language test x v l

@@ -1,5 +1,4 @@
--- What a step does, operation by operation, in the words of threads by themselves: the thread, its buffer and the memory after
--- it.
+-- The effect of a step, operation by operation, in the terms of a thread's run: the thread, its buffer and memory after it.
 use Rattle.lw_axiomatic.proofs.Common.{◌≡◌, ℕ, true, false, true≢false, List, [], ◌∷◌, ◌++◌, Option, Some}
 use Rattle.lw_axiomatic.proofs.Common.{None, refl, sym, ap, ◌∙◌, slice_set, slice_index, operand_value}
 use Rattle.lw_axiomatic.proofs.Common.{FenceWaits, SwapWaits, Operation, Set, Sum, Compare, Store, Load}
@@ -9,48 +8,47 @@ use Rattle.lw_axiomatic.proofs.Common.{operation_effect, load_effect, EffectLead
 use Rattle.lw_axiomatic.proofs.Common.{word_written, reads, location_of, once_done}
 use Rattle.lw_axiomatic.proofs.EventKinds.{reads_located}
 
-abbrev pub thread_of : Processor → ThreadState  -- a processor without its buffer
+abbrev pub thread_of : Processor → ThreadState  -- A processor without its buffer.
 thread_of p = record { position = p.position; regs = p.regs; zero_flag = p.zero_flag }
 
--- the word that was found, or else the other
+-- The word that was found, or the default.
 abbrev pub found_or : Option ℕ → ℕ → ℕ
 found_or None w = w
 found_or (Some v) w = v
 
--- the word of a location for a processor with this buffer: its own newest, or the memory's
+-- The word of a location for a processor with this buffer: its own newest, or memory's.
 abbrev pub seen : List (ℕ × ℕ) → List ℕ → ℕ → ℕ
 seen buffer m x = found_or (newest_buffered buffer x) (slice_index m x)
 
--- the word of a location for a processor, if a location is named, and else 0
+-- The word of a location for a processor, if there is a location, and 0 otherwise.
 abbrev pub seen_at : Option ℕ → List (ℕ × ℕ) → List ℕ → ℕ
 seen_at None buffer m = 0
 seen_at (Some x) buffer m = seen buffer m x
 
-abbrev pub word_for : Operation → List (ℕ × ℕ) → List ℕ → ℕ  -- the word that an operation reads there
+abbrev pub word_for : Operation → List (ℕ × ℕ) → List ℕ → ℕ  -- The word that an operation reads.
 word_for o buffer m = if reads o then seen_at (location_of o) buffer m else 0
 
--- the store buffer after an operation: with an entry more where it is a store
+-- The store buffer after an operation: with one more entry if it is a store.
 abbrev pub buffer_after : Operation → Processor → List (ℕ × ℕ)
 buffer_after (Store x v) p = p.buffer ++ (x, operand_value v p.regs) ∷ []
 buffer_after o p = p.buffer
 
-abbrev pub word_put : Option ℕ → ℕ → List ℕ → List ℕ  -- with this word at a location, if one is named
+abbrev pub word_put : Option ℕ → ℕ → List ℕ → List ℕ  -- Memory with this word at the location, if there is one.
 word_put None w m = m
 word_put (Some x) w m = slice_set m x w
 
--- memory after an operation: with its word where it is locked
+-- Memory after an operation: with its word if it is locked.
 abbrev pub memory_after : Operation → List ℕ → List ℕ → ℕ → List ℕ
 memory_after o regs m w = if is_locked o then word_put (location_of o) (word_written o regs w) m else m
 
--- What an operation's step makes of its processor's thread, of its buffer and of memory, and what it waited for.
+-- The thread of an operation's processor, its buffer and memory after the step, and the empty buffer that it waited for.
 pub record StepCase (o : Operation) (p q : Processor) (m n : List ℕ) : Type 0 where
   pub thread : thread_of q ≡ state_after o (thread_of p) (word_for o p.buffer m)
   pub buffer : q.buffer ≡ buffer_after o p
   pub memory : n ≡ memory_after o p.regs m (word_for o p.buffer m)
   pub waited : needs_empty_buffer o ≡ true → p.buffer ≡ []
 
--- where a step makes a processor r with the thread and the buffer of the operation, keeps memory, and waits for nothing, it does
--- what `StepCase` says
+-- A step that leads to a processor r with the operation's thread and buffer, preserves memory and waits for nothing satisfies `StepCase`.
 alone : {q r : Processor} {m n : List ℕ} (o : Operation) (p : Processor)
     → (q ≡ r) × (n ≡ m)
     → thread_of r ≡ state_after o (thread_of p) (word_for o p.buffer m)
@@ -65,7 +63,7 @@ alone o p d thread buffer memory free = record {
   waited = λ w. absurd (true≢false (sym w ∙ free));
 }
 
--- a load's step does what `StepCase` says, whether its word comes from the store buffer or from memory
+-- A load's step satisfies `StepCase`, whether its word comes from the store buffer or from memory.
 load_case : (d x : ℕ) (p q : Processor) (m n : List ℕ) (f : Option ℕ)
     → newest_buffered p.buffer x ≡ f
     → EffectLeadsTo m (load_effect f x (λ w. advance_processor (set_register p d w))) q n
@@ -77,7 +75,7 @@ load_case d x p q m n (Some v) e does =
     alone (Load d x) p does (ap (λ w. state_after (Load d x) (thread_of p) w) (ap (λ f. found_or f (slice_index m x)) (sym e)))
     refl refl refl
 
--- a step of each operation does what `StepCase` says: of its thread, the store buffer, memory and what it waited for
+-- A step of each operation satisfies `StepCase`.
 pub case : (o : Operation) (p q : Processor) (m n : List ℕ) → EffectLeadsTo m (operation_effect o p) q n → StepCase o p q m n
 case (Set d v) p q m n does = alone (Set d v) p does refl refl refl refl
 case (Sum d a v) p q m n does = alone (Sum d a v) p does refl refl refl refl
@@ -98,7 +96,7 @@ case o p q m n does =
       waited = λ _. e.0;
     }
 
--- the word that an operation reads is the one that its processor sees at its location
+-- The word that an operation reads is the one that its processor sees at its location.
 pub reads_seen : (o : Operation) (b : List (ℕ × ℕ)) (m : List ℕ)
     → reads o ≡ true
     → (l : ℕ) × (location_of o ≡ Some l) × (word_for o b m ≡ seen b m l)

@@ -1,11 +1,11 @@
--- What a step by interleaving does to the memory and the registers, in either language.
+-- The effect of a step by interleaving on memory and the registers, in either language.
 use Rattle.lw_axiomatic.proofs.Common.{◌≡◌, ℕ, ◌⊎◌, inl, inr, true, false, List, Some, length, refl, ap}
 use Rattle.lw_axiomatic.proofs.Common.{length-set, slice_set, slice_index, Operation, Set, Sum, Compare}
 use Rattle.lw_axiomatic.proofs.Common.{Store, Load, FetchAdd, Fence, Branch, location_of, writes}
 use Rattle.lw_axiomatic.proofs.Common.{length-set_word_if_some, word_or_zero, read_value, words_after}
 use Rattle.lw_axiomatic.proofs.Common.{ThreadState, state_after, word_written}
 
--- an operation that writes changes the word at its location alone; another leaves memory as it is
+-- An operation that writes changes only the word at its location; any other preserves memory.
 pub memory_case : (o : Operation) (regs m : List ℕ)
     → ((writes o ≡ true)
     × (l : ℕ)
@@ -20,11 +20,11 @@ memory_case Fence regs m = inr (refl, refl)
 memory_case (Branch c to) regs m = inr (refl, refl)
 memory_case _ regs m = inl (refl, _, refl, refl)
 
--- the word that an operation finds is the one at its location
+-- The word that an operation finds is the one at its location.
 pub found_there : (o : Operation) (l : ℕ) (m : List ℕ) → location_of o ≡ Some l → read_value o m ≡ slice_index m l
 found_there o l m e = ap (λ q. word_or_zero q m) e
 
--- an operation leaves as many registers as there were
+-- An operation preserves the number of registers.
 pub registers_stay : (o : Operation) (s : ThreadState) (w : ℕ) → length (state_after o s w).regs ≡ length s.regs
 registers_stay (Set d v) s w = length-set s.regs d _
 registers_stay (Sum d a v) s w = length-set s.regs d _

@@ -1,4 +1,4 @@
--- The machine runs along an order of an execution's items, where each read's write is the newest by the indices of that order.
+-- The machine runs along an order of an execution's items, in which each read's source is the newest write by the indices of that order.
 use Rattle.lw_axiomatic.proofs.Common.{◌≡◌, ℕ, suc, ◌<◌, ◌≤◌, inl, inr, Bool, true, false, Option, Some, None}
 use Rattle.lw_axiomatic.proofs.Common.{refl, sym, ap, ap₂, ◌∙◌, subst, arith, List, [], ◌∷◌, ◌++◌, length}
 use Rattle.lw_axiomatic.proofs.Common.{slice_get, slice_set, Contains, true≢false, ◌==◌, map, IsTrue, nat_le}
@@ -51,7 +51,7 @@ module _ {test : X86Test} {x : Execution} {o : FinalState} (candidate : IsCandid
   abbrev IsInv : ℕ → (ℕ → List ℕ) → MachineState (List ℕ) → Type 0
   IsInv = Inv x given
 
-  -- what a thread has ahead after k items
+  -- The rest of a thread's run after k items.
   record AheadOf (t k : ℕ) (p : Processor) : Type 0 where
     end : ThreadState
     ends : slice_index_or o.regs t [] ≡ end.regs
@@ -92,7 +92,7 @@ module _ {test : X86Test} {x : Execution} {o : FinalState} (candidate : IsCandid
     kind : (q : Operation → Bool) → operation_is x86_language test q e ≡ q (x86_operation r.statement)
     kind q = kind_is given q e r.statement r.at
 
-    -- a step that has its turn now is this one
+    -- A step whose turn it is now is this one.
     now_is : (f : MemoryEvent) → IsEvent x f → doneP f ≡ k → (f ≡ e) × ((at now_at.index).is_drain ≡ false)
     now_is f there now =
         let same : item f.thread f.position false ≡ at now_at.index =
@@ -127,7 +127,7 @@ module _ {test : X86Test} {x : Execution} {o : FinalState} (candidate : IsCandid
           (subst (λ (ws : List ℕ). BufferHolds (thread_code test.threads t) ws p.buffer) h.1 held.waits) in
           (_, record { stands = tt; done = event_of_effect test.threads (Drain t) s.processors p d.0 s.memory d.1 was d.2 })
 
-      -- a step's thread stands there
+      -- The step's thread is at its position.
       first_is : (rest : List ℕ)
           → ((h : ℕ) → IsMember h rest → k ≤ doneP (event t h))
           → ((h : ℕ) → IsMember h rest → Contains (thread_code x.paths t) h)
@@ -154,7 +154,7 @@ module _ {test : X86Test} {x : Execution} {o : FinalState} (candidate : IsCandid
       stands : (at now_at.index).is_drain ≡ false → p.position ≡ j
       stands f = first_is ahead.rest ahead.later ahead.on ahead.end ahead.goes (ahead.all j on_path (omega (arith, done_now f))) f
 
-      -- and finds an empty buffer, where it waits
+      -- It finds an empty buffer, if it waits for one.
       none_waits : (ws : List ℕ) (b : List (ℕ × ℕ))
           → BufferHolds (thread_code test.threads t) ws b
           → ((v : ℕ) → IsMember v ws → ⊥)
@@ -201,7 +201,7 @@ module _ {test : X86Test} {x : Execution} {o : FinalState} (candidate : IsCandid
     out : (mid : MachineState (List ℕ)) × X86ItemTransition flat_memory test.threads (at now_at.index) s mid
     out = out_by here.0 here.1 (at now_at.index).is_drain refl
 
-    -- ---- the state behind it
+    -- ---- the state after it
 
     abbrev mid : MachineState (List ℕ)
     mid = out.0
@@ -217,7 +217,7 @@ module _ {test : X86Test} {x : Execution} {o : FinalState} (candidate : IsCandid
         → slice_get (slice_set s.processors t c.new) u ≡ Some q
     processor_now u q got = subst (λ (z : MachineState (List ℕ)). slice_get z.processors u ≡ Some q) c.is got
 
-    -- what another thread has ahead, or this one where the item is a drain
+    -- The rest of another thread's run is unchanged, and so is this one's if the item is a drain.
     still : (u : ℕ) (p q : Processor)
         → AheadOf u k p
         → thread_of q ≡ thread_of p
@@ -236,7 +236,7 @@ module _ {test : X86Test} {x : Execution} {o : FinalState} (candidate : IsCandid
       all = λ h there le. a.all h there (omega (arith, le));
     }
 
-    -- a read has its turn with the word that the execution says
+    -- A read's turn finds the word that the execution says.
     sees : (at now_at.index).is_drain ≡ false
         → reads (x86_operation r.statement) ≡ true
         → word_for (x86_operation r.statement) c.old.buffer s.memory ≡ x.read e
@@ -252,7 +252,7 @@ module _ {test : X86Test} {x : Execution} {o : FinalState} (candidate : IsCandid
         word_is l None from = sym from
         word_is l (Some v) from = sym from.1
 
-    -- a step of the thread: what it has ahead begins with it
+    -- A step of the thread: the rest of its run starts with it.
     record Stepped (rest : List ℕ) (end : ThreadState) : Type 0 where
       more : List ℕ
       first : rest ≡ j ∷ more
@@ -370,7 +370,7 @@ module _ {test : X86Test} {x : Execution} {o : FinalState} (candidate : IsCandid
       many = ap (λ (z : MachineState (List ℕ)). length z.processors) c.is ∙ (length-set s.processors t c.new ∙ is.many);
     }
 
-  -- ---- from the start
+  -- ---- from the initial state
 
   initial_case : (t : ℕ) (p : Processor)
       → slice_get (map initial_processor test.head.init_regs) t ≡ Some p
@@ -431,7 +431,7 @@ module _ {test : X86Test} {x : Execution} {o : FinalState} (candidate : IsCandid
       (subst (λ n. IsAt n (mid is now_at)) more (go_on is now_at)) in
       (later.0, (mid is now_at, (out is now_at).1, later.1), later.2)
 
-  -- ---- at the end
+  -- ---- in the final state
 
   module _ (s : MachineState (List ℕ)) (is : IsAt (length given.order) s) where
     nothing_ahead : (t : ℕ) (p : Processor) (a : AheadOf t (length given.order) p) (rest : List ℕ) → a.rest ≡ rest → rest ≡ []
@@ -503,7 +503,7 @@ module _ {test : X86Test} {x : Execution} {o : FinalState} (candidate : IsCandid
     outcome_is : o ≡ machine_outcome flat_memory s
     outcome_is = ap₂ (λ r w. record { regs = r; words = w }) regs_are words_are
 
-  -- the order's run stays on the paths and ends with the execution's outcome
+  -- The order's run follows its paths and reaches the execution's outcome.
   pub stays_and_ends : X86FollowsPathsToEnd flat_memory test test.head.init_words its given.order o
   stays_and_ends =
       let w = walk [] given.order refl (initial_machine_state test test.head.init_words) start in

@@ -1,5 +1,4 @@
--- What an act and an event leave: a refused one changes nothing, and over a memory that keeps the laws each keeps the
--- sizes.
+-- The state after an effect and after an event: a refused one changes nothing, and over a lawful memory each preserves sizes.
 use Rattle.lw_tso.proofs.Common.{◌≡◌, ℕ, Bool, true, false, List, length, Ok, Err, Option, Some, None, refl}
 use Rattle.lw_tso.proofs.Common.{sym, ap, ◌∙◌, subst, slice_get, slice_set, length-set, OnErr, Event, Stop}
 use Rattle.lw_tso.proofs.Common.{Request, content_after_request, Memory, IsLawful, RequestEffect, Invariant}
@@ -10,18 +9,18 @@ use Rattle.lw_tso.proofs.Common.{words_after, Access}
 use Rattle.lw_memory.specs.declared.request.Access.TheVariants as to
 use Rattle.lw_memory.specs.declared.request.Request.TheVariants as request
 
--- after an access there are as many words as before
+-- An access preserves the number of words.
 pub length-words_after : (words : List ℕ) (x : ℕ) (access : Access) → length (words_after words x access) ≡ length words
 length-words_after words x to.Load = refl
 length-words_after words x _ = length-set words x _
 
--- after a request there are as many words as before
+-- A request preserves the number of words.
 length-content_after_request : (words : List ℕ) (r : Request) → length (content_after_request words r) ≡ length words
 length-content_after_request words (request.Ask t x access) = length-words_after words x access
 length-content_after_request words _ = refl
 
 module _ {M : Type 0} (mem : Memory M) (inv : Invariant M) where
-  -- what an act keeps of the memory m, which is n then: the numbers of processors and locations, and the memory's invariant
+  -- What an effect preserves from the memory m to n: the numbers of processors and locations, and the memory's invariant.
   pub record PreservesMemorySize (m n : M) : Type 0 where
     pub cpus : inv.cpus n ≡ inv.cpus m
     pub locations : length (mem.content n) ≡ length (mem.content m)
@@ -47,7 +46,7 @@ module _ {M : Type 0} (mem : Memory M) (inv : Invariant M) where
   evicted laws false t x p q m n answer sound done = unchanged sound done.2
   evicted laws true t x p q m n answer sound done = served laws m n sound done.2
 
-  -- over a memory that keeps the laws, an act keeps the memory's size and its invariant
+  -- Over a lawful memory, an effect preserves the memory's size and its invariant.
   pub act_kept : IsLawful mem inv
       → (t : ℕ) (act : EventEffect) (p q : Processor) (m n : M) (answer : EventResult)
       → inv.sound m
@@ -63,7 +62,7 @@ module _ {M : Type 0} (mem : Memory M) (inv : Invariant M) where
   eviction_refused false t x p q m n stop done = (done.1, done.2)
   eviction_refused true t x p q m n stop done = absurd (let e = done.0 in cc)
 
-  -- a refused act changes nothing
+  -- A refused effect changes nothing.
   pub act_refused : (t : ℕ) (act : EventEffect) (p q : Processor) (m n : M) (stop : Stop)
       → EffectTransition mem t act p m (Err stop) q n
       → (q ≡ p) × (n ≡ m)
@@ -72,7 +71,7 @@ module _ {M : Type 0} (mem : Memory M) (inv : Invariant M) where
   act_refused t (Eviction x) p q m n stop done = eviction_refused _ t x p q m n stop done
   act_refused t _ p q m n stop done = absurd (let e : ◌≡◌ {A = EventResult} (Err stop) (Ok tt) = done.1 in cc)
 
-  -- a refused event changes nothing
+  -- A refused event changes nothing.
   pub event_refused : (program : List (List Instr)) (e : Event) (s after : MachineState M) (stop : Stop)
       → MachineTransition mem program e s (Err stop) after
       → after ≡ s
@@ -88,13 +87,13 @@ module _ {M : Type 0} (mem : Memory M) (inv : Invariant M) where
           let processors = ap (slice_set s.processors (cpu_of e)) same.0 ∙ set-get_same _ (cpu_of e) p at in
           done.3 ∙ rw (processors, same.1) refl
 
-  -- what an event keeps of the whole machine: the numbers of processors and locations, and the memory's invariant
+  -- What an event preserves of the whole machine: the numbers of processors and locations, and the memory's invariant.
   pub record IsSameSize (s end : MachineState M) : Type 0 where
     pub processors : length end.processors ≡ length s.processors
     pub locations : length (mem.content end.memory) ≡ length (mem.content s.memory)
     pub sound : inv.sound end.memory
 
-  -- over a memory that keeps the laws, an event keeps the numbers of processors and locations, and the memory's invariant
+  -- Over a lawful memory, an event preserves the numbers of processors and locations, and the memory's invariant.
   pub event_kept : IsLawful mem inv
       → (program : List (List Instr)) (e : Event) (s after : MachineState M) (answer : EventResult)
       → inv.sound s.memory
@@ -109,13 +108,13 @@ module _ {M : Type 0} (mem : Memory M) (inv : Invariant M) where
           subst (IsSameSize s) (sym done.3)
           (record { processors = length-set s.processors (cpu_of e) done.0; locations = kept.locations; sound = kept.sound })
 
-  -- what a running machine is after an event: as before if it was refused, and in any case of as many processors and words
+  -- A running machine after an event: unchanged if the event was refused, and always with as many processors and words as before.
   pub record IsLeft (before : MachineRun M) (answer : EventResult) (after : MachineRun M) : Type 0 where
     pub err : OnErr answer (after ≡ before)
     pub processors : length after.state.processors ≡ length before.state.processors
     pub words : length (mem.content after.state.memory) ≡ length (mem.content before.state.memory)
 
-  -- where a call has done an event on a running machine, and kept its program and start, it leaves what `IsLeft` says
+  -- A call that executes an event on a running machine, and preserves its program and initial state, satisfies `IsLeft`.
   pub left : IsLawful mem inv
       → (e : Event) (before after : MachineRun M) (answer : EventResult)
       → inv.sound before.state.memory

@@ -1,4 +1,4 @@
--- Acts over the flat memory that commute: those that do not conflict, and a step beside an entry that it may pass.
+-- Effects over flat memory that commute: those that do not conflict, and a step with a drain that it commutes with.
 use Rattle.lw_tso.proofs.Common.{◌≡◌, ◌≢◌, ℕ, Bool, true, false, if◌then◌else◌, List, ◌∷◌, Option, Some, None}
 use Rattle.lw_tso.proofs.Common.{refl, sym, ap, ◌∙◌, subst, slice_set, slice_index, ne_eqb, true≢false}
 use Rattle.lw_tso.proofs.Common.{get_or-set_other, option_or, set_comm, same_Some, unwrap_or, Operation, Load}
@@ -9,23 +9,23 @@ use Rattle.lw_tso.proofs.Common.{event_writes, Access, DoNotConflict, CommutesWi
 use Rattle.lw_tso.proofs.api.Effects.{EffectLeadsTo}
 use Rattle.lw_memory.specs.declared.request.Access.TheVariants as to
 
--- ---- two acts
+-- ---- two effects
 
--- an access answers the same where its location has the same word
+-- An access returns the same word if its location has the same word.
 answer_same : (m n : List ℕ) (x : ℕ) (access : Access)
     → slice_index m x ≡ slice_index n x
     → value_returned m x access ≡ value_returned n x access
 answer_same m n x (to.Store w) same = refl
 answer_same m n x _ same = ap Some same
 
--- an access of y leaves the word at x as it is, if x is another location or the access does not write
+-- An access of y preserves the word at x, if x is another location or the access does not write.
 words_other : (m : List ℕ) (y : ℕ) (access : Access) (x : ℕ)
     → (y ≡ x → is_write access ≡ false)
     → slice_index (words_after m y access) x ≡ slice_index m x
 words_other m y to.Load x free = refl
 words_other m y _ x free = get_or-set_other m y x _ 0 (λ e. true≢false (free (sym e)))
 
--- a word can be put at x before an access of another location y, or behind it: the words are the same then
+-- Writing x before or after an access of another location y gives the same words.
 words_beside : (m : List ℕ) (y : ℕ) (access : Access) (x w : ℕ)
     → y ≢ x
     → slice_set (words_after m y access) x w ≡ words_after (slice_set m x w) y access
@@ -34,7 +34,7 @@ words_beside m y (to.Store v) x w ne = set_comm m y x v w ne
 words_beside m y (to.Update change) x w ne =
     set_comm m y x _ w ne ∙ ap (λ k. slice_set (slice_set m x w) y (changed_word change k)) (sym (get_or-set_other m x y w 0 ne))
 
--- an act leaves the word at a location as it is, if it does not write there
+-- An effect preserves the word at a location that it does not write.
 word_kept : (act : EventEffect) (m n : List ℕ) (q : Processor) (x : ℕ)
     → EffectLeadsTo m act q n
     → (accessed_location act ≡ Some x → event_writes act ≡ false)
@@ -44,7 +44,7 @@ word_kept (MemoryAccess y access next) m n q x d free =
     ap (λ k. slice_index k x) d.1 ∙ words_other m y access x (λ e. free (ap Some e))
 word_kept _ m n q x d free = absurd d
 
--- an act does the same where the memory has another word at a location x that the act does not access
+-- An effect does not depend on the word at a location that it does not access.
 does_beside : (act : EventEffect) (m n : List ℕ) (q : Processor) (x w : ℕ)
     → EffectLeadsTo m act q n
     → (accessed_location act ≡ Some x → ⊥)
@@ -56,7 +56,7 @@ does_beside (MemoryAccess y access next) m n q x w d free =
     (d.0 ∙ ap (λ a. next (unwrap_or a 0)) answer, ap (λ k. slice_set k x w) d.1 ∙ words_beside m y access x w ne)
 does_beside _ m n q x w d free = absurd d
 
--- an act that leaves the word at x does the same behind an access of x, if that does not write or the act does not access x
+-- An effect that preserves the word at x is the same after an access of x, if that does not write or the effect does not access x.
 does_behind : (act : EventEffect) (m n : List ℕ) (q : Processor) (x : ℕ) (access : Access)
     → EffectLeadsTo m act q n
     → (is_write access ≡ true → accessed_location act ≡ Some x → ⊥)
@@ -69,13 +69,13 @@ does_behind act m n q x (to.Update change) d free same =
     subst (λ w. EffectLeadsTo (slice_set m x word) act q (slice_set n x (changed_word change w))) (sym same)
     (does_beside act m n q x word d (free refl))
 
--- Two acts are done, one behind the other, which leads from the words m to the words n: a leaves processor p, and then b leaves q.
+-- Two effects in sequence lead from the words m to the words n: a leads to the processor p, and then b to q.
 pub record DoneInTurn (a b : EventEffect) (p q : Processor) (m n : List ℕ) : Type 0 where
   pub between : List ℕ
   pub first : EffectLeadsTo m a p between
   pub second : EffectLeadsTo between b q n
 
--- acts that do not conflict lead to the same the other way round
+-- Effects that do not conflict lead to the same state in either order.
 pub acts_exchange : (a b : EventEffect) (p q : Processor) (m n : List ℕ)
     → DoNotConflict a b
     → DoneInTurn a b p q m n
@@ -95,20 +95,20 @@ acts_exchange a (MemoryAccess x access next) p q m n free done =
     }
 acts_exchange a _ p q m n free done = absurd done.second
 
--- ---- a step, and one entry more
+-- ---- a step, with one more entry
 
--- a processor with one entry more in its store buffer, the oldest
+-- A processor with one more entry in its store buffer, the oldest.
 abbrev pub with_oldest : ℕ × ℕ → Processor → Processor
 with_oldest entry p = record p { buffer = entry ∷ p.buffer }
 
--- the act, as a processor does it that has this entry too, as its oldest, which stays
+-- The effect of a processor that has this entry too, as its oldest, and keeps it.
 abbrev pub keeping : ℕ × ℕ → EventEffect → EventEffect
 keeping entry (Refused stop) = Refused stop
 keeping entry (LocalStep next) = LocalStep (with_oldest entry next)
 keeping entry (MemoryAccess x access next) = MemoryAccess x access (λ w. with_oldest entry (next w))
 keeping entry (Eviction x) = Eviction x
 
--- what an act does, it does as well with an entry more, which stays
+-- An effect is the same with one more entry, which is kept.
 pub keeping_does : (entry : ℕ × ℕ) (act : EventEffect) (m n : List ℕ) (q : Processor)
     → EffectLeadsTo m act q n
     → EffectLeadsTo m (keeping entry act) (with_oldest entry q) n
@@ -116,7 +116,7 @@ keeping_does entry (Refused stop) m n q d = absurd d
 keeping_does entry (Eviction x) m n q d = absurd d
 keeping_does entry _ m n q d = (ap (with_oldest entry) d.0, d.1)
 
--- what an act does with an entry that stays, it does as well without it
+-- An effect with an entry that is kept is the same without it.
 pub does_kept : (entry : ℕ × ℕ) (act : EventEffect) (m n : List ℕ) (q : Processor)
     → EffectLeadsTo m (keeping entry act) q n
     → (new : Processor) × (q ≡ with_oldest entry new) × EffectLeadsTo m act new n
@@ -124,16 +124,16 @@ does_kept entry (LocalStep next) m n q d = (next, d.0, (refl, d.1))
 does_kept entry (MemoryAccess x access next) m n q d = (next (unwrap_or (value_returned m x access) 0), d.0, (refl, d.1))
 does_kept entry _ m n q d = absurd d
 
--- `with_entry`, the act of a processor with this entry as its oldest, is `act` with it kept, and does not access its location
+-- The effect `with_entry`, of a processor with this entry as its oldest, is `act` with the entry kept, and does not access its location.
 pub record LeavesAlone (entry : ℕ × ℕ) (act with_entry : EventEffect) : Type 0 where
   pub same : with_entry ≡ keeping entry act
   pub free : accessed_location act ≡ Some entry.0 → ⊥
 
--- an act that asks the memory nothing leaves the entry alone
+-- An effect without a memory access does not access the entry's location.
 alone : (entry : ℕ × ℕ) (next : Processor) → LeavesAlone entry (LocalStep next) (LocalStep (with_oldest entry next))
 alone entry next = record { same = refl; free = λ e. cc }
 
--- a load of another location leaves the entry alone, whether it is by store forwarding or from memory
+-- A load of another location does not access the entry's location, whether it is forwarded or from memory.
 load_alone : (entry : ℕ × ℕ) (o : Option ℕ) (here : Bool) (y : ℕ) (next : ℕ → Processor)
     → here ≡ false
     → entry.0 ≢ y
@@ -143,7 +143,7 @@ load_alone entry (Some w) here y next not ne = alone entry (next w)
 load_alone entry None true y next not ne = absurd (true≢false not)
 load_alone entry None _ y next not ne = record { same = refl; free = λ e. ne (sym (same_Some y entry.0 e)) }
 
--- an operation that may pass the entry leaves it alone
+-- An operation that commutes with the drain of the entry does not access its location.
 pub operation_alone : (entry : ℕ × ℕ) (o : Operation) (p : Processor)
     → CommutesWithDrain entry.0 o
     → LeavesAlone entry (operation_effect o p) (operation_effect o (with_oldest entry p))

@@ -1,4 +1,4 @@
--- What an event asks of the memory, and what it makes of its processor, over any memory.
+-- The memory access of an event, and its processor after it, over any memory.
 use Rattle.lw_tso.proofs.Common.{◌≡◌, ℕ, Bool, true, false, nat_lt, if◌then◌else◌, List, [], ◌∷◌, Option}
 use Rattle.lw_tso.proofs.Common.{Some, None, refl, inl, inr, ◌⊎◌, ⊎_elim, slice_get, thread_code, Event, Step}
 use Rattle.lw_tso.proofs.Common.{Drain, Evict, NoLocation, Memory, is_held, Instr, location_of, x86_operation}
@@ -7,24 +7,24 @@ use Rattle.lw_tso.proofs.Common.{drain_effect, without_evictions, EventResult, E
 use Rattle.lw_tso.proofs.Common.{EvictionTransition}
 use Rattle.lw_tso.proofs.api.Operations.{EffectSatisfies, comes_made, OperationTransition, operation_comes}
 
--- an event is a step or a drain
+-- The event is a step or a drain.
 abbrev pub IsNoEviction : Event → Type 0
 IsNoEviction e = without_evictions (e ∷ []) ≡ e ∷ []
 
--- x is a location that an event of the processor p may ask memory for: that of its next instruction, or of its oldest entry
+-- An event of the processor p may access x: it is the location of its next instruction, or of its oldest entry.
 abbrev pub AsksFor : List Instr → Processor → ℕ → Type 0
 AsksFor code p x =
     ((i : Instr) × (slice_get code p.position ≡ Some i) × (location_of (x86_operation i) ≡ Some x))
     ⊎ ((entry : ℕ × ℕ) × (newer : List (ℕ × ℕ)) × (p.buffer ≡ entry ∷ newer) × (entry.0 ≡ x))
 
--- What an event makes of its processor: nothing, the next instruction done, or the oldest entry gone to memory.
+-- The processor after an event: unchanged, after the next instruction, or with the oldest entry drained.
 pub data Becomes (code : List Instr) (p q : Processor) : Type 0 where
   Stays : q ≡ p → Becomes code p q
   Steps : (i : Instr) → slice_get code p.position ≡ Some i → OperationTransition (x86_operation i) p q → Becomes code p q
   Drains : (entry : ℕ × ℕ) (newer : List (ℕ × ℕ)) → p.buffer ≡ entry ∷ newer → q ≡ record p { buffer = newer } → Becomes code p q
 
 module _ (program : List (List Instr)) (locs : ℕ) where
-  -- the claim on an event's act: it asks memory for a location by `AsksFor` alone, and makes of its processor what `Becomes` says
+  -- The claim about an event's effect: it accesses only locations of `AsksFor`, and its processor after it satisfies `Becomes`.
   abbrev pub EventComes : Event → Processor → EventEffect → Type 0
   EventComes e p =
       EffectSatisfies (Unit {0}) (λ x written. AsksFor (thread_code program (cpu_of e)) p x)
@@ -44,7 +44,7 @@ module _ (program : List (List Instr)) (locs : ℕ) where
   drain_comes t p [] is = tt
   drain_comes t p (entry ∷ newer) is = (inr (entry, newer, is, refl), λ none. Drains entry newer is refl)
 
-  -- an event other than an eviction comes to an act that asks memory for no more, and makes no more, than `EventComes` says
+  -- The effect of an event other than an eviction satisfies `EventComes`.
   pub event_comes : (e : Event) (p : Processor) → IsNoEviction e → EventComes e p (event_effect program locs e p)
   event_comes (Step t) p none = step_comes t p (slice_get (thread_code program t) p.position) refl
   event_comes (Drain t) p none = drain_comes t p p.buffer refl

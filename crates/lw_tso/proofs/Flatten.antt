@@ -1,4 +1,4 @@
--- A run over a memory that keeps the laws is, evictions left out, a run over the flat one.
+-- A run over a lawful memory is, without its evictions, a run over flat memory.
 use Rattle.lw_tso.proofs.Common.{◌≡◌, ℕ, Bool, true, false, if◌then◌else◌, List, [], ◌∷◌, length, Ok, Option}
 use Rattle.lw_tso.proofs.Common.{Some, None, refl, ap, ap₂, ◌∙◌, subst, slice_get, slice_set, FinalState}
 use Rattle.lw_tso.proofs.Common.{Event, Step, Drain, Evict, NoLocation, flat_memory, Memory, is_held}
@@ -12,7 +12,7 @@ use Rattle.lw_tso.proofs.EventActs.{IsNoEviction, EventComes, event_comes}
 use Rattle.lw_memory.specs.declared.request.Request.TheVariants as request
 
 module _ {M : Type 0} (mem : Memory M) (inv : Invariant M) (laws : IsLawful mem inv) where
-  -- an act that is no eviction
+  -- An effect that is no eviction is the same over flat memory.
   act_flat : (t : ℕ) (act : EventEffect) (p q : Processor) (m n : M) (answer : EventResult)
       → inv.sound m
       → ((x : ℕ) → act ≡ Eviction x → ⊥)
@@ -35,7 +35,7 @@ module _ {M : Type 0} (mem : Memory M) (inv : Invariant M) (laws : IsLawful mem 
       subst (EventComes program l e p) is (event_comes program l e p none) in
       (done.0, mem.content done.1, act_flat _ _ p _ _ _ answer sound keeps done.2, ap (over_flat_memory mem) done.3)
 
-  -- an event but an eviction, done over a memory, is done with the same answer over the flat memory of its content
+  -- An event other than an eviction has the same result over flat memory with the same content.
   pub event_flat : (program : List (List Instr)) (e : Event) (s after : MachineState M) (answer : EventResult)
       → inv.sound s.memory
       → IsNoEviction e
@@ -71,7 +71,7 @@ module _ {M : Type 0} (mem : Memory M) (inv : Invariant M) (laws : IsLawful mem 
       (λ (ps : List Processor) (words : List ℕ). let a : MachineState (List ℕ) = record { processors = ps; memory = words } in a)
       processors same.1
 
-  -- a run over any memory is one over flat memory, its evictions left out
+  -- A run over any lawful memory is, without its evictions, one over flat memory.
   pub run_flat : (program : List (List Instr)) (es : List Event) (s end : MachineState M)
       → inv.sound s.memory
       → MachineRunsTo mem program es s end
@@ -92,7 +92,7 @@ module _ {M : Type 0} (mem : Memory M) (inv : Invariant M) (laws : IsLawful mem 
       (eviction_flat (slice_get s.processors t) program t x s ran.0 sound refl ran.1)
       (run_flat program es ran.0 end (event_kept mem inv laws program (Evict t x) s ran.0 (Ok tt) sound ran.1).sound ran.2)
 
-  -- a replay over any memory is one over flat memory, its evictions left out
+  -- A replay over any lawful memory is, without its evictions, one over flat memory.
   pub replays_flat : (test : X86Test) (m : M) (es : List Event) (o : FinalState)
       → inv.sound m
       → ReplaysTo mem test m es o

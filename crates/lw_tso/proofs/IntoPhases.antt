@@ -1,5 +1,5 @@
--- A run of the machine over flat memory, with each locked instruction done in phases: it takes the lock, reads, writes, drains
--- its write, and gives the lock back, in a row.
+-- A run of the machine over flat memory, with each locked instruction in phases: it acquires the lock, reads, writes, drains its write, and
+-- releases the lock, in sequence.
 use Rattle.lw_tso.proofs.Common.{◌≡◌, ℕ, Bool, true, false, List, [], ◌∷◌, ◌++◌, length, map, Ok, Option}
 use Rattle.lw_tso.proofs.Common.{Some, None, refl, sym, ap, ◌∙◌, subst, slice_get, slice_set, slice_index}
 use Rattle.lw_tso.proofs.Common.{option_map, set-set, get_or_from_slice_get, slice_get-map, get-set_same}
@@ -13,14 +13,14 @@ use Rattle.lw_tso.proofs.LockedSteps.{locked_does, locked_there, locked_waited, 
 use Rattle.lw_tso.proofs.api.Effects.{state, EffectLeadsTo, no_eviction, EventOccurrence}
 use Rattle.lw_tso.proofs.api.Effects.{MachineTransition-deterministic, event_of_effect, effect_of_event}
 
--- the store buffer of a processor that is there is found in the machine
+-- The store buffer of a processor in range is that in the machine.
 pub buffer_at : (s : MachineState (List ℕ)) (t : ℕ) (p : Processor) → slice_get s.processors t ≡ Some p → buffer_of s t ≡ p.buffer
 buffer_at s t p at =
     get_or_from_slice_get (map (λ (q : Processor). q.buffer) s.processors) t p.buffer []
     (slice_get-map (λ (q : Processor). q.buffer) s.processors t ∙ ap (option_map (λ (q : Processor). q.buffer)) at)
 
 module _ (program : List (List Instr)) where
-  -- events in phases of locked instructions lead from one state to another; nobody holds the lock before or after
+  -- Events with locked instructions in phases lead from one state to another; the lock is free before and after.
   abbrev pub InPhases : MachineState (List ℕ) → MachineState (List ℕ) → Type 0
   InPhases s end = (events : List PhasedEvent) × PhasedRunsTo program events (unlocked s) (unlocked end)
 
@@ -31,7 +31,7 @@ module _ (program : List (List Instr)) where
   ran_append [] fs s mid end r q = subst (λ (m : PhasedState). PhasedRunsTo program fs m end) r q
   ran_append (e ∷ es) fs s mid end r q = (r.0, r.1, ran_append es fs r.0 mid end r.2 q)
 
-  -- a locked instruction of a processor whose buffer is empty
+  -- A locked instruction of a processor whose buffer is empty.
   module _ (t : ℕ) (s : MachineState (List ℕ)) (p : Processor) (l : Locked)
       (at : IsAtLocked program s t (with_empty_buffer p) l) where
     abbrev word : ℕ
@@ -43,11 +43,11 @@ module _ (program : List (List Instr)) where
     abbrev words : List ℕ
     words = slice_set s.memory l.location left
 
-    -- the state after it
+    -- The state after it.
     abbrev done_at_once : MachineState (List ℕ)
     done_at_once = state (slice_set s.processors t (l.next word)) words
 
-    -- its processor with its write in the buffer, and after the drain
+    -- Its processor with its write in the buffer, and after the drain.
     abbrev written : Processor
     written = having_written l word []
 
@@ -105,7 +105,7 @@ module _ (program : List (List Instr)) where
       ),
     )
 
-    -- that is what its step leaves
+    -- Its step leads to that state.
     step_leaves : (after : MachineState (List ℕ))
         → MachineTransition flat_memory program (Step t) s (Ok tt) after
         → after ≡ done_at_once
@@ -116,7 +116,7 @@ module _ (program : List (List Instr)) where
         (locked_does s.memory act l at.locked) in
         (MachineTransition-deterministic program (Step t) s after done_at_once (Ok tt) (Ok tt) done way).1
 
-  -- one event
+  -- An event is a run in phases.
   event_phases : (e : Event) (s after : MachineState (List ℕ))
       → MachineTransition flat_memory program e s (Ok tt) after
       → InPhases s after
@@ -178,7 +178,7 @@ module _ (program : List (List Instr)) where
       by_next None next = absurd (subst (λ o. EffectLeadsTo s.memory (step_effect o d.from) d.to d.words) next d.does)
       by_next (Some i) next = by_lock i next (is_locked (x86_operation i)) refl
 
-  -- each run is one in phases of locked instructions
+  -- Each run is one with locked instructions in phases.
   pub run_phases : (es : List Event) (s end : MachineState (List ℕ)) → MachineRunsTo flat_memory program es s end → InPhases s end
   run_phases [] s end ran = ([], ap unlocked ran)
   run_phases (e ∷ es) s end ran =

@@ -1,10 +1,10 @@
--- The newest word for a location, found from the newest entry on.
+-- The newest word for a location, searched from the newest entry on.
 use Rattle.lw_tso.proofs.Common.{IsSome, Bor, refl, option_copied, slice_get-some, length, ◌≡◌, ℕ, suc, ◌-◌}
 use Rattle.lw_tso.proofs.Common.{◌<◌, true, false, List, ◌∷◌, slice_get, drop, Option, Some, None, ◌==◌}
 use Rattle.lw_tso.proofs.Common.{if◌then◌else◌, ap, sym, ◌∙◌, subst, arith, drop-cons, option_or}
 use Rattle.lw_tso.proofs.Common.{slice_get_within, get_or_from_slice_get, newest_buffered}
 
--- what is looked up at an index of a list is found
+-- An index in range is found.
 pub found_within : {X : Type 0} (read : Option (Bor X)) (xs : List X) (i : ℕ)
     → option_copied read ≡ slice_get xs i
     → i < length xs
@@ -12,18 +12,18 @@ pub found_within : {X : Type 0} (read : Option (Bor X)) (xs : List X) (i : ℕ)
 found_within (Some x) xs i is within = refl
 found_within None xs i is within = let (x, at) = slice_get-some xs i within in absurd cc
 
--- the word that one entry has for a location, if it is for it
+-- The word of an entry, if the entry is for the location.
 abbrev word_for : ℕ → ℕ × ℕ → Option ℕ
 word_for x entry = if entry.0 == x then Some entry.1 else None
 
--- if the entries from index k on have a word for the location x, their newest is the newest of all
+-- If the entries from index k on have a word for x, the newest of these is the newest of all.
 newest_from_newer : (x k w : ℕ) (entries : List (ℕ × ℕ))
     → newest_buffered (drop k entries) x ≡ Some w
     → newest_buffered entries x ≡ Some w
 newest_from_newer x (suc k) w (entry ∷ entries) h = ap (λ q. option_or q (word_for x entry)) (newest_from_newer x k w entries h)
 newest_from_newer x _ w _ h = h
 
--- if no entry behind index k is for the location x, the newest word from k on is that of the entry at k, if that is for x
+-- If no entry after index k is for x, the newest word from k on is that of the entry at k, if that is for x.
 newest_at : (x k : ℕ) (entries : List (ℕ × ℕ)) (entry : ℕ × ℕ)
     → slice_get entries k ≡ Some entry
     → newest_buffered (drop (suc k) entries) x ≡ None
@@ -34,7 +34,7 @@ newest_at x k entries entry at h =
     ∙ ap (λ y. y ∷ drop (suc k) entries) (get_or_from_slice_get entries k entry entry at) in
     ap (λ es. newest_buffered es x) parts ∙ ap (λ q. option_or q (word_for x entry)) h
 
--- if no entry from index p on is for x, the newest word from p - 1 on is that of the entry there, if that is for x
+-- If no entry from index p on is for x, the newest word from `p - 1` on is that of the entry there, if that is for x.
 before : (x p : ℕ) (entries : List (ℕ × ℕ)) (entry : ℕ × ℕ)
     → 0 < p
     → slice_get entries (p - 1) ≡ Some entry
@@ -44,7 +44,7 @@ before x p entries entry positive at h =
     let back : suc (p - 1) ≡ p = omega arith in
     newest_at x (p - 1) entries entry at (subst (λ (n : ℕ). newest_buffered (drop n entries) x ≡ None) (sym back) h)
 
--- if no entry from index p on is for x, nor the one before p, there is no word for x from that one on: the search goes on
+-- If neither an entry from index p on nor the one before p is for x, there is no word for x from `p - 1` on: the search continues.
 pub passed_one_more : (x p : ℕ) (entries : List (ℕ × ℕ)) (entry : ℕ × ℕ)
     → 0 < p
     → slice_get entries (p - 1) ≡ Some entry
@@ -54,7 +54,7 @@ pub passed_one_more : (x p : ℕ) (entries : List (ℕ × ℕ)) (entry : ℕ × 
 passed_one_more x p entries entry positive at other h =
     before x p entries entry positive at h ∙ ap (λ b. if b then Some entry.1 else None) other
 
--- if none of the entries from index p on is for x, but the one before p is, the search ends: its word is the newest of all
+-- If no entry from index p on is for x, but the one before p is, its word is the newest of all: the search ends.
 pub found_newest : (x p : ℕ) (entries : List (ℕ × ℕ)) (entry : ℕ × ℕ)
     → 0 < p
     → slice_get entries (p - 1) ≡ Some entry

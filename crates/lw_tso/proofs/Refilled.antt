@@ -1,16 +1,16 @@
--- A list xs that is written over item by item, until the images of its items by f are those of another list's, ys, by g.
+-- A list xs that is overwritten item by item, until f of its items equals g of another list's items, ys.
 use Rattle.lw_tso.proofs.Common.{◌≡◌, ℕ, ◌+◌, ◌<◌, ◌≤◌, List, [], ◌∷◌, ◌++◌, length, map, set, take, get_or}
 use Rattle.lw_tso.proofs.Common.{Some, refl, sym, ap, ap₂, ◌∙◌, arith, slice_get, get_or-take, length-take}
 use Rattle.lw_tso.proofs.Common.{take_all, map-append, map-set, map_more, take_more, take_more_set}
 use Rattle.lw_tso.proofs.Common.{get_or-range_with_len, range_with_len, set-get_same}
 
--- The items of xs before index i have the images of those of ys, and both lists have an item at i.
+-- Before index i, f of xs' items equals g of those of ys, and both lists have an item at i.
 pub record RefilledUpTo {X Y Z : Type 0} (f : X → Z) (g : Y → Z) (xs : List X) (ys : List Y) (i : ℕ) : Type 0 where
   pub so_far : map f (take i xs) ≡ map g (take i ys)
   pub within : i < length xs
   pub there : i < length ys
 
--- if an item with the image of that of ys at i is written over that of xs, the items up to i have the images of those of ys
+-- Overwriting the item at i of xs with one of the same image extends the property to `i + 1`.
 pub refilled : {X Y Z : Type 0} (f : X → Z) (g : Y → Z) (xs : List X) (ys : List Y) (i : ℕ) (x : X) (d : Y)
     → RefilledUpTo f g xs ys i
     → f x ≡ g (get_or ys i d)
@@ -21,7 +21,7 @@ refilled f g xs ys i x d upto is =
     ∙ rw (upto.so_far, is) refl
     ∙ sym (map_more g ys i d upto.there)
 
--- if the first k items of xs have the images of those of ys, and both lists have as many items, at most k, then all have
+-- If the property holds up to k, and both lists have the same length, at most k, it holds of all items.
 pub refilled_all : {X Y Z : Type 0} (f : X → Z) (g : Y → Z) (xs : List X) (ys : List Y) {k : ℕ}
     → map f (take k xs) ≡ map g (take k ys)
     → length xs ≡ length ys
@@ -30,14 +30,14 @@ pub refilled_all : {X Y Z : Type 0} (f : X → Z) (g : Y → Z) (xs : List X) (y
 refilled_all f g xs ys {k = k} so_far many past =
     ap (map f) (sym (take_all k xs (omega arith))) ∙ so_far ∙ ap (map g) (take_all k ys past)
 
--- an item that is written over one with the same image leaves the list of images as it was
+-- Overwriting an item with one of the same image preserves the list of images.
 pub kept_in_place : {X Y : Type 0} (f : X → Y) (xs : List X) (i : ℕ) (x y : X)
     → slice_get xs i ≡ Some y
     → f x ≡ f y
     → map f (set xs i x) ≡ map f xs
 kept_in_place f xs i x y at same = map-set f xs i x ∙ rw same (sym (map-set f xs i y) ∙ ap (map f) (set-get_same xs i y at))
 
--- of the list of all locations, which are the numbers from 0 to 7, or of its first n, the item at index i is i
+-- In the list of all locations, or of its first n, the item at index i is i.
 pub location_at : (n i l : ℕ) {all : List ℕ}
     → all ≡ range_with_len 0 8
     → i < length (take n all)
@@ -51,7 +51,7 @@ location_at n i l {all = all} are within is =
     ∙ get_or-range_with_len 0 8 i l (omega (arith, within, inside, ap length are))
     ∙ (omega arith)
 
--- if the words of xs before index i are those of ys, and the next of ys is written at i, then those up to i are
+-- Writing the next word of ys at i extends the equal prefix of xs and ys to `i + 1`.
 pub written_on : (xs ys : List ℕ) (i : ℕ) {j : ℕ} (w : ℕ)
     → j ≡ i
     → i < length xs

@@ -1,4 +1,4 @@
--- Processors at the start of a program, and a machine of them.
+-- Processors in their initial states, and a machine of them.
 use Rattle.lw_tso.proofs.Common.{◌≡◌, ℕ, suc, ◌+◌, ◌<◌, ◌≤◌, List, [], ◌∷◌, ◌++◌, length, map, take, get_or}
 use Rattle.lw_tso.proofs.Common.{Option, Some, None, refl, sym, ap, ◌∙◌, subst, arith, slice_get, inl, inr}
 use Rattle.lw_tso.proofs.Common.{◌⊎◌, option_map, take-suc, length-take-le, cases_eq, map-append, length-map}
@@ -7,7 +7,7 @@ use Rattle.lw_tso.proofs.Common.{slice_get-last, Invariant, Memory, Instr, initi
 use Rattle.lw_tso.proofs.Common.{stores_from, HasRoom, IsReachableMachine, processor_of}
 use Rattle.lw_tso.specs.declared.processor.Processor.{Processor as ProcessorInMemory}
 
--- what holds at each index of a list and of one item more holds at each index of both
+-- What holds at each index of a list and of one more item holds at each index with the item appended.
 more_indices : {X : Type 0} (P : ℕ → X → Type 0) (xs : List X) {ys : List X} (x : X)
     → ys ≡ xs ++ x ∷ []
     → ((t : ℕ) (y : X) → slice_get xs t ≡ Some y → P t y)
@@ -25,18 +25,18 @@ more_indices P xs x is before here t y at = go (cases_eq t (length xs))
     go (inr other) = before t y (sym (slice_get-push xs x t other) ∙ there)
 
 module _ {A : Type 0} (program : List (List Instr)) (regs : List (List ℕ)) where
-  -- each of the first so many threads has a processor that starts with its registers, with room for its stores
+  -- Each of the first n threads has a processor in its initial state, with room for its stores.
   pub record AreStarted (n : ℕ) (processors : List (ProcessorInMemory A)) : Type 0 where
     pub start : map processor_of processors ≡ map initial_processor (take n regs)
     pub rooms : (t : ℕ) (p : ProcessorInMemory A)
         → slice_get processors t ≡ Some p
         → stores_from 0 (thread_code program t) ≤ p.buffer.room
 
-  -- before the first thread no processor is made
+  -- Before the first thread there is no processor.
   pub none_started : AreStarted 0 []
   none_started = record { start = refl; rooms = λ t p at. absurd (omega (arith, slice_get_within [] t p at)) }
 
-  -- the next thread's processor, behind those that are made, starts with its registers and has room for its stores
+  -- The next thread's processor, appended to the others, is in its initial state and has room for its stores.
   pub one_more : (n : ℕ) (processors next : List (ProcessorInMemory A)) (p : ProcessorInMemory A)
       → AreStarted n processors
       → n < length regs
@@ -60,7 +60,7 @@ module _ {A : Type 0} (program : List (List Instr)) (regs : List (List ℕ)) whe
         rooms = more_indices _ processors p is so_far.rooms (rw many roomy);
       }
 
-  -- processors with the same rooms have room for their codes too
+  -- Processors with the same rooms have room for their codes too.
   pub still_roomy : (before now : List (ProcessorInMemory A))
       → map (λ (p : ProcessorInMemory A). p.buffer.room) now ≡ map (λ (p : ProcessorInMemory A). p.buffer.room) before
       → ((t : ℕ) (p : ProcessorInMemory A) → slice_get before t ≡ Some p → stores_from 0 (thread_code program t) ≤ p.buffer.room)
@@ -92,7 +92,7 @@ module _ {A : Type 0} (program : List (List Instr)) (regs : List (List ℕ)) whe
     starts_with t p None e = absurd cc
     starts_with t p (Some r) e = (r, same_Some (processor_of p) (initial_processor r) e)
 
-    -- the parts of a machine at the start
+    -- The parts of a machine in its initial state.
     pub machine_made : inv.sound m
         → length (mem.content m) ≡ locs
         → length program ≤ inv.cpus m

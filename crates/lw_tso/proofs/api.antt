@@ -1,6 +1,5 @@
--- What proofs of other crates cite: what operations come to, what events come to over the flat memory, that runs can be
--- ended, which neighbours can be exchanged, that runs over every memory are those over the flat one, what a replay speaks of, and
--- that fences only take outcomes away.
+-- Lemmas that other crates use: the effects of operations and of events over flat memory, runs can be completed, independent events
+-- commute, runs over every memory are those over flat memory, what a replay mentions, and fences only remove outcomes.
 pub mod Operations
 pub mod Effects
 pub mod Neighbours

@@ -1,4 +1,4 @@
--- What acts and events come to over the flat memory.
+-- The effects of events over flat memory.
 use Rattle.lw_tso.proofs.Common.{◌≡◌, ℕ, List, length, Ok, Option, Some, None, Bool, true, false, refl, sym}
 use Rattle.lw_tso.proofs.Common.{ap, ap₂, ◌∙◌, subst, nat_lt, if◌then◌else◌, slice_get, slice_set, unwrap_or}
 use Rattle.lw_tso.proofs.Common.{value_returned, words_after, Event, Evict, NoLocation, flat_memory, Instr}
@@ -6,20 +6,20 @@ use Rattle.lw_tso.proofs.Common.{Processor, EventEffect, Refused, LocalStep, Mem
 use Rattle.lw_tso.proofs.Common.{event_effect, MachineState, EventResult, EffectTransition}
 use Rattle.lw_tso.proofs.Common.{ProcessorTransition, MachineTransition}
 
--- a state of the flat machine, of its processors and its words
+-- A state of the flat machine, from its processors and its words.
 abbrev pub state : List Processor → List ℕ → MachineState (List ℕ)
 state processors m = record { processors = processors; memory = m }
 
--- ---- one answer, and one state after it
+-- ---- determinism
 
--- What an act of processor t, which is p, did over the words m: the answer, and the processor and the words after it.
+-- The result of an effect of processor t, which is p, over the words m: success or not, and the processor and the words after it.
 record ActDid (t : ℕ) (act : EventEffect) (p : Processor) (m : List ℕ) : Type 0 where
   answer : EventResult
   to : Processor
   words : List ℕ
   done : EffectTransition flat_memory t act p m answer to words
 
--- over flat memory an act has one answer, and leaves one processor and one memory
+-- Over flat memory an effect has a unique result, processor and memory.
 act_once : (t : ℕ) (act : EventEffect) (p : Processor) (m : List ℕ) (x y : ActDid t act p m)
     → (x.answer ≡ y.answer) × (x.to ≡ y.to) × (x.words ≡ y.words)
 act_once t (MemoryAccess l access next) p m x y =
@@ -31,7 +31,7 @@ act_once t _ p m x y =
     let e = y.done in
     (d.0 ∙ sym e.0, d.1 ∙ sym e.1, d.2 ∙ sym e.2)
 
--- the flat machine is deterministic: an event has one answer, and one state after it
+-- The flat machine is deterministic: an event has a unique result and next state.
 pub MachineTransition-deterministic : (program : List (List Instr)) (e : Event) (s after other : MachineState (List ℕ))
     (a b : EventResult)
     → MachineTransition flat_memory program e s a after
@@ -50,25 +50,25 @@ MachineTransition-deterministic program e s after other a b = go (slice_get s.pr
         (record { answer = b; to = f.0; words = f.1; done = f.2 }) in
         (same.0, d.3 ∙ ap₂ (λ q n. state (slice_set s.processors (cpu_of e) q) n) same.1 same.2 ∙ sym f.3)
 
--- ---- acts that are possible
+-- ---- effects that are enabled
 
--- what an act that is possible leaves: the processor, and the words
+-- The processor and the words after an enabled effect.
 abbrev pub act_after : EventEffect → List ℕ → Option (Processor × List ℕ)
 act_after (Refused stop) m = None
 act_after (LocalStep next) m = Some (next, m)
 act_after (MemoryAccess x access next) m = Some (next (unwrap_or (value_returned m x access) 0), words_after m x access)
 act_after (Eviction x) m = None
 
--- of what `act_after` gives: the act is possible, and leaves this processor and these words
+-- The effect is enabled, and leads to this processor and these words.
 abbrev pub Leaves : Option (Processor × List ℕ) → Processor → List ℕ → Type 0
 Leaves None q n = ⊥
 Leaves (Some end) q n = (q ≡ end.0) × (n ≡ end.1)
 
--- an act that is possible leaves this processor and these words
+-- The effect is enabled over the words m, and leads to this processor and these words.
 abbrev pub EffectLeadsTo : List ℕ → EventEffect → Processor → List ℕ → Type 0
 EffectLeadsTo m act q n = Leaves (act_after act m) q n
 
--- an act that is possible is done, with the answer that it was carried out
+-- An enabled effect succeeds.
 pub does_done : (t : ℕ) (act : EventEffect) (p q : Processor) (m n : List ℕ)
     → EffectLeadsTo m act q n
     → EffectTransition flat_memory t act p m (Ok tt) q n
@@ -76,7 +76,7 @@ does_done t (LocalStep next) p q m n d = (refl, d.0, d.1)
 does_done t (MemoryAccess x access next) p q m n d = (value_returned m x access, refl, d.0, (refl, d.1))
 does_done t _ p q m n d = absurd d
 
--- an act that is done, and not refused, is possible, and leaves the processor and the words that `EffectLeadsTo` says
+-- An effect that succeeds is enabled, and leads to the processor and the words of `EffectLeadsTo`.
 pub done_does : (t : ℕ) (act : EventEffect) (p q : Processor) (m n : List ℕ)
     → EffectTransition flat_memory t act p m (Ok tt) q n
     → EffectLeadsTo m act q n
@@ -84,20 +84,20 @@ done_does t (LocalStep next) p q m n d = (d.1, d.2)
 done_does t (MemoryAccess x access next) p q m n d = (d.2 ∙ ap (λ w. next (unwrap_or w 0)) d.3.0, d.3.1)
 done_does t _ p q m n d = absurd (let e = d.0 in cc)
 
--- over flat memory no eviction is possible
+-- Over flat memory no eviction is enabled.
 evicts_none : (m : List ℕ) (x : ℕ) (q : Processor) (n : List ℕ) (there : Bool)
     → EffectLeadsTo m (if there then Eviction x else Refused NoLocation) q n
     → ⊥
 evicts_none m x q n true d = d
 evicts_none m x q n false d = d
 
--- on the flat machine no eviction is possible: no cache holds a line
+-- On the flat machine no eviction is enabled: no cache holds a line.
 pub no_eviction : (program : List (List Instr)) (locs t x : ℕ) (p q : Processor) (m n : List ℕ)
     → EffectLeadsTo m (event_effect program locs (Evict t x) p) q n
     → ⊥
 no_eviction program locs t x p q m n d = evicts_none m x q n (nat_lt x locs) d
 
--- What an event of a run did: its processor before and after it, and the words of memory after it.
+-- An event of a run: its processor before and after it, and the words of memory after it.
 pub record EventOccurrence (program : List (List Instr)) (e : Event) (s mid : MachineState (List ℕ)) : Type 0 where
   pub from : Processor
   pub to : Processor
@@ -107,7 +107,7 @@ pub record EventOccurrence (program : List (List Instr)) (e : Event) (s mid : Ma
   pub is : mid ≡ state (slice_set s.processors (cpu_of e) to) words
 
 module _ (program : List (List Instr)) where
-  -- what an event's act does is what the event does in the whole machine
+  -- The effect of an event is that of the event in the whole machine.
   pub event_of_effect : (e : Event) (processors : List Processor) (p q : Processor) (m n : List ℕ)
       → slice_get processors (cpu_of e) ≡ Some p
       → EffectLeadsTo m (event_effect program (length m) e p) q n
@@ -117,7 +117,7 @@ module _ (program : List (List Instr)) where
       ProcessorTransition flat_memory o program e (state processors m) (Ok tt) (state (slice_set processors (cpu_of e) q) n))
       (sym was) (q, n, does_done (cpu_of e) (event_effect program (length m) e p) p q m n d, refl)
 
-  -- an event that is carried out is an act of its processor, which it changes alone
+  -- An event that succeeds is an effect of its processor, and changes no other.
   pub effect_of_event : (e : Event) (s mid : MachineState (List ℕ))
       → MachineTransition flat_memory program e s (Ok tt) mid
       → EventOccurrence program e s mid

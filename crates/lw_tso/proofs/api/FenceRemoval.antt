@@ -1,20 +1,20 @@
--- A code is the code without some of its MFENCEs, those with a mark, with these inserted again.
+-- A code is obtained from the code without its marked MFENCEs by inserting these.
 use Rattle.lw_tso.proofs.Common.{◌≡◌, ℕ, zero, suc, ◌+◌, ◌≤◌, Bool, true, false, List, [], ◌∷◌, ◌++◌, length}
 use Rattle.lw_tso.proofs.Common.{map, take, cond, Some, ◌⊎◌, inl, inr, refl, sym, ap, ◌∙◌, subst, arith}
 use Rattle.lw_tso.proofs.Common.{slice_get, same_Some, sum_by-cons, Instr, Mfence, retarget_to_blocks}
 use Rattle.lw_tso.proofs.Common.{IsFencedCode, unmarked_count_before, kept, code_without, MarksAreFences, not}
 
--- before index 0 no instruction is kept
+-- Before index 0 no instruction is kept.
 pub kept_first : (marks : List Bool) → unmarked_count_before marks 0 ≡ 0
 kept_first [] = refl
 kept_first (mark ∷ marks) = refl
 
--- before a later index are kept the first instruction, if it has no mark, and as many of the others as before the index less one
+-- Before a later index are kept the first instruction, if it is not marked, and those of the others before the index less one.
 pub kept_on : (mark : Bool) (marks : List Bool) (index : ℕ)
     → unmarked_count_before (mark ∷ marks) (suc index) ≡ cond (not mark) 1 0 + unmarked_count_before marks index
 kept_on mark marks index = sum_by-cons (λ (m : Bool). cond (not m) 1 0) mark (take index marks)
 
--- what is kept of two codes in a row is what is kept of each
+-- What is kept of a concatenation is what is kept of its parts.
 pub kept_append : (marks others : List Bool) (code more : List Instr)
     → MarksAreFences marks code
     → kept (marks ++ others) (code ++ more) ≡ kept marks code ++ kept others more
@@ -24,7 +24,7 @@ kept_append (false ∷ marks) others (i ∷ code) more fences =
     ap (λ (is : List Instr). i ∷ is) (kept_append marks others code more fences)
 kept_append _ others _ more fences = absurd fences
 
--- if two codes have marks on MFENCEs alone, so have the two codes in a row
+-- If only MFENCEs are marked in two codes, so are they in the concatenation.
 pub fences_append : (marks others : List Bool) (code more : List Instr)
     → MarksAreFences marks code
     → MarksAreFences others more
@@ -35,7 +35,7 @@ fences_append (false ∷ marks) others (i ∷ code) more fences rest = fences_ap
 fences_append _ others _ more fences rest = absurd fences
 
 module _ (lead : Instr → Instr) where
-  -- what the instruction at an index is: left out, or the next that is kept
+  -- The instruction at an index is left out, or is the next one kept.
   abbrev IsEither : List Bool → List Instr → ℕ → Instr → Type 0
   IsEither marks code index i =
       ((i ≡ Mfence) × (unmarked_count_before marks (index + 1) ≡ unmarked_count_before marks index))
@@ -111,7 +111,7 @@ module _ (lead : Instr → Instr) where
       omega (arith, kept_on false marks index, last marks code fences index (omega (arith, past)))
   last _ _ fences index past = absurd fences
 
--- a code is what is left of it with the marked MFENCEs inserted
+-- A code is what is left of it, with the marked MFENCEs inserted.
 pub left_out : (marks : List Bool) (code : List Instr) → MarksAreFences marks code → IsFencedCode (code_without marks code) code
 left_out marks code fences = record {
   block = unmarked_count_before marks;

@@ -1,4 +1,4 @@
--- Fences only take outcomes away: a run of a test with MFENCEs inserted is, the steps at these left out, one of the test.
+-- Fences only remove outcomes: a run of a test with MFENCEs inserted is, without the steps at these, one of the test.
 use Rattle.lw_tso.proofs.Common.{◌≡◌, ℕ, ◌+◌, ◌≤◌, Bool, true, false, if◌then◌else◌, List, [], ◌∷◌, ◌++◌}
 use Rattle.lw_tso.proofs.Common.{length, map, Option, Some, None, ◌⊎◌, inl, inr, ⊎_elim, refl, sym, ap, ◌∙◌}
 use Rattle.lw_tso.proofs.Common.{subst, arith, IsTrue, ◌==◌, le-leb, cases_lt, get_or_past, same_Some}
@@ -20,7 +20,7 @@ use Rattle.lw_tso.proofs.api.Effects.{no_eviction, state}
 
 -- ---- one processor
 
--- a fence, once the buffer is empty, changes nothing but where its processor goes
+-- A fence with an empty buffer only advances its processor.
 fence_does : (buffer : List (ℕ × ℕ)) (p q : Processor) (m n : List ℕ)
     → EffectLeadsTo m (if_buffer_empty buffer FenceWaits (LocalStep p)) q n
     → (q ≡ p) × (n ≡ m)
@@ -28,14 +28,14 @@ fence_does [] p q m n does = does
 fence_does (entry ∷ newer) p q m n does = absurd does
 
 module _ (block : ℕ → ℕ) where
-  -- the processor of the test without the fences that stands where this one does with them
+  -- The processor of the test without the fences, at the same position of its code.
   abbrev pub without : Processor → Processor
   without p = record p { position = block p.position }
 
   abbrev at : Processor → ℕ → Processor
   at p position = record p { position = position }
 
-  -- what an operation is there
+  -- The operation there, with its target in the code without fences.
   abbrev operation_without : Operation → Operation
   operation_without (Branch c to) = Branch c (block to)
   operation_without o = o
@@ -54,7 +54,7 @@ module _ (block : ℕ → ℕ) where
   load_does None x before after q m n same does = (ap without does.0 ∙ same (slice_index m x), does.1)
 
   module _ (p q : Processor) (m n : List ℕ) (next : block (p.position + 1) ≡ block p.position + 1) where
-    -- to the next instruction, with the same block's
+    -- Advancing to the next instruction is advancing to the next one without fences.
     on : (r : Processor) → without (at r (p.position + 1)) ≡ at r (block p.position + 1)
     on r = ap (at r) next
 
@@ -63,7 +63,7 @@ module _ (block : ℕ → ℕ) where
     jumped true to = refl
     jumped false to = next
 
-    -- what is done once the buffer is empty
+    -- An effect that waits for an empty buffer is the same there.
     same_once : (buffer : List (ℕ × ℕ)) (stop : Stop) (a b : EventEffect)
         → (EffectLeadsTo m a q n → EffectLeadsTo m b (without q) n)
         → EffectLeadsTo m (if_buffer_empty buffer stop a) q n
@@ -71,7 +71,7 @@ module _ (block : ℕ → ℕ) where
     same_once [] stop a b same does = same does
     same_once (entry ∷ newer) stop a b same does = does
 
-    -- an operation that ends its block does there what it does here
+    -- An operation that ends its block has the same effect there.
     same_operation : (o : Operation)
         → EffectLeadsTo m (operation_effect o p) q n
         → EffectLeadsTo m (operation_effect (operation_without o) (without p)) (without q) n
@@ -87,7 +87,7 @@ module _ (block : ℕ → ℕ) where
     same_operation (Branch c to) does = (ap without does.0 ∙ ap (at p) (jumped (guard_holds c p.regs p.zero_flag) to), does.1)
     same_operation o does = same_once p.buffer _ _ _ (λ asks. (ap without asks.0 ∙ rw next refl, asks.1)) does
 
-  -- a drain does what it does here
+  -- A drain has the same effect there.
   same_drain : (buffer : List (ℕ × ℕ)) (p q : Processor) (m n : List ℕ)
       → EffectLeadsTo m (drain_effect buffer p) q n
       → EffectLeadsTo m (drain_effect buffer (without p)) (without q) n
@@ -95,7 +95,7 @@ module _ (block : ℕ → ℕ) where
   same_drain (entry ∷ newer) p q m n does = (ap without does.0, does.1)
 
 module _ (code fenced : List Instr) (f : IsFencedCode code fenced) where
-  -- A step is one of the code, or it is at an inserted MFENCE and changes nothing there.
+  -- The step is one of the code without fences, or is at an inserted MFENCE and changes nothing there.
   abbrev pub IsStep : Processor → Processor → List ℕ → List ℕ → Type 0
   IsStep p q m n =
       ((without f.block q ≡ without f.block p) × (n ≡ m))
@@ -117,7 +117,7 @@ module _ (code fenced : List Instr) (f : IsFencedCode code fenced) where
       subst (λ (o : Operation). EffectLeadsTo m (operation_effect o from) to n) (sym (instruction_without f.block i)) same in
       inr (subst (λ (o : Option Instr). EffectLeadsTo m (step_effect o from) to n) (sym ends.0) here)
 
-  -- a step of the fenced program is a step of the program, or one of an MFENCE that was inserted
+  -- A step of the fenced program is a step of the program, or is at an inserted MFENCE.
   pub step : (p q : Processor) (m n : List ℕ) → EffectLeadsTo m (step_effect (slice_get fenced p.position) p) q n → IsStep p q m n
   step p q m n = go (slice_get fenced p.position) refl
     where
@@ -125,7 +125,7 @@ module _ (code fenced : List Instr) (f : IsFencedCode code fenced) where
       go None there does = absurd does
       go (Some i) there does = step_of p q m n i (f.each p.position i there) does
 
-  -- a processor that is done with the fenced code is done with the code without the fences
+  -- A processor that has terminated in the fenced code has terminated in the code without the fences.
   pub ended : (p : Processor) → has_terminated fenced p ≡ true → has_terminated code (without f.block p) ≡ true
   ended p done =
       let both = and_parts (nat_le (length fenced) p.position) (length p.buffer == 0) done in
@@ -135,7 +135,7 @@ module _ (code fenced : List Instr) (f : IsFencedCode code fenced) where
 
 -- ---- whole states
 
--- no instructions with MFENCEs inserted are no instructions
+-- No instructions with MFENCEs inserted are no instructions.
 no_code : IsFencedCode [] []
 no_code = record { block = λ index. 0; first = refl; each = λ index i there. absurd cc; last = λ index past. refl }
 
@@ -150,11 +150,11 @@ module _ (test fenced : X86Test) (f : IsFencedTest test fenced) where
           subst (λ (code : List Instr). IsFencedCode code (thread_code fenced.threads t)) (sym one)
           (subst (λ (code : List Instr). IsFencedCode [] code) (sym other) no_code)
 
-  -- a processor of thread t in the test without the fences
+  -- A processor of thread t in the test without the fences.
   abbrev there : ℕ → Processor → Processor
   there t = without (code_at t).block
 
-  -- a state of the test, and one of the test with fences
+  -- A state of the test, and the corresponding state of the test with fences.
   record AreAlike (s r : MachineState (List ℕ)) : Type 0 where
     as_many : length s.processors ≡ length r.processors
     each : (t : ℕ) (p q : Processor) → slice_get s.processors t ≡ Some p → slice_get r.processors t ≡ Some q → p ≡ there t q
@@ -168,7 +168,7 @@ module _ (test fenced : X86Test) (f : IsFencedTest test fenced) where
       let q = get_some s.processors t (omega (arith, slice_get_within r.processors t p was, alike.as_many)) in
       q.1 ∙ ap Some (alike.each t q.0 p q.1 was)
 
-  -- one processor is another, over other words
+  -- Changing corresponding processors and the words preserves that states correspond.
   moved : (s r : MachineState (List ℕ)) (t : ℕ) (p q : Processor) (words : List ℕ)
       → AreAlike s r
       → slice_get r.processors t ≡ Some p
@@ -181,7 +181,7 @@ module _ (test fenced : X86Test) (f : IsFencedTest test fenced) where
     words = refl;
   }
 
-  -- From this state events lead to one that is alike to that.
+  -- Events lead from this state to one that corresponds to `after`.
   record Follows (s after : MachineState (List ℕ)) : Type 0 where
     events : List Event
     end : MachineState (List ℕ)
@@ -189,7 +189,7 @@ module _ (test fenced : X86Test) (f : IsFencedTest test fenced) where
     alike : AreAlike end after
 
   module _ (s r after : MachineState (List ℕ)) (alike : AreAlike s r) where
-    -- the same event
+    -- The same event is enabled in the test.
     same_event : (e : Event) (d : EventOccurrence fenced.threads e r after)
         → EffectLeadsTo r.memory (event_effect test.threads (length s.memory) e (there (cpu_of e) d.from)) (there (cpu_of e) d.to)
         d.words
@@ -208,7 +208,7 @@ module _ (test fenced : X86Test) (f : IsFencedTest test fenced) where
           alike = subst (AreAlike end) (sym d.is) (moved s r t d.from d.to d.words alike d.was);
         }
 
-    -- no event, where nothing has changed
+    -- At an inserted fence no event is needed.
     no_event : (e : Event) (d : EventOccurrence fenced.threads e r after)
         → there (cpu_of e) d.to ≡ there (cpu_of e) d.from
         → d.words ≡ r.memory
@@ -247,7 +247,7 @@ module _ (test fenced : X86Test) (f : IsFencedTest test fenced) where
         alike = b.alike;
       }
 
-  -- ---- starts and ends
+  -- ---- initial and final states
 
   regs_same : fenced.head.init_regs ≡ test.head.init_regs
   regs_same = ap (λ h. h.init_regs) f.head

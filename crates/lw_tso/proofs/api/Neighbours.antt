@@ -1,4 +1,4 @@
--- Independent neighbouring events of the flat machine are exchanged.
+-- Adjacent independent events of the flat machine commute.
 use Rattle.lw_tso.proofs.Common.{◌≡◌, ◌≢◌, ℕ, List, ◌∷◌, length, Ok, Option, Some, ⊎_elim, refl, sym, ap, ◌∙◌}
 use Rattle.lw_tso.proofs.Common.{subst, slice_get, slice_set, option_map, set-set, cases_eq, set_comm}
 use Rattle.lw_tso.proofs.Common.{same_Some, slice_get-map, thread_code, Event, Step, Drain, Evict}
@@ -15,18 +15,18 @@ use Rattle.lw_memory.specs.declared.request.Access.TheVariants as to
 
 -- ---- positions
 
--- the event is a drain, or the processor stands at this position for its step
+-- The event is a drain, or the processor is at this position for its step.
 abbrev StandsAtIndex : Event → ℕ → Processor → Type 0
 StandsAtIndex (Step t) j p = p.position ≡ j
 StandsAtIndex _ j p = Unit {0}
 
--- the position of a processor that is there is found in the machine
+-- The position of a processor in range is that in the machine.
 pub position_at : (s : MachineState (List ℕ)) (t : ℕ) {p : Processor}
     → slice_get s.processors t ≡ Some p
     → position_of s t ≡ Some p.position
 position_at s t at = slice_get-map _ s.processors t ∙ ap (option_map (λ (q : Processor). q.position)) at
 
--- if an event stands at position j by the machine's state, it does so by its processor
+-- If an event is at position j in the machine's state, so is it in its processor's.
 index : (e : Event) (j : ℕ) (s : MachineState (List ℕ)) (p : Processor)
     → slice_get s.processors (cpu_of e) ≡ Some p
     → IsAtPosition e j s
@@ -34,7 +34,7 @@ index : (e : Event) (j : ℕ) (s : MachineState (List ℕ)) (p : Processor)
 index (Step t) j s p at stands = same_Some p.position j (sym (position_at s t at) ∙ stands)
 index _ j s p at stands = tt
 
--- if an event stands at position j by its processor, it does so by the machine's state
+-- If an event is at position j in its processor's state, so is it in the machine's.
 stands_there : (e : Event) (j : ℕ) (s : MachineState (List ℕ)) (p : Processor)
     → slice_get s.processors (cpu_of e) ≡ Some p
     → StandsAtIndex e j p
@@ -44,7 +44,7 @@ stands_there _ j s p at is = tt
 
 -- ---- two events
 
--- a buffer's oldest entry, and an instruction that may pass its drain
+-- A buffer's oldest entry, and an instruction that commutes with its drain.
 record Passing (buffer : List (ℕ × ℕ)) (o : Option Instr) : Type 0 where
   entry : ℕ × ℕ
   newer : List (ℕ × ℕ)
@@ -53,13 +53,13 @@ record Passing (buffer : List (ℕ × ℕ)) (o : Option Instr) : Type 0 where
   at : o ≡ Some instr
   may : CommutesWithDrain entry.0 (x86_operation instr)
 
--- an instruction that may pass the drain of a buffer's oldest entry has such an entry in the buffer
+-- An instruction that commutes with the drain of a buffer's oldest entry has such an entry in the buffer.
 passing : (buffer : List (ℕ × ℕ)) (o : Option Instr) → MayPassOldest buffer o → Passing buffer o
 passing (entry ∷ newer) (Some i) may = record { entry = entry; newer = newer; instr = i; full = refl; at = refl; may = may }
 passing _ _ may = absurd may
 
 module _ (program : List (List Instr)) where
-  -- an act that is possible does not depend on the number of locations
+  -- An enabled effect does not depend on the number of locations.
   same_act : (e : Event) (k l : ℕ) (p q : Processor) (m n : List ℕ)
       → EffectLeadsTo m (event_effect program k e p) q n
       → event_effect program k e p ≡ event_effect program l e p
@@ -76,7 +76,7 @@ module _ (program : List (List Instr)) where
         (event_of_effect program e s.processors d.from d.to s.memory d.words d.was d.does);
   }
 
-  -- the two events the other way round
+  -- The two events are enabled in the other order.
   abbrev Exchanged : Event → Event → ℕ → ℕ → MachineState (List ℕ) → MachineState (List ℕ) → Type 0
   Exchanged e f j k s end =
       (other : MachineState (List ℕ))
@@ -84,7 +84,7 @@ module _ (program : List (List Instr)) where
       × TransitionAt flat_memory program e j other end
 
   module _ (s mid end : MachineState (List ℕ)) where
-    -- of two processors
+    -- Events of two processors commute.
     two : (e f : Event) (j k : ℕ)
         → cpu_of e ≢ cpu_of f
         → AreIndependent program e f s
@@ -137,7 +137,7 @@ module _ (program : List (List Instr)) where
               ∙ ap (λ ps. state ps y.words) (set_comm s.processors _ _ x.to y.to ne);
         }
 
-    -- of one processor, which is at first this one, with this entry before the others
+    -- Two events of one processor, which has this entry as its oldest.
     module _ (t : ℕ) (from : Processor) (pass : Passing from.buffer (slice_get (thread_code program t) from.position)) where
       abbrev behind : Processor
       behind = record from { buffer = pass.newer }
@@ -157,7 +157,7 @@ module _ (program : List (List Instr)) where
       first_act : step_effect (slice_get (thread_code program t) from.position) from ≡ keeping pass.entry stepping
       first_act = ap (λ o. step_effect o from) pass.at ∙ ap (step_effect (Some pass.instr)) from_is ∙ leaves.same
 
-      -- a step and then the drain
+      -- A step followed by the drain.
       step_drain : (j k : ℕ) (x : EventOccurrence program (Step t) s mid) (y : EventOccurrence program (Drain t) mid end)
           → x.from ≡ from
           → from.position ≡ j
@@ -224,7 +224,7 @@ module _ (program : List (List Instr)) where
                 ∙ sym (set-set s.processors t behind step.0));
           }
 
-      -- the drain and then a step
+      -- The drain followed by a step.
       drain_step : (j k : ℕ) (x : EventOccurrence program (Drain t) s mid) (y : EventOccurrence program (Step t) mid end)
           → x.from ≡ from
           → y.from.position ≡ k
@@ -292,7 +292,7 @@ module _ (program : List (List Instr)) where
           }
 
   module _ (s : MachineState (List ℕ)) where
-    -- the events of one processor that may pass each other
+    -- The events of one processor are a drain and a step that commutes with it.
     abbrev Pass : Event → Event → Type 0
     Pass e f = (p : Processor) → slice_get s.processors (cpu_of e) ≡ Some p → AreDrainAndPassing program e f p
 
@@ -308,7 +308,7 @@ module _ (program : List (List Instr)) where
         let y = effect_of_event program (Step t) mid end b.done in
         drain_step s mid end t x.from (passing _ _ (pass x.from x.was)) j k x y refl (index (Step t) k mid y.from y.was b.stands)
 
-    -- where nothing passes, no event is possible
+    -- If the processor does not exist, no event of it is enabled.
     none_pass : {e : Event} (f : Event)
         → ((p : Processor) → slice_get s.processors (cpu_of e) ≡ Some p → ⊥)
         → EventsCommute program e f s
@@ -331,7 +331,7 @@ module _ (program : List (List Instr)) where
         let y = effect_of_event program f mid end b.done in
         two s mid end e f j k ne free x y (index e j s _ x.was a.stands) (index f k mid y.from y.was b.stands)
 
-  -- independent events are exchanged
+  -- Independent events commute.
   pub exchanged : (e f : Event) (s : MachineState (List ℕ)) → AreIndependent program e f s → EventsCommute program e f s
   exchanged e f s free =
       ⊎_elim (λ same. one_exchange s e f same (free.of_one same)) (λ ne. two_exchange s e f ne free)

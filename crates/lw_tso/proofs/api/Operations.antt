@@ -1,5 +1,4 @@
--- What an operation comes to, whatever it is: where it is refused, what it asks of the memory, and what it makes of its
--- processor.
+-- The effect of an operation: when it is refused, which access it makes, and the processor after it.
 use Rattle.lw_tso.proofs.Common.{◌≡◌, ◌≢◌, ℕ, ◌+◌, Bool, true, false, true≢false, if◌then◌else◌, List, []}
 use Rattle.lw_tso.proofs.Common.{◌∷◌, ◌++◌, length, length-set, Ok, Err, Option, Some, None, refl, sym, subst}
 use Rattle.lw_tso.proofs.Common.{inl, inr, ◌⊎◌, ⊎_elim, operand_value, Stop, SwapWaits, flat_memory, Memory}
@@ -12,24 +11,24 @@ use Rattle.lw_tso.proofs.Common.{event_writes, EventResult, EffectTransition, Ch
 use Rattle.lw_tso.proofs.api.Effects.{EffectLeadsTo, does_done}
 use Rattle.lw_memory.specs.declared.request.Access.TheVariants as to
 
--- a store adds an entry for its location to the buffer p, and nothing else does
+-- A store appends an entry for its location to the buffer p; no other operation changes the buffer.
 abbrev pub Buffers : Operation → List (ℕ × ℕ) → List (ℕ × ℕ) → Type 0
 Buffers o p q =
     ((is_store o ≡ false) × (q ≡ p))
     ⊎ ((entry : ℕ × ℕ) × (is_store o ≡ true) × (location_of o ≡ Some entry.0) × (q ≡ p ++ entry ∷ []))
 
--- how an operation that is carried out leads from the processor p to q: position, buffer and registers, and what it waited for
+-- The operation leads from the processor p to q: position, buffer and registers, and the empty buffer that it waited for.
 pub record OperationTransition (o : Operation) (p q : Processor) : Type 0 where
   pub leads : IsSuccessor o p.position q.position
   pub buffers : Buffers o p.buffer q.buffer
   pub regs : length q.regs ≡ length p.regs
   pub waited : needs_empty_buffer o ≡ true → p.buffer ≡ []
 
--- a test that fails does not pass
+-- A test that fails does not pass.
 never : {X : Type 0} → false ≡ true → X
 never e = absurd (true≢false (sym e))
 
--- from p to q leads an operation that is no store, if q is at the next position and has the same buffer and as many registers
+-- An operation that is no store leads from p to q, if q is at the next position and has the same buffer and number of registers.
 next : (o : Operation) (p q : Processor)
     → falls_through o ≡ true
     → is_store o ≡ false
@@ -41,7 +40,7 @@ next : (o : Operation) (p q : Processor)
 next o p q on none waited position buffer regs =
     record { leads = inl (on, position); buffers = inl (none, buffer); regs = regs; waited = waited }
 
--- a branch leads to its target where its guard holds, and else to the next statement
+-- A branch leads to its target if its guard holds, and otherwise to the next statement.
 pub branch_leads : (c : Guard) (to k : ℕ) (regs : List ℕ) (flag : Bool)
     → IsSuccessor (Branch c to) k (if guard_holds c regs flag then to else (k + 1))
 branch_leads c to k regs flag = go c
@@ -59,17 +58,17 @@ branch_leads c to k regs flag = go c
     go Zero = either Zero _ refl
     go NotZero = either NotZero _ refl
 
--- An act is no eviction, is refused only with this reason, asks only for such locations, which it writes or not, and makes
--- only such processors.
+-- The effect is no eviction, is refused only for this reason, accesses only such locations, which it writes or not, and leads only to such
+-- processors.
 module _ (Reason : Type 0) (MayAsk : ℕ → Bool → Type 0) (Makes : Processor → Type 0) where
-  -- a claim on an act: refused, it has a `Reason`; what it asks memory for it `MayAsk`; of the processor after it `Makes` holds
+  -- A claim about an effect: refused, it has a `Reason`; its access satisfies `MayAsk`; the processor after it satisfies `Makes`.
   abbrev pub EffectSatisfies : EventEffect → Type 0
   EffectSatisfies (Refused stop) = Reason
   EffectSatisfies (LocalStep next) = Makes next
   EffectSatisfies (MemoryAccess x access next) = MayAsk x (is_write access) × ((w : ℕ) → Makes (next w))
   EffectSatisfies (Eviction x) = ⊥
 
-  -- if the claim holds of an act, then the act may ask for the location that it accesses
+  -- If the claim holds of an effect, the location that it accesses satisfies `MayAsk`.
   pub comes_accessed : (act : EventEffect) (x : ℕ)
       → EffectSatisfies act
       → accessed_location act ≡ Some x
@@ -78,7 +77,8 @@ module _ (Reason : Type 0) (MayAsk : ℕ → Bool → Type 0) (Makes : Processor
   comes_accessed (Eviction y) x comes at = absurd comes
   comes_accessed _ x comes at = absurd cc
 
-  -- if the claim holds of an act that is done, it was refused and left the processor as it was, or `Makes` holds of the new one
+  -- If the claim holds of an effect that was executed, it was refused and left the processor unchanged, or the new processor satisfies
+  -- `Makes`.
   pub comes_made : {M : Type 0} (mem : Memory M) (t : ℕ) (act : EventEffect) (p q : Processor) (m n : M) (answer : EventResult)
       → EffectSatisfies act
       → EffectTransition mem t act p m answer q n
@@ -102,8 +102,8 @@ module _ (Reason : Type 0) (MayAsk : ℕ → Bool → Type 0) (Makes : Processor
   once_comes [] stop act reason comes = comes refl
   once_comes (entry ∷ newer) stop act reason comes = reason (λ e. absurd cc)
 
-  -- An operation is refused only where it waits and the buffer has an entry, asks only for its location, and writes that
-  -- at once only where it is locked.
+  -- An operation is refused only if it waits and the buffer has an entry, accesses only its location, and writes that at once only if it is
+  -- locked.
   pub operation_comes : (o : Operation) (p : Processor)
       → (needs_empty_buffer o ≡ true → p.buffer ≢ [] → Reason)
       → ((x : ℕ) → location_of o ≡ Some x → MayAsk x (is_locked o))
@@ -138,14 +138,14 @@ module _ (Reason : Type 0) (MayAsk : ℕ → Bool → Type 0) (Makes : Processor
       once_comes p.buffer SwapWaits _ (reason refl)
       (λ empty. (asks _ refl, λ w. makes _ (next o p _ refl refl (λ e. empty) refl refl (length-set p.regs _ w))))
 
--- What a locked operation asks for once the buffer is empty: an update of its location.
+-- The access of a locked operation when the buffer is empty: an update of its location.
 pub record Updates (o : Operation) (p : Processor) : Type 0 where
   pub location : ℕ
   pub change : Change
   pub next : ℕ → Processor
   pub act : operation_effect o p ≡ if_buffer_empty p.buffer SwapWaits (MemoryAccess location (to.Update change) next)
 
--- a locked operation comes to one act, that of its change
+-- A locked operation's effect is an update by its change.
 pub updates : (o : Operation) (p : Processor) → is_locked o ≡ true → Updates o p
 updates (Set d v) p e = never e
 updates (Sum d a v) p e = never e
@@ -156,7 +156,7 @@ updates Fence p e = never e
 updates (Branch c to) p e = never e
 updates _ p e = record { location = _; change = _; next = _; act = refl }
 
--- what an operation accesses is its location, which it writes at once only if it is locked
+-- An operation accesses only its location, and writes it at once only if it is locked.
 pub operation_accessed : (o : Operation) (p : Processor) (x : ℕ)
     → accessed_location (operation_effect o p) ≡ Some x
     → (location_of o ≡ Some x) × (is_locked o ≡ event_writes (operation_effect o p))
@@ -165,7 +165,7 @@ operation_accessed o p x =
     comes_accessed (Unit {0}) asks (λ q. Unit {0}) (operation_effect o p) x
     (operation_comes (Unit {0}) asks (λ q. Unit {0}) o p (λ waits full. tt) (λ y e. (e, refl)) (λ q went. tt))
 
--- an operation that is carried out makes of its processor what `OperationTransition` says
+-- An operation that succeeds satisfies `OperationTransition`.
 pub operation_does : (o : Operation) (p q : Processor) (m n : List ℕ)
     → EffectLeadsTo m (operation_effect o p) q n
     → OperationTransition o p q
@@ -177,18 +177,18 @@ operation_does o p q m n d =
     (comes_made (Unit {0}) (λ x w. Unit {0}) (OperationTransition o p) flat_memory 0 (operation_effect o p) p q m n (Ok tt) comes
     done)
 
--- what is done only once the buffer is empty has found it so
+-- An effect that waits for an empty buffer succeeds only with one.
 pub once_done : (buffer : List (ℕ × ℕ)) (stop : Stop) (act : EventEffect) (m n : List ℕ) (q : Processor)
     → EffectLeadsTo m (if_buffer_empty buffer stop act) q n
     → (buffer ≡ []) × EffectLeadsTo m act q n
 once_done [] stop act m n q d = (refl, d)
 once_done (entry ∷ newer) stop act m n q d = absurd d
 
--- an act over these words is possible: it leaves some processor and some words
+-- The effect over these words is enabled: it leads to some processor and some words.
 abbrev pub Can : List ℕ → EventEffect → Type 0
 Can m act = (q : Processor) × (n : List ℕ) × EffectLeadsTo m act q n
 
--- an operation can be carried out where the buffer is empty, if it waits for that
+-- An operation is enabled if it does not wait, or the buffer is empty.
 pub can_step : (o : Operation) (p : Processor) (m : List ℕ)
     → (needs_empty_buffer o ≡ true → p.buffer ≡ [])
     → Can m (operation_effect o p)

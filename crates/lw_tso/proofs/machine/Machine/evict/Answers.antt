@@ -6,11 +6,11 @@ use Rattle.lw_tso.proofs.machine.Machine.evict.Goals.{After-location_count}
 use Rattle.lw_base.specs.declared.event.Event.TheVariants as of
 use Rattle.lw_tso.proofs.machine.Machine.evict.Goals as goal
 
--- the machine's memory, as its trait tells of it
+-- The machine's memory, as its trait defines it.
 abbrev memory : (g : Over) → Memory g.row.M.Denot
 memory g = memory_of g.M.MemorySystem.content g.M.MemorySystem.state g.M.MemorySystem.serves
 
--- The processor is there, so the machine evicts as its memory does.
+-- The processor exists, so the machine evicts as its memory does.
 evicts : (g : Over) (c : After-location_count g) (n : g.row.M.Denot) (answer : EventResult)
     → Evicts (memory g) c.self.inside.program.now.threads c.args.cpu c.args.loc c.self.inside.memory answer n
     → MachineTransition (memory g) c.args.self.now.program (of.Evict c.args.cpu c.args.loc) c.args.self.now.state answer

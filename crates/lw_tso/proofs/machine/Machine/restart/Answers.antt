@@ -4,7 +4,7 @@ use Rattle.lw_tso.proofs.Common.{initial_processor, MachineState, IsReachableMac
 use Rattle.lw_tso.proofs.Starts.{machine_made, still_roomy}
 use Rattle.lw_tso.proofs.machine.Machine.restart.Goals as goal
 
--- what is written over a whole list
+-- Overwriting a whole list gives the new items.
 all_written : {X : Type 0} (xs ys : List X) {n : ℕ}
     → length xs ≡ length ys
     → n ≡ length ys
