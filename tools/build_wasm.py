@@ -35,7 +35,7 @@ LOWER = """--enable-memory64 --enable-bulk-memory --enable-mutable-globals --ena
 
 
 def needed(lines, crate):
-    """A crate of the repository and those that it stands on."""
+    """Returns a crate of the repository and those on which it depends."""
     found = [crate]
     for it in found:
         found += [name for name in lines[it][1] if name in lines and name not in found]
@@ -43,7 +43,7 @@ def needed(lines, crate):
 
 
 def sum_of_sources():
-    """A checksum of what the library's code and its contracts are written in, and of what stands on what."""
+    """Returns a checksum of the library's code and contracts, and of the graph of crates."""
     lines, found = crates(), hashlib.sha256()
     for name in needed(lines, LIBRARY):
         found.update(repr((name, lines[name])).encode())
@@ -60,7 +60,7 @@ def sum_of_sources():
 
 
 def write_crates(room, kind):
-    """Writes which crates the copy has, the library as one of a kind."""
+    """Writes the copy's list of crates, with the library as one of a kind."""
     lines = crates()
     with open(f"{room}/crates.txt", "w", encoding="utf-8") as it:
         for name in needed(lines, LIBRARY):
@@ -68,7 +68,7 @@ def write_crates(room, kind):
 
 
 def copy(room):
-    """Copies what the library is made of, with what is built of it."""
+    """Copies the library's sources, with what is already built of them."""
     shutil.copy(f"{HOME}/HANDLES", room)
     for name in needed(crates(), LIBRARY):
         here, there = f"{HOME}/crates/{name}", f"{room}/crates/{name}"
@@ -79,12 +79,12 @@ def copy(room):
 
 
 def has_stamps(room):
-    """Whether libraries of the copy were built by other commands than `rt ci`."""
+    """Returns whether libraries of the copy were built by commands other than `rt ci`."""
     return any(os.path.exists(f"{room}/crates/{it}/out/rlib/stamp") for it in os.listdir(f"{room}/crates"))
 
 
 def stamp_libraries(room):
-    """Gives the copy's libraries the stamps by which `rt lib` takes them."""
+    """Gives the copy's libraries the stamps with which `rt lib` accepts them."""
     kit = os.path.dirname(subprocess.run(["rt", "doc"], capture_output=True, text=True, check=True).stdout)
     loader = importlib.machinery.SourceFileLoader("rtlib", f"{kit}/bin/rtlib.py")
     rtlib = importlib.util.module_from_spec(importlib.util.spec_from_loader("rtlib", loader))
@@ -95,7 +95,7 @@ def stamp_libraries(room):
 
 
 def build(room, kind, made, to):
-    """Builds the library as one of a kind, and puts the file that is made where it belongs. Returns the exit status."""
+    """Builds the library as one of a kind, and moves the built file to its place. Returns the exit status."""
     write_crates(room, kind)
     status = subprocess.run(["rt", "lib"], cwd=f"{room}/crates/{LIBRARY}", check=False).returncode
     if not status:

@@ -22,13 +22,13 @@ PROVED = re.compile(r"^logic=proved (?:tests=\d+ )?functions=(\d+) ", re.M)
 
 
 def of_repository():
-    """The crates, each with those of the repository on which it stands."""
+    """Returns the crates, each with those of the repository on which it depends directly."""
     known = crates()
     return {name: [it for it in below if it in known] for name, (_, below) in known.items()}
 
 
 def all_below(name, below):
-    """The crates on which one stands, those below them too."""
+    """Returns the crates on which one depends, directly or not."""
     found = set(below[name])
     for it in below[name]:
         found |= all_below(it, below)
@@ -36,31 +36,31 @@ def all_below(name, below):
 
 
 def from_here_up(names, below):
-    """The crates of these names and all that stand on them, each behind those that it stands on."""
+    """Returns the crates of these names and all that depend on them, each after those on which it depends."""
     wanted = [it for it in below if it in names or all_below(it, below) & set(names)]
     return sorted(wanted, key=lambda it: len(all_below(it, below)))
 
 
 def command_of(name, below, tests):
-    """What checks a crate."""
+    """Returns the command that checks a crate."""
     if any(name in it for it in below.values()):
         return ["rt", "lib"]
     return ["rt", "test"] if tests and name.endswith("_tests") else ["rt", "check"]
 
 
 def without_notes(text):
-    """What rt printed, but for notes and for what is proved."""
+    """Returns what rt printed, without notes and without what is proved."""
     lines = [it for it in text.splitlines() if not re.match(r"(rt: )?note: |fn \S+: proved$|statements |logic ", it)]
     return "\n".join(lines[-60:])
 
 
 def is_proved(name, command, jobs):
-    """Checks a crate, and prints its verdict."""
+    """Checks a crate, and prints its verdict. Returns whether it is proved."""
     start = time.monotonic()
     words = command if command[1] == "test" else [*command, "--jobs", jobs]
     ran = subprocess.run(words, cwd=f"{HOME}/crates/{name}", stdout=subprocess.PIPE, stderr=subprocess.STDOUT, text=True, check=False)
     proved = PROVED.search(ran.stdout)
-    # (A library that is built already is not told of.)
+    # (Nothing is printed for a library that is built already.)
     told = [it for it in ran.stdout.splitlines() if not it.startswith("rt: ")]
     if ran.returncode or told and not proved:
         print(f"{name}: not proved\n{without_notes(ran.stdout)}")
@@ -71,7 +71,7 @@ def is_proved(name, command, jobs):
 
 
 def words_of(words):
-    """The crates, the number of jobs and whether tests are run, or None."""
+    """Returns the crates, the number of jobs and whether tests are run, or `None`."""
     jobs, tests, names = "1", False, []
     words = iter(words)
     for it in words:

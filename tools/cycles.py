@@ -69,7 +69,7 @@ def tell_quiz(words) -> None:
 
 
 def reader_of_words():
-    """What reads the words of the command."""
+    """Returns the parser of the command's arguments."""
     reader = command.words_of(__doc__)
     reader.add_argument("edges", nargs="*", metavar="EDGE")
     reader.add_argument("--all", type=int, metavar="N")

@@ -24,11 +24,11 @@ AXIOMS = ("coherence", "global happens-before")
 
 
 class TooMany(Exception):
-    """There are more candidate executions than were to be looked at."""
+    """There are more candidate executions than the caller allows."""
 
 
 class Event(NamedTuple):
-    """An instruction that a thread does: jumps lead forward, so it does each once at most."""
+    """An instruction that a thread executes. Jumps go forward, so a thread executes each at most once."""
 
     thread: int
     position: int
@@ -56,13 +56,13 @@ class Execution:
         return self.test.threads[event.thread][event.position]
 
     def events(self):
-        """The accesses to memory and the fences, thread by thread."""
+        """Returns the accesses to memory and the fences, thread by thread."""
         return [it for it in events_of(self.test, self.paths) if has_place(self.instruction(it))]
 
     # Words.
 
     def find_words(self):
-        """Finds what each event reads and writes. Returns of each thread its state at its end, or None where a jump goes another way."""
+        """Finds what each event reads and writes. Returns each thread's state at its end, or `None` if a jump goes another way."""
         while True:
             before = dict(self.written)
             ends = [self.go_along(thread, path) for thread, path in enumerate(self.paths)]
@@ -72,7 +72,7 @@ class Execution:
                 return ends
 
     def go_along(self, thread, path):
-        """The registers of a thread at the end of its path, or None where the words lead it elsewhere."""
+        """Returns the registers of a thread at the end of its path, or `None` if the words lead it elsewhere."""
         state = (0, self.test.registers[thread], False)
         for position in path:
             if state[0] not in (position, None):
@@ -90,7 +90,7 @@ class Execution:
         return self.test.words[self.instruction(event).location] if source is None else self.written.get(source)
 
     def outcome(self):
-        """All threads' registers and the locations' words; None for what would only follow from itself."""
+        """Returns all threads' registers and the locations' words; `None` for a word that would follow only from itself."""
         lasts = [self.co.get(location, ())[-1:] for location in range(len(self.test.locations))]
         words = tuple(self.written[it[0]] if it else self.test.words[location] for location, it in enumerate(lasts))
         return tuple(self.ends), words
@@ -98,18 +98,18 @@ class Execution:
     # Relations.
 
     def po(self):
-        """Program order, all pairs."""
+        """Returns program order, all pairs."""
         return [Edge("po", a, b) for a in self.events() for b in self.events() if a.thread == b.thread and a.position < b.position]
 
     def rf_edges(self):
         return [Edge("rf", source, read) for read, source in self.rf.items() if source is not None]
 
     def co_edges(self):
-        """Coherence order, all pairs."""
+        """Returns coherence order, all pairs."""
         return [Edge("co", a, b) for row in self.co.values() for at, a in enumerate(row) for b in row[at + 1 :]]
 
     def fr_edges(self):
-        """From-reads: from each read to the writes after the one that it reads from."""
+        """Returns from-reads: from each read to the writes after the one that it reads from."""
         found = []
         for read, source in self.rf.items():
             row = self.co.get(self.instruction(read).location, ())
@@ -118,7 +118,7 @@ class Execution:
         return found
 
     def is_preserved(self, edge):
-        """Whether a pair of program order is kept by all threads' view: all but a store and then a load."""
+        """Returns whether a pair of program order is preserved: all pairs are, except a store followed by a load."""
         first, second = self.instruction(edge.source), self.instruction(edge.target)
         return not (first.kind == "store" and second.kind == "load")
 
@@ -131,19 +131,20 @@ class Execution:
         return [*filter(self.is_preserved, self.po()), *external, *self.co_edges(), *self.fr_edges()]
 
     def broken(self):
-        """The first axiom that the execution breaks, with a shortest cycle; None where it keeps both."""
+        """Returns the first axiom that the execution violates, with a shortest cycle; `None` if it satisfies both."""
         for axiom, edges in zip(AXIOMS, (self.coherence, self.happens_before)):
             if found := cycle_in(edges()):
                 return axiom, found
         return None
 
     def cycle(self):
-        """A shortest cycle of program order, rf, co and fr together: there is one where the execution is not sequentially consistent."""
+        """Returns a shortest cycle of program order, rf, co and fr together: there is one if the execution is not sequentially consistent.
+        """
         return cycle_in([*self.po(), *self.rf_edges(), *self.co_edges(), *self.fr_edges()])
 
 
 def has_place(it):
-    """Whether an instruction has a place in an execution's relations: it accesses memory, or is a fence."""
+    """Returns whether an instruction appears in an execution's relations: it accesses memory, or is a fence."""
     return it.location is not None or it.kind == "mfence"
 
 
@@ -151,7 +152,7 @@ def events_of(test, paths):
     return [Event(thread, position) for thread, path in enumerate(paths) for position in path]
 
 
-# One thread's instructions, with words that may not be known (None).
+# One thread's instructions, with words that may be unknown (None).
 
 
 def known(value, registers):
@@ -167,14 +168,14 @@ def is_same(first, second):
 
 
 def written_word(it, registers, read):
-    """The word that an instruction writes to memory."""
+    """Returns the word that an instruction writes to memory."""
     if it.kind == "store":
         return known(it.value, registers)
     return registers[it.register] if it.kind == "xchg" else total(read, registers[it.register])
 
 
 def state_after(it, position, state, read):
-    """The position, the registers and the zero flag after an instruction that reads a word, if it reads one."""
+    """Returns the position, the registers and the zero flag after an instruction that reads a word, if it reads one."""
     _, registers, zero = state
     if it.kind in ("je", "jne", "jmp"):
         jumps = True if it.kind == "jmp" else is_same(zero, it.kind == "je")
@@ -197,7 +198,7 @@ def state_after(it, position, state, read):
 
 
 def cycle_in(edges):
-    """The edges of a shortest cycle, or None."""
+    """Returns the edges of a shortest cycle, or `None`."""
     leaving = {}
     for it in edges:
         leaving.setdefault(it.source, {}).setdefault(it.target, it)
@@ -208,7 +209,7 @@ def cycle_in(edges):
 
 
 def is_acyclic(targets):
-    """Whether no cycle is there: events that lead nowhere are taken away until none is left."""
+    """Returns whether there is no cycle: events without successors are removed until none is left."""
     while targets:
         left = {source: found for source, all_of in targets.items() if (found := all_of & targets.keys())}
         if len(left) == len(targets):
@@ -218,7 +219,7 @@ def is_acyclic(targets):
 
 
 def cycle_from(start, leaving):
-    """A shortest cycle through an event, or None."""
+    """Returns a shortest cycle through an event, or `None`."""
     came_by, waiting = {}, deque([start])
     while waiting:
         at = waiting.popleft()
@@ -242,7 +243,7 @@ def way_back(start, last, came_by):
 
 
 def candidates(test, most):
-    """All candidate executions of a test. TooMany is raised behind `most` of them."""
+    """Yields all candidate executions of a test. Raises TooMany after `most` of them."""
     number = 0
     for paths in product(*map(plain.paths, test.threads)):
         events = events_of(test, paths)
@@ -268,7 +269,7 @@ def candidates(test, most):
 
 
 def allowed_outcomes(test, most):
-    """The outcomes that the axioms allow."""
+    """Returns the outcomes that the axioms allow."""
     return {it.outcome() for it in candidates(test, most) if it.broken() is None}
 
 
@@ -276,7 +277,7 @@ def allowed_outcomes(test, most):
 
 
 def execution_of(test, schedule):
-    """The execution of a run of an x86 test to its end, by the words of its schedule. (Evictions move no word.)"""
+    """Returns the execution of a run of an x86 test to a final state, by its schedule. (Evictions move no word.)"""
     processors, memory = list(plain.x86_start(test)[0]), plain.OneMemory(test.words)
     waiting = [[] for _ in processors]
     last = dict.fromkeys(range(len(test.locations)))

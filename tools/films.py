@@ -28,7 +28,7 @@ class Refused(Exception):
 
 
 def check_program():
-    """Looks that the program is that of the sources as they are."""
+    """Checks that the program is that of the present sources."""
     from program import build  # which, as the program does, needs Linux
 
     if build.ask_program_sh("is_current") is None:
@@ -36,7 +36,7 @@ def check_program():
 
 
 def ask(words, text):
-    """What the program prints on a text, given by its bytes."""
+    """Returns what the program prints on the bytes of a text."""
     try:
         ran = subprocess.run([PROGRAM, *words], input=text, capture_output=True, check=False)
     except OSError:
@@ -49,12 +49,12 @@ def ask(words, text):
 
 
 def replayed(text, schedule, protocol):
-    """The state that a schedule leads to."""
+    """Returns the state that a schedule reaches."""
     return read_state(ask(["replay", schedule, "--protocol", protocol], text))
 
 
 def language_of(text):
-    """The language of a test that the program has taken."""
+    """Returns the language of a test that the program has accepted."""
     return plain.heading_of(text.decode())[0]
 
 
@@ -62,14 +62,15 @@ def language_of(text):
 
 
 def x86_cells(canonical):
-    """Of each thread its cells in a canonical text: row k has instruction k."""
+    """Returns, for each thread, its cells in a canonical text: row k has instruction k."""
     rows = [line[1:-2].split(" | ") for line in canonical.partition("\n}\n")[2].splitlines() if line.startswith(" ")]
     columns = list(zip(*rows[1:])) or [() for _ in rows[0]]
     return [[{"text": cell, "at": at} for at, cell in enumerate(column) if cell] for column in columns]
 
 
 def source_cells(test):
-    """Of each thread its cells that are not empty, and the number of the statement of each; a label alone has the next one's."""
+    """Returns, for each thread, its cells that are not empty, and the index of the statement of each; a label by itself has the next one's.
+    """
     columns = []
     for cells in test.columns:
         at, column = 0, []
@@ -81,7 +82,7 @@ def source_cells(test):
 
 
 def has_statement(cell):
-    """Whether a statement stands behind a cell's labels."""
+    """Returns whether a statement follows a cell's labels."""
     at = 0
     while cell[at + 1 : at + 2] == [("symbol", ":")]:
         at += 2
@@ -89,20 +90,20 @@ def has_statement(cell):
 
 
 def cell_text(tokens):
-    """A cell of a source test, spelled anew."""
+    """Returns a cell of a source test, spelled anew."""
     spelled = " ".join(text for _, text in tokens).replace(" : ", ": ")
     return spelled[: -len(" :")] + ":" if tokens[-1][1] == ":" else spelled
 
 
 def cells_of(text):
-    """Of each thread the code that is shown: of an x86 test that of its canonical text."""
+    """Returns, for each thread, the code to show: that of the canonical text for an x86 test."""
     if language_of(text) == "X86":
         return x86_cells(ask(["compile"], text))
     return source_cells(plain.read_test(text.decode()))
 
 
 def film_of(text, schedule, protocol):
-    """The film of a schedule."""
+    """Returns the film of a schedule."""
     events, refused = schedule.split(), None
     if len(events) > MOST_STEPS:
         raise NoFilm(f"the schedule has {len(events)} events; a film has at most {MOST_STEPS}")

@@ -1,4 +1,4 @@
-"""What an instruction reads and writes: registers, the thread's own memory, and shared locations."""
+"""The accesses of an instruction: registers, the thread's own memory, and shared locations."""
 from typing import Dict, List, Optional, Tuple
 
 from c.assembly import Instruction
@@ -16,10 +16,10 @@ RED_ZONE = 128
 
 
 class Access:
-    """An instruction on a way, which it changes; what others can see of it is in `effects`.
+    """An instruction on a way, which it changes; what other threads can see of it is in `effects`.
 
-    `done` is set when the instruction's load is done: the way on which the instruction goes on from there, if it parts later. `guess` is
-    what an effect has to find: a question, and the answer that does not give the run up.
+    `done` is set when the instruction's load is done: the way on which the instruction continues from there, if it forks later. `guess` is
+    what an effect must find: a question, and the answer that does not abandon the run.
     """
 
     def __init__(self, program: Program, thread: int, found: Dict[int, Dict[int, Clock]], way: Way, it: Instruction):
@@ -32,22 +32,22 @@ class Access:
     # Registers.
 
     def register(self, name: str, size: int, offset: int = 0) -> Value:
-        """Some bytes of a register."""
+        """Returns some bytes of a register."""
         value, known = self.way.registers[name]
         return self.way.part(value, size, offset) if known >= size + offset else None
 
     def get(self, operand: Operand, size: int) -> Value:
-        """The value of a register or a number."""
+        """Returns the value of a register or a number."""
         if isinstance(operand, Number):
             return self.program.layout.address(operand.symbol, operand.number) & MASK[size]
         return self.register(operand.name, size, operand.offset)
 
     def value_of(self, operand: Operand, size: int) -> Value:
-        """The value of an operand, which may be in memory."""
+        """Returns the value of an operand, which may be in memory."""
         return self.load(self.address(operand), size) if isinstance(operand, Memory) else self.get(operand, size)
 
     def put(self, operand: Register, size: int, value: Value) -> None:
-        """Sets a register. 4 bytes set those above to 0, and fewer leave them."""
+        """Sets a register. A write of 4 bytes clears those above, and a shorter one preserves them."""
         way, name, offset = self.way, operand.name, operand.offset
         old, known = way.registers[name]
         if size >= 4:
@@ -63,7 +63,7 @@ class Access:
             way.registers[name] = (way.number(old) & ~(MASK[size] << 8 * offset) | number << 8 * offset, known)
 
     def address(self, it: Memory) -> int:
-        """The address of a place in memory."""
+        """Returns the address of a place in memory."""
         at = self.program.layout.address(it.symbol, it.number)
         for name, scale in ((it.base, 1), (it.index, it.scale)):
             if name:
@@ -73,7 +73,7 @@ class Access:
     # Memory.
 
     def is_shared(self, at: int, size: int) -> bool:
-        """Whether other threads access some bytes too."""
+        """Returns whether other threads access some bytes too."""
         if self.program.layout.is_stack(at):
             top = STACKS - STACK_OF_THREAD * self.thread
             if not top - STACK_OF_THREAD < at <= top:
@@ -82,7 +82,7 @@ class Access:
         return self.program.locations.touch(self.thread, at, size)
 
     def is_only_writer(self, at: int, size: int) -> bool:
-        """Whether no other thread stores to a location."""
+        """Returns whether no other thread stores to a location."""
         return self.program.locations.writers_of(at, size) <= {self.thread}
 
     def last(self, at: int, size: int) -> Value:
@@ -90,7 +90,7 @@ class Access:
         return self.way.last.get(at, self.program.layout.first_word(at, size))
 
     def load(self, at: int, size: int) -> Value:
-        """What a load finds. It is an effect if others may have stored it."""
+        """Returns what a load finds. It is an effect if others may have stored it."""
         locations = self.program.locations
         if not self.is_shared(at, size):
             return own_load(self.way, self.program.layout, at, size)
@@ -109,7 +109,7 @@ class Access:
         return value if (begin, has) == (at, size) else self.way.apply(value, lambda it: it >> 8 * (at - begin) & MASK[size])
 
     def finish_load(self, effect: Effect, value: Value) -> None:
-        """Adds the effect of a load. If the way parts later in this instruction, the load is done, and the rest follows again."""
+        """Adds the effect of a load. If the way forks later in this instruction, the load stays done, and the rest is followed again."""
         before = self.way.copy()
         before.place -= 1
         before.pending = (value,)
@@ -117,7 +117,7 @@ class Access:
         self.effects.append(effect)
 
     def store(self, at: int, size: int, value: Value) -> None:
-        """Stores a value. It is an effect if others access it."""
+        """Stores a value. It is an effect if others access the location."""
         locations = self.program.locations
         is_shared = self.is_shared(at, size)
         if not self.program.layout.is_stack(at):
@@ -132,14 +132,14 @@ class Access:
         self.effects.append(Store(at, value))
 
     def whole_location(self, at: int, size: int) -> None:
-        """Refuses to store to a part of a location."""
+        """Refuses a store to a part of a location."""
         begin, has = self.program.locations.location_of(at, size)
         if (begin, has) != (at, size):
             name = self.program.layout.name_of(begin)
             raise Refused(f"a part of '{name}', of {size} bytes, is stored or locked, and all {has} bytes are accessed at once elsewhere")
 
     def record_store(self, at: int, words: Dict[int, Clock]) -> None:
-        """Records a store: its words come after all that this way knows of, and after this thread's stores before."""
+        """Records a store: its words come after all that this way has observed, and after this thread's earlier stores."""
         self.way.stores += 1
         found = self.found.setdefault(at, {})
         for word, clock in words.items():
@@ -149,7 +149,7 @@ class Access:
     # Symbols.
 
     def new_symbol(self, at: int, size: int) -> int:
-        """A symbol for what a load of a location finds."""
+        """Returns a symbol for what a load of a location finds."""
         way, locations = self.way, self.program.locations
         symbol = self.free_symbol()
         way.take_symbol(symbol)
@@ -164,7 +164,7 @@ class Access:
         return symbol
 
     def free_symbol(self) -> int:
-        """The first symbol that nothing names any more: so ways that go on alike are alike."""
+        """Returns the first symbol that nothing refers to any more, so that ways that continue in the same way are equal."""
         self.forget_dead()
         way = self.way
         values = [*(value for value, _ in way.registers.values()), *(value for _, value in way.memory.values())]
@@ -174,7 +174,7 @@ class Access:
         return next(it for it in range(len(taken) + 1) if it not in taken)
 
     def forget_dead(self) -> None:
-        """Forgets registers, flags and places of the stack that can't be read any more."""
+        """Forgets registers, flags and places of the stack that cannot be read any more."""
         way, (used, writes) = self.way, uses_and_writes(self.it)
         if self.it.mnemonic.startswith("jmp"):  # what comes next is not known yet
             return

@@ -1,4 +1,4 @@
-"""What operations make of values, and the flags that they set."""
+"""The results of operations on values, and the flags that they set."""
 from typing import Optional, Tuple
 
 from c.flags import Flags, Source
@@ -17,7 +17,7 @@ SHIFTS = {
 
 
 def plus(way: Way, left: Value, right: Value, size: int) -> Value:
-    """A sum. A symbol and a number stay a symbol, even if its word is known: so ways on which it is not can be the same."""
+    """Returns a sum. A symbol and a number stay a symbol, even if its word is known, so that it is equal on ways on which it is not."""
     known = way.known(left), way.known(right)
     if known[1] is None or isinstance(right, Symbol) and not isinstance(left, Symbol):
         left, right, known = right, left, (known[1], known[0])
@@ -33,7 +33,7 @@ def plus(way: Way, left: Value, right: Value, size: int) -> Value:
 
 
 def minus(way: Way, left: Value, right: Value, size: int) -> Value:
-    """A difference."""
+    """Returns a difference."""
     known = way.known(right)
     if known is not None:
         return plus(way, left, -known & MASK[size], size)
@@ -41,7 +41,7 @@ def minus(way: Way, left: Value, right: Value, size: int) -> Value:
 
 
 def logical(way: Way, base: str, left: Value, right: Value, size: int) -> Result:
-    """AND, OR, XOR and TEST. What leaves all words of a symbol as they are leaves the symbol."""
+    """Returns the result of AND, OR, XOR or TEST. An operation that preserves all words of a symbol preserves the symbol."""
     if left is None or right is None:
         known = [way.known(it) for it in (left, right) if it is not None]
         if base == "and" and known == [0] or base == "or" and known == [MASK[size]]:
@@ -57,21 +57,21 @@ def logical(way: Way, base: str, left: Value, right: Value, size: int) -> Result
 
 
 def shifted(way: Way, base: str, value: Value, count: Value, size: int) -> Result:
-    """A shift. By 0 it leaves the flags as they are."""
+    """Returns the result of a shift. A shift by 0 preserves the flags."""
     number = way.number(count) & (63 if size == 8 else 31)
     word = way.apply(value, lambda it: SHIFTS[base](it, number, size) & MASK[size])
     return word, Flags(Source.SHIFT, word, None, size) if number else None
 
 
 def rotated(way: Way, base: str, value: Value, count: Value, size: int) -> Value:
-    """A rotation."""
+    """Returns the result of a rotation."""
     number = (way.number(count) & (63 if size == 8 else 31)) % (8 * size)
     left = number if base == "rol" else -number % (8 * size)
     return way.apply(value, lambda it: (it << left | it >> (8 * size - left)) & MASK[size])
 
 
 def result_of(way: Way, base: str, left: Value, right: Value, size: int) -> Result:
-    """The result of `left = left op right`, and the flags; None if they stay as they are. That of CMP is None."""
+    """Returns the result of `left = left op right`, and the flags; `None` for flags that are preserved, and for the result of CMP."""
     if base == "add":
         return plus(way, left, right, size), Flags(Source.SUM, left, right, size)
     if base in ("sub", "cmp"):
@@ -92,7 +92,7 @@ def result_of(way: Way, base: str, left: Value, right: Value, size: int) -> Resu
 
 
 def quotient_of(way: Way, high: Value, low: Value, divisor: Value, size: int, is_signed: bool) -> Tuple[int, int]:
-    """The quotient and the remainder of a division."""
+    """Returns the quotient and the remainder of a division."""
     whole, number = way.number(high) << 8 * size | way.number(low), way.number(divisor)
     if is_signed:
         whole, number = signed(whole, 2 * size), signed(number, size)

@@ -11,7 +11,7 @@ from c.refused import Refused
 
 @dataclass(frozen=True)
 class Instruction:
-    """An instruction as its text says it; `line` is that of the source, if it is known. What `lw_see` writes has the mnemonic `see`."""
+    """An instruction as written; `line` is that of the source, if it is known. What `lw_see` writes has the mnemonic `see`."""
 
     text: str
     mnemonic: str
@@ -23,7 +23,7 @@ class Instruction:
 
 @dataclass(frozen=True)
 class Datum:
-    """Some bytes of an object: the first of them, how many, and the symbol and the number that they say."""
+    """Some bytes of an object: the first of them, their number, and the symbol and the number that they represent."""
 
     offset: int
     size: int
@@ -33,7 +33,7 @@ class Datum:
 
 @dataclass
 class DataObject:
-    """An object: to how many bytes it is aligned, its bytes that are not 0, and its length."""
+    """An object: its alignment in bytes, its nonzero bytes, and its length."""
 
     alignment: int = 1
     data: List[Datum] = field(default_factory=list)
@@ -41,7 +41,7 @@ class DataObject:
 
 
 class Section(Enum):
-    """What a section has: code, data that is in memory, and anything else."""
+    """The content of a section: code, data in memory, or anything else."""
 
     CODE = "code"
     DATA = "data"
@@ -59,13 +59,13 @@ WITHOUT_BYTES = (
 )
 # Sections of code that runs before `main`.
 BEFORE_MAIN = (".init_array", ".preinit_array", ".ctors", ".init")
-# Sections that only what unwinds a stack reads.
+# Sections that are read only when a stack is unwound.
 UNWINDING = (".gcc_except_table", ".eh_frame")
 ESCAPES = {"n": 10, "t": 9, "r": 13, "b": 8, "f": 12, "\\": 92, '"': 34}
 
 
 def bytes_in(text: str) -> List[int]:
-    """The bytes of a quoted text of the assembler."""
+    """Returns the bytes of a quoted text of the assembler."""
     made: List[int] = []
     for found in re.finditer(r'\\([0-7]{1,3})|\\(.)|([^\\"])', text[text.index('"') + 1 : text.rindex('"')]):
         if found[2] and found[2] not in ESCAPES:
@@ -75,7 +75,7 @@ def bytes_in(text: str) -> List[int]:
 
 
 def section_of(name: str, flags: Optional[str]) -> Section:
-    """What a section has, by its flags if it has any, else by its name."""
+    """Returns the content of a section, by its flags if it has any, and by its name otherwise."""
     if name.startswith(UNWINDING):
         return Section.OTHER
     if flags is not None:
@@ -86,7 +86,7 @@ def section_of(name: str, flags: Optional[str]) -> Section:
 
 
 def statements_of(line: str) -> List[str]:
-    """The statements of a line, without comments: a `;` is between two of them."""
+    """Returns the statements of a line, without comments; `;` separates them."""
     made, quoted, part, at = [], False, "", 0
     while at < len(line):
         letter = line[at]
@@ -107,7 +107,7 @@ def statements_of(line: str) -> List[str]:
 
 
 class Assembly:
-    """All instructions of a file in a row, labels as numbers of instructions, and the objects of data by their names."""
+    """All instructions of a file in sequence, labels as indices of instructions, and the objects of data by their names."""
 
     def __init__(self, text: str, source: str = "test"):
         self.code: List[Instruction] = []
@@ -122,7 +122,7 @@ class Assembly:
                 self.labels.setdefault(name, self.labels[self.resolved(name)])
 
     def resolved(self, name: str) -> str:
-        """The name that an alias is for."""
+        """Returns the name to which an alias refers."""
         seen: Set[str] = set()
         while name in self.aliases and name not in seen:
             seen.add(name)
@@ -130,12 +130,12 @@ class Assembly:
         return name
 
     def entries(self) -> Set[int]:
-        """The numbers of the instructions at which functions begin."""
+        """Returns the indices of the instructions at which functions start."""
         return {self.labels[it] for it in self.functions if it in self.labels}
 
 
     def back_targets(self) -> Set[int]:
-        """The numbers of the instructions to which some jump leads back."""
+        """Returns the indices of the instructions that some jump targets backward."""
         made = set()
         for at, it in enumerate(self.code):
             to = self.labels.get(self.resolved(it.operands[0].name)) if it.operands and isinstance(it.operands[0], Label) else None
@@ -144,7 +144,7 @@ class Assembly:
 
 
 class Reader:
-    """Reads the lines of a file."""
+    """A reader of the lines of a file."""
 
     def __init__(self, made: Assembly):
         self.made = made
@@ -156,7 +156,7 @@ class Reader:
         self.prefixes: List[str] = []
 
     def read(self, text: str) -> None:
-        """Reads all lines. A fault has the number of the line of the assembly."""
+        """Reads all lines. A fault has the line number in the assembly."""
         text = re.sub(r"/\*.*?\*/", lambda it: re.sub(r"[^\n]", " ", it[0]), text, flags=re.S)
         for number, line in enumerate(text.splitlines(), 1):
             try:
@@ -170,7 +170,7 @@ class Reader:
                 raise Refused(f"{why.cause} (line {number} of the assembly)", self.line, line.strip()) from None
 
     def see(self, name: str, operand: str, text: str) -> None:
-        """Reads what `lw_see` writes. Rust names registers without a `%`."""
+        """Reads what `lw_see` writes. Rust names registers without `%`."""
         register = REGISTERS.get(operand.lstrip("%"))
         if register is None:
             raise Refused("lw_see has a value that is in no register")
@@ -193,7 +193,7 @@ class Reader:
             self.instruction(re.sub(r"\s+", " ", text))
 
     def begin(self, name: str) -> None:
-        """Begins an object, or names the place of the next instruction."""
+        """Starts an object, or names the place of the next instruction."""
         made = self.made
         if self.section is Section.CODE:
             made.labels[name] = len(made.code)
@@ -209,7 +209,7 @@ class Reader:
     # Directives.
 
     def directive(self, word: str, rest: str) -> None:
-        """Reads a directive. One that may make bytes and is not known here is refused."""
+        """Reads a directive. An unknown one that may emit bytes is refused."""
         if word in (".section", ".pushsection", ".popsection", ".previous", ".text", ".data", ".bss", ".rodata"):
             self.change_section(word, rest)
         elif word in (".comm", ".lcomm"):
@@ -230,7 +230,7 @@ class Reader:
             self.data(word, rest)
 
     def change_section(self, word: str, rest: str) -> None:
-        """Begins another section."""
+        """Starts another section."""
         before = self.section, self.section_name
         if word in (".popsection", ".previous"):
             if self.stack:
@@ -244,7 +244,7 @@ class Reader:
         self.object, self.is_new, self.alignment = DataObject(), False, 1
 
     def remark(self, word: str, rest: str) -> None:
-        """Reads what a line says of functions and of the source's lines."""
+        """Reads what a line says about functions and the source's lines."""
         if word == ".type":
             name, _, kind = rest.partition(",")
             self.made.functions |= {name.strip()} if "function" in kind else set()
@@ -308,7 +308,7 @@ class Reader:
 
     @staticmethod
     def targets(text: str) -> List[Operand]:
-        """Where a jump or a call leads."""
+        """Returns the target of a jump or a call."""
         if text.startswith("*"):
             return [operand_of(text)]
         if "@" in text and not text.endswith("@PLT"):

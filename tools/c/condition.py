@@ -13,7 +13,7 @@ class Seen(NamedTuple):
 
 
 class Global(NamedTuple):
-    """A global, or what is some bytes after its begin: x, x+8."""
+    """A global, or the place some bytes after its start: x, x+8."""
 
     name: str
 
@@ -35,11 +35,11 @@ class Condition(NamedTuple):
     text: str
 
     def atoms(self) -> List[tuple]:
-        """The atoms of the proposition."""
+        """Returns the atoms of the proposition."""
         return atoms_in(self.proposition)
 
     def names(self) -> Dict[int, Set[str]]:
-        """The names that the condition asks of each thread."""
+        """Returns the names that the condition mentions, by thread."""
         made: Dict[int, Set[str]] = {}
         for _, site, _ in self.atoms():
             if isinstance(site, Seen):
@@ -47,22 +47,22 @@ class Condition(NamedTuple):
         return made
 
     def globals(self) -> List[str]:
-        """The globals that the condition asks about, each once."""
+        """Returns the globals that the condition mentions, without duplicates."""
         return list(dict.fromkeys(site.name for _, site, _ in self.atoms() if isinstance(site, Global)))
 
 
 def atoms_in(proposition: tuple) -> List[tuple]:
-    """The atoms of a proposition."""
+    """Returns the atoms of a proposition."""
     if proposition[0] == "is":
         return [proposition]
     return [atom for part in proposition[1:] for atom in atoms_in(part)]
 
 
 class ConditionReader(PropositionReader):
-    """Reads a condition whose sites are named as in the source."""
+    """A reader of a condition whose sites have the names of the source."""
 
     def condition(self, text: str) -> Condition:
-        """The whole condition."""
+        """Reads the whole condition."""
         quantifier = self.quantifier()
         proposition = self.implied()
         if self.token.kind != "end":
@@ -70,14 +70,14 @@ class ConditionReader(PropositionReader):
         return Condition(quantifier, proposition, text)
 
     def atom(self) -> tuple:
-        """A site and the word that it has, or has not."""
+        """Reads a site and the word that it has, or has not."""
         site = self.site()
         sign = self.take("=", "==", "<>", "!=").text
         it = ("is", site, self.word(site))
         return it if sign in ("=", "==") else ("not", it)
 
     def offset_name(self) -> str:
-        """A name, and a number that is added."""
+        """Reads a name, and a number that is added."""
         if self.token.kind != "name":
             raise self.misplaced("a name")
         name = self.take().text
@@ -87,7 +87,7 @@ class ConditionReader(PropositionReader):
         return name
 
     def site(self) -> Site:
-        """A global, or a value of a thread."""
+        """Reads a global, or a value of a thread."""
         if self.token.kind == "number" or self.ahead(1) == ":":
             return self.thread_value()
         if self.take_if("["):
@@ -97,7 +97,7 @@ class ConditionReader(PropositionReader):
         return Global(self.offset_name())
 
     def thread_value(self) -> Seen:
-        """A value of a thread, as 0:r0 or P0:r0."""
+        """Reads a value of a thread, such as 0:r0 or P0:r0."""
         at, digits = self.token.at, self.take().text.lstrip("P")
         if not digits.isdigit() or int(digits) > 3:
             raise Refused(f"'{digits}' stands where the number of a thread from 0 to 3 should", at)
@@ -107,7 +107,7 @@ class ConditionReader(PropositionReader):
         return Seen(int(digits), self.take().text)
 
     def word(self, _site: Site) -> Union[int, Address]:
-        """A number, or the address of a global."""
+        """Reads a number, or the address of a global."""
         if self.take_if("&") or self.token.kind == "name":
             return Address(self.offset_name())
         at, number = self.token.at, self.signed("a number or the address of a global")
@@ -117,7 +117,7 @@ class ConditionReader(PropositionReader):
 
 
 def read_condition(text: str, begin: int, end: int) -> Condition:
-    """Reads the condition that is in a part of a text."""
+    """Reads the condition in a part of a text."""
     at, tokens = begin, []
     while at < end:
         found = TOKEN.match(text, at, end)

@@ -1,4 +1,4 @@
-"""Conditions, jumps and calls: where a way goes on, and the stack that calls use."""
+"""Conditions, jumps and calls: where a way continues, and the stack that calls use."""
 from c.flags import Source, check_readable, condition_of, holds_of
 from c.layout import CODE, HEAP, HEAP_OF_THREAD, LARGEST_BLOCK
 from c.locked import Locked
@@ -9,7 +9,7 @@ from c.values import MASK, Value
 
 ALLOCATORS = ("malloc", "calloc", "_Znwm", "_Znam")
 FREERS = ("free", "_ZdlPv", "_ZdlPvm", "_ZdaPv", "_ZdaPvm")
-# Registers that a function may leave with anything in them.
+# Registers that a function may leave with any content.
 LEFT_OPEN = ("rax", "rcx", "rdx", "rsi", "rdi", "r8", "r9", "r10", "r11")
 
 
@@ -19,7 +19,7 @@ class Control(Locked):
     # Flags.
 
     def holds(self, letters: str) -> bool:
-        """Whether a condition holds."""
+        """Returns whether a condition holds."""
         name, wanted = condition_of(letters)
         flags, way = self.way.flags, self.way
         check_readable(flags, name)
@@ -32,7 +32,7 @@ class Control(Locked):
         mask, right = MASK[flags.size], 0 if flags.right is None else flags.right
 
         def work(left: int, right: int) -> bool:
-            """The condition on two words."""
+            """Returns the condition on two words."""
             if flags.source is Source.DIFFERENCE and flags.size == 8:
                 self.program.layout.check_comparable(left, right)
             return holds_of(name, flags.source, left & mask, right & mask, flags.size)
@@ -44,7 +44,7 @@ class Control(Locked):
     # Jumps and calls.
 
     def jump(self, name: str) -> None:
-        """A jump, if its condition holds."""
+        """Jumps, if the condition holds."""
         if not name.startswith("jmp"):
             if "cx" in name:
                 raise Refused(f"'{name}' is not followed")
@@ -53,7 +53,7 @@ class Control(Locked):
         self.go_to(self.target(self.it.operands[0]))
 
     def target(self, to: Operand) -> int:
-        """The number of the instruction to which a jump or a call leads."""
+        """Returns the index of the instruction that a jump or a call targets."""
         if isinstance(to, Through):
             place = self.way.number(self.value_of(to.operand, 8)) - CODE
             if not 0 <= place < len(self.program.assembly.code):
@@ -65,13 +65,13 @@ class Control(Locked):
         return self.program.assembly.labels[label]
 
     def go_to(self, place: int) -> None:
-        """Goes on elsewhere. Back in this call is once more through a loop."""
+        """Continues elsewhere. A backward jump within a call is one more pass through a loop."""
         if place < self.way.place and (self.way.call, place) in self.way.passes:
             self.way.is_back = True
         self.way.place = place
 
     def call(self, to: Operand) -> None:
-        """A call: its return address is on the stack."""
+        """Calls: the return address is pushed onto the stack."""
         if isinstance(to, Label) and to.name in ALLOCATORS:
             return self.allocate(to.name)
         if isinstance(to, Label) and to.name in FREERS:
@@ -86,7 +86,7 @@ class Control(Locked):
         return None
 
     def return_(self) -> None:
-        """A return."""
+        """Returns from a call."""
         if self.it.operands:
             raise Refused("a return that takes arguments from the stack is not followed")
         way = self.way
@@ -95,7 +95,7 @@ class Control(Locked):
         way.call = way.callers.get(at, 0)
 
     def allocate(self, name: str) -> None:
-        """A call of malloc or the like."""
+        """Does a call of malloc or the like."""
         way = self.way
         sizes = [way.number(self.register(it, 8)) for it in (("rdi", "rsi") if name == "calloc" else ("rdi",))]
         size = sizes[0] * sizes[-1] if name == "calloc" else sizes[0]
@@ -109,7 +109,7 @@ class Control(Locked):
         self.program.notes.add(f"{name} succeeds, and gives memory that nobody else has and that begins with 0")
 
     def push(self, value: Value) -> int:
-        """Puts 8 bytes onto the stack. Returns where they are."""
+        """Pushes 8 bytes onto the stack. Returns their address."""
         at = self.way.number(self.register("rsp", 8)) - 8
         self.way.registers["rsp"] = (at, 8)
         self.is_shared(at, 8)
@@ -117,14 +117,14 @@ class Control(Locked):
         return at
 
     def pop(self) -> Value:
-        """Takes 8 bytes from the stack."""
+        """Pops 8 bytes from the stack."""
         at = self.way.number(self.register("rsp", 8))
         self.is_shared(at, 8)
         self.way.registers["rsp"] = (at + 8, 8)
         return own_load(self.way, self.program.layout, at, 8)
 
     def leave(self) -> None:
-        """LEAVE."""
+        """Does LEAVE."""
         self.way.registers["rsp"] = (self.way.number(self.register("rbp", 8)), 8)
         value = self.pop()
         self.way.registers["rbp"] = (value, 8 if value is not None else 0)

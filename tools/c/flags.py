@@ -1,4 +1,4 @@
-"""The flags: which instruction set them, from which values, and which conditions can be read of them."""
+"""The flags: which instruction set them, from which values, and which conditions can be read from them."""
 from dataclasses import dataclass
 from enum import Enum
 
@@ -7,7 +7,7 @@ from c.values import MASK, Value, signed
 
 
 class Source(Enum):
-    """What set the flags."""
+    """The kind of instruction that set the flags."""
 
     SUM = "a sum"
     DIFFERENCE = "a difference"
@@ -19,8 +19,9 @@ class Source(Enum):
 
 @dataclass(frozen=True)
 class Flags:
-    """Flags by two values of `size` bytes. INC and DEC leave the carry as it was. The value of EXCHANGE is whether it succeeded, that of BIT
-    the bit, and that of LOGIC and SHIFT the result."""
+    """Flags from two values of `size` bytes. INC and DEC preserve the carry. The value of EXCHANGE is whether it succeeded, that of BIT the
+    bit, and that of LOGIC and SHIFT the result.
+    """
 
     source: Source
     left: Value
@@ -33,7 +34,7 @@ SAME_NAMES = {
     "z": "e", "nz": "ne", "c": "b", "nae": "b", "nc": "ae", "nb": "ae", "na": "be", "nbe": "a", "nge": "l", "nl": "ge", "ng": "le", "nle": "g",
 }
 OPPOSITE = {"ne": "e", "ae": "b", "a": "be", "ge": "l", "g": "le", "ns": "s", "no": "o"}
-# What can be read of flags, without the conditions that are the opposites.
+# The conditions that can be read from flags, without their opposites.
 READABLE = {
     Source.SUM: ("e", "b", "be", "l", "le", "s", "o"),
     Source.DIFFERENCE: ("e", "b", "be", "l", "le", "s", "o"),
@@ -45,7 +46,7 @@ READABLE = {
 
 
 def condition_of(letters: str) -> tuple:
-    """The condition that letters of a mnemonic say: its name, and whether it has to hold."""
+    """Returns the condition that the letters of a mnemonic name, and whether it must hold."""
     name = SAME_NAMES.get(letters, letters)
     name, wanted = (OPPOSITE[name], False) if name in OPPOSITE else (name, True)
     if name not in READABLE[Source.SUM]:
@@ -54,7 +55,7 @@ def condition_of(letters: str) -> tuple:
 
 
 def check_readable(flags: Flags, name: str) -> None:
-    """Refuses a condition that the flags don't say."""
+    """Refuses a condition that the flags do not determine."""
     if flags is None:
         raise Refused("flags are read that nothing here has set")
     if name not in READABLE[flags.source] or name in ("b", "be") and not flags.has_carry:
@@ -62,7 +63,7 @@ def check_readable(flags: Flags, name: str) -> None:
 
 
 def holds_of(name: str, source: Source, left: int, right: int, size: int) -> bool:
-    """Whether a condition holds after an operation on two words."""
+    """Returns whether a condition holds after an operation on two words."""
     if source is Source.DIFFERENCE:
         result, carry = left - right & MASK[size], left < right
         overflow = signed(left, size) - signed(right, size) != signed(result, size)

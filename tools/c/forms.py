@@ -1,11 +1,11 @@
-"""Which operands an instruction may have. What an assembler would refuse, or has a form that is not known here, is refused."""
+"""The operands that an instruction may have. What an assembler would refuse, and what is not known here, is refused."""
 import re
 
 from c.assembly import Instruction
 from c.operands import Memory, Number, Register
 from c.refused import Refused
 
-# Mnemonics, by patterns, with the numbers of their operands.
+# Mnemonics, as patterns, with their numbers of operands.
 COUNTS = (
     (r"(neg|not|inc|dec|push|pop|div|idiv|mul|bswap)[bwlq]?", (1,)),
     (r"set\w+", (1,)),
@@ -14,13 +14,13 @@ COUNTS = (
     (r"(add|sub|cmp|and|or|xor|test|adc|sbb|mov|movabs|lea|xchg|xadd|cmpxchg|bts?|btr|btc)[bwlq]?", (2,)),
     (r"mov[sz][bwl][wlq]?|cmov\w+", (2,)),
 )
-# What has a register as its last operand, and what as its first or last.
+# Instructions whose last operand is a register, and those with one as their first or last.
 INTO_REGISTER = r"lea[wlq]?|cmov\w+|mov[sz][bwl][wlq]?|bswap[lq]?"
 WITH_REGISTER = r"(xadd|cmpxchg)[bwlq]?"
 
 
 def check_form(it: Instruction) -> None:
-    """Refuses operands that an instruction can't have."""
+    """Refuses operands that an instruction cannot have."""
     counts = next((counts for pattern, counts in COUNTS if re.fullmatch(pattern, it.mnemonic)), None)
     if counts is None:
         return

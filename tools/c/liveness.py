@@ -1,7 +1,7 @@
 """Which registers and flags may still be read, before each instruction of a file.
 
-What can't be read any more is forgotten on the ways through a thread, so that ways that go on alike are alike. A register that were
-forgotten too early would be one that nothing has set, and reading it is refused.
+What cannot be read any more is forgotten on the ways through a thread, so that ways that continue in the same way are equal. If a register
+were forgotten too early, it would be one that nothing has set, and reading it is refused.
 """
 from typing import FrozenSet, List, Set, Tuple
 
@@ -10,17 +10,17 @@ from c.operands import Label, Memory, Operand, Register, Through, VECTOR, WHOLE_
 
 FLAGS = "flags"
 ALL = frozenset(WHOLE_REGISTERS)
-# Beginnings of mnemonics that leave the flags as they are.
+# Prefixes of mnemonics that preserve the flags.
 LEAVE_FLAGS = (
     "mov", "lea", "not", "push", "pop", "nop", "pause", "cmov", "set", "see", "cbt", "cbw", "clt", "cwt", "cwd", "cqt", "cdq", "cqo", "leave",
     "mfence", "lfence", "sfence", "endbr", "bswap", "prefetch", "xchg",
 )
-# Beginnings of mnemonics that read the carry.
+# Prefixes of mnemonics that read the carry.
 READ_CARRY = ("adc", "sbb")
 
 
 def registers_in(operand: Operand) -> Set[str]:
-    """The registers that an operand names."""
+    """Returns the registers that an operand names."""
     if isinstance(operand, Register):
         return {operand.name}
     if isinstance(operand, Memory):
@@ -29,7 +29,7 @@ def registers_in(operand: Operand) -> Set[str]:
 
 
 def written_whole(it: Instruction) -> Set[str]:
-    """The registers of which nothing is left after an instruction, and the flags if it sets them."""
+    """Returns the registers that an instruction overwrites completely, and the flags if it sets them."""
     name, last = it.mnemonic, it.operands[-1] if it.operands else None
     is_vector = any(isinstance(operand, Register) and operand.size == VECTOR for operand in it.operands)
     made = set() if name.startswith(LEAVE_FLAGS) or name[0] == "j" or is_vector else {FLAGS}
@@ -42,12 +42,12 @@ def written_whole(it: Instruction) -> Set[str]:
 
 
 def is_zero(it: Instruction) -> bool:
-    """Whether an instruction sets a register to 0 whatever it had."""
+    """Returns whether an instruction sets a register to 0 whatever its content."""
     return it.mnemonic.startswith(("xor", "sub")) and len(it.operands) == 2 and it.operands[0] == it.operands[1]
 
 
 def uses_and_writes(it: Instruction) -> Tuple[Set[str], Set[str]]:
-    """What an instruction reads, and what it writes as a whole. Too much may be read, and too little written."""
+    """Returns what an instruction reads, and what it overwrites completely. It may list too many reads, and too few writes."""
     name, writes = it.mnemonic, written_whole(it)
     if name.startswith("call"):
         return set(ALL), set()
@@ -66,7 +66,7 @@ def uses_and_writes(it: Instruction) -> Tuple[Set[str], Set[str]]:
 
 
 def followers_of(assembly: Assembly, at: int, after_calls: List[int]) -> List[int]:
-    """The instructions that may come next. None is one beyond the last, where everything is read."""
+    """Returns the instructions that may be next. `None` is the place after the last, where everything is read."""
     it, end = assembly.code[at], len(assembly.code)
     if it.mnemonic.startswith("ret"):
         return after_calls
@@ -78,7 +78,7 @@ def followers_of(assembly: Assembly, at: int, after_calls: List[int]) -> List[in
 
 
 def live_before(assembly: Assembly) -> List[FrozenSet[str]]:
-    """What may still be read before each instruction, and beyond the last. Wherever a call may return to counts for each return."""
+    """Returns what may still be read before each instruction, and after the last. A return may continue after every call."""
     code = assembly.code
     facts = [uses_and_writes(it) for it in code]
     after_calls = [at + 1 for at, it in enumerate(code) if it.mnemonic.startswith("call")]

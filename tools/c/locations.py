@@ -1,7 +1,7 @@
-"""What all threads together make of memory: which bytes several of them access, and the words that each shared location can have.
+"""The memory as all threads together use it: which bytes several of them access, and the words that each shared location can have.
 
-Each word has a clock: how many stores of each thread came before it, at least. A load of a thread that has done k stores can't find a word
-that needs more than k stores of it. So a counter does not feed itself, and what is found comes to an end.
+Each word has a clock: how many stores of each thread came before it, at least. A load of a thread that has done k stores cannot find a word
+that needs more than k stores of it. So a counter does not feed itself, and the search ends.
 """
 from typing import Dict, FrozenSet, Set, Tuple
 
@@ -13,11 +13,11 @@ WIDEST = 8
 
 
 class Wider(Exception):
-    """A shared location is wider than it was taken for. All threads are followed again."""
+    """A shared location is wider than assumed. All threads are followed again."""
 
 
 class Locations:
-    """Bytes by the threads that access and store them, and the shared locations: where each begins, its size, and its words."""
+    """Bytes by the threads that access and store them, and the shared locations: the start of each, its size, and its words."""
 
     def __init__(self, layout: Layout, threads: int):
         self.layout = layout
@@ -31,7 +31,7 @@ class Locations:
         self.widest: Dict[int, int] = {}
 
     def touch(self, thread: int, at: int, size: int) -> bool:
-        """Records an access of a thread. Returns whether it is of what other threads access too."""
+        """Records an access of a thread. Returns whether other threads access the bytes too."""
         bytes_of = range(at, at + size)
         for it in bytes_of:
             self.users.setdefault(it, set()).add(thread)
@@ -47,11 +47,11 @@ class Locations:
             self.writers.setdefault(it, set()).add(thread)
 
     def writers_of(self, at: int, size: int) -> Set[int]:
-        """The threads that store some of these bytes."""
+        """Returns the threads that store some of these bytes."""
         return set().union(*(self.writers.get(it, set()) for it in range(at, at + size)))
 
     def location_of(self, at: int, size: int) -> Tuple[int, int]:
-        """The location that an access is of, or of a part of: where it begins, and its size."""
+        """Returns the location of which an access is the whole or a part: its start, and its size."""
         for begin in range(at - WIDEST + 1, at + size):
             has = self.sizes.get(begin, 0)
             if not has or begin + has <= at:
@@ -70,17 +70,17 @@ class Locations:
         return at, size
 
     def widen(self, at: int, size: int) -> None:
-        """Makes one location of those that some bytes have."""
+        """Merges the locations of some bytes into one."""
         for it in [it for it in self.sizes if at <= it < at + size]:
             del self.sizes[it], self.words[it]
         self.location_of(at, size)
 
     def forget_words(self) -> None:
-        """Begins again with what each location begins with."""
+        """Resets each location to its initial words."""
         self.words = {at: {self.layout.first_word(at, size): self.never} for at, size in self.sizes.items()}
 
     def words_for(self, at: int, thread: int, stores: int) -> FrozenSet[int]:
-        """The words that a thread can find in a location when it has done so many stores."""
+        """Returns the words that a thread can find in a location after so many stores of its own."""
         return frozenset(word for word, clock in self.words[at].items() if clock[thread] <= stores)
 
     def add_words(self, at: int, words: Dict[int, Clock]) -> None:
@@ -89,11 +89,11 @@ class Locations:
             put_earlier(self.words[at], word, clock)
 
     def shape(self) -> tuple:
-        """What is known of accesses, to compare with what is known later."""
+        """Returns what is known of accesses, to compare it with what is known later."""
         writers = {at: frozenset(it) for at, it in self.writers.items()}
         users = {at: frozenset(it) for at, it in self.users.items()}
         return frozenset(self.shared), writers, users, dict(self.sizes)
 
     def all_words(self) -> Dict[int, Dict[int, Clock]]:
-        """A copy of all words, to compare with what is known later."""
+        """Returns a copy of all words, to compare it with what is known later."""
         return {at: dict(words) for at, words in self.words.items()}

@@ -1,4 +1,4 @@
-"""Locked instructions: on shared locations XCHG and LOCK XADD stay, and others are done by a guess of what they find."""
+"""Locked instructions: on shared locations XCHG and LOCK XADD are kept, and others are done with a guess of what they find."""
 from typing import Dict, Optional, Tuple
 
 from c.arithmetic import plus, result_of
@@ -29,11 +29,11 @@ class Locked(Vectors):
     guesses: Tuple[int, ...] = ()
 
     def wait(self) -> None:
-        """Waits for the store buffer."""
+        """Waits until the store buffer is empty."""
         self.effects.append(Fence())
 
     def guessed(self, cases: int) -> int:
-        """The guess of one of some cases."""
+        """Returns the guess of one of several cases."""
         at = self.way.guessed
         if at >= len(self.guesses):
             raise NextGuess(cases)
@@ -41,7 +41,7 @@ class Locked(Vectors):
         return min(self.guesses[at], cases - 1)
 
     def locked(self, base: str, size: int) -> None:
-        """A locked instruction, of which one operand is in memory."""
+        """Does a locked instruction, of which one operand is in memory."""
         operands = self.it.operands
         what, to = (None, operands[0]) if len(operands) == 1 else operands
         what, to = (to, what) if isinstance(what, Memory) else (what, to)
@@ -61,7 +61,7 @@ class Locked(Vectors):
             self.by_guess(base, at, size, value, what)
 
     def locked_on_own(self, base: str, at: int, size: int, value: Value, what: Optional[Operand]) -> None:
-        """A locked instruction on memory that no other thread accesses: it waits for the store buffer."""
+        """Does a locked instruction on memory that no other thread accesses: it waits until the store buffer is empty."""
         way = self.way
         if not self.program.layout.is_stack(at):
             self.program.locations.write(self.thread, at, size)
@@ -89,11 +89,11 @@ class Locked(Vectors):
         self.wait()
 
     def is_fence(self, base: str, at: int, value: Value) -> bool:
-        """Whether an instruction leaves the stack as it is: compilers use it as a fence."""
+        """Returns whether an instruction preserves the stack: compilers use it as a fence."""
         return self.program.layout.is_stack(at) and base in ("or", "add", "sub", "xor") and value == 0
 
     def locked_result(self, base: str, old: Value, value: Value, size: int) -> Tuple[Value, Optional[Flags]]:
-        """The result of an operation on an old word, and the flags."""
+        """Returns the result of an operation on an old word, and the flags."""
         if base in BITS:
             bit = 1 << self.way.number(value) % (8 * size)
             was_set = self.way.apply(old, lambda it: int(it & bit != 0))
@@ -101,7 +101,7 @@ class Locked(Vectors):
         return result_of(self.way, "add" if base == "xadd" else base, old, value, size)
 
     def take_pending(self, what: Optional[Operand], size: int) -> bool:
-        """Puts what a locked instruction has found into its register, if the way parted after it."""
+        """Puts what a locked instruction has found into its register, if the way forked after it."""
         if not self.way.pending:
             return False
         value, = self.way.pending
@@ -118,7 +118,7 @@ class Locked(Vectors):
             self.put(what, size, value)
 
     def exchange(self, at: int, size: int, value: Value, what: Register) -> None:
-        """XCHG."""
+        """Does XCHG."""
         if self.take_pending(what, size):
             return
         words = self.way.clocked(value)
@@ -128,7 +128,7 @@ class Locked(Vectors):
         self.finish(what, size, Exchange(symbol, at, value))
 
     def add(self, base: str, at: int, size: int, value: Value, what: Optional[Operand]) -> None:
-        """LOCK XADD, ADD, SUB, INC and DEC."""
+        """Does LOCK XADD, ADD, SUB, INC and DEC."""
         found = what if base == "xadd" else None
         if self.take_pending(found, size):
             return
@@ -152,14 +152,16 @@ class Locked(Vectors):
         self.finish(found, size, ExchangeAdd(symbol, at, added))
 
     def set_flags_of_sum(self, base: str, old: Symbol, added: Value, value: Value, size: int) -> None:
-        """The flags of a locked sum."""
+        """Sets the flags of a locked sum."""
         if base in ("sub", "dec"):
             self.way.flags = Flags(Source.DIFFERENCE, old, value if base == "sub" else 1, size, base == "sub")
         else:
             self.way.flags = Flags(Source.SUM, old, added, size, base != "inc")
 
     def by_guess(self, base: str, at: int, size: int, value: Value, what: Optional[Operand]) -> None:
-        """A locked instruction that lw lacks, by a guess of the word that it finds: it is an XCHG, and another word gives the run up."""
+        """Does a locked instruction that lw lacks, with a guess of the word that it finds: it is an XCHG, and another word abandons the
+        run.
+        """
         way = self.way
         words = sorted(self.words_now(at, size))
         number = None if value is None else way.number(value)
@@ -177,13 +179,13 @@ class Locked(Vectors):
             self.guess = IsOneOf(symbol, (old,), tuple(it for it in words if it != old)), True
 
     def words_now(self, at: int, size: int) -> frozenset:
-        """What an access of a location can find now."""
+        """Returns what an access of a location can find now."""
         if self.is_only_writer(at, size):
             return self.way.words_of(self.last(at, size))
         return self.program.locations.words_for(at, self.thread, self.way.stores)
 
     def compare_exchange(self, at: int, size: int, new: Value) -> None:
-        """LOCK CMPXCHG by a guess of whether it succeeds: then it is an XCHG, and otherwise an addition of 0."""
+        """Does LOCK CMPXCHG with a guess of whether it succeeds: then it is an XCHG, and otherwise an addition of 0."""
         way = self.way
         expected = self.register("rax", size)
         words, wanted = self.words_now(at, size), way.words_of(expected)
@@ -204,7 +206,7 @@ class Locked(Vectors):
             self.guess = question(symbol), succeeds
 
     def put_found(self, symbol: int, size: int) -> None:
-        """Puts what a CMPXCHG that failed has found into RAX. Bytes above it that are not 0 are forgotten, so that nothing has to be asked."""
+        """Puts what a failed CMPXCHG has found into RAX. Bytes above it that are not 0 are forgotten, so that no question is needed."""
         value = Symbol(symbol, size, 0, size)
         try:
             self.put(RAX, size, value)
@@ -212,7 +214,7 @@ class Locked(Vectors):
             self.way.registers["rax"] = (value, size)
 
     def question_of(self, expected: Value, words: frozenset, size: int):
-        """What a CMPXCHG asks of the symbol of what it finds."""
+        """Returns the question that a CMPXCHG asks of the symbol of what it finds."""
         known = self.way.known(expected)
         if known is not None:
             others = tuple(sorted(words - {known}))

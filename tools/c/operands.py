@@ -1,4 +1,4 @@
-"""The operands of instructions, as assemblers have them in AT&T's order."""
+"""The operands of instructions, as assemblers write them in AT&T's order."""
 import re
 from dataclasses import dataclass
 from typing import Dict, List, Optional, Tuple, Union
@@ -17,7 +17,7 @@ class Register:
 
 @dataclass(frozen=True)
 class Number:
-    """An immediate: the address of a symbol, if there is one, and a number that is added."""
+    """An immediate: the address of a symbol, if there is one, plus a number."""
 
     symbol: Optional[str]
     number: int
@@ -43,7 +43,7 @@ class Label:
 
 @dataclass(frozen=True)
 class Through:
-    """The target of a jump or a call whose address a register or memory has."""
+    """The target of a jump or a call whose address is in a register or in memory."""
 
     operand: Union[Register, Memory]
 
@@ -63,7 +63,7 @@ VECTOR = 16
 
 
 def all_registers() -> Dict[str, Register]:
-    """The registers by their names in texts."""
+    """Returns the registers by their names in texts."""
     made: Dict[str, Register] = {}
     for letter in "abcd":
         whole = f"r{letter}x"
@@ -86,12 +86,12 @@ TERM = re.compile(r"([+-]?)(?:([A-Za-z_.$][\w.$]*(?:@\w+)?)|(0x[0-9a-fA-F]+|\d+)
 
 
 def number_of(text: str) -> int:
-    """The number that digits say: hexadecimal after 0x, octal after 0."""
+    """Returns the number that digits represent: hexadecimal after 0x, octal after 0."""
     return int(text, 8) if re.fullmatch(r"-?0[0-7]+", text) else int(text, 0)
 
 
 def sum_of(text: str) -> Tuple[Optional[str], int]:
-    """A symbol and a number, as in x+4, -4 and x-8."""
+    """Returns a symbol and a number, as in x+4, -4 and x-8."""
     text = re.sub(r"\s", "", text)
     symbol, number, at = None, 0, 0
     while at < len(text):
@@ -108,7 +108,7 @@ def sum_of(text: str) -> Tuple[Optional[str], int]:
 
 
 def plain_symbol(name: str, text: str) -> str:
-    """A symbol without `@PLT`. Others after an `@` are refused."""
+    """Returns a symbol without `@PLT`. Other suffixes after `@` are refused."""
     symbol, _, suffix = name.partition("@")
     if suffix not in ("", "PLT"):
         raise Refused(f"'{text}' is found by a table of addresses, or is a thread's own: compile with -fno-pic, and use no thread-local variable")
@@ -116,7 +116,7 @@ def plain_symbol(name: str, text: str) -> str:
 
 
 def split_operands(text: str) -> List[str]:
-    """The parts of a text between commas outside of parentheses."""
+    """Returns the parts of a text between commas outside of parentheses."""
     parts, depth, part = [], 0, ""
     for letter in text:
         depth += (letter == "(") - (letter == ")")
@@ -129,7 +129,7 @@ def split_operands(text: str) -> List[str]:
 
 
 def memory_of(before: str, inside: str) -> Operand:
-    """A place in memory: what is before the parentheses, and what is in them."""
+    """Returns a place in memory, from the text before the parentheses and that in them."""
     parts = [it.strip() for it in inside.split(",")] + ["", ""]
     names = [it[1:] for it in parts[:2]]
     symbol, number = sum_of(before)
@@ -141,7 +141,7 @@ def memory_of(before: str, inside: str) -> Operand:
 
 
 def operand_of(text: str) -> Operand:
-    """The operand that a text says."""
+    """Returns the operand that a text represents."""
     if "%fs:" in text or "%gs:" in text:
         return Other(text)
     if text.startswith("*"):

@@ -7,12 +7,12 @@ from c.way import Way
 
 
 def overlapping(way: Way, at: int, size: int) -> List[int]:
-    """The entries that have some of these bytes."""
+    """Returns the entries that contain some of these bytes."""
     return [it for it, (has, _) in way.memory.items() if it < at + size and at < it + has]
 
 
 def own_load(way: Way, layout: Layout, at: int, size: int) -> Value:
-    """What some bytes are. Bytes of the stack that were not stored are set by nothing."""
+    """Returns the value of some bytes. Bytes of the stack that were not stored are unset."""
     entries = overlapping(way, at, size)
     if len(entries) == 1:
         begin, (has, value) = entries[0], way.memory[entries[0]]
@@ -32,7 +32,7 @@ def own_load(way: Way, layout: Layout, at: int, size: int) -> Value:
 
 
 def own_store(way: Way, at: int, size: int, value: Value) -> None:
-    """Stores some bytes. Of entries that have others too, these stay."""
+    """Stores some bytes. Entries that contain other bytes too keep those."""
     for it in overlapping(way, at, size):
         has, old = way.memory.pop(it)
         for low, high in ((it, at), (at + size, it + has)):

@@ -10,14 +10,14 @@ class Refused(Exception):
         self.cause, self.line, self.instruction = cause, line, instruction
 
     def at(self, line: Optional[int], instruction: str) -> "Refused":
-        """The same, with its place unless it has one."""
+        """Returns the same refusal, with this place unless it has one."""
         return self if self.instruction else Refused(self.cause, self.line or line, instruction)
 
     def text(self, name: str) -> str:
-        """The line on standard error. `name` is the file's."""
+        """Returns the line on standard error. `name` is the file's."""
         place = f"{name}:{self.line}" if self.line else name
         return f"{place}: {self.cause}" + (f" (in '{self.instruction}')" if self.instruction else "")
 
 
 class NoRun(Refused):
-    """No run of a program comes to an end, so nothing is said of its condition."""
+    """No run of a program ends, so nothing is said about its condition."""

@@ -1,4 +1,4 @@
-"""Which of lw's six registers holds each symbol of a thread."""
+"""The assignment of lw's six registers to the symbols of a thread."""
 from typing import Dict, FrozenSet, List, Optional, Set
 
 from c.refused import Refused
@@ -9,7 +9,7 @@ SIX = 6
 
 
 class Registers:
-    """The registers of a thread's symbols. What is asked about has registers of its own at the end; the mark's is used last."""
+    """The registers of a thread's symbols. What the condition mentions has registers of its own at the end; the mark's is used last."""
 
     def __init__(self, ways: Ways, seen: Dict[str, int], mark: Optional[int], thread: int):
         self.ways, self.seen, self.mark, self.thread = ways, seen, mark, thread
@@ -21,11 +21,11 @@ class Registers:
         self.choose()
 
     def live_after(self, at: int) -> FrozenSet[int]:
-        """The symbols that are read after a node."""
+        """Returns the symbols that are read after a node."""
         return frozenset().union(*(self.live[it] for it in self.ways.successors(at)))
 
     def conflicts(self) -> Dict[int, Set[int]]:
-        """Of each symbol, those that need another register."""
+        """Returns, for each symbol, those that need another register."""
         made: Dict[int, Set[int]] = {}
         for at in self.ways.reached():
             new = found_by(self.ways.nodes[at])
@@ -36,7 +36,7 @@ class Registers:
         return made
 
     def wishes(self) -> Dict[int, List[int]]:
-        """Of each symbol, the registers in which it is at the end."""
+        """Returns, for each symbol, the registers that hold it at the end."""
         made: Dict[int, List[int]] = {}
         for at in self.ways.reached():
             node = self.ways.nodes[at]
@@ -46,7 +46,7 @@ class Registers:
         return made
 
     def too_many(self) -> Refused:
-        """The fault where six registers are not enough."""
+        """Returns the fault if six registers are not enough."""
         return Refused(f"P{self.thread} needs more than the six registers that lw has")
 
     def choose(self) -> None:
@@ -62,7 +62,7 @@ class Registers:
             self.of[symbol] = (wish or others_free or [it for it in free if it != self.mark] or free)[0]
 
     def spare(self, at: int) -> int:
-        """A register that nothing is in at a node."""
+        """Returns a register that is free at a node."""
         taken = {self.of[it] for it in self.live[at] | self.live_after(at)}
         free = [it for it in range(SIX) if it not in taken and it != self.mark]
         if not free:

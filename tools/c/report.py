@@ -1,4 +1,4 @@
-"""The report on a program, in the names of its source; who made the lists that it is put together from, and what is assumed."""
+"""The report on a program, in the names of its source; who made the lists from which it is composed, and what is assumed."""
 from dataclasses import dataclass, field
 from typing import Dict, List, Set
 
@@ -12,24 +12,24 @@ from shared import answers
 
 @dataclass
 class Answer:
-    """A report, the tests that it is put together from, by whom they are listed, and how many instructions the longest thread has."""
+    """A report, the tests from which it is composed, who listed them, and the number of instructions of the longest thread."""
 
     report: str
     tests: List[Written]
     makers: Set[answers.Maker]
     instructions: int
-    # The lines of the loops that a run goes through at most as often as `--tries` says.
+    # The lines of the loops that a run passes at most as often as `--tries` says.
     bounded: List[int] = field(default_factory=list)
     notes: List[str] = field(default_factory=list)
 
     @property
     def has_run(self) -> bool:
-        """Whether some run is left."""
+        """Returns whether some run is left."""
         return bool(answers.states_in(self.report))
 
     @property
     def observation(self) -> str:
-        """`Never 0 3` and the like, or `no run`."""
+        """Returns `Never 0 3` and the like, or `no run`."""
         return self.report.splitlines()[-1].split(" ", 2)[2] if self.has_run else "no run"
 
 
@@ -54,12 +54,12 @@ class Names:
                 self.words[site] = {**addresses, **{it % 2**32: addresses.get(it, str(it)) for it in own}} if name[0] == "&" else addresses
 
     def line(self, line: str) -> str:
-        """The line of a state."""
+        """Returns the line of a state."""
         return " ".join(f"{self.sites[site]}={self.words[site].get(word, word)};" for site, word in words_in(line).items())
 
 
 def answer_of(made: Converter) -> Answer:
-    """The report of a program."""
+    """Returns the report of a program."""
     tests = list(made.tests())
     if not tests:
         raise NoRun("no run comes to an end: each waits for what no other thread stores, or goes through a loop more often than --tries says")
@@ -72,7 +72,7 @@ def answer_of(made: Converter) -> Answer:
 
 
 def in_names(report: str, made: Converter, question: plain.Test) -> str:
-    """A report in the names of the source."""
+    """Returns a report in the names of the source."""
     states = answers.states_in(report)
     lines, names = report.splitlines(), Names(made, question)
     lines[2 : 2 + len(states)] = map(names.line, states)
@@ -81,7 +81,7 @@ def in_names(report: str, made: Converter, question: plain.Test) -> str:
 
 
 def sentence_on(answer: Answer, compiler: str, tries: int) -> str:
-    """Which compiler made the code, how many tests there are, who listed them, and which runs are left out."""
+    """Returns which compiler made the code, how many tests there are, who listed them, and which runs are left out."""
     count, mark = len(answer.tests), "" if answers.are_proved(answer.makers) else ", not proved"
     tests = f"{count} tests" if count != 1 else "one test"
     made = f"Compiled by {compiler}: {tests} of lw, of {answer.instructions} instructions at most, listed by {answers.names_of(answer.makers)}{mark}"

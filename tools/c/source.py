@@ -1,4 +1,4 @@
-"""The source: which functions are threads, where the condition is, and which values it asks about."""
+"""The source: which functions are threads, where the condition is, and which values it mentions."""
 import os
 import re
 from dataclasses import dataclass, field
@@ -15,35 +15,35 @@ THREAD = re.compile(r"\bP(\d+)\s*\([^;{}]*?\)[^;{}()]*\{")
 HERD = re.compile(r"\s*C\s+(\S+)\s*(?:\"[^\"]*\"\s*)*\{")
 MOST_THREADS = 4
 NARROW = re.compile(r"\b(bool|_Bool|char|short|u?int(8|16)_t|[iu](8|16))\b")
-# What the globals of a test in herd's form have before their names, which its functions use for pointers to them.
+# The prefix of the globals of a test in herd's form, whose functions use the plain names for pointers to them.
 PREFIX = "lw_"
 
 
 @dataclass
 class Source:
-    """A source as it is compiled, the ending of its file, its name, its condition, and the number of its threads."""
+    """A source as it is compiled, the suffix of its file, its name, its condition, and the number of its threads."""
 
     text: str
     ending: str
     name: str
     condition: Condition
     threads: int
-    # The names of values that an lw_see of this tool shows.
+    # The names of values that an lw_see added by this tool shows.
     added: Set[str] = field(default_factory=set)
 
     @property
     def is_rust(self) -> bool:
-        """Whether it is Rust."""
+        """Returns whether it is Rust."""
         return self.ending == ".rs"
 
 
 def without_comments(text: str, comment: "re.Pattern[str]" = NO_CODE) -> str:
-    """A text with blanks for comments and quoted texts, so that places are the same."""
+    """Returns a text with blanks for comments and quoted texts, so that positions are the same."""
     return comment.sub(lambda it: re.sub(r"[^\n]", " ", it[0]), text)
 
 
 def check_returns(code: str, bodies: Dict[int, Tuple[int, int]], asked: Dict[int, Set[str]]) -> None:
-    """Refuses what a thread returns if that has fewer than 32 bits: a register may have anything above them."""
+    """Refuses the result of a thread that has fewer than 32 bits, since a register may have anything above them."""
     for thread in [it for it, names in asked.items() if "return" in names and it in bodies]:
         begin = bodies[thread][0]
         head = re.split(r"[;{}]", code[:begin])[-1]
@@ -52,7 +52,7 @@ def check_returns(code: str, bodies: Dict[int, Tuple[int, int]], asked: Dict[int
 
 
 def closing(code: str, at: int) -> int:
-    """Where the brace closes that opens at a place."""
+    """Returns where the brace closes that opens at a position."""
     depth = 0
     for place in range(at, len(code)):
         depth += (code[place] == "{") - (code[place] == "}")
@@ -62,7 +62,7 @@ def closing(code: str, at: int) -> int:
 
 
 def bodies_of(code: str) -> Dict[int, Tuple[int, int]]:
-    """Of each thread, where the braces of its function open and close."""
+    """Returns, for each thread, where the braces of its function open and close."""
     found: Dict[int, Tuple[int, int]] = {}
     for it in THREAD.finditer(code):
         number = int(it[1])
@@ -77,15 +77,16 @@ def bodies_of(code: str) -> Dict[int, Tuple[int, int]]:
 
 
 def outside_of(code: str, bodies: Dict[int, Tuple[int, int]]) -> str:
-    """What is outside of all threads: helpers, which all of them may call."""
+    """Returns what is outside of all threads: helpers, which all of them may call."""
     for begin, end in sorted(bodies.values(), reverse=True):
         code = code[:begin] + code[end:]
     return code
 
 
 def with_sees(text: str, asked: Dict[int, Set[str]], is_rust: bool) -> Tuple[str, Set[str]]:
-    """The source with an lw_see at the end of each function, for each local variable that the condition names and the function does not see;
-    and the names of these."""
+    """Returns the source with an lw_see at the end of each function, for each local variable that the condition names and the function does
+    not show; and the names of these.
+    """
     code = without_comments(text)
     bodies, places, added = bodies_of(code), [], set()
     check_returns(code, bodies, asked)
@@ -106,7 +107,7 @@ def with_sees(text: str, asked: Dict[int, Set[str]], is_rust: bool) -> Tuple[str
 
 
 def condition_of(text: str) -> Condition:
-    """The condition in the comment that begins with `lw:`."""
+    """Returns the condition in the comment that starts with `lw:`."""
     marks = list(MARK.finditer(text))
     if not marks:
         raise given.Fault("no comment says what is asked: // lw: exists (0:r0=0 /\\ 1:r0=0)", 0)
@@ -118,7 +119,7 @@ def condition_of(text: str) -> Condition:
 
 
 def read_source(path: str, text: str) -> Source:
-    """Reads a source: C, C++ or Rust by the file's ending, or C in herd's form."""
+    """Reads a source: C, C++ or Rust by the file's suffix, or C in herd's form."""
     name, ending = os.path.splitext(os.path.basename(path))
     if HERD.match(without_comments(text, HERD_COMMENT)):
         return from_herd_form(without_comments(text, HERD_COMMENT))
@@ -133,7 +134,7 @@ def read_source(path: str, text: str) -> Source:
 
 
 def first_words(text: str, code: str, begin: int, end: int) -> Dict[str, str]:
-    """What the initial block says of each location."""
+    """Returns what the initial block says of each location."""
     words: Dict[str, str] = {}
     for found in re.finditer(r"[^;]+", code[begin:end]):
         entry, at = found[0].strip(), begin + found.start()
@@ -147,7 +148,7 @@ def first_words(text: str, code: str, begin: int, end: int) -> Dict[str, str]:
 
 
 def parameters_of(text: str, at: int) -> List[Tuple[str, str]]:
-    """The types and names of a function's parameters."""
+    """Returns the types and names of a function's parameters."""
     made = []
     for parameter in filter(None, (it.strip() for it in text.split(","))):
         found = re.fullmatch(r"(.*?)\*\s*(?:const\s+)?([A-Za-z_]\w*)", parameter, re.S)
@@ -158,7 +159,7 @@ def parameters_of(text: str, at: int) -> List[Tuple[str, str]]:
 
 
 def from_herd_form(text: str) -> Source:
-    """A test in herd's form as C: what its functions take becomes globals, which the condition names as they are."""
+    """Returns a test in herd's form as C: the parameters of its functions become globals, which the condition names as they are."""
     code = without_comments(text)
     name, begin = HERD.match(code)[1], code.index("{")
     end = closing(code, begin)
@@ -185,7 +186,7 @@ def from_herd_form(text: str) -> Source:
 
 
 def prefixed(proposition: tuple) -> tuple:
-    """A proposition in which globals have the names that they have in the C that is compiled."""
+    """Returns a proposition in which globals have their names in the compiled C."""
     if proposition[0] != "is":
         return (proposition[0], *map(prefixed, proposition[1:]))
     kind, site, word = proposition
@@ -194,6 +195,6 @@ def prefixed(proposition: tuple) -> tuple:
 
 
 def shown_name(name: str) -> str:
-    """The name of a global as the reader knows it."""
+    """Returns the name of a global as the reader knows it."""
     return name[len(PREFIX) :] if name.startswith(PREFIX) else name
 

@@ -1,4 +1,4 @@
-"""What each instruction does on a way."""
+"""The effect of each instruction on a way."""
 import itertools
 import re
 from typing import Callable, Dict, Optional, Tuple
@@ -28,7 +28,7 @@ class Step(Control):
     """One instruction on a way."""
 
     def run(self) -> None:
-        """Does the instruction. The way's place is already the next one."""
+        """Executes the instruction. The way's place is already the next one."""
         it, name = self.it, self.it.mnemonic
         if WITHOUT_EFFECT.fullmatch(name):
             return
@@ -58,7 +58,7 @@ class Step(Control):
     # Conditions.
 
     def set_condition(self, letters: str) -> None:
-        """SETcc."""
+        """Does SETcc."""
         value, to = int(self.holds(letters)), self.it.operands[0]
         if isinstance(to, Memory):
             self.store(self.address(to), 1, value)
@@ -66,7 +66,7 @@ class Step(Control):
             self.put(to, 1, value)
 
     def conditional_move(self, letters: str) -> None:
-        """CMOVcc: it loads whether or not the condition holds."""
+        """Does CMOVcc: it loads whether or not the condition holds."""
         what, to = self.it.operands
         letters = letters[:-1] if letters[-1] in "wlq" and letters not in ("l", "nl") else letters
         value = self.value_of(what, to.size)
@@ -79,26 +79,26 @@ class Step(Control):
     # Moves.
 
     def see(self) -> None:
-        """What `lw_see` writes: a name, and its value."""
+        """Does what `lw_see` writes: a name, and its value."""
         value = self.get(self.it.operands[0], 4)
         self.way.words_of(value)
         self.way.seen[self.it.name] = value
 
     def extend(self, name: str) -> None:
-        """MOVZX and MOVSX."""
+        """Does MOVZX and MOVSX."""
         what, to = self.it.operands
         size = LETTERS[name[4]]
         value = self.value_of(what, size)
         self.put(to, to.size, self.sign_extended(value, size, to.size) if name[3] == "s" else value)
 
     def sign_extended(self, value: Value, size: int, to: int) -> Value:
-        """A value with its sign in more bytes. A symbol whose words have none stays as it is."""
+        """Returns a value sign-extended to more bytes. A symbol whose words have no sign stays as it is."""
         if value is None or not any(word >> (8 * size - 1) for word in self.way.words_of(value)):
             return value
         return signed(self.way.number(value), size) & MASK[to]
 
     def convert(self) -> None:
-        """CLTQ and its kin: what RAX has, with more bytes."""
+        """Does CLTQ and its kin: they extend RAX."""
         name, rax = self.it.mnemonic, Register("rax", 8)
         size = CONVERSIONS[name]
         value = self.register("rax", size)
@@ -108,7 +108,7 @@ class Step(Control):
             self.way.registers["rdx"] = (self.way.apply(value, lambda it: MASK[size] if signed(it, size) < 0 else 0), 8)
 
     def lea(self, what: Memory, to: Register, size: int) -> None:
-        """LEA: a symbol and a number stay a symbol."""
+        """Does LEA: a symbol and a number stay a symbol."""
         if what.base and not what.index and what.symbol is None:
             self.put(to, size, plus(self.way, self.register(what.base, size), what.number & MASK[size], size))
         else:
@@ -117,7 +117,7 @@ class Step(Control):
     # The others, whose mnemonic may end in the letter of a size.
 
     def sized(self) -> None:
-        """An instruction with a size."""
+        """Executes an instruction with a size."""
         base, size = self.base_and_size()
         operands = self.it.operands
         if base in ("push", "pop") and size != 8:
@@ -143,7 +143,7 @@ class Step(Control):
             self.operate(base, size)
 
     def base_and_size(self) -> Tuple[str, int]:
-        """The mnemonic without the letter of its size, and the size."""
+        """Returns the mnemonic without the letter of its size, and the size."""
         name = self.it.mnemonic
         sizes = [it.size for it in self.it.operands if isinstance(it, Register)]
         if name in BASES:
@@ -155,7 +155,7 @@ class Step(Control):
         raise Refused(f"'{name}' is not followed")
 
     def move(self, size: int) -> None:
-        """MOV."""
+        """Does MOV."""
         what, to = self.it.operands
         if isinstance(what, Register):
             self.copy(what, to, size)
@@ -181,7 +181,7 @@ class Step(Control):
             own_store(self.way, at, known, value)
 
     def multiply(self, size: int) -> None:
-        """IMUL of two or three operands."""
+        """Does IMUL with two or three operands."""
         what, to = self.it.operands[0], self.it.operands[-1]
         other = self.value_of(self.it.operands[1], size) if len(self.it.operands) == 3 else self.get(to, size)
         first = self.value_of(what, size)
@@ -189,7 +189,7 @@ class Step(Control):
         self.way.flags = None
 
     def wide(self, base: str, size: int) -> None:
-        """A division, or a product of twice the size: what RDX and RAX have together."""
+        """Does a division, or a product of twice the size: RDX and RAX together."""
         if size < 4:
             raise Refused(f"'{self.it.mnemonic}' is not followed")
         way, operand = self.way, self.value_of(self.it.operands[0], size)
@@ -206,7 +206,7 @@ class Step(Control):
         way.flags = None
 
     def operate(self, base: str, size: int) -> None:
-        """An operation on a register, or on memory without a lock."""
+        """Does an operation on a register, or on memory without a lock."""
         operands = self.it.operands
         what, to = (None, operands[0]) if len(operands) == 1 else operands
         if base in ("xadd", "cmpxchg", "bts", "btr", "btc"):
@@ -236,7 +236,9 @@ class Step(Control):
             self.way.flags = flags
 
     def mask_part(self, to: Register, mask: Value, size: int) -> bool:
-        """An AND with a number that has only the lowest bytes, which are known: then all bytes of the result are. Returns whether it is one."""
+        """Does an AND with a number that has only the lowest bytes, which are known: then all bytes of the result are. Returns whether it
+        is one.
+        """
         value, known = self.way.registers[to.name]
         number = self.way.known(mask)
         if to.offset or known not in MASK or number is None or number > MASK[known]:
@@ -246,8 +248,9 @@ class Step(Control):
         return True
 
     def operate_on_part(self, base: str, what: Optional[Operand], to: Register) -> bool:
-        """An operation on registers of which only the lowest bytes are known, if those of the result depend only on these. Returns whether it is
-        one. Its flags are unknown."""
+        """Does an operation on registers of which only the lowest bytes are known, if those of the result depend only on these. Returns
+        whether it is one. Its flags are unknown.
+        """
         known = [self.way.registers[it.name][1] for it in (what, to) if isinstance(it, Register)]
         if base not in LOW_BYTES or isinstance(what, Memory) or not min(known) or any(it.offset for it in (what, to) if isinstance(it, Register)):
             return False
@@ -261,7 +264,7 @@ class Step(Control):
         return True
 
     def result(self, base: str, left: Value, right: Value, size: int) -> Tuple[Value, Optional[Flags]]:
-        """The result of an operation, and the flags that it sets."""
+        """Returns the result of an operation, and the flags that it sets."""
         way = self.way
         if base in ("adc", "sbb"):
             carry, sign = int(self.holds("b")), 1 if base == "adc" else -1
@@ -283,12 +286,12 @@ class Step(Control):
 
 
 def abort(_: Step) -> None:
-    """What ends a program."""
+    """Refuses an instruction that ends a program."""
     raise Refused("a run may come to an abort")
 
 
 def fence(step: Step) -> None:
-    """MFENCE."""
+    """Does MFENCE."""
     step.wait()
 
 

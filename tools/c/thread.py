@@ -1,8 +1,8 @@
-"""Follows a thread along all its ways under a guess, and keeps what other threads can see.
+"""Follows a thread along all its ways under a guess, and records what other threads can see.
 
-What is known (addresses, constants, the stack) is computed; what a load of a shared location finds is a symbol. Where a result depends on a
-symbol's word the way parts. A loop that ends before more than MOST_ASKED questions are asked in it, whatever its loads find, is followed to its
-end; any other is gone through as often as the reader says, and a run that would go on is given up.
+What is known (addresses, constants, the stack) is computed; what a load of a shared location finds is a symbol. If a result depends on a
+symbol's word, the way forks. A loop that ends before more than MOST_ASKED questions are asked in it, whatever its loads find, is followed
+to its end; any other is passed as often as the reader says, and a run that would continue is abandoned.
 """
 from typing import Dict, List, Optional, Tuple
 
@@ -19,14 +19,15 @@ from c.way import Pass, Way
 from c.ways import Do, Effect, End, GiveUp, Ways
 
 MOST_STEPS, MOST_WORK = 6000, 200000
-# The questions that are asked in a loop, and the passes with stores, after which it is one that need not end; a guess counts as some questions.
+# The questions that are asked in a loop, and the passes with stores, after which the loop need not end; a guess counts as several
+# questions.
 MOST_ASKED, MOST_PASSES, GUESS = 12, 64, 4
 # The bytes above the first return address, where nothing is stored.
 HEADROOM = 0x100
 
 
 class Unbounded(Exception):
-    """A loop need not end: all threads are followed again, and a run goes through it as often as `--tries` says."""
+    """A loop need not end: all threads are followed again, and a run passes the loop as often as `--tries` says."""
 
 
 class Thread:
@@ -40,7 +41,7 @@ class Thread:
         self.ways.first = self.follow(self.start())
 
     def start(self) -> Way:
-        """The thread's way at its begin."""
+        """Returns the thread's way at its start."""
         way = Way(self.program.assembly.labels[self.program.threads[self.number]], self.program.locations.never)
         way.registers = {it: (None, 0) for it in (*WHOLE_REGISTERS, *VECTOR_REGISTERS)}
         at = STACKS - STACK_OF_THREAD * self.number - HEADROOM - 8
@@ -50,12 +51,12 @@ class Thread:
         return way
 
     def enter(self, way: Way) -> None:
-        """Begins to count passes, if a loop begins where a way is."""
+        """Starts to count passes, if a loop starts at a way's place."""
         if way.place in self.program.back_targets:
             way.passes[(way.call, way.place)] = Pass(asked_before=way.asked, asked=way.asked, stores=way.stores)
 
     def follow(self, way: Way) -> int:
-        """The node of what a way leads to."""
+        """Returns the node of what follows on a way."""
         effects: List[Tuple[Effect, Optional[int]]] = []
         last = None
         while last is None:
@@ -92,7 +93,9 @@ class Thread:
         return last
 
     def instruction(self, way: Way) -> Optional[Instruction]:
-        """The instruction at which a way is; None if the way is too long. Before it is known which locations are shared that is no fault."""
+        """Returns the instruction at a way's place; `None` if the way is too long. Before it is known which locations are shared, that is
+        no fault.
+        """
         code = self.program.assembly.code
         way.steps += 1
         self.program.work += 1
@@ -107,7 +110,7 @@ class Thread:
         return it
 
     def after(self, way: Way, step: Step) -> Optional[int]:
-        """What follows an instruction that is done, if that is the end of this way."""
+        """Returns what follows an instruction that is done, if that is the end of this way."""
         if step.guess:
             self.enter(way)
             return self.with_guess(way, *step.guess, step.it.line)
@@ -124,7 +127,7 @@ class Thread:
         return None
 
     def is_given_up(self, way: Way, key: Tuple[int, int]) -> bool:
-        """Whether a run that is back at the begin of a loop is given up: since it never ends, or since it was here too often."""
+        """Returns whether a run that is back at the start of a loop is abandoned, because it never ends or was here too often."""
         it, state = way.passes[key], way.snapshot()
         if way.asked == it.asked and way.stores == it.stores and state == it.state:
             return True
@@ -140,7 +143,7 @@ class Thread:
             raise Unbounded
         return False
 
-    # Where ways part.
+    # Where ways fork.
 
     def part(self, way: Way, question: Question, line: Optional[int]) -> int:
         """Follows both answers to a question."""
@@ -153,7 +156,7 @@ class Thread:
         return self.ways.branch(question, *nodes, line)
 
     def with_guess(self, way: Way, question: Question, wanted: bool, line: Optional[int]) -> int:
-        """Follows the answer that bears a guess out. The other one gives the run up."""
+        """Follows the answer that confirms a guess. The other one abandons the run."""
         on = way.copy()
         on.asked += GUESS
         on.learn(question, wanted)
@@ -161,14 +164,15 @@ class Thread:
         return self.ways.branch(question, *((rest, up) if wanted else (up, rest)), line)
 
     def end(self, way: Way) -> int:
-        """The node of the thread's end. The way parts if what is asked about is put together from what loads have found."""
+        """Returns the node of the thread's end. The way forks if what the condition mentions is composed of what loads have found."""
         try:
             return self.ways.add(End(self.seen(way)))
         except Ask as ask:
             return self.part(way, ask.question, None)
 
     def seen(self, way: Way) -> Tuple[Tuple[str, Value], ...]:
-        """What the condition can ask about at the thread's end: values that were seen, what the thread returns, and globals of its own."""
+        """Returns what the condition can mention at the thread's end: values that were shown, the thread's result, and globals of its own.
+        """
         program, wanted = self.program, self.program.names.get(self.number, set())
         seen = {name: value for name, value in way.seen.items() if name in wanted}
         if "return" in wanted:
@@ -184,7 +188,7 @@ class Thread:
 
 
 def guesses_of(program: Program, number: int, most: int) -> List[Thread]:
-    """A thread under all its guesses."""
+    """Returns a thread under all its guesses."""
     waiting: List[Tuple[int, ...]] = [()]
     done: List[Thread] = []
     while waiting:

@@ -4,12 +4,12 @@ from typing import Dict, FrozenSet, NamedTuple, Optional, Tuple, Union
 
 MASK = {size: (1 << 8 * size) - 1 for size in (1, 2, 4, 8, 16)}
 UNSET = "a value is used that nothing has set"
-# How many stores of each thread came before, at least.
+# The number of stores of each thread that came before, at least.
 Clock = Tuple[int, ...]
 
 
 class Symbol(NamedTuple):
-    """What a load of `width` bytes found, and a number that is added modulo 2 to the bits of `size` bytes."""
+    """What a load of `width` bytes found, plus a number, modulo 2 to the bits of `size` bytes."""
 
     id: int
     width: int
@@ -17,13 +17,13 @@ class Symbol(NamedTuple):
     size: int = 8
 
 
-# None is what nothing has set.
+# `None` is a value that nothing has set.
 Value = Union[int, Symbol, None]
 
 
 @dataclass(frozen=True)
 class IsOneOf:
-    """Whether a symbol's word is one of some words. The others that it can be are there too."""
+    """The question whether a symbol's word is one of some words. The others that it can be are recorded too."""
 
     symbol: int
     words: Tuple[int, ...]
@@ -32,7 +32,7 @@ class IsOneOf:
 
 @dataclass(frozen=True)
 class IsSame:
-    """Whether a symbol's word is that of another symbol, of the same width, and a number."""
+    """The question whether a symbol's word is that of another symbol, of the same width, plus a number."""
 
     symbol: int
     other: int
@@ -44,7 +44,7 @@ Question = Union[IsOneOf, IsSame]
 
 
 class Ask(Exception):
-    """The way parts here: both answers to a question are followed."""
+    """The way forks here: both answers to a question are followed."""
 
     def __init__(self, question: Question):
         super().__init__(question)
@@ -52,17 +52,17 @@ class Ask(Exception):
 
 
 def signed(word: int, size: int) -> int:
-    """A word as a number with a sign."""
+    """Returns a word as a signed number."""
     return word - (1 << 8 * size) if word >> (8 * size - 1) else word
 
 
 def later(one: Clock, other: Clock) -> Clock:
-    """The clock of what comes after both."""
+    """Returns the clock of what comes after both."""
     return tuple(map(max, one, other))
 
 
 def earliest(clocks) -> Clock:
-    """The clock of what comes after one of these, whichever."""
+    """Returns the clock of what comes after one of these, whichever."""
     return tuple(map(min, *clocks)) if len(clocks := list(clocks)) > 1 else clocks[0]
 
 
@@ -72,10 +72,10 @@ def put_earlier(clocks: Dict[int, Clock], word: int, clock: Clock) -> None:
 
 
 def symbols_in(value: Value) -> FrozenSet[int]:
-    """The symbol that a value has, if it is none of the others."""
+    """Returns the symbol of a value, if it is one."""
     return frozenset((value.id,)) if isinstance(value, Symbol) else frozenset()
 
 
 def as_word(value: Optional[int]) -> int:
-    """A number as a word of lw."""
+    """Returns a number as a word of lw."""
     return value % 2**32

@@ -1,11 +1,11 @@
-"""Vectors of 16 bytes as compilers use them to copy what is a thread's own: moves, and a vector of zeros."""
+"""Vectors of 16 bytes, which compilers use to copy a thread's own memory: moves, and a vector of zeros."""
 from c.access import Access
 from c.operands import Memory, Number, Register, VECTOR
 from c.refused import Refused
 from c.values import Value
 
 NOT_FOLLOWED = "vectors are only moved here: --cc 'gcc -O2 -mgeneral-regs-only' or the like makes code without them, which is other code"
-# The bytes that a move moves. Those of one element leave the others of a register, unless they come from memory.
+# The number of bytes of each move. A move of one element preserves the others of a register, unless it is from memory.
 MOVES = {"movd": 4, "movq": 8, "movss": 4, "movsd": 8, **dict.fromkeys(("movdqa", "movdqu", "movaps", "movups", "movapd", "movupd", "lddqu"), VECTOR)}
 ELEMENTS = ("movss", "movsd")
 ZEROS = ("pxor", "xorps", "xorpd")
@@ -15,11 +15,11 @@ class Vectors(Access):
     """Instructions on vectors."""
 
     def is_vector(self) -> bool:
-        """Whether an operand is a vector."""
+        """Returns whether an operand is a vector."""
         return any(isinstance(it, Register) and it.size == VECTOR for it in self.it.operands)
 
     def vector(self) -> None:
-        """A move of a vector, or of a part of one."""
+        """Moves a vector, or a part of one."""
         name, operands = self.it.mnemonic, self.it.operands
         if name in ZEROS and operands[0] == operands[1]:
             self.way.registers[operands[1].name] = (0, VECTOR)
@@ -40,14 +40,14 @@ class Vectors(Access):
             self.put(to, size, value)
 
     def moved(self, what, size: int) -> Value:
-        """What is moved."""
+        """Returns what is moved."""
         if isinstance(what, Memory):
             self.check_own(what, size)
             return self.load(self.address(what), size)
         return self.register(what.name, size)
 
     def check_own(self, it: Memory, size: int) -> None:
-        """Refuses a whole vector in memory that other threads store to: a processor need not access it at once."""
+        """Refuses a whole vector in memory to which other threads store: a processor need not access it at once."""
         at = self.address(it)
         if size == VECTOR and self.is_shared(at, size) and self.program.locations.writers_of(at, size):
             raise Refused(f"16 bytes at '{self.program.layout.name_of(at)}' are accessed at once, and other threads access them too")

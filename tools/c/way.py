@@ -12,7 +12,7 @@ TOO_MANY_WORDS = f"an operation depends on a word that can be one of more than {
 
 @dataclass(frozen=True)
 class Pass:
-    """How often a call has been through a loop since it was entered, how much was asked before that, and how things were at the last time."""
+    """How often a call has passed a loop since it was entered, how much was asked before that, and the state at the last pass."""
 
     count: int = 0
     asked_before: int = 0
@@ -23,7 +23,7 @@ class Pass:
 
 @dataclass
 class Way:
-    """Where a thread is, and what it knows there. A register has a value and the number of its lowest bytes that are known."""
+    """The place of a thread, and what it knows there. A register has a value and the number of its lowest bytes that are known."""
 
     place: int
     past: Clock
@@ -48,7 +48,7 @@ class Way:
     pending: Optional[Tuple[Value]] = None
 
     def copy(self) -> "Way":
-        """The same way, to go on on its own."""
+        """Returns a copy of the way, which continues on its own."""
         made = Way.__new__(Way)
         for name in NAMES:
             value = getattr(self, name)
@@ -58,7 +58,7 @@ class Way:
     # What is known.
 
     def known(self, value: Value) -> Optional[int]:
-        """A value as a number, if it is one on this way."""
+        """Returns a value as a number, if it is one on this way."""
         if value is None:
             raise Refused(UNSET)
         if isinstance(value, Symbol):
@@ -67,19 +67,19 @@ class Way:
         return value
 
     def words_of(self, value: Value) -> FrozenSet[int]:
-        """The words that a value can be."""
+        """Returns the words that a value can be."""
         if isinstance(value, Symbol):
             return frozenset(word + value.added & MASK[value.size] for word in self.words[value.id])
         return frozenset((self.known(value),))
 
     def clocked(self, value: Value) -> Dict[int, Clock]:
-        """The words that a value can be, with their clocks."""
+        """Returns the words that a value can be, with their clocks."""
         if isinstance(value, Symbol):
             return {word + value.added & MASK[value.size]: self.clocks[value.id][word] for word in self.words[value.id]}
         return {self.known(value): (0,) * len(self.past)}
 
     def number(self, value: Value) -> int:
-        """A value as a number. If it can be several, the way parts."""
+        """Returns a value as a number. If it can be several, the way forks."""
         known = self.known(value)
         if known is not None:
             return known
@@ -87,14 +87,14 @@ class Way:
         raise Ask(IsOneOf(value.id, (first,), tuple(others)))
 
     def few_words(self, value: Symbol) -> FrozenSet[int]:
-        """The words of a symbol, which are to be told apart."""
+        """Returns the words of a symbol, which are to be distinguished."""
         words = self.words[value.id]
         if len(words) > MOST_WORDS:
             raise Refused(TOO_MANY_WORDS)
         return words
 
     def apply(self, value: Value, work: Callable[[int], object]):
-        """What an operation makes of a value. Only words that give different results are told apart."""
+        """Returns the result of an operation on a value. Only words with different results are distinguished."""
         known = self.known(value)
         if known is not None:
             return work(known)
@@ -107,7 +107,7 @@ class Way:
         raise Ask(IsOneOf(value.id, tuple(first), tuple(word for words in others for word in words)))
 
     def apply_both(self, left: Value, right: Value, work: Callable[[int, int], object]):
-        """What an operation makes of two values."""
+        """Returns the result of an operation on two values."""
         known = self.known(left)
         if known is not None:
             return self.apply(right, lambda it: work(known, it))
@@ -115,13 +115,13 @@ class Way:
         return self.apply(left, lambda it: work(it, number))
 
     def part(self, value: Value, size: int, offset: int = 0) -> Value:
-        """Some bytes of a value. A symbol stays one if it has no others."""
+        """Returns some bytes of a value. A symbol stays one if it has no others."""
         if isinstance(value, Symbol) and not offset and (value.size if value.added else value.width) <= size:
             return value
         return None if value is None else self.apply(value, lambda it: it >> 8 * offset & MASK[size])
 
     def same(self, left: Value, right: Value, size: int) -> bool:
-        """Whether two values have the same bytes."""
+        """Returns whether two values have the same bytes."""
         left, right = self.part(left, size), self.part(right, size)
         known = self.known(left), self.known(right)
         if None not in known:
@@ -135,7 +135,8 @@ class Way:
         return self.apply(*((left, lambda it: it == known[1]) if known[0] is None else (right, lambda it: it == known[0])))
 
     def same_symbols(self, left: Symbol, right: Symbol) -> bool:
-        """Whether two symbols, of which neither is known, have the same word. lw compares 32 bits: that has to say the same."""
+        """Returns whether two symbols, of which neither is known, have the same word. lw compares 32 bits: that must give the same result.
+        """
         words = self.words_of(left) | self.words_of(right)
         if left.added or left.width != right.width or left.width < 4 or len({it % 2**32 for it in words}) != len(words):
             return self.number(left) == self.number(right)
@@ -159,13 +160,13 @@ class Way:
             self.narrow(question.symbol, question.words if holds else question.others)
 
     def take_symbol(self, symbol: int) -> None:
-        """Begins to use a symbol, of which nothing is known any more."""
+        """Starts to use a symbol, of which nothing is known any more."""
         self.words.pop(symbol, None)
         for it in [it for it in self.facts if symbol in (it.symbol, it.other)]:
             del self.facts[it]
 
     def snapshot(self) -> tuple:
-        """All that says how the way goes on, if nothing is asked and no other thread stores anything."""
+        """Returns all that determines how the way continues, if nothing is asked and no other thread stores anything."""
         shown = lambda value: value if value is None or self.known(value) is None else self.known(value)
         registers = tuple((name, shown(value), size) for name, (value, size) in sorted(self.registers.items()))
         memory = tuple((at, size, shown(value)) for at, (size, value) in sorted(self.memory.items()))

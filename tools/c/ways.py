@@ -1,4 +1,4 @@
-"""All ways through a thread as a graph without cycles: what other threads can see, and questions of what loads have found."""
+"""All ways through a thread as an acyclic graph: what other threads can see, and questions about what loads have found."""
 from dataclasses import dataclass
 from typing import Dict, FrozenSet, List, Optional, Set, Tuple, Union
 
@@ -44,7 +44,7 @@ class ExchangeAdd:
 
 @dataclass(frozen=True)
 class Fence:
-    """What waits for the store buffer: MFENCE, or a locked instruction on memory of the thread's own."""
+    """An instruction that waits for the store buffer: MFENCE, or a locked instruction on memory of the thread's own."""
 
 
 Effect = Union[Load, Store, Exchange, ExchangeAdd, Fence]
@@ -69,21 +69,22 @@ class Branch:
 
 @dataclass(frozen=True)
 class End:
-    """The thread's end: what the condition can ask about, by name."""
+    """The thread's end: what the condition can mention, by name."""
 
     seen: Tuple[Tuple[str, Value], ...]
 
 
 @dataclass(frozen=True)
 class GiveUp:
-    """A run that contradicts its guess, goes through a loop too often, or never ends."""
+    """A run that contradicts its guess, passes a loop too often, or never ends."""
 
 
 Node = Union[Do, Branch, End, GiveUp]
 
 
 class Ways:
-    """The nodes of a thread, of which equal ones are one: so ways that go on alike come together. `lines` has the source's lines of each."""
+    """The nodes of a thread, without duplicates, so that ways that continue in the same way meet. `lines` has the source's lines of each.
+    """
 
     def __init__(self):
         self.nodes: List[Node] = []
@@ -92,7 +93,7 @@ class Ways:
         self.first = 0
 
     def add(self, node: Node, line: Optional[int] = None) -> int:
-        """The number of a node."""
+        """Returns the index of a node, which it adds if it is new."""
         if node not in self.numbers:
             if len(self.nodes) >= MOST_NODES:
                 raise Refused("the thread has too many ways")
@@ -104,16 +105,16 @@ class Ways:
         return number
 
     def branch(self, question: Question, yes: int, no: int, line: Optional[int] = None) -> int:
-        """The number of a question's node, or of what follows if that does not depend on it."""
+        """Returns the index of a question's node, or of what follows if that does not depend on it."""
         return yes if yes == no else self.add(Branch(question, yes, no), line)
 
     def successors(self, number: int) -> List[int]:
-        """The nodes after a node."""
+        """Returns the successors of a node."""
         it = self.nodes[number]
         return [it.after] if isinstance(it, Do) else [it.yes, it.no] if isinstance(it, Branch) else []
 
     def reached(self) -> List[int]:
-        """The nodes that the thread can reach, each after all that it leads to."""
+        """Returns the nodes that the thread can reach, each after its successors."""
         seen, made, stack = {self.first}, [], [(self.first, iter(self.successors(self.first)))]
         while stack:
             at, rest = stack[-1]
@@ -127,11 +128,11 @@ class Ways:
         return made
 
     def has(self, kind: type) -> bool:
-        """Whether the thread can reach a node of a kind."""
+        """Returns whether the thread can reach a node of a kind."""
         return any(isinstance(self.nodes[it], kind) for it in self.reached())
 
     def most_stores(self) -> int:
-        """The number of stores and locked instructions on the way that has most."""
+        """Returns the maximal number of stores and locked instructions on a way."""
         most: Dict[int, int] = {}
         for at in self.reached():
             it = self.nodes[at]
@@ -141,7 +142,7 @@ class Ways:
 
 
 def used_in(node: Node) -> FrozenSet[int]:
-    """The symbols that a node reads."""
+    """Returns the symbols that a node reads."""
     if isinstance(node, Do):
         return frozenset() if isinstance(node.effect, (Load, Fence)) else symbols_in(node.effect.value)
     if isinstance(node, Branch):
@@ -150,5 +151,5 @@ def used_in(node: Node) -> FrozenSet[int]:
 
 
 def found_by(node: Node) -> Optional[int]:
-    """The symbol that a node finds, if it finds one."""
+    """Returns the symbol that a node finds, if it finds one."""
     return node.effect.symbol if isinstance(node, Do) and not isinstance(node.effect, (Store, Fence)) else None

@@ -1,4 +1,4 @@
-"""A thread's ways as instructions of lw, in an order in which all jumps lead forward."""
+"""A thread's ways as instructions of lw, in an order in which all jumps go forward."""
 from dataclasses import replace
 from typing import Dict, List, Optional, Set, Tuple
 
@@ -12,12 +12,13 @@ END = -1
 
 
 def order_of(ways: Ways) -> List[int]:
-    """The nodes that are reached, each before all that it leads to."""
+    """Returns the nodes that are reached, each before its successors."""
     return ways.reached()[::-1]
 
 
 class Writer:
-    """Writes one thread. `locations` are the numbers of locations, `seen` the registers of what is asked about, by its name."""
+    """A writer of one thread. `locations` are the indices of locations, `seen` the registers of what the condition mentions, by its name.
+    """
 
     def __init__(self, ways: Ways, seen: Dict[str, int], mark: Optional[int], locations: Dict[int, int], thread: int):
         self.ways, self.seen, self.mark, self.locations = ways, seen, mark, locations
@@ -28,7 +29,7 @@ class Writer:
         self.written = self.written_registers()
 
     def written_registers(self) -> Set[int]:
-        """The registers that some instruction may write before the end: all others are 0 there."""
+        """Returns the registers that some instruction may write before the end: all others are 0 there."""
         spares = set()
         for at in self.order:
             if self.spare_is_needed(at):
@@ -36,7 +37,7 @@ class Writer:
         return set(self.registers.of.values()) | spares
 
     def spare_is_needed(self, at: int) -> bool:
-        """Whether a node computes a sum that it does not hold afterwards."""
+        """Returns whether a node computes a sum that it does not hold afterwards."""
         node = self.ways.nodes[at]
         if isinstance(node, Branch):
             return isinstance(node.question, IsSame) and node.question.added != 0
@@ -52,7 +53,7 @@ class Writer:
         return moved + ([Statement("add", register, value=("number", as_word(value.added)))] if value.added else [])
 
     def operand(self, value: Value, at: int) -> tuple:
-        """A value as an operand. A sum is computed in a register that is free."""
+        """Returns a value as an operand. A sum is computed in a register that is free."""
         if not isinstance(value, Symbol):
             return "number", as_word(value)
         if not value.added:
@@ -64,7 +65,7 @@ class Writer:
     # Nodes.
 
     def statements(self) -> Tuple[Statement, ...]:
-        """The instructions. While they are written, jumps lead to nodes."""
+        """Returns the instructions. While they are written, jumps target nodes."""
         begins: Dict[int, int] = {}
         for at, following in zip(self.order, [*self.order[1:], END]):
             begins[at] = len(self.made)
@@ -90,7 +91,7 @@ class Writer:
             self.go_on(END, following)
 
     def go_on(self, to: int, following: int) -> None:
-        """Goes to a node, by a jump unless it is written next."""
+        """Continues at a node, by a jump unless it is written next."""
         if to != following:
             self.made.append(Statement("jmp", target=to))
 
@@ -128,7 +129,7 @@ class Writer:
             self.go_on(no, following)
 
     def end(self, node: End) -> None:
-        """Puts what is asked about into its registers, and sets the mark."""
+        """Puts what the condition mentions into its registers, and sets the mark."""
         values, of = dict(node.seen), dict(self.registers.of)
         moves = [(register, values.get(name, 0)) for name, register in self.seen.items()]
         moves += [] if self.mark is None else [(self.mark, 1)]
@@ -151,7 +152,7 @@ class Writer:
     # Jumps.
 
     def shortened(self, code: List[Statement]) -> Tuple[Statement, ...]:
-        """Jumps to jumps lead on at once, and jumps to what comes next, or that no way reaches, go."""
+        """Retargets jumps to jumps, and removes jumps to what comes next and jumps that no way reaches."""
         origins = self.origins
         while True:
             code = [it if it.target is None else replace(it, target=landing(code, it.target)) for it in code]
@@ -165,14 +166,14 @@ class Writer:
 
 
 def landing(code: List[Statement], target: int) -> int:
-    """Where a jump to an instruction leads in the end."""
+    """Returns where a jump to an instruction ends."""
     while target < len(code) and code[target].kind == "jmp":
         target = code[target].target
     return target
 
 
 def is_spare(code: List[Statement], at: int) -> bool:
-    """Whether a jump can go: it leads to what comes next, or follows another jump and nothing leads to it."""
+    """Returns whether a jump can be removed: it targets what comes next, or follows another jump and nothing targets it."""
     it = code[at]
     if it.target == at + 1:
         return True

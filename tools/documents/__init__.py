@@ -1,1 +1,1 @@
-"""For those who write documents and definitions: what is made of them, and what is counted."""
+"""Tools for authors of documents and definitions: what is generated from them, and what is counted."""

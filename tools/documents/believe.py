@@ -64,8 +64,9 @@ OF_STD = re.compile(r"^(?:pub )?use (?:Rattle\.std|Prim)\.[\w.]+?\.\{([^}]*)\}",
 
 
 def reached():
-    """The definitions that each sitting reaches and none before it: on the flat machine, by axioms, over caches, those reached by way of
-    LAST alone, by the search, by the whole command, and by other forms."""
+    """Returns the definitions that each sitting reaches and none before it: on the flat machine, by axioms, over caches, those reached only
+    through LAST, by the search, by the whole command, and by other forms.
+    """
     all_definitions = definitions.Definitions()
     starts_of = [[all_definitions.find(*start) for start in starts] for starts in (MADE, AXIOMS, CACHES, SEARCH, COMMAND, FORMS)]
     made, axioms, caches, search, command, forms = starts_of
@@ -78,7 +79,7 @@ def reached():
 
 
 def by_file(made):
-    """The numbers of the lines of definitions, by file."""
+    """Returns the line numbers of definitions, by file."""
     found = {}
     for it in made:
         found.setdefault(it.path.removeprefix("crates/"), set()).update(range(it.first, it.last + 1))
@@ -86,7 +87,7 @@ def by_file(made):
 
 
 def names_of_std(made):
-    """The names of the standard library that definitions use."""
+    """Returns the names of the standard library that definitions use."""
     found = set()
     for it in made:
         if it.path.endswith(".antt"):
@@ -101,7 +102,7 @@ def names_of_std(made):
 
 
 def spans(path, numbers):
-    """Line numbers as ranges: those between which only blank lines stand are one."""
+    """Returns line numbers as ranges; blank lines do not split a range."""
     lines, found = definitions.lines_of(f"crates/{path}"), []
     for number in sorted(numbers):
         if found and not "".join(lines[found[-1][1] : number - 1]).strip():
@@ -112,12 +113,12 @@ def spans(path, numbers):
 
 
 def told(path, numbers):
-    """What a row says of a file."""
+    """Returns what a row says of a file."""
     return spans(path, numbers), str(len(numbers))
 
 
 def steps(text):
-    """The page's rows: each with its heading, its sitting's lines by file, and what it says."""
+    """Returns the page's rows: each with its heading, its sitting's lines by file, and what it says."""
     found, heading, sitting = [], "", 0
     for number, line in enumerate(text.split("\n")):
         if line.startswith("## "):
@@ -130,7 +131,7 @@ def steps(text):
 
 
 def written_anew(text, files):
-    """The page with the lines and numbers of its rows as they are."""
+    """Returns the page with the present lines and numbers of its rows."""
     lines = text.split("\n")
     for number, _, sitting, row in steps(text):
         if row[1] in files[sitting]:
@@ -157,7 +158,7 @@ def size_of(files):
 
 
 def faults(text, made):
-    """What is wrong with the page, a line each."""
+    """Returns what is wrong with the page, a line each."""
     files = [by_file(it) for it in made]
     found, met = [], [set() for _ in files]
     for _, _, sitting, row in steps(text):
@@ -177,14 +178,14 @@ def faults(text, made):
 
 
 def untold_names(text, made):
-    """The names of the standard library that the page's Notation lacks, a line each."""
+    """Returns the names of the standard library that the page's Notation lacks, a line each."""
     notation = text.partition(NOTATION)[2].partition("\n## ")[0]
     names = set().union(*map(names_of_std, made))
     return [f"docs/BELIEVE.md's Notation lacks {name}" for name in sorted(names) if not is_told(name, notation)]
 
 
 def is_told(name, notation):
-    """Whether the Notation has a name in backticks: a sign between two arguments, as `a ≡ b`, or a word."""
+    """Returns whether the Notation has a name in backticks: a sign between two arguments, as `a ≡ b`, or a word."""
     parts = [re.escape(part) for part in name.split("◌") if part]
     inside = r"[^`\n]*?".join(parts) if "◌" in name else rf"(?<![\w'.]){re.escape(name)}(?![\w'])"
     return re.search(rf"`[^`\n]*?{inside}[^`\n]*?`", notation) is not None
@@ -196,7 +197,7 @@ def read_page():
 
 
 def told_faults():
-    """What is wrong, a line each: what tools/check_documents.py asks."""
+    """Returns what is wrong, a line each, for tools/check_documents.py."""
     return faults(read_page(), reached())
 
 

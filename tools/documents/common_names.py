@@ -28,7 +28,7 @@ WIDTH = 110
 HEAD = "-- What proofs cite of std, of lower crates and of this crate's definitions, passed on from one place. Declares nothing.\n"
 STD = "Rattle.std.proofs.Common"
 PASSES = re.compile(r"^(?:unfoldable )?pub use ([\w.+'-]+)\.\{([^}]*)\}", re.M)
-# Crates whose proofs name too little for a file of their own, or that nobody's proofs stand on.
+# Crates whose proofs name too little for a file of their own, or on which no other proofs depend.
 WITHOUT = ("lw", "lw_test_reader", "lw_tso_caches", "lw_source", "lw_outcome_map", "lw_arena", "lw_library")
 
 
@@ -40,7 +40,7 @@ def read(path):
 
 
 class Crates:
-    """The crates, lowest first, what each one's Common passes on now, and the texts of proofs, with what they lack imported."""
+    """The crates, lowest first, what each one's Common exports now, and the texts of proofs, with missing imports added."""
 
     def __init__(self):
         self.completed = {}
@@ -60,7 +60,7 @@ class Crates:
         return crate in self.order and crate not in WITHOUT and not crate.endswith("_tests")
 
     def origin(self, module, name):
-        """The module from which a name comes, whatever passes it on."""
+        """Returns the module that defines a name, whatever exports it again."""
         while True:
             common = re.match(r"Rattle\.(\w+)\.proofs\.Common$", module)
             if not common or name not in self.passed.get(common[1], {}):
@@ -77,7 +77,7 @@ class Crates:
         return self.completed.get(path, read(path))
 
     def complete(self, missing):
-        """Has imports of what each proof lacks. Returns whether each name has one place, and a line for each that was lacking."""
+        """Adds the imports that each proof lacks. Returns whether each name has one origin, and a line for each that was missing."""
         self.completed = {path: missing.completed(path) for crate in self.order for path in self.files(crate)}
         return all(is_found for is_found, _ in missing.told), [line for _, line in missing.told]
 
@@ -87,7 +87,7 @@ def unfolded_in(text):
 
 
 def unfoldable_in(crates):
-    """Definitions that are opened by name, which no other module can pass on."""
+    """Returns definitions that are unfolded by name, which no other module can export."""
     found = set()
     for crate in crates.order:
         for at, _, names in os.walk(f"{HOME}/crates/{crate}/specs"):
@@ -98,13 +98,13 @@ def unfoldable_in(crates):
 
 
 def passes_between(module):
-    """The crate whose Common passes a definition on to other crates."""
+    """Returns the crate whose Common exports a definition to other crates."""
     at = re.match(r"Rattle\.(\w+)\.specs\b", module)
     return at[1] if at and ".declared." not in module and ".contracts." not in module else None
 
 
 def packed(head, names):
-    """Lines of at most WIDTH columns."""
+    """Returns lines of at most WIDTH columns."""
     lines, line = [], []
     for name in names:
         if line and len(f"{head}.{{{', '.join([*line, name])}}}") > WIDTH:
@@ -115,7 +115,7 @@ def packed(head, names):
 
 
 class Names:
-    """Which names each Common passes on, and from where."""
+    """Which names each Common exports, and from where."""
 
     def __init__(self, crates, in_std):
         self.crates, self.in_std, self.opened = crates, in_std, unfoldable_in(crates)
@@ -154,7 +154,7 @@ class Names:
         return wanted
 
     def common_of(self, crate):
-        """The text of a crate's Common."""
+        """Returns the text of a crate's Common."""
         by_module = {}
         for name, module in self.passed[crate].items():
             below = passes_between(module)
@@ -171,7 +171,7 @@ class Names:
         return HEAD + "\n".join(lines) + "\n"
 
     def rewritten(self, crate, text):
-        """A proof's text with its imports gathered."""
+        """Returns a proof's text with its imports gathered."""
         kept = unfolded_in(text)
         common, others = [], {}
         for module, name in self.imports(text):
@@ -190,7 +190,7 @@ class Names:
 
 
 def wanted_texts(crates, names):
-    """The files as they should be, by path."""
+    """Returns the files as they should be, by path."""
     for crate in crates.order:
         if not names.passed[crate]:
             yield from ((path, crates.text(path)) for path in crates.files(crate))

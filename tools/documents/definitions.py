@@ -35,7 +35,7 @@ def lines_of(path):
 
 
 def paragraphs(lines):
-    """The runs of lines between blank lines, each with the number of its first line."""
+    """Returns the runs of lines between blank lines, each with the number of its first line."""
     found, start = [], None
     for number, line in enumerate([*lines, ""], 1):
         if line.strip() and start is None:
@@ -73,7 +73,7 @@ class SpecFile:
                 self.aliases[named[4]] = (named[1], named[2])
 
     def read_definition(self, start, block):
-        """A block that defines something; a comment alone is none. A line that opens a module stands with what is behind it."""
+        """Reads a block that defines something; a comment by itself is none. A line that opens a module belongs to what follows it."""
         code = without_comments(block)
         opens = [number for number, line in enumerate(code) if re.match(r"^\s*module\b", line)]
         body = [line for line in code[opens[-1] + 1 if opens else 0 :] if line.strip()]
@@ -91,7 +91,7 @@ class SpecFile:
 
 
 def declared(crate, names):
-    """The declaration in src/ of a type, of which `names` is the path behind `declared`."""
+    """Returns the declaration in src/ of a type, of which `names` is the path after `declared`."""
     names = [it for it in names if it != "TheVariants"]
     path = f"crates/{crate}/src/{'/'.join(names[:-1])}.rt"
     for start, block in paragraphs(lines_of(path)):
@@ -102,7 +102,7 @@ def declared(crate, names):
 
 
 def whole_item(path, name, start, block, number):
-    """The item of a block of code that begins at a line of it, with the comments and attributes above it."""
+    """Returns the item that starts at a line of a block of code, with the comments and attributes above it."""
     first = number
     while first and re.match(r"^\s*(///|#\[)", block[first - 1]):
         first -= 1
@@ -114,7 +114,7 @@ def whole_item(path, name, start, block, number):
 
 
 class Definitions:
-    """All definitions that were looked at, by file."""
+    """All definitions that were read, by file."""
 
     def __init__(self):
         self.files = {}
@@ -125,7 +125,7 @@ class Definitions:
         return self.files[path]
 
     def path_of(self, crate, module):
-        """The file of a module of a crate's specs, through what the crate passes on."""
+        """Returns the file of a module of a crate's specs, through what the crate exports."""
         path = f"crates/{crate}/specs/{module.replace('.', '/')}.antt"
         if os.path.exists(f"{HOME}/{path}"):
             return path
@@ -136,7 +136,7 @@ class Definitions:
         return None
 
     def find(self, crate, module, name):
-        """The definition of a name that a module has."""
+        """Returns the definition of a name in a module."""
         parts = module.split(".")
         if parts[0] == "declared":
             return declared(crate, parts[1:])
@@ -151,7 +151,7 @@ class Definitions:
         return None
 
     def cited(self, made):
-        """The definitions that one cites, in the order in which it names them."""
+        """Returns the definitions that one mentions, in the order in which it does."""
         if not made.path.endswith(".antt"):
             return []
         file, found = self.file(made.path), []
@@ -169,7 +169,7 @@ class Definitions:
         return found
 
     def reached(self, starts, but=()):
-        """All definitions that some stand on, themselves among them; not those by way of some names alone."""
+        """Returns all definitions on which some depend, themselves among them; not those reached only through the names of `but`."""
         found, waiting = {}, [*starts]
         while waiting:
             made = waiting.pop(0)

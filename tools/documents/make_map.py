@@ -12,7 +12,7 @@ BEGIN, END = "<!-- The list of files, made by tools/documents/make_map.py -->\n"
 
 
 def first_sentence(path):
-    """The first sentence of a file's head comment."""
+    """Returns the first sentence of a file's head comment."""
     words = []
     with open(path, encoding="utf-8") as it:
         for line in it:
@@ -40,7 +40,7 @@ def files_of(crate, folder, ending):
 
 
 def made():
-    """The list as it should stand."""
+    """Returns the list as it should be."""
     lines = []
     for crate in crates():
         lines.append(f"\n### {crate}\n")
@@ -53,7 +53,7 @@ def made():
 
 
 def parts():
-    """The map before the list, the list, and what stands behind it."""
+    """Returns the map before the list, the list, and what follows it."""
     with open(f"{HOME}/docs/MAP.md", encoding="utf-8") as it:
         text = it.read()
     before, rest = text.split(BEGIN)
@@ -62,7 +62,7 @@ def parts():
 
 
 def is_whole():
-    """Whether the list is as it should stand."""
+    """Returns whether the list is as it should be."""
     return parts()[1] == made()
 
 

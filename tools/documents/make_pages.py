@@ -18,7 +18,7 @@ import plain
 
 # The folder of tests that only `./beyond` lists.
 PAST_LIMITS = "beyond/"
-# Further replays of a test: a schedule, and the protocol where it is not the one that is taken where none is named.
+# Further replays of a test: a schedule, and the protocol unless it is the default.
 FURTHER = {
     "Dekker": [("P0 P1 P0 P0 P1 P1", "")],
     "Dekker+mfences-x86": [("P0 P0", "")],
@@ -41,12 +41,12 @@ FIXED_WORDS = re.compile(
 
 
 def fixed_words(text):
-    """What the fixed words of a test's comment say."""
+    """Returns what the fixed words of a test's comment say."""
     return FIXED_WORDS.search(" ".join(text.split()))
 
 
 def commands_on(name, text):
-    """The commands of a test's page, each a row of words."""
+    """Returns the commands of a test's page, each a list of words."""
     words = fixed_words(text)
     replays = [["replay", words["telling"] or words["run"]]]
     for further, protocol in FURTHER.get(name, []):
@@ -55,7 +55,7 @@ def commands_on(name, text):
 
 
 def page_of(name, text):
-    """The page of a test, which is named by its path in examples/."""
+    """Returns the page of a test, which is named by its path in examples/."""
     page = ""
     for words in commands_on(name, text):
         program = "beyond" if name.startswith(PAST_LIMITS) and words == ["states"] else "lw"
@@ -66,7 +66,7 @@ def page_of(name, text):
 
 
 def names():
-    """The names of all tests: their paths in examples/, without the ending."""
+    """Returns the names of all tests: their paths in examples/, without the suffix."""
     paths = glob.glob(f"{HOME}/examples/*.litmus") + glob.glob(f"{HOME}/examples/{PAST_LIMITS}*.litmus")
     return sorted(os.path.relpath(it, f"{HOME}/examples").removesuffix(".litmus") for it in paths)
 

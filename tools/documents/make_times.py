@@ -20,19 +20,19 @@ TABLE = re.compile(r"^\| Crate \| proof \|.*\n(?:\|.*\n)+", re.M)
 
 
 def together(rows):
-    """The row of the sums."""
+    """Returns the row of the sums."""
     sums = [sum(float(row[at]) for row in rows if row[at] != "-") for at in range(4)]
     return f"| together | {sums[0]:.1f} | {sums[1]:.1f} ({sums[2]:.0f}) | {sums[3]:.1f} |"
 
 
 def row_of(name, proof, wrong, number, tests):
-    """The row of a crate."""
+    """Returns the row of a crate."""
     cells = [proof, f"{wrong} ({number})", tests]
     return f"| {name} | {' | '.join(it.replace('- (-)', '').replace('-', '') for it in cells)} |"
 
 
 def table():
-    """The table's text."""
+    """Returns the table's text."""
     of_crates = [it for it in lines() if it[0] not in OTHERS]
     rows = [row_of(*it) for it in of_crates] + [together([cells for _, *cells in of_crates])]
     rows += [f"| {OTHERS[name]} | {cells[0]} | | |" for name, *cells in lines() if name in OTHERS]
@@ -40,12 +40,12 @@ def table():
 
 
 def with_table(text):
-    """The page with the table."""
+    """Returns the page with the table."""
     return TABLE.sub(lambda _: table(), text, count=1)
 
 
 def is_whole():
-    """Whether the page has the table."""
+    """Returns whether the page has the table."""
     with open(TIMES, encoding="utf-8") as it:
         text = it.read()
     return TABLE.search(text) is not None and with_table(text) == text

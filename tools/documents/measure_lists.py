@@ -21,14 +21,14 @@ PROGRAM = os.environ.get("LW", f"{HOME}/crates/lw/out/lw")
 
 
 def tests():
-    """The tests of bench/INDEX.md, with the number of their states, `-` where the list is refused."""
+    """Returns the tests of bench/INDEX.md, with the number of their states, or `-` if the list is refused."""
     with open(f"{HOME}/bench/INDEX.md", encoding="utf-8") as it:
         rows = re.findall(r"^\| (\S+\.(?:src|raw)) \|(.*) \|$", it.read(), re.M)
     return [(name, rest.split(" | ")[5].replace(",", "")) for name, rest in rows]
 
 
 def measured(name):
-    """The millions of instructions of a test's report, and the number of its states."""
+    """Returns the millions of instructions of a test's report, and the number of its states."""
     with open(f"{HOME}/bench/{name}.litmus", "rb") as given, tempfile.TemporaryDirectory() as room:
         words = ["valgrind", "--tool=callgrind", f"--callgrind-out-file={room}/out", f"--log-file={room}/log", PROGRAM, "states"]
         printed = subprocess.run(words, stdin=given, capture_output=True, check=False).stdout

@@ -27,7 +27,7 @@ def names_of(group):
 
 
 def offered_by(file):
-    """What a file declares that others can import: public names, and the constructors of its types."""
+    """Returns what a file declares that others can import: public names, and the constructors of its types."""
     found = set()
     for it in file.declarations:
         if it.owner is None and not it.scope:
@@ -39,12 +39,12 @@ def offered_by(file):
 
 
 def keys_of(name):
-    """The words by which a name is used: itself, or the signs of an operator."""
+    """Returns the words by which a name is used: itself, or the signs of an operator."""
     return [it for it in name.split("◌") if it]
 
 
 class Missing:
-    """The names that proofs lack, and where they stand. `crates` is that of common_names.py, `std` the module of std's Common."""
+    """The names that proofs lack, and where they are defined. `crates` is that of common_names.py, `std` the module of std's Common."""
 
     def __init__(self, crates, std, in_std):
         self.crates, self.std, self.told = crates, std, []
@@ -68,7 +68,7 @@ class Missing:
             self.places[key].add((name, crate, module))
 
     def is_open_to(self, file, crate, module):
-        """Whether a proof may name what stands in a module that a crate has or imports."""
+        """Returns whether a proof may use a module that a crate has or imports."""
         there = self.files.by_module.get(module)
         if crate not in self.below[file.crate] or there is file:
             return False
@@ -78,7 +78,7 @@ class Missing:
         return is_near and not self.stands_on(there, file)
 
     def stands_on(self, upper, lower):
-        """Whether a file imports another, directly or by way of others."""
+        """Returns whether a file imports another, directly or not."""
         seen, waiting = set(), [upper]
         while waiting:
             file = waiting.pop()
@@ -90,7 +90,7 @@ class Missing:
         return False
 
     def found(self, file, word):
-        """The modules that have what a word means, each with the name that it has there."""
+        """Returns the modules that define a word, each with the name that it has there."""
         passed = {key: name for name in self.crates.passed[file.crate] for key in keys_of(name)}
         if word in passed:
             return {(f"Rattle.{file.crate}.proofs.Common", passed[word])}
@@ -105,13 +105,13 @@ class Missing:
         return {(module, name) for module, group in FOUND.findall(told) for name in names_of(group) if word in keys_of(name)}
 
     def has(self, module, name):
-        """Whether a module has a name; of what is not in the repository nothing is known."""
+        """Returns whether a module has a name; nothing is known of modules outside of the repository."""
         there = self.files.by_module.get(module)
         name = name.split(" as ")[0]
         return there is None or "." in name or name in there.own or name in there.brings or name in offered_by(there)
 
     def without_false_imports(self, file):
-        """The lines of a file without imports of what their module lacks, which is then free."""
+        """Returns the lines of a file without imports of names that their module lacks."""
         for line in file.text.split("\n"):
             use = USE.match(line)
             lacking = [it for it in names_of(use[2]) if it and not self.has(use[1], it)] if use else []
@@ -125,7 +125,9 @@ class Missing:
                 yield f"use {use[1]}.{{{', '.join(kept)}}}"
 
     def completed(self, path):
-        """A proof's text with imports of what it lacks. Says of each name from where it is imported, or that it has no one place."""
+        """Returns a proof's text with missing imports added. Prints for each name from where it is imported, or that it has no unique
+        origin.
+        """
         file = self.by_path[path]
         lines, added = list(self.without_false_imports(file)), []
         for word in free_in(file):

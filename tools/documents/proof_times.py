@@ -21,7 +21,7 @@ MODULE = re.compile(r"Rattle-lw_\w+?-(?:proofs|specs)\.(.*)\.oantt$")
 
 
 def parts_of(folder):
-    """The seconds of each part of each function, from the times between one file and the next."""
+    """Returns the seconds of each part of each function, from the times between one file and the next."""
     files = sorted((os.stat(f"{folder}/{name}").st_mtime_ns, name) for name in os.listdir(folder) if name.endswith(".oantt"))
     parts = collections.defaultdict(collections.Counter)
     for (before, _), (written, name) in zip(files, files[1:]):

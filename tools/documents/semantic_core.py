@@ -21,7 +21,7 @@ MOST_FILES, MOST_LINES = 35, 1350
 
 
 def file_of(crate, names):
-    """The file of definitions that a path of names lies in, or None where the code declares what is named."""
+    """Returns the file of definitions of a path of names, or `None` if the code declares what is named."""
     for many in range(len(names), 0, -1):
         path = f"{crate}/specs/{'/'.join(names[:many])}.antt"
         if os.path.exists(f"{HOME}/crates/{path}"):
@@ -30,7 +30,7 @@ def file_of(crate, names):
 
 
 def imported(path):
-    """The files of definitions that a file imports."""
+    """Returns the files of definitions that a file imports."""
     with open(f"{HOME}/crates/{path}", encoding="utf-8") as it:
         named = re.findall(r"^(?:pub )?use Rattle\.(lw_\w+)\.specs\.([\w.]+)", it.read(), re.M)
     found = [file_of(crate, names.rstrip(".").split(".")) for crate, names in named]
@@ -38,7 +38,7 @@ def imported(path):
 
 
 def closure(start):
-    """A file with all that it stands on, each once, those that it stands on first."""
+    """Returns a file with all on which it depends, without duplicates, dependencies first."""
     found = []
 
     def visit(path):
@@ -57,7 +57,7 @@ def lines_of(path):
 
 
 def faults(files, lines):
-    """What is wrong with so many files and lines."""
+    """Returns what is wrong with these numbers of files and lines."""
     found = []
     if files > MOST_FILES or lines > MOST_LINES:
         found.append(f"more than {MOST_FILES} files or {MOST_LINES:,} lines")
@@ -68,7 +68,7 @@ def faults(files, lines):
 
 
 def told():
-    """What is wrong, a line each."""
+    """Returns what is wrong, a line each."""
     core = closure(START)
     return faults(len(core), sum(map(lines_of, core)))
 

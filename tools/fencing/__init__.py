@@ -1,1 +1,1 @@
-"""Fences of x86 tests: the smallest sets that are enough, places for further ones, and exchanges that could be plain stores."""
+"""Fences of x86 tests: the smallest sufficient sets, places for further ones, and exchanges that could be plain stores."""

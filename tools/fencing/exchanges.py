@@ -10,18 +10,18 @@ Place = Tuple[int, int]
 
 
 def exchanges_of(test: Test) -> List[Place]:
-    """The places of all exchanges: a thread, and the number of the instruction."""
+    """Returns the places of all exchanges: a thread, and the index of the instruction."""
     return [(thread, at) for thread, code in enumerate(test.threads) for at, it in enumerate(code) if it.kind in ("xchg", "xadd")]
 
 
 def is_old_word_used(test: Test, place: Place) -> bool:
-    """Whether the word that an exchange finds may still be read, or is observed."""
+    """Returns whether the word that an exchange finds may still be read, or is observed."""
     thread, at = place
     return test.threads[thread][at].register in Code(test, thread).needed[at + 1]
 
 
 def free_register(code: Tuple[Statement, ...], test: Test, thread: int) -> Optional[int]:
-    """A register that a thread has no use for, if there is one."""
+    """Returns a register that a thread does not use, if there is one."""
     used = {it.register for it in code} | {it.value[1] for it in code if it.value and it.value[0] == "register"}
     used |= Code(test, thread).needed[0] | Code(test, thread).needed[len(code)]
     free = [number for number in range(6) if number not in used]
@@ -29,7 +29,7 @@ def free_register(code: Tuple[Statement, ...], test: Test, thread: int) -> Optio
 
 
 def without_lock(test: Test, place: Place) -> List[Statement]:
-    """The instructions in an exchange's place; none where they need a register and none is free."""
+    """Returns the instructions that replace an exchange; none if they need a register and none is free."""
     thread, at = place
     it, is_used = test.threads[thread][at], is_old_word_used(test, place)
     store = Statement("store", location=it.location, value=("register", it.register))
@@ -44,14 +44,14 @@ def without_lock(test: Test, place: Place) -> List[Statement]:
 
 
 def named(instructions: List[Statement]) -> str:
-    """What stands in an exchange's place, in words."""
+    """Returns what replaces an exchange, in words."""
     if len(instructions) == 1:
         return "a plain store"
     return "a load, a sum and a plain store" if any(it.kind == "add" for it in instructions) else "a load and a plain store"
 
 
 def with_instructions(test: Test, place: Place, instructions: List[Statement]) -> Test:
-    """A test with other instructions in the place of one."""
+    """Returns a test with other instructions in place of one."""
     thread, at = place
     more = len(instructions) - 1
     moved = lambda it: it if it.target is None or it.target <= at else replace(it, target=it.target + more)

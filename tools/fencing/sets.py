@@ -1,5 +1,6 @@
-"""The smallest sets of fences that are enough. A fence only takes outcomes away: so a set with more fences is enough where one with fewer
-is, and one with fewer is not where one with more is not. That cuts the search."""
+"""The smallest sufficient sets of fences. A fence only removes outcomes: so each superset of a sufficient set is sufficient, and each
+subset of an insufficient one is not. That cuts the search.
+"""
 from itertools import combinations
 from typing import Callable, FrozenSet, Hashable, List, Sequence
 
@@ -7,7 +8,7 @@ Fence = Hashable
 
 
 def smallest_sets(fences: Sequence[Fence], is_enough: Callable[[FrozenSet[Fence]], bool]) -> List[List[Fence]]:
-    """All smallest sets that are enough, each in the order of the fences; none where all together are not."""
+    """Returns all smallest sufficient sets, each in the order of the fences; none if all fences together are not sufficient."""
     whole = frozenset(fences)
     if not is_enough(whole):
         return []
@@ -32,7 +33,7 @@ def smallest_sets(fences: Sequence[Fence], is_enough: Callable[[FrozenSet[Fence]
 
 
 def grown(tried: FrozenSet[Fence], others: Sequence[Fence], is_enough: Callable[[FrozenSet[Fence]], bool]) -> FrozenSet[Fence]:
-    """A set that is not enough with all that can be added to it one after another without being so."""
+    """Returns an insufficient set, enlarged as long as it stays insufficient."""
     for it in others:
         if it not in tried and not is_enough(tried | {it}):
             tried |= {it}
@@ -40,5 +41,5 @@ def grown(tried: FrozenSet[Fence], others: Sequence[Fence], is_enough: Callable[
 
 
 def in_order(chosen: FrozenSet[Fence], fences: Sequence[Fence]) -> List[Fence]:
-    """A set in the order of the fences."""
+    """Returns a set in the order of the fences."""
     return [it for it in fences if it in chosen]

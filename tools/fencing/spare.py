@@ -15,7 +15,7 @@ WRITES = ("store", "xchg", "xadd")
 
 
 def loads_behind(code: Tuple[Statement, ...], at: int) -> Set[int]:
-    """The loads that some way reaches from a position, with nothing between that waits."""
+    """Returns the loads that some way reaches from a position, with nothing between that waits."""
     found, seen, waiting = set(), set(), list(plain.followers(code[at], at))
     while waiting:
         here = waiting.pop()
@@ -27,13 +27,13 @@ def loads_behind(code: Tuple[Statement, ...], at: int) -> Set[int]:
 
 
 def is_own(test: Test, thread: int, location: int) -> bool:
-    """Whether no other thread has an instruction that writes a location."""
+    """Returns whether no other thread has an instruction that writes a location."""
     others = (code for other, code in enumerate(test.threads) if other != thread)
     return not any(it.kind in WRITES and it.location == location for code in others for it in code)
 
 
 def is_spare(test: Test, place: Place) -> bool:
-    """Whether the law says that an x86 test has the same outcomes without the fence at a place."""
+    """Returns whether the law says that an x86 test has the same outcomes without the fence at a place."""
     thread, at = place
     code = test.threads[thread]
     if at not in behind_stores(code):
