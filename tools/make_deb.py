@@ -62,7 +62,7 @@ class Link(str):
 
 
 def zipped(content):
-    """Some bytes in gzip's form. The same bytes give the same ones."""
+    """Returns some bytes in gzip's form. The same bytes give the same ones."""
     made = io.BytesIO()
     with gzip.GzipFile("", "wb", mtime=0, fileobj=made) as it:
         it.write(content)
@@ -70,13 +70,13 @@ def zipped(content):
 
 
 def read(name):
-    """The bytes of a file of tools/packing/debian."""
+    """Returns the bytes of a file of tools/packing/debian."""
     with open(os.path.join(DEBIAN, name), "rb") as it:
         return it.read()
 
 
 def tree_in_share(files):
-    """The tree in /usr/share/lw, with its programs and the library where Debian has such files."""
+    """Returns the tree in /usr/share/lw, with its programs and the library where Debian has such files."""
     places = {tree.LIBRARY: f"{LIB}/liblw.so", tree.LW: "usr/bin/lw", tree.BEYOND: "usr/bin/beyond"}
     found = {}
     for name, content in files.items():
@@ -87,7 +87,7 @@ def tree_in_share(files):
 
 
 def library(version):
-    """The library for C and for Python, except the shared object."""
+    """Returns the library for C and for Python, without the shared object."""
     with open(os.path.join(HOME, pack.LIBRARY), "rb") as it:
         found = {f"{LIB}/liblw.a": it.read()}
     found[f"{LIB}/pkgconfig/lw.pc"] = PKG_CONFIG.format(version=version).encode()
@@ -96,7 +96,7 @@ def library(version):
 
 
 def commands(files):
-    """The tools as commands; and of all commands the manual pages and the completions."""
+    """Returns the tools as commands, and the manual pages and completions of all commands."""
     found = {f"{COMPLETIONS}/lw": read("completion.bash")}
     names = [os.path.basename(it) for it in (tree.LW, tree.BEYOND) if it in files]
     pages = {name: read(f"{name}.1") for name in names}
@@ -109,7 +109,7 @@ def commands(files):
 
 
 def documents(files, origin):
-    """What Debian has of each package in /usr/share/doc."""
+    """Returns what Debian has of each package in /usr/share/doc."""
     licences = "".join(f"\n{name}\n\n{files[name].decode()}" for name in sorted(files) if name.startswith("licences/"))
     told = f"{tree.told(origin, tree.BEYOND in files)}\nThe crates of others that are linked in:\n{licences}"
     links = {f"usr/share/doc/lw/{name}": Link(f"{SHARE}/{name}") for name in ("README.md", "docs", "examples")}
@@ -117,19 +117,19 @@ def documents(files, origin):
 
 
 def installed(origin, files):
-    """What is installed: of each name its bytes, or the target of a link."""
+    """Returns what is installed: by name, the bytes or the target of a link."""
     return {**tree_in_share(files), **library(origin.version), **commands(files), **documents(files, origin)}
 
 
 def described(text):
-    """A description as control files have it. The lines of its first paragraph stay lines."""
+    """Returns a description as control files have it. The lines of its first paragraph stay lines."""
     first, rest = text.rstrip("\n").split("\n\n", 1)
     lines = [f"  {line}" for line in first.split("\n")] + [f" {line or '.'}" for line in ["", *rest.split("\n")]]
     return "".join(f"{it}\n" for it in lines)
 
 
 def control(origin, files, made):
-    """The files of the package's own description."""
+    """Returns the files of the package's own description."""
     held = {name: it for name, it in made.items() if not isinstance(it, Link)}
     least = "{}.{}".format(*tree.least_glibc([it for it in files.values() if it.startswith(b"\x7fELF")]))
     size = sum(-(-len(it) // 1024) for it in held.values())
@@ -139,7 +139,7 @@ def control(origin, files, made):
 
 
 def folders_of(names):
-    """All folders above some names."""
+    """Returns all folders above some names."""
     found = set()
     for name in names:
         while "/" in name:
@@ -149,7 +149,7 @@ def folders_of(names):
 
 
 def tarred(files, seconds):
-    """The bytes of a tar file: all its files are root's, and of one time."""
+    """Returns the bytes of a tar file: all its files are root's, and have the same time."""
     made = io.BytesIO()
     folders = folders_of(files)
     with tarfile.open(fileobj=made, mode="w", format=tarfile.GNU_FORMAT) as tar:
@@ -169,12 +169,12 @@ def tarred(files, seconds):
 
 
 def is_run(name, content):
-    """Whether a file is made to be run: a library is not."""
+    """Returns whether a file is executable: a library is not."""
     return tree.is_program(content) and not name.startswith(LIB)
 
 
 def archived(members, seconds):
-    """The bytes of an archive of ar's."""
+    """Returns the bytes of an archive of ar's."""
     made = b"!<arch>\n"
     for name, content in members:
         made += f"{name:<16}{seconds:<12}{0:<6}{0:<6}{'100644':<8}{len(content):<10}`\n".encode() + content + b"\n" * (len(content) % 2)

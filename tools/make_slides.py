@@ -72,7 +72,7 @@ show((parseInt(location.hash.slice(1), 10) || 1) - 1);
 
 
 def page():
-    """The slides as one page."""
+    """Returns the slides as one page."""
     made = slides.slides()
     body = "".join(
         f'<section class="slide">\n<h2>{escape(title, quote=False)}</h2>\n{html}<footer>{number} / {len(made)}</footer>\n</section>\n'

@@ -48,18 +48,18 @@ schedule that leads to each. No state is missing from a list, and some run ends 
 
 {{told}}"""
 WHEEL = "Wheel-Version: 1.0\nGenerator: tools/make_wheel.py\nRoot-Is-Purelib: false\nTag: {tag}\n"
-# The time of each file in it: the earliest that a zip file has.
+# The time of each file in it: the earliest that a zip file can have.
 TIME = (1980, 1, 1, 0, 0, 0)
 
 
 def tag_of(files):
-    """The systems on which it runs, as a wheel's name says."""
+    """Returns the systems on which it runs, as a wheel's name says."""
     programs = [it for it in files.values() if it.startswith(b"\x7fELF")]
     return "py3-none-manylinux_{}_{}_x86_64".format(*tree.least_glibc(programs))
 
 
 def package_files():
-    """The package's own files: what makes the tree a package of Python."""
+    """Returns the package's own files: what makes the tree a package of Python."""
     found = {}
     for name in ("__init__.py", "__main__.py"):
         with open(os.path.join(PACKAGE, name), "rb") as it:
@@ -69,7 +69,7 @@ def package_files():
 
 
 def contents(origin, files):
-    """Of each name in the wheel its bytes, and its tag."""
+    """Returns the bytes of each name in the wheel, and its tag."""
     tag, top = tag_of(files), f"lw-{origin.version}"
     made = {f"lw/{name}": it for name, it in files.items()}
     made.update(package_files())
@@ -87,12 +87,12 @@ def contents(origin, files):
 
 
 def sum_of(content):
-    """The checksum of some bytes, as RECORD has it."""
+    """Returns the checksum of some bytes, as RECORD has it."""
     return base64.urlsafe_b64encode(hashlib.sha256(content).digest()).rstrip(b"=").decode()
 
 
 def zipped(files):
-    """The bytes of a zip file: the package's files first, its description last."""
+    """Returns the bytes of a zip file: the package's files first, its description last."""
     made = io.BytesIO()
     with zipfile.ZipFile(made, "w", zipfile.ZIP_DEFLATED) as it:
         for name in sorted(files, key=lambda name: (".dist-info/" in name, name)):

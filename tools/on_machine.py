@@ -69,7 +69,7 @@ def compiler_of(text: str) -> List[str]:
 
 
 def settings_of(words, against: Optional[Subject]) -> Settings:
-    """Returns how tests are run, by the words of the command."""
+    """Returns how tests are run, by the arguments of the command."""
     seconds = SECONDS if words.seconds is None and not words.runs else words.seconds
     return Settings(Limits(seconds, words.runs, words.until == "complete"), knobs.knobs_of(words.knob), words.everything, against)
 
@@ -86,7 +86,7 @@ def show(laboratory: Laboratory, words, settings: Settings, file: str, text: str
 
 
 def run_all(words, settings: Settings) -> int:
-    """Runs all tests. Returns the exit status, which says first of all if a state was seen and not listed."""
+    """Runs all tests. Returns the exit status; a state that was seen and not listed determines it first."""
     try:
         with tempfile.TemporaryDirectory(prefix="lw-machine-") as folder:
             laboratory = Laboratory(words.cc, folder)

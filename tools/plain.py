@@ -53,7 +53,7 @@ from shared import start
 
 
 def answer(words, text):
-    """What the program prints for a command, and its exit status."""
+    """Returns what the program prints for a command, and its exit status."""
     command, *rest = words
     test = read_test(text)
     if command == "replay":

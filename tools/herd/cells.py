@@ -10,7 +10,7 @@ from typing import Dict, List, Optional, Tuple
 from herd.registers import INSTRUCTION_POINTERS, register_of
 from herd.text import Reader, Refused, Token
 
-# How many operands an instruction takes.
+# The number of operands of an instruction.
 OPERANDS = {
     **dict.fromkeys(("MFENCE", "LFENCE", "SFENCE", "NOP", "PAUSE"), 0),
     **dict.fromkeys(("INC", "DEC", "NEG", "NOT", "JMP", "JE", "JZ", "JNE", "JNZ"), 1),
@@ -58,13 +58,13 @@ class Instruction:
 
 
 def reason_against(mnemonic: str) -> str:
-    """Why a mnemonic is not converted."""
+    """Returns why a mnemonic is not converted."""
     found = [reason for pattern, reason in REASONS if re.fullmatch(pattern, mnemonic)]
     return found[0] if found else "it is not among the instructions that docs/FROM-HERD.md lists"
 
 
 def mnemonic_of(text: str) -> Tuple[str, Optional[int]]:
-    """A mnemonic without the letter of its size, and the bits that this says."""
+    """Returns a mnemonic without the letter of its size, and the bits that the letter means."""
     name = SAME.get(text.upper(), text.upper())
     if name in OPERANDS:
         return name, None
@@ -75,7 +75,7 @@ def mnemonic_of(text: str) -> Tuple[str, Optional[int]]:
 
 
 class CellReader(Reader):
-    """Reads one cell."""
+    """A reader of one cell."""
 
     def __init__(self, tokens: List[Token], is_att: bool):
         super().__init__(tokens)
@@ -87,7 +87,7 @@ class CellReader(Reader):
         self.number_given: Optional[int] = None
 
     def labels(self) -> List[Token]:
-        """The labels at the begin of the cell."""
+        """Reads the labels at the start of the cell."""
         labels = []
         while self.token.kind == "name" and self.ahead(1) == ":":
             labels.append(self.take())
@@ -95,7 +95,7 @@ class CellReader(Reader):
         return labels
 
     def instruction(self) -> Instruction:
-        """The instruction of the cell."""
+        """Reads the instruction of the cell."""
         at, is_locked = self.token.at, False
         if self.token.text.upper() == "REP" and self.ahead(1).upper() != "NOP":
             raise Refused(f"'{self.token.text}' is not converted: {STRINGS}", at)
@@ -122,7 +122,7 @@ class CellReader(Reader):
         return Instruction(mnemonic, operands, at, is_locked, None, self.bits, self.address_bits, self.number_given)
 
     def jump(self, mnemonic: str, at: int) -> Instruction:
-        """A jump to a label."""
+        """Reads a jump to a label."""
         if self.token.kind != "name":
             raise self.misplaced("a label")
         label = self.take()
@@ -131,7 +131,7 @@ class CellReader(Reader):
         return Instruction(mnemonic, (), at, target=label)
 
     def operands(self, count: int) -> tuple:
-        """So many operands, the destination first."""
+        """Reads this number of operands, the destination first."""
         operands = []
         for number in range(count):
             if number:
@@ -140,14 +140,14 @@ class CellReader(Reader):
         return tuple(reversed(operands) if self.is_att else operands)
 
     def size(self, bits: int, it: Token) -> None:
-        """A token says how many bits the words have. All of an instruction have to say the same, or fewer than 32."""
+        """Records how many bits a token says that the words have. All tokens of an instruction must agree, or say fewer than 32."""
         if self.bits not in (None, bits) and min(self.bits, bits) >= 32:
             raise Refused(f"'{it.text}' works on {bits} bits, and '{self.sized_by}' on {self.bits}: no instruction does both", it.at)
         if self.bits is None or bits < self.bits:
             self.bits, self.sized_by = bits, it.text
 
     def operand(self) -> tuple:
-        """A register, a number, an address, or what stands in memory."""
+        """Reads a register, a number, an address, or an operand in memory."""
         is_sized = self.take_size()
         if self.token.text.upper() == "OFFSET" and self.tokens[self.number + 1].kind == "name":
             return self.offset()
@@ -169,7 +169,7 @@ class CellReader(Reader):
         return "number", self.word(number)
 
     def take_size(self) -> bool:
-        """Whether a size as in `DWORD PTR` is next; then it is taken."""
+        """Accepts a size such as `DWORD PTR`. Returns whether it was next."""
         if self.token.text.upper() not in PREFIXES or self.token.kind != "name":
             return False
         it = self.take()
@@ -180,7 +180,7 @@ class CellReader(Reader):
         return True
 
     def offset(self) -> tuple:
-        """The address of a location as Intel's assemblers write it: `OFFSET x` or `OFFSET FLAT:x`."""
+        """Reads the address of a location as Intel's assemblers write it: `OFFSET x` or `OFFSET FLAT:x`."""
         self.take()
         if self.token.text.upper() == "FLAT" and self.ahead(1) == ":":
             self.take()
@@ -190,14 +190,14 @@ class CellReader(Reader):
         return "address", self.take().text
 
     def word(self, number: int) -> int:
-        """The number that was taken last, as a word of 32 bits."""
+        """Returns the number that was read last, as a word of 32 bits."""
         if not -(2**31) <= number < 2**32:
             raise Refused(f"{number} does not fit into a word of 32 bits", self.tokens[self.number - 1].at)
         self.number_given = number
         return number % 2**32
 
     def register(self) -> tuple:
-        """A register as an operand."""
+        """Returns a register as an operand."""
         it = self.take()
         found = register_of(it.text)
         if not found:
@@ -206,7 +206,7 @@ class CellReader(Reader):
         return "register", found[0]
 
     def name(self, is_sized: bool) -> tuple:
-        """What begins with a name: a register, or a location. A size before a name says that it is a location."""
+        """Reads an operand that starts with a name: a register, or a location. A size before a name says that it is a location."""
         if register_of(self.token.text):
             return self.register()
         it, number = self.take(), 0
@@ -222,7 +222,7 @@ class CellReader(Reader):
         raise Refused(f"'{it.text}' without brackets may be a word or its address: write [{it.text}]", it.at)
 
     def relative(self, it: Token, number: int) -> tuple:
-        """A location with an address relative to the instruction pointer, as Intel's assemblers write it: `x[rip]`."""
+        """Reads a location with an address relative to the instruction pointer, as Intel's assemblers write it: `x[rip]`."""
         at = self.token.at
         if self.ahead(1).upper() not in INSTRUCTION_POINTERS:
             raise Refused("an array is not converted: use one location for each element", at)
@@ -233,7 +233,7 @@ class CellReader(Reader):
         return "memory", it.text, (), number + more
 
     def sum_up_to(self, end: str) -> tuple:
-        """The address in brackets: a sum of names, registers and numbers."""
+        """Reads the address in brackets: a sum of names, registers and numbers."""
         location, registers, number = None, [], 0
         while True:
             sign = -1 if self.take_if("-") else 1
@@ -252,7 +252,7 @@ class CellReader(Reader):
                 self.take("+")
 
     def term(self, it: Token, location: Optional[str], registers: list) -> tuple:
-        """The location and the registers of an address with one name more."""
+        """Returns the location and the registers of an address with one more name."""
         if it.kind != "name" or self.is_next("*"):
             raise Refused("this address is not converted: name one location", it.at)
         if it.text.upper() in INSTRUCTION_POINTERS:
@@ -266,7 +266,7 @@ class CellReader(Reader):
         return it.text, registers
 
     def size_of_address(self, bits: int, it: Token) -> None:
-        """A register of an address says how many bits the address has."""
+        """Records how many bits a register says that the address has."""
         if bits < 32:
             raise Refused(f"'{it.text}' has {bits} bits, and addresses have 32 or 64", it.at)
         if self.address_bits not in (None, bits):
@@ -274,7 +274,7 @@ class CellReader(Reader):
         self.address_bits = bits
 
     def parenthesis(self, location: Optional[str], number: int) -> tuple:
-        """What stands in parentheses, behind a location or a number."""
+        """Reads the parentheses after a location or a number."""
         registers = []
         self.take("(")
         while not self.take_if(")"):
@@ -290,7 +290,7 @@ class CellReader(Reader):
 
 
 def code_of(cells: List[List[Token]], is_att: bool) -> Tuple[List[Instruction], bool]:
-    """The instructions of a thread, its jumps resolved, and whether it works on words of 64 bits."""
+    """Returns the instructions of a thread, its jumps resolved, and whether it works on words of 64 bits."""
     code, labels, is_wide = [], {}, False
     for tokens in cells:
         reader = CellReader(tokens, is_att)
@@ -305,7 +305,7 @@ def code_of(cells: List[List[Token]], is_att: bool) -> Tuple[List[Instruction], 
 
 
 def resolved(it: Instruction, labels: Dict[str, int]) -> Instruction:
-    """An instruction with the number of the one that it jumps to."""
+    """Returns an instruction with the index of its jump's target."""
     if it.target is None:
         return it
     if it.target.text not in labels:

@@ -3,16 +3,16 @@ from typing import Dict, List, Optional
 
 from herd.cells import Instruction
 
-# Where a jump leads that gives a run up.
+# The target of a jump that abandons a run.
 GIVE_UP = -1
 READS_FLAG = ("JE", "JNE", "CMOVE", "CMOVNE")
 SETS_FLAG = ("ADD", "SUB", "INC", "DEC", "XOR", "AND", "OR", "CMP", "TEST", "XADD", "CMPXCHG")
-# Of a register that holds no address, and of one that holds one on some ways only.
+# A register that holds no address, and one that holds one on some ways only.
 NUMBER, EITHER = "a number", "either"
 
 
 def followers(it: Instruction, at: int) -> List[int]:
-    """The numbers of the instructions that may come next."""
+    """Returns the indices of the instructions that may be next."""
     if it.target is None:
         return [at + 1]
     return [it.target] if it.mnemonic == "JMP" else [at + 1, it.target]
@@ -22,7 +22,7 @@ def followers(it: Instruction, at: int) -> List[int]:
 
 
 def flags_read(code: List[Instruction]) -> List[bool]:
-    """Of each instruction, whether the zero flag that it leaves may be read by a later branch. Jumps lead forward."""
+    """Returns, for each instruction, whether the zero flag that it leaves may be read by a later branch. Jumps go forward."""
     needed, read = [False] * (len(code) + 1), [False] * len(code)
     for at in range(len(code) - 1, -1, -1):
         it = code[at]
@@ -32,7 +32,7 @@ def flags_read(code: List[Instruction]) -> List[bool]:
 
 
 def reads_unset_flag(code: List[Instruction]) -> Optional[Instruction]:
-    """The first instruction that may read the zero flag before an instruction has set it, if there is one. Jumps lead forward."""
+    """Returns the first instruction that may read the zero flag before an instruction has set it, if there is one. Jumps go forward."""
     unset = [True] + [False] * len(code)
     for at, it in enumerate(code):
         if unset[at] and it.mnemonic in READS_FLAG:
@@ -48,7 +48,7 @@ def reads_unset_flag(code: List[Instruction]) -> Optional[Instruction]:
 
 
 def address_of(operand: tuple, held: Dict[str, str]) -> Optional[str]:
-    """The location whose address an operand of MOV or LEA is, if it is one: `held` says which registers hold which."""
+    """Returns the location whose address an operand of MOV or LEA is, if it is one: `held` says which registers hold which."""
     if operand[0] == "address":
         return operand[1]
     if operand[0] == "register":
@@ -58,7 +58,7 @@ def address_of(operand: tuple, held: Dict[str, str]) -> Optional[str]:
 
 
 def location_of(operand: tuple, held: Dict[str, str]) -> Optional[str]:
-    """The location that an operand in memory is, if it is one."""
+    """Returns the location of an operand in memory, if it has one."""
     _, location, registers, number = operand
     if number or len(registers) + bool(location) != 1:
         return None
@@ -66,7 +66,7 @@ def location_of(operand: tuple, held: Dict[str, str]) -> Optional[str]:
 
 
 def written_register(it: Instruction) -> List[str]:
-    """The registers that an instruction may write."""
+    """Returns the registers that an instruction may write."""
     if it.mnemonic in ("CMP", "TEST") or not it.operands:
         return []
     both = it.operands if it.mnemonic in ("XCHG", "XADD") else it.operands[:1]
@@ -75,7 +75,7 @@ def written_register(it: Instruction) -> List[str]:
 
 
 def held_behind(it: Instruction, held: Dict[str, str]) -> Dict[str, str]:
-    """Which registers hold which addresses behind an instruction."""
+    """Returns which registers hold which addresses after an instruction."""
     written, behind = written_register(it), dict(held)
     for register in written:
         behind.pop(register, None)
@@ -91,7 +91,7 @@ def held_behind(it: Instruction, held: Dict[str, str]) -> Dict[str, str]:
 
 
 def joined(first: Optional[Dict[str, str]], second: Dict[str, str]) -> Dict[str, str]:
-    """What is held where two ways meet."""
+    """Returns what is held where two ways meet."""
     if first is None:
         return dict(second)
     names = {*first, *second}
@@ -99,7 +99,7 @@ def joined(first: Optional[Dict[str, str]], second: Dict[str, str]) -> Dict[str,
 
 
 def addresses_held(code: List[Instruction], initial: Dict[str, str]) -> List[Dict[str, str]]:
-    """Before each instruction, and at the end, the registers that hold the address of a location. Jumps lead forward."""
+    """Returns, before each instruction and at the end, the registers that hold the address of a location. Jumps go forward."""
     held: List[Optional[Dict[str, str]]] = [None] * (len(code) + 1)
     held[0] = dict(initial)
     for at, it in enumerate(code):

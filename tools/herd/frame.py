@@ -17,8 +17,9 @@ ENDS_OF_ROWS = ("locations", "exists", "forall", "~", "filter", "not", "")
 
 @dataclass
 class Entry:
-    """An entry of the initial block: a site, ("number", n) or ("address", location), its place, the bits that its type says, if any, and
-    whether the value is in the text."""
+    """An entry of the initial block: a site, ("number", n) or ("address", location), its position, the bits that its type says, if any, and
+    whether the value is in the text.
+    """
 
     site: tuple
     value: tuple
@@ -29,7 +30,7 @@ class Entry:
 
 @dataclass
 class Negative:
-    """A negative number in the initial block, or in the condition: the site that has it, the bits of the site's name, and the place."""
+    """A negative number in the initial block, or in the condition: its site, the bits of the site's name, and the position."""
 
     site: tuple
     bits: Optional[int]
@@ -39,7 +40,7 @@ class Negative:
 
 @dataclass
 class Frame:
-    """A test but for what its cells say. A site is ("register", thread, register) or ("location", name)."""
+    """A test without what its cells say. A site is ("register", thread, register) or ("location", name)."""
 
     language: str
     name: str
@@ -56,7 +57,7 @@ class Frame:
 
 
 class FrameReader(PropositionReader):
-    """Reads the frame of a test from its tokens."""
+    """A reader of the frame of a test from its tokens."""
 
     def __init__(self, frame: Frame, tokens: List[Token]):
         Reader.__init__(self, tokens)
@@ -65,7 +66,7 @@ class FrameReader(PropositionReader):
         self.is_in_block = True
 
     def read(self) -> Frame:
-        """The whole frame."""
+        """Reads the whole frame."""
         self.take("{")
         while not self.take_if("}"):
             self.entry()
@@ -79,7 +80,7 @@ class FrameReader(PropositionReader):
         return self.frame
 
     def types(self) -> Optional[int]:
-        """The words of a type, which may precede a site. Returns the bits that they say."""
+        """Reads the words of a type, which may precede a site. Returns the bits that they say."""
         bits, wide = None, WIDE + WIDE_IN_64_BITS * (self.frame.language == "X86_64")
         while self.token.kind == "name" and self.is_before_site(self.tokens[self.number + 1]):
             it = self.take()
@@ -97,11 +98,11 @@ class FrameReader(PropositionReader):
         return bits
 
     def is_before_site(self, behind: Token) -> bool:
-        """Whether what stands behind a name says that the name is a word of a type."""
+        """Returns whether what follows a name says that the name is a word of a type."""
         return behind.kind in ("name", "number") or behind.text in ("*", "%") or behind.text == "[" and self.token.text in TYPES
 
     def entry(self) -> None:
-        """An entry of the initial block."""
+        """Reads an entry of the initial block."""
         if self.is_next(";"):
             return
         bits = self.types()
@@ -118,7 +119,7 @@ class FrameReader(PropositionReader):
         self.put(Entry(site, value, at, bits or before.bits, has_value))
 
     def put(self, entry: Entry) -> None:
-        """An entry of a new site is added, and one of a site that has an entry replaces it."""
+        """Adds an entry of a new site, or replaces that of a site that has one."""
         sites = [it.site for it in self.frame.entries]
         if entry.site in sites:
             self.frame.entries[sites.index(entry.site)] = entry
@@ -126,7 +127,7 @@ class FrameReader(PropositionReader):
             self.frame.entries.append(entry)
 
     def initial_value(self, site: tuple) -> tuple:
-        """What stands behind the `=` of an entry."""
+        """Reads what follows the `=` of an entry."""
         if self.is_next("{"):
             raise Refused("an array is not converted: use one location for each element", self.token.at)
         self.take_if("&")
@@ -135,7 +136,7 @@ class FrameReader(PropositionReader):
         return "number", self.word(site)
 
     def word(self, site: tuple) -> int:
-        """The number of a site as a word of 32 bits."""
+        """Returns the number of a site as a word of 32 bits."""
         at, number = self.token.at, self.signed()
         if not -(2**31) <= number < 2**32:
             raise Refused(f"{number} does not fit into a word of 32 bits", at)
@@ -144,7 +145,7 @@ class FrameReader(PropositionReader):
         return number % 2**32
 
     def thread_number(self) -> int:
-        """A thread's number, with or without a `P`."""
+        """Reads a thread's number, with or without `P`."""
         at, text = self.token.at, self.take().text
         digits = text[1:] if text[:1] == "P" else text
         if not digits.isdigit():
@@ -152,7 +153,7 @@ class FrameReader(PropositionReader):
         return int(digits[:9])
 
     def site(self) -> tuple:
-        """A location, or a register of a thread."""
+        """Reads a location, or a register of a thread."""
         self.bits = None
         if self.take_if("["):
             site = ("location", self.location())
@@ -166,7 +167,7 @@ class FrameReader(PropositionReader):
         return site
 
     def thread_register(self) -> tuple:
-        """A register of a thread."""
+        """Reads a register of a thread."""
         thread = self.thread_number()
         self.take(":")
         self.types()
@@ -181,7 +182,7 @@ class FrameReader(PropositionReader):
         return "register", thread, found[0]
 
     def location(self) -> str:
-        """The name of a location."""
+        """Reads the name of a location."""
         if self.token.kind != "name":
             raise self.misplaced("a location")
         if register_of(self.token.text):
@@ -189,7 +190,7 @@ class FrameReader(PropositionReader):
         return self.take().text
 
     def header(self) -> int:
-        """The number of threads."""
+        """Reads the header, and returns the number of threads."""
         count = 0
         while True:
             it = self.take(f"P{count}")
@@ -204,7 +205,7 @@ class FrameReader(PropositionReader):
                 return count
 
     def rows(self, count: int) -> None:
-        """The cells of all threads."""
+        """Reads the cells of all threads."""
         self.frame.threads = [[] for _ in range(count)]
         while self.token.kind != "end" and self.token.text not in ENDS_OF_ROWS:
             for thread in range(count):
@@ -214,7 +215,7 @@ class FrameReader(PropositionReader):
                     raise Refused(f"the row has {'fewer' if it.text == ';' else 'more'} cells than there are threads", it.at)
 
     def cell(self) -> List[Token]:
-        """The tokens of a cell, and an end behind them."""
+        """Returns the tokens of a cell, and an end after them."""
         tokens = []
         while not self.is_next("|", ";"):
             if self.token.kind == "end":
@@ -223,7 +224,7 @@ class FrameReader(PropositionReader):
         return [*tokens, Token("end", self.token.text, self.token.at)]
 
     def behind_rows(self) -> None:
-        """The list of names, the filter and the condition."""
+        """Reads the list of names, the filter and the condition."""
         while self.is_next("locations", "filter"):
             it = self.take()
             if it.text == "filter":
@@ -240,7 +241,7 @@ class FrameReader(PropositionReader):
             raise Refused(f"'{self.token.text}' stands behind the condition", self.token.at)
 
     def list_of_names(self) -> Iterator[Tuple[tuple, int]]:
-        """The elements of a list of names."""
+        """Yields the elements of a list of names."""
         self.take("[")
         while not self.take_if("]"):
             if self.take_if(";"):
@@ -251,7 +252,7 @@ class FrameReader(PropositionReader):
                 self.take(";")
 
     def check_threads(self, count: int) -> None:
-        """Looks whether each thread that is named is there."""
+        """Checks that each thread that is named exists."""
         entries = [(it.site, it.at) for it in self.frame.entries]
         for site, at in [*entries, *self.frame.listed, *self.frame.named]:
             if site[0] == "register" and site[1] >= count:
@@ -259,6 +260,6 @@ class FrameReader(PropositionReader):
 
 
 def frame_of(text: str) -> Frame:
-    """The frame of a test in herd's form."""
+    """Returns the frame of a test in herd's form."""
     language, name, tokens = tokens_of(text)
     return FrameReader(Frame(language, name), tokens).read()

@@ -18,19 +18,19 @@ MOST_INSTRUCTIONS = 1000
 
 
 class Node(NamedTuple):
-    """An instruction of the graph: its number in the text, and the nodes of what follows and of where it jumps, if it does."""
+    """An instruction of the graph: its index in the text, and the nodes of what follows and of its jump's target, if it jumps."""
 
     origin: int
     after: Optional[int]
     target: Optional[int]
 
     def successors(self) -> List[int]:
-        """The nodes that may come next. Neither the end nor a run that is given up is one."""
+        """Returns the nodes that may be next. Neither the end nor an abandoned run is one."""
         return [it for it in (self.after, self.target) if it is not None and it >= 0]
 
 
 def graph_of(code: List[Instruction]) -> List[Node]:
-    """The flow graph of instructions."""
+    """Returns the flow graph of instructions."""
     node_at = lambda at: END if at == len(code) else at
     nodes = []
     for at, it in enumerate(code):
@@ -40,7 +40,7 @@ def graph_of(code: List[Instruction]) -> List[Node]:
 
 
 def reached_from(nodes: List[Node], first: int) -> Iterator[int]:
-    """The nodes that some way leads to from a node, each after those that it leads to, unless they lie on a cycle with it."""
+    """Yields the nodes that some way reaches from a node, each after its successors, unless they are on a cycle with it."""
     seen, stack = {first}, [(first, iter(nodes[first].successors()))]
     while stack:
         at, rest = stack[-1]
@@ -54,7 +54,7 @@ def reached_from(nodes: List[Node], first: int) -> Iterator[int]:
 
 
 def predecessors_of(nodes: List[Node], reached: List[int]) -> Dict[int, List[int]]:
-    """The nodes that lead to each node, once for each way."""
+    """Returns the predecessors of each node, once for each edge."""
     before: Dict[int, List[int]] = {at: [] for at in reached}
     for at in reached:
         for it in nodes[at].successors():
@@ -63,7 +63,7 @@ def predecessors_of(nodes: List[Node], reached: List[int]) -> Dict[int, List[int
 
 
 def loops_of(nodes: List[Node]) -> Iterator[Tuple[Set[int], int]]:
-    """The largest loops that can be entered: of each its nodes, and the first of those by which it is entered."""
+    """Yields the largest loops that can be entered: the nodes of each, and the first of those by which it is entered."""
     reached = list(reached_from(nodes, 0))
     before, seen = predecessors_of(nodes, reached), set()
     for first in reversed(reached):
@@ -83,7 +83,7 @@ def loops_of(nodes: List[Node]) -> Iterator[Tuple[Set[int], int]]:
 
 
 def add_copies(nodes: List[Node], loop: Set[int], entry: int, tries: int) -> None:
-    """Writes a loop down in so many copies. A way back to its entry leads to the next copy, and gives the run up in the last one."""
+    """Writes a loop in this number of copies. A way back to its entry goes to the next copy, and abandons the run in the last one."""
     ordered = sorted(loop)
     originals, numbers = [nodes[it] for it in ordered], [{it: it for it in ordered}]
     for _ in range(tries - 1):
@@ -97,7 +97,7 @@ def add_copies(nodes: List[Node], loop: Set[int], entry: int, tries: int) -> Non
 
 
 def unroll(nodes: List[Node], code: List[Instruction], tries: int) -> None:
-    """Writes all loops down, the outer ones first."""
+    """Unrolls all loops, the outer ones first."""
     loops = list(loops_of(nodes))
     while loops:
         for loop, entry in loops:
@@ -111,7 +111,7 @@ def unroll(nodes: List[Node], code: List[Instruction], tries: int) -> None:
 
 
 def order_of(nodes: List[Node]) -> List[int]:
-    """The nodes that can be reached, each after all that lead to it, and if possible behind one that goes on to it without a jump."""
+    """Returns the nodes that can be reached, each after its predecessors, and if possible after one that falls through to it."""
     before = predecessors_of(nodes, list(reached_from(nodes, 0)))
     missing = {at: len(them) for at, them in before.items()}
     ready, order = {0}, []
@@ -128,7 +128,8 @@ def order_of(nodes: List[Node]) -> List[int]:
 
 
 def spelled(it: Instruction, node: Node, following: int) -> List[Tuple[Instruction, Optional[int]]]:
-    """The instructions of a node, each with the node to which it jumps, if it does; `following` is the node that is written down next."""
+    """Returns the instructions of a node, each with the node to which it jumps, if it does; `following` is the node that is written next.
+    """
     goes_on = lambda to: [] if to == following else [(Instruction("JMP", (), it.at), to)]
     if it.target is None:
         return [(it, None), *goes_on(node.after)]
@@ -140,8 +141,9 @@ def spelled(it: Instruction, node: Node, following: int) -> List[Tuple[Instructi
 
 
 def unrolled(code: List[Instruction], tries: int) -> List[Instruction]:
-    """The instructions in an order in which all jumps lead forward. Each loop is gone through at most so many times, and a run that would go
-    on is given up."""
+    """Returns the instructions in an order in which all jumps go forward. Each loop is passed at most `tries` times, and a run that would
+    continue is abandoned.
+    """
     if all(it.target is None or it.target > at for at, it in enumerate(code)):
         return code
     nodes = graph_of(code)

@@ -9,7 +9,7 @@ SIX = plain.REGISTERS["X86"]
 
 
 def registers_for(thread: int, names: Dict[str, int], mark: Optional[str]) -> Dict[str, int]:
-    """A number for each register of a thread, whose names have their first places; and for its mark, where one is left."""
+    """Returns an index for each register of a thread, whose names have the first ones; and for its mark, if one is left."""
     numbers = {name: SIX.index(name) for name in names if name in SIX}
     free = [it for it in reversed(range(len(SIX))) if it not in numbers.values()]
     for name in sorted(set(names) - set(SIX)):
@@ -22,27 +22,28 @@ def registers_for(thread: int, names: Dict[str, int], mark: Optional[str]) -> Di
 
 
 def number_of_register(name: str, numbers: Dict[str, int]) -> Optional[int]:
-    """The number of a register that the initial block names; one that the thread has no use for keeps its own, or has none."""
+    """Returns the index of a register that the initial block names; one that the thread does not use keeps its own, or has none."""
     if name in numbers or name not in SIX or SIX.index(name) in numbers.values():
         return numbers.get(name)
     return SIX.index(name)
 
 
 class LocationNames:
-    """The table of locations: names of the text, each with a name that lw takes."""
+    """The table of locations: names of the text, each with a name that lw accepts."""
 
     def __init__(self) -> None:
         self.of: Dict[str, int] = {}
         self.names: List[str] = []
 
     def number(self, name: str) -> int:
-        """The number of a location, which comes to the end of the table where it is new."""
+        """Returns the index of a location, which is appended to the table if it is new."""
         if name not in self.of:
             self.add(name)
         return self.of[name]
 
     def add(self, name: str, shown: Optional[str] = None) -> None:
-        """Puts a location into the table, by a name that is free and that lw takes, and is like its own or like the one that is shown."""
+        """Inserts a location into the table, by a name that is free and that lw accepts, and is like its own or like the one that is shown.
+        """
         taken = re.sub(r"\W", "_", shown or name)[:28]
         while plain.RESERVED.fullmatch(taken) or taken in self.names or taken[:1].isdigit():
             taken = f"{taken}_"
@@ -50,6 +51,6 @@ class LocationNames:
         self.names.append(taken)
 
     def renamed(self) -> List[Tuple[str, str]]:
-        """The locations that have another name in lw: both names."""
+        """Returns the locations that have another name in lw: both names."""
         shown = {name: number for name, number in self.of.items() if not name.startswith("(")}
         return [(name, self.names[number]) for name, number in shown.items() if name != self.names[number]]

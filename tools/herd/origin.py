@@ -18,7 +18,7 @@ TRIES = re.compile(r"Runs that go through a loop more often than (\d+) times are
 
 
 def comment_of(made: Converted, it: Conversion) -> str:
-    """The comment of a converted test, one sentence in each line."""
+    """Returns the comment of a converted test, one sentence in each line."""
     lines = [f"From the {made.frame.language} test {made.frame.name}."]
     lines += [f"{old} is {new} here." for old, new in made.renamed if not old.endswith((SCRATCH, MARK))]
     lines += [f"{new} is a register that rewritings use." for old, new in made.renamed if old.endswith(SCRATCH)]
@@ -52,7 +52,7 @@ class Origin:
 
 
 def origin_of(text: str) -> Optional[Origin]:
-    """The origin of a test's text, or None if it has no comment of tools/from_herd.py."""
+    """Returns the origin of a test's text, or `None` if it has no comment of tools/from_herd.py."""
     found = COMMENT.match(text)
     if not found:
         return None
@@ -76,15 +76,16 @@ def origin_of(text: str) -> Optional[Origin]:
 
 
 def proposition_of(test: plain.Test, text: str) -> tuple:
-    """A proposition over the sites of a test."""
+    """Returns a proposition over the sites of a test."""
     heading = plain.canonical_text(test).rsplit("\n", 2)[0]
     return plain.read_test(f"{heading}\nexists ({text})\n").proposition
 
 
 @dataclass
 class Translated:
-    """The states of one original test: lines in its names, the names that only its filter and marks have, the guesses that are there, and
-    how often each loop is written down."""
+    """The states of one original test: lines in its names, the names that only its filter and marks have, the guesses that exist, and the
+    number of copies of each loop.
+    """
 
     lines: List[str] = field(default_factory=list)
     extra: Set[str] = field(default_factory=set)
@@ -93,12 +94,12 @@ class Translated:
     is_twice: bool = False  # whether two tests with different lines stand for one guess
 
     def missing_guesses(self) -> int:
-        """The number of guesses that no test is there for."""
+        """Returns the number of guesses for which there is no test."""
         return 2 ** len(next(iter(self.guesses), ())) - len(self.guesses)
 
 
 def translated(test: plain.Test, origin: Origin, lines: Iterable[str]) -> Iterator[str]:
-    """The states of a test that its marks and its filter let through, in the names of the original."""
+    """Yields the states of a test that its marks and its filter admit, in the names of the original."""
     both = proposition_of(test, f"({origin.marks}) /\\ ({origin.filter})")
     for line in lines:
         words = words_in(line)

@@ -5,10 +5,10 @@ EXPECTED = "a location, a register of a thread, or a proposition"
 
 
 class PropositionReader(Reader):
-    """Reads a condition. What it is a part of has a frame, and reads sites and words."""
+    """A reader of a condition. The class derived from it has a frame, and reads sites and words."""
 
     def quantifier(self) -> str:
-        """`exists`, `~exists` or `forall`."""
+        """Reads `exists`, `~exists` or `forall`."""
         if self.take_if("~", "not"):
             return "~" + self.take("exists").text
         if not self.is_next("exists", "forall"):
@@ -16,7 +16,7 @@ class PropositionReader(Reader):
         return self.take().text
 
     def implied(self) -> tuple:
-        """A proposition, at its outermost of implications, which are grouped from the right."""
+        """Reads a proposition, at its outermost of implications, which are grouped from the right."""
         left = self.either()
         return ("or", ("not", left), self.implied()) if self.take_if("=>") else left
 
@@ -35,7 +35,7 @@ class PropositionReader(Reader):
         return left
 
     def one(self) -> tuple:
-        """An atom, a negation, or a proposition in parentheses."""
+        """Reads an atom, a negation, or a proposition in parentheses."""
         if self.take_if("~", "not"):
             return ("not", self.one())
         if self.take_if("("):
@@ -47,7 +47,7 @@ class PropositionReader(Reader):
         return self.atom()
 
     def atom(self) -> tuple:
-        """A site and the number that it has, or has not."""
+        """Reads a site and the number that it has, or has not."""
         if self.is_next("*"):
             raise Refused("a location that a location leads to is not converted: name it", self.token.at)
         at = self.token.at
@@ -61,7 +61,7 @@ class PropositionReader(Reader):
 
 
 def conjunction(parts: list) -> tuple:
-    """All of some propositions."""
+    """Returns the conjunction of some propositions."""
     whole = parts[0]
     for part in parts[1:]:
         whole = ("and", whole, part)
@@ -69,7 +69,7 @@ def conjunction(parts: list) -> tuple:
 
 
 def under(quantifier: str, conditions: list, proposition: tuple) -> tuple:
-    """A proposition on those states alone in which some conditions hold."""
+    """Returns a proposition restricted to those states in which some conditions hold."""
     if not conditions:
         return proposition
     if quantifier == "forall":

@@ -1,7 +1,7 @@
 """The registers of x86 by all their names: a register is known by the name of its 32 bits, or R8 to R15."""
 from typing import Dict, Optional, Tuple
 
-# Of each name: the register, and its bits.
+# The register of each name, and its bits.
 NAMES: Dict[str, Tuple[str, int]] = {}
 for letter in "ABCD":
     for name, bits in ((f"R{letter}X", 64), (f"E{letter}X", 32), (f"{letter}X", 16), (f"{letter}L", 8), (f"{letter}H", 8)):
@@ -16,10 +16,10 @@ INSTRUCTION_POINTERS = ("RIP", "EIP")
 
 
 def register_of(text: str) -> Optional[Tuple[str, int]]:
-    """The register that a name says, and its bits; None where it says none."""
+    """Returns the register that a name means, and its bits; `None` if it means none."""
     return NAMES.get(text.upper())
 
 
 def name_in_64_bits(name: str) -> str:
-    """The name of a register of 32 bits, in lower case, as one of 64 bits."""
+    """Returns the name of a register of 32 bits, in lower case, as one of 64 bits."""
     return "r" + name[1:].lower()

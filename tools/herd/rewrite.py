@@ -18,7 +18,7 @@ SUCCEEDS, FAILS = True, False
 
 
 class Rewriter:
-    """Rewrites one instruction of a thread."""
+    """A rewriter of one instruction of a thread."""
 
     def __init__(self, it: Instruction, at: int, held: Dict[str, str], is_flag_read: bool, guess: Optional[bool]):
         self.it = it
@@ -29,11 +29,11 @@ class Rewriter:
         self.notes: List[Tuple[int, str]] = []
 
     def refused(self, cause: str) -> Refused:
-        """Why the instruction is not converted."""
+        """Returns why the instruction is not converted."""
         return Refused(cause, self.it.at)
 
     def statements(self) -> List[Statement]:
-        """The instructions of lw."""
+        """Returns the instructions of lw."""
         if self.it.is_locked:
             return self.locked()
         return REWRITINGS[self.it.mnemonic](self)
@@ -41,7 +41,7 @@ class Rewriter:
     # Operands.
 
     def value(self, operand: tuple) -> tuple:
-        """A register or a number as a value."""
+        """Returns a register or a number as a value."""
         if operand[0] == "memory":
             raise self.refused("an instruction has one location at most")
         if operand[0] == "address":
@@ -55,39 +55,39 @@ class Rewriter:
         return operand
 
     def register(self, operand: tuple) -> str:
-        """A register that is read as a word."""
+        """Returns a register that is read as a word."""
         if operand[0] != "register":
             raise self.refused("a register should stand here")
         return self.value(operand)[1]
 
     def location(self, operand: tuple) -> str:
-        """The location that an operand in memory is."""
+        """Returns the location of an operand in memory."""
         found = location_of(operand, self.held)
         if not found or found in (NUMBER, EITHER):
             raise self.refused("the address is computed, or not known: use one location for each")
         return found
 
     def load(self, operand: tuple) -> Statement:
-        """The load of a location to the scratch register."""
+        """Returns the load of a location into the scratch register."""
         return Statement("load", SCRATCH, self.location(operand))
 
     def clear(self, register: str) -> List[Statement]:
-        """A register gets 0, and the zero flag is set if it is read."""
+        """Sets a register to 0, and the zero flag if it is read."""
         return [Statement("set", register, value=("number", 0)), *self.flag_of(register)]
 
     def flag_of(self, register: str) -> List[Statement]:
-        """The zero flag says whether a register is 0, if the flag is read."""
+        """Sets the zero flag by whether a register is 0, if the flag is read."""
         return [Statement("cmp", register, value=("number", 0))] if self.is_flag_read else []
 
     def without_flag(self) -> None:
-        """Refuses to add where the sum's flag would be read in place of an older one."""
+        """Refuses to add if the sum's flag would be read in place of an older one."""
         if self.is_flag_read:
             raise self.refused(f"{self.it.mnemonic} leaves the flags alone, a sum of lw sets them, and a later branch reads them")
 
     # Instructions that are not locked.
 
     def mov(self) -> List[Statement]:
-        """A store, a load, or a register that is set."""
+        """Rewrites MOV: a store, a load, or a register that is set."""
         to, what = self.it.operands
         if to[0] == "memory":
             return [Statement("store", location=self.location(to), value=self.value(what))]
@@ -98,7 +98,7 @@ class Rewriter:
         return [] if address_of(what, self.held) else [Statement("set", to[1], value=self.value(what))]
 
     def lea(self) -> List[Statement]:
-        """The address of a location, which is known from here on, or a sum."""
+        """Rewrites LEA: the address of a location, which is known from here on, or a sum."""
         to, (_, location, registers, number) = self.it.operands
         if location_of(self.it.operands[1], self.held):
             return []
@@ -113,7 +113,7 @@ class Rewriter:
         return [Statement("set", to, value=("register", first))] * (to != first) + [Statement("add", to, value=it) for it in values]
 
     def sum(self, value: tuple) -> List[Statement]:
-        """Something is added to the first operand, which may be a location: then by a load and a store, which others may part."""
+        """Rewrites a sum into the first operand. If that is a location, it takes a load and a store, between which others may act."""
         to = self.it.operands[0]
         if to[0] == "memory":
             added = [self.load(to), Statement("add", SCRATCH, value=self.value(value))]
@@ -123,7 +123,7 @@ class Rewriter:
         return [Statement("add", self.register(to), value=self.value(value))]
 
     def sub(self) -> List[Statement]:
-        """A difference, which is a sum where a number is taken off, and 0 where a register is taken off itself."""
+        """Rewrites a difference: a sum if a number is subtracted, and 0 if a register is subtracted from itself."""
         to, what = self.it.operands
         if what[0] == "number":
             return self.sum(("number", -what[1] % 2**32))
@@ -132,7 +132,7 @@ class Rewriter:
         raise self.refused("a difference of two words is no sum of lw's")
 
     def bits(self) -> List[Statement]:
-        """XOR, AND and OR, where they leave a register as it is, or give 0."""
+        """Rewrites XOR, AND and OR, if they preserve a register or give 0."""
         (to, what), name = self.it.operands, self.it.mnemonic
         if to[0] == "register" and (to == what and name == "XOR" or what == ("number", 0) and name == "AND"):
             return self.clear(to[1])
@@ -141,14 +141,14 @@ class Rewriter:
         raise self.refused(f"{name} of two words is no sum of lw's: only that of a register with itself, or with 0, is converted")
 
     def test(self) -> List[Statement]:
-        """A comparison with 0."""
+        """Rewrites a comparison with 0."""
         first, second = self.it.operands
         if first[0] != "register" or second not in (first, ("number", MINUS_ONE)):
             raise self.refused("TEST is converted for a register and itself alone")
         return self.flag_of(self.register(first))
 
     def cmp(self) -> List[Statement]:
-        """A comparison, of which one side may be a location."""
+        """Rewrites a comparison, of which one side may be a location."""
         first, second = self.it.operands
         if first[0] == "memory":
             return [self.load(first), Statement("cmp", SCRATCH, value=self.value(second))]
@@ -157,7 +157,7 @@ class Rewriter:
         return [Statement("cmp", self.register(first), value=self.value(second))]
 
     def xchg(self) -> List[Statement]:
-        """An exchange with a location is locked always; that of two registers goes over a third."""
+        """Rewrites an exchange. One with a location is always locked; that of two registers goes through a third."""
         first, second = self.it.operands
         if "memory" in (first[0], second[0]):
             to, register = (first, second) if first[0] == "memory" else (second, first)
@@ -167,7 +167,7 @@ class Rewriter:
         return [Statement("set", to, value=("register", of)) for to, of in moves if a != b]
 
     def xadd(self) -> List[Statement]:
-        """XADD without LOCK is a load, a sum and a store, which others may part."""
+        """Rewrites XADD without LOCK: a load, a sum and a store, between which others may act."""
         to, register = self.it.operands[0], self.register(self.it.operands[1])
         back = Statement("set", register, value=("register", SCRATCH))
         if to[0] == "memory":
@@ -178,7 +178,7 @@ class Rewriter:
         return [Statement("set", SCRATCH, value=to), Statement("add", to[1], value=("register", register)), back]
 
     def cmov(self) -> List[Statement]:
-        """A move that a branch may leave out. A load is done on both ways."""
+        """Rewrites a move that a branch may skip. A load is done on both ways."""
         to, what = self.it.operands
         branch = Statement("jne" if self.it.mnemonic == "CMOVE" else "je", target=self.at + 1)
         if what[0] == "memory":
@@ -186,23 +186,23 @@ class Rewriter:
         return [branch, Statement("set", self.register(to), value=self.value(what))]
 
     def nothing(self) -> List[Statement]:
-        """What does nothing on write-back memory."""
+        """Rewrites an instruction that has no effect on write-back memory."""
         if self.it.mnemonic in ("LFENCE", "SFENCE"):
             self.notes.append((self.it.at, f"{self.it.mnemonic} {FENCE_ALONE}"))
         return []
 
     def jump(self) -> List[Statement]:
-        """A jump."""
+        """Rewrites a jump."""
         return [Statement(self.it.mnemonic.lower(), target=self.it.target)]
 
     def no_lock(self) -> List[Statement]:
-        """CMPXCHG without LOCK."""
+        """Refuses CMPXCHG without LOCK."""
         raise self.refused("CMPXCHG without LOCK is a load and a store that others may part: write them, and a branch")
 
     # Locked instructions.
 
     def locked(self) -> List[Statement]:
-        """An instruction behind LOCK."""
+        """Rewrites an instruction after LOCK."""
         name, operands = self.it.mnemonic, self.it.operands
         memory = [operand for operand in operands if operand[0] == "memory"]
         if not memory or name in ("MOV", "LEA", "CMP", "TEST") or operands[0][0] != "memory" and name != "XCHG":
@@ -217,7 +217,7 @@ class Rewriter:
         return [Statement("set", SCRATCH, value=added), Statement("xadd", SCRATCH, self.location(operands[0]))]
 
     def as_added(self, value: tuple) -> tuple:
-        """The number whose addition does what a locked SUB, OR, XOR or AND does."""
+        """Returns the number whose addition has the effect of a locked SUB, OR, XOR or AND."""
         name = self.it.mnemonic
         if value[0] == "number" and name == "SUB":
             return "number", -value[1] % 2**32
@@ -226,7 +226,7 @@ class Rewriter:
         raise self.refused(f"LOCK {name} of these words is no LOCK XADD of lw's")
 
     def locked_stack(self) -> List[Statement]:
-        """A locked instruction that changes nothing on the stack, which is used as a fence."""
+        """Rewrites a locked instruction that changes nothing on the stack, which is used as a fence."""
         changes_nothing = self.it.mnemonic in ("ADD", "OR", "XOR", "SUB") and self.it.operands[1] == ("number", 0)
         if not changes_nothing:
             raise self.refused("lw has no stack: only a locked addition of 0 to it is converted, to MFENCE")
@@ -236,12 +236,12 @@ class Rewriter:
         return [Statement("mfence")]
 
     def locked_xadd(self) -> List[Statement]:
-        """LOCK XADD."""
+        """Rewrites LOCK XADD."""
         to, register = self.it.operands
         return [Statement("xadd", self.register(register), self.location(to))]
 
     def cmpxchg(self) -> List[Statement]:
-        """LOCK CMPXCHG by a guess: what it finds has to bear the guess out, else the run is given up."""
+        """Rewrites LOCK CMPXCHG with a guess: what it finds must confirm the guess, or the run is abandoned."""
         to, new = self.location(self.it.operands[0]), self.register(self.it.operands[1])
         self.value(("register", COMPARED))
         compare = Statement("cmp", SCRATCH, value=("register", COMPARED))

@@ -1,4 +1,4 @@
-"""The text of a test in herd's form: its heading and its tokens, each with its place."""
+"""The text of a test in herd's form: its heading and its tokens, each with its position."""
 import re
 from typing import List, NamedTuple, Tuple
 
@@ -15,11 +15,11 @@ BYTE_ORDER_MARK = "\ufeff"
 
 
 class Refused(given.Fault):
-    """Why a test is not converted, and the place of what is refused."""
+    """Why a test is not converted, and the position of what is refused."""
 
 
 class Token(NamedTuple):
-    """A token: its kind, its text, and its place."""
+    """A token: its kind, its text, and its position."""
 
     kind: str
     text: str
@@ -27,7 +27,7 @@ class Token(NamedTuple):
 
 
 def heading_of(text: str) -> Tuple[str, str, int]:
-    """The language and the name of a test, and where its heading ends."""
+    """Returns the language and the name of a test, and where its heading ends."""
     if text.startswith(BYTE_ORDER_MARK):
         if text == BYTE_ORDER_MARK:
             raise Refused("the text is a byte order mark (U+FEFF) and nothing else", 0)
@@ -46,7 +46,7 @@ def heading_of(text: str) -> Tuple[str, str, int]:
 
 
 def tokens_of(text: str) -> Tuple[str, str, List[Token]]:
-    """The language and the name of a test, and its tokens from the initial block on."""
+    """Returns the language and the name of a test, and its tokens from the initial block on."""
     language, name, at = heading_of(text)
     at, tokens = plain.skip_notes(text, at), []
     while at < len(text):
@@ -63,14 +63,14 @@ def tokens_of(text: str) -> Tuple[str, str, List[Token]]:
 
 
 def number_of(token: Token) -> int:
-    """The number that a token says."""
+    """Returns the number that a token represents."""
     digits = token.text.lower()
     base = {"0x": 16, "0b": 2}.get(digits[:2], 10)
     return int(digits[2:] if base != 10 else digits.lstrip("0")[:40] or "0", base)
 
 
 class Reader:
-    """Reads tokens from left to right."""
+    """A reader of tokens, from left to right."""
 
     def __init__(self, tokens: List[Token]):
         self.tokens = tokens
@@ -78,40 +78,40 @@ class Reader:
 
     @property
     def token(self) -> Token:
-        """The next token. The last one is the end."""
+        """Returns the next token. The last one is the end."""
         return self.tokens[min(self.number, len(self.tokens) - 1)]
 
     def ahead(self, number: int) -> str:
-        """The text of a token behind the next one."""
+        """Returns the text of a token after the next one."""
         at = self.number + number
         return self.tokens[at].text if at < len(self.tokens) else ""
 
     def is_next(self, *texts: str) -> bool:
-        """Whether the next token is one of these."""
+        """Returns whether the next token is one of these."""
         return self.token.kind != "end" and self.token.text in texts
 
     def misplaced(self, wanted: str) -> Refused:
-        """The fault of the next token where something else is wanted."""
+        """Returns the fault of the next token if something else is expected."""
         it = self.token
         shown = plain.quoted(it.text) if it.kind != "end" else "the end of the text" if not it.text else "the end of the cell"
         return Refused(f"{shown} stands where {wanted} should", it.at)
 
     def take(self, *texts: str) -> Token:
-        """The next token, which is one of the texts, if there are any."""
+        """Reads the next token, which must be one of the texts, if there are any."""
         if texts and not self.is_next(*texts) or self.token.kind == "end":
             raise self.misplaced(" or ".join(plain.quoted(it) for it in texts) or "more")
         self.number += 1
         return self.tokens[self.number - 1]
 
     def take_if(self, *texts: str) -> bool:
-        """Whether the next token is one of these; then it is taken."""
+        """Reads the next token if it is one of these. Returns whether it was."""
         if self.is_next(*texts):
             self.take()
             return True
         return False
 
     def signed(self, wanted: str = "a number") -> int:
-        """A number, which may have a sign."""
+        """Reads a number, which may have a sign."""
         sign = -1 if self.take_if("-") else 1
         if self.token.kind != "number":
             raise self.misplaced(wanted)

@@ -30,12 +30,12 @@ ANY: Range = (0, LARGEST)
 
 
 def union(first: Optional[Range], second: Optional[Range]) -> Optional[Range]:
-    """The range of what is in one of two ranges."""
+    """Returns the range of what is in one of two ranges."""
     return (min(first[0], second[0]), max(first[1], second[1])) if first and second else None
 
 
 def join(first: Optional[Registers], second: Registers) -> Registers:
-    """The ranges of registers where two ways meet."""
+    """Returns the ranges of registers where two ways meet."""
     if first is None:
         return dict(second)
     return {name: union(first.get(name, (0, 0)), second.get(name, (0, 0))) for name in {*first, *second}}
@@ -50,7 +50,7 @@ class Thread:
         self.registers = registers
 
     def accesses(self) -> Iterable[Tuple[Instruction, str]]:
-        """The instructions that access a location, each with its location. LEA accesses none."""
+        """Yields the instructions that access a location, each with its location. LEA accesses none."""
         for it, held in zip(self.code, self.held):
             for operand in it.operands:
                 found = location_of(operand, held) if operand[0] == "memory" and it.mnemonic != "LEA" else None
@@ -60,8 +60,9 @@ class Thread:
 
 @dataclass
 class Memory:
-    """The words that a thread may read: those of others, those of others for an instruction that loads and stores, and its own; and the number
-    of its stores."""
+    """The words that a thread may read: those of others, those of others for an instruction that loads and stores, and its own; and the
+    number of its stores.
+    """
 
     words: Words
     words_for_updates: Words
@@ -69,19 +70,19 @@ class Memory:
     stores: int = 0
 
     def read(self, location: str, is_update: bool) -> Range:
-        """The words that a location may have."""
+        """Returns the words that a location may have."""
         words = (self.words_for_updates if is_update else self.words).get(location, (0, 0))
         return union(words, self.own.get(location, words))
 
     def add(self, stored: List[Tuple[str, Range]]) -> None:
-        """The thread may have stored some words."""
+        """Records that the thread may have stored some words."""
         self.stores += len(stored)
         for location, words in stored:
             self.own[location] = union(self.own.get(location, words), words)
 
 
 class Step:
-    """What one instruction does to ranges."""
+    """The effect of one instruction on ranges."""
 
     def __init__(self, it: Instruction, held: Dict[str, str], registers: Registers, memory: Memory, wide: Set[str]):
         self.it = it
@@ -92,22 +93,22 @@ class Step:
         self.bits = it.bits or (64 if any(self.location(operand) in wide for operand in it.operands) else 32)
 
     def refused(self, cause: str) -> Refused:
-        """Why the instruction is not converted."""
+        """Returns why the instruction is not converted."""
         return Refused(f"{cause}, and a word of lw has 32 bits", self.it.at)
 
     def location(self, operand: tuple) -> Optional[str]:
-        """The location that an operand is, if it is one."""
+        """Returns the location of an operand, if it is one."""
         return location_of(operand, self.held) if operand[0] == "memory" else None
 
     def register(self, name: str, bits: int) -> Range:
-        """The words that so many bits of a register may have."""
+        """Returns the words that the lowest bits of a register may have."""
         found = self.registers.get(name, (0, 0))
         if found is None and bits == 64:
             raise self.refused(f"it reads 64 bits of {name}, which may not fit into 32")
         return found or ANY
 
     def read(self, operand: tuple) -> Range:
-        """The words that an operand may have."""
+        """Returns the words that an operand may have."""
         if operand[0] == "memory":
             is_update = self.it.mnemonic in ("XCHG", "XADD", "CMPXCHG") or operand is self.it.operands[0] and self.it.mnemonic != "CMP"
             return self.memory.read(self.location(operand) or "", is_update)
@@ -123,14 +124,14 @@ class Step:
         return operand[1], operand[1]
 
     def write(self, operand: tuple, words: Range) -> None:
-        """An operand gets some word of a range."""
+        """Records that an operand gets some word of a range."""
         if operand[0] == "register":
             self.registers[operand[1]] = words
         elif self.location(operand):
             self.stored.append((self.location(operand), words))
 
     def wrapped(self, words: Range, bits: int) -> Range:
-        """The words of a sum, which wraps round in 32 bits, and has to fit in 64."""
+        """Returns the words of a sum, which wraps in 32 bits, and must fit in 64."""
         if 0 <= words[0] and words[1] <= LARGEST:
             return words
         if bits == 64:
@@ -138,19 +139,19 @@ class Step:
         return ANY
 
     def run(self) -> None:
-        """Does what the instruction does."""
+        """Executes the instruction."""
         ACTIONS[self.it.mnemonic](self)
 
     def nothing(self) -> None:
-        """What reads and writes no word."""
+        """Executes an instruction that reads and writes no word."""
 
     def compare(self) -> None:
-        """A comparison, which reads words only."""
+        """Executes a comparison, which only reads words."""
         for operand in self.it.operands:
             self.read(operand)
 
     def mov(self) -> None:
-        """A move. An address may be moved by 64 bits."""
+        """Executes a move. An address may be moved by 64 bits."""
         to, what = self.it.operands
         if to[0] == "register" and address_of(what, self.held):
             self.registers[to[1]] = None
@@ -158,7 +159,7 @@ class Step:
             self.write(to, self.read(what))
 
     def lea(self) -> None:
-        """An address, or a sum of as many bits as the address and the result have both."""
+        """Executes LEA: an address, or a sum of as many bits as both the address and the result have."""
         to, address = self.it.operands
         if location_of(address, self.held):
             self.registers[to[1]] = None
@@ -168,7 +169,7 @@ class Step:
         self.registers[to[1]] = self.wrapped((sum(it[0] for it in parts) + address[3], sum(it[1] for it in parts) + address[3]), bits)
 
     def sum(self) -> None:
-        """A sum, or the difference with a number."""
+        """Executes a sum, or the difference with a number."""
         to, name = self.it.operands[0], self.it.mnemonic
         if name == "SUB" and self.it.operands[1] == to:
             return self.write(to, (0, 0))
@@ -177,7 +178,7 @@ class Step:
         self.write(to, self.wrapped((old[0] + added[0], old[1] + added[1]), self.bits))
 
     def added(self, name: str) -> Range:
-        """What ADD, SUB, INC or DEC adds."""
+        """Returns what ADD, SUB, INC or DEC adds."""
         if name in ("INC", "DEC"):
             return (1, 1) if name == "INC" else (-1, -1)
         if self.it.operands[1][0] != "number" or self.it.number >= 0:
@@ -187,7 +188,7 @@ class Step:
         return number, number  # of a negative number
 
     def bits_of_word(self) -> None:
-        """XOR, AND and OR, which leave the word as it is, or give 0."""
+        """Executes XOR, AND or OR, which preserve the word or give 0."""
         (to, what), name = self.it.operands, self.it.mnemonic
         if to == what and name == "XOR" or what == ("number", 0) and name == "AND":
             return self.write(to, (0, 0))
@@ -195,21 +196,21 @@ class Step:
         self.write(to, self.read(to))
 
     def xchg(self) -> None:
-        """An exchange."""
+        """Executes an exchange."""
         first, second = self.it.operands
         a, b = self.read(first), self.read(second)
         self.write(first, b)
         self.write(second, a)
 
     def xadd(self) -> None:
-        """A sum, and the old word in the register."""
+        """Executes XADD: a sum, and the old word in the register."""
         to, register = self.it.operands
         old, added = self.read(to), self.read(register)
         self.write(register, old)
         self.write(to, self.wrapped((old[0] + added[0], old[1] + added[1]), self.bits))
 
     def cmpxchg(self) -> None:
-        """The location may get the new word, and EAX the old one."""
+        """Executes CMPXCHG: the location may get the new word, and EAX the old one."""
         to, new = self.it.operands
         old, wanted = self.read(to), ("register", "EAX")
         self.read(wanted)
@@ -217,7 +218,7 @@ class Step:
         self.write(wanted, union(self.registers.get("EAX", (0, 0)), old))
 
     def cmov(self) -> None:
-        """A move that may be left out; in 32 bits the upper half becomes 0 then too."""
+        """Executes a move that may be skipped; in 32 bits the upper half becomes 0 then too."""
         to, what = self.it.operands
         old = self.registers.get(to[1], (0, 0))
         self.write(to, union(old or (ANY if self.bits == 32 else None), self.read(what)))
@@ -238,7 +239,7 @@ ACTIONS: Dict[str, Callable[[Step], None]] = {
 
 
 def pass_over(thread: Thread, memory: Memory, wide: Set[str]) -> Registers:
-    """Goes through a thread, which stores into the memory. Returns the ranges of its registers at its end."""
+    """Follows a thread, which stores into the memory. Returns the ranges of its registers at its end."""
     before: List[Optional[Registers]] = [None] * (len(thread.code) + 1)
     before[0], end = dict(thread.registers), None
     for at, it in enumerate(thread.code):
@@ -271,7 +272,7 @@ class Widths:
         self.check_observed()
 
     def thread(self, number: int, code: List[Instruction]) -> Thread:
-        """A thread, with the ranges of its registers at the start."""
+        """Returns a thread, with the ranges of its registers at the start."""
         entries = [it for it in self.frame.entries if it.site[0] == "register" and it.site[1] == number]
         held = {it.site[2]: it.value[1] for it in entries if it.value[0] == "address"}
         registers: Registers = {name: None for name in held}
@@ -282,7 +283,7 @@ class Widths:
         return Thread(code, held, registers)
 
     def check_sizes(self) -> None:
-        """Looks whether no location of 32 bits is accessed by 64."""
+        """Checks that no location of 32 bits is accessed by 64."""
         narrow = {it.site[1] for it in self.frame.entries if it.site[0] == "location" and it.bits == 32}
         for thread in self.threads:
             for it, name in thread.accesses():
@@ -290,7 +291,7 @@ class Widths:
                     raise Refused(f"it accesses 64 bits of '{name}', whose type has 32", it.at)
 
     def ranges(self) -> Tuple[Words, List[Registers]]:
-        """The ranges of all locations, and of each thread's registers at its end."""
+        """Returns the ranges of all locations, and of each thread's registers at its end."""
         entries = [it for it in self.frame.entries if it.site[0] == "location" and it.value[0] == "number"]
         initial = {it.site[1]: (it.value[1], it.value[1]) for it in entries}
         seen = [initial] * len(self.threads)
@@ -303,24 +304,24 @@ class Widths:
         return self.united(initial, memories), ends
 
     def round(self, seen: List[Words], seen_by_updates: List[Words]) -> Tuple[List[Memory], List[Registers]]:
-        """What each thread stores, and its registers at its end, if it reads some words of others."""
+        """Returns what each thread stores, and its registers at its end, if it reads some words of others."""
         memories = [Memory(*words) for words in zip(seen, seen_by_updates)]
         return memories, [pass_over(thread, memory, self.wide) for thread, memory in zip(self.threads, memories)]
 
     @staticmethod
     def united(initial: Words, memories: List[Memory]) -> Words:
-        """The initial words, and those that some threads may have stored."""
+        """Returns the initial words, and those that some threads may have stored."""
         words = dict(initial)
         for name, stored in (it for memory in memories for it in memory.own.items()):
             words[name] = union(words.get(name, (0, 0)), stored)
         return words
 
     def range_of(self, site: tuple) -> Optional[Range]:
-        """The words that a site may end with."""
+        """Returns the words that a site may have at the end."""
         return self.words.get(site[1], (0, 0)) if site[0] == "location" else self.ends[site[1]].get(site[2], (0, 0))
 
     def check_negatives(self) -> None:
-        """Looks whether each negative number means the same in 32 and in 64 bits."""
+        """Checks that each negative number means the same in 32 and in 64 bits."""
         for it in self.frame.negatives:
             is_wide = it.site[1] in self.wide if it.site[0] == "location" else it.bits == 64
             if not is_wide or it.is_initial and it.site[0] == "register":
@@ -333,11 +334,11 @@ class Widths:
 
     @staticmethod
     def as_32_bits(it: Negative) -> str:
-        """How a comparison with a negative number of 32 bits is written."""
+        """Returns how a comparison with a negative number of 32 bits is written."""
         return "write it modulo 2 to the 32" + (", or the register by its name of 32 bits" if it.site[0] == "register" else "")
 
     def check_observed(self) -> None:
-        """Looks whether each register that is asked about ends with a word of 32 bits."""
+        """Checks that each register that the condition mentions has a word of 32 bits at the end."""
         for site, at in [*self.frame.listed, *self.frame.named]:
             if self.range_of(site) is None:
                 raise Refused(f"{site[1]}:{site[2]} may end with a word of 64 bits that does not fit into 32", at)

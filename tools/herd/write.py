@@ -15,23 +15,23 @@ AS_SIGNED = 2**31
 
 
 def signed(word: int) -> int:
-    """A word of 32 bits as an operand: from 2 to the 31 on it is written as a negative number."""
+    """Returns a word of 32 bits as an operand: from 2 to the 31 on it is written as a negative number."""
     return word - 2 * AS_SIGNED if word >= AS_SIGNED else word
 
 
 def value_of(it: Statement, form: str) -> str:
-    """A number or a register as an operand."""
+    """Returns a number or a register as an operand."""
     kind, what = it.value
     return f"${signed(what)}" if kind == "number" else register_of(what, form)
 
 
 def register_of(number: int, form: str) -> str:
-    """A register as an operand."""
+    """Returns a register as an operand."""
     return f"%{SIX[number].lower()}" if form == "X86_64" else SIX[number]
 
 
 def instruction_text(test: Test, it: Statement, form: str) -> str:
-    """An instruction, without its labels."""
+    """Returns an instruction, without its labels."""
     if it.target is not None:
         return f"{it.kind.lower() if form == 'X86_64' else it.kind.upper()} L{it.target}"
     if it.kind == "mfence":
@@ -50,28 +50,28 @@ def instruction_text(test: Test, it: Statement, form: str) -> str:
 
 
 def cells_of(test: Test, code: List[Statement], form: str) -> List[str]:
-    """The cells of a thread."""
+    """Returns the cells of a thread."""
     targets = {it.target for it in code}
     texts = [instruction_text(test, it, form) for it in code] + [""] * (len(code) in targets)
     return [(f"L{at}: " if at in targets else "") + text for at, text in enumerate(texts)]
 
 
 def names_in(text: str, form: str) -> str:
-    """A text of lw with registers by the names of a form: in X86_64 they are those of 64 bits."""
+    """Returns a text of lw with registers by the names of a form: in X86_64 they are those of 64 bits."""
     if form == "X86":
         return text
     return re.sub(rf"\b([0-3]):({'|'.join(SIX)})\b", lambda it: f"{it[1]}:{name_in_64_bits(it[2])}", text)
 
 
 def check_names(test: Test) -> None:
-    """Looks whether no location has a name that herd's form gives to something else."""
+    """Checks that no location has a name that herd's form gives to something else."""
     for name in test.locations:
         if register_named(name) or name.upper() in INSTRUCTION_POINTERS or name in TYPES:
             raise given.Fault(f"the location '{name}' has a name that is a register's or a type's in herd's form: name it otherwise", 0)
 
 
 def herd_text(test: Test, form: str) -> str:
-    """A test in herd's form. It says the same as the test's canonical text."""
+    """Returns a test in herd's form. It says the same as the test's canonical text."""
     check_names(test)
     columns = [cells_of(test, code, form) for code in test.threads]
     columns = [[f"P{number}", *cells] for number, cells in enumerate(columns)]
@@ -92,7 +92,7 @@ def herd_text(test: Test, form: str) -> str:
 
 
 def herd_report(report: str, form: str) -> str:
-    """A report of lw in the lines of a log of herd's: with a line `Witnesses`, and a line of time, which is 0."""
+    """Returns a report of lw in the lines of a log of herd's: with a line `Witnesses`, and a line of time, which is 0."""
     lines = names_in(report, form).splitlines()
     if not re.match(r"Test \S+ (Allowed|Forbidden|Required)$", lines[0] if lines else ""):
         raise ValueError("no report of lw begins so")

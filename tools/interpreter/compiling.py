@@ -9,14 +9,14 @@ from interpreter.tests import REGISTERS, Statement, Test, text_of
 
 
 def followers(statement: Statement, at: int) -> List[int]:
-    """The positions that may follow a statement."""
+    """Returns the positions that may follow a statement."""
     if statement.target is None:
         return [at + 1]
     return [statement.target] if statement.kind in ("goto", "jmp") else [at + 1, statement.target]
 
 
 def fenced_loads(statements: Sequence[Statement]) -> Set[int]:
-    """The positions of the loads that some way through a thread reaches from a store with nothing between that waits for it."""
+    """Returns the positions of the loads that some way through a thread reaches from a store with nothing between that waits for it."""
     fenced, reached = set(), set()
     waiting = [next_one for at, it in enumerate(statements) if it.kind == "store" for next_one in followers(it, at)]
     while waiting:
@@ -32,7 +32,7 @@ def fenced_loads(statements: Sequence[Statement]) -> Set[int]:
 
 
 def instructions_of(it: Statement) -> List[Statement]:
-    """The instructions of a source statement, without a fence. Jumps still lead to statements."""
+    """Returns the instructions of a source statement, without a fence. Jumps still target statements."""
     if it.kind in ("store", "load", "set"):
         return [it]
     if it.kind in ("swap", "fetchadd"):
@@ -61,14 +61,14 @@ def compiled_thread(statements: Sequence[Statement], with_fences: bool) -> Tuple
 
 
 def compiled(test: Test, with_fences: bool = True) -> Test:
-    """The x86 program of a source test, with the fences that it needs or with none; an x86 test is its own."""
+    """Returns the x86 program of a source test, with the fences that it needs or with none; an x86 test is its own program."""
     if test.language == "X86":
         return test
     return replace(test, language="X86", threads=[compiled_thread(it, with_fences) for it in test.threads])
 
 
 def instruction_text(test: Test, it: Statement) -> str:
-    """An instruction in the canonical text."""
+    """Returns an instruction in the canonical text."""
     names = REGISTERS["X86"]
     register = "" if it.register is None else names[it.register]
     location = "" if it.location is None else f"[{test.locations[it.location]}]"
@@ -85,14 +85,14 @@ def instruction_text(test: Test, it: Statement) -> str:
 
 
 def cells_of(test: Test, program: Sequence[Statement]) -> List[str]:
-    """The cells of a thread in the canonical text."""
+    """Returns the cells of a thread in the canonical text."""
     targets = {it.target for it in program}
     cells = [(f"L{at}: " if at in targets else "") + instruction_text(test, it) for at, it in enumerate(program)]
     return cells + [f"L{len(program)}:"] * (len(program) in targets)
 
 
 def canonical_text(test: Test) -> str:
-    """The canonical text of an x86 test."""
+    """Returns the canonical text of an x86 test."""
     row = lambda cells: f" {' | '.join(cells)} ;"
     columns = [cells_of(test, program) for program in test.threads]
     lines = [f"X86 {test.name}", "{"]

@@ -7,14 +7,14 @@ from interpreter.tests import Outcome, Proposition, REGISTERS, Site, Test
 
 
 def sites_in(proposition: Proposition) -> Set[Site]:
-    """The sites that a proposition names."""
+    """Returns the sites that a proposition names."""
     if proposition[0] == "is":
         return {proposition[1]}
     return set().union(*(sites_in(part) for part in proposition[1:]))
 
 
 def holds(proposition: Proposition, outcome: Outcome) -> bool:
-    """Whether a proposition is true in an outcome, which is a pair of all threads' registers and the locations' words."""
+    """Returns whether a proposition is true in an outcome, which is a pair of all threads' registers and the locations' words."""
     kind, *parts = proposition
     if kind == "is":
         return word_at(parts[0], outcome) == parts[1]
@@ -35,12 +35,12 @@ def site_name(test: Test, site: Site) -> str:
 
 
 def site_order(site: Site) -> tuple:
-    """Registers by thread and number, then locations."""
+    """Returns the key of the order of sites: registers by thread and index, then locations."""
     return site[0] == "location", site[1:]
 
 
 def proposition_text(test: Test, proposition: Proposition) -> str:
-    """A proposition with parentheses only where reading needs them."""
+    """Returns a proposition with only the parentheses that reading needs."""
 
     def part(inner, kinds):
         text = proposition_text(test, inner)

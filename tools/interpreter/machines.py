@@ -1,5 +1,6 @@
-"""What a statement and an instruction make of their thread and of memory; memory by itself, and behind caches. What loads and
-stores see of the two is the same."""
+"""The effects of statements and instructions on their thread and on memory; and memory, without caches and with them. Loads and stores
+behave the same on both.
+"""
 from __future__ import annotations
 
 from typing import Callable, List, NamedTuple, Sequence, Union
@@ -8,7 +9,7 @@ from interpreter.tests import Refused, Statement, Test, Value, WORD
 
 
 def put(row: tuple, at: int, item: object) -> tuple:
-    """A tuple with one item replaced."""
+    """Returns a tuple with one item replaced."""
     return row[:at] + (item,) + row[at + 1 :]
 
 
@@ -17,7 +18,7 @@ def word_of(value: Value, registers: tuple) -> int:
 
 
 def source_statement(it: Statement, at: int, registers: tuple, words: tuple) -> tuple:
-    """What a source statement makes of a thread's position and registers, and of memory."""
+    """Returns a thread's position and registers, and memory, after a source statement."""
     get = lambda value: word_of(value, registers)
     if it.kind == "goto":
         return it.target, registers, words
@@ -41,7 +42,7 @@ def source_statement(it: Statement, at: int, registers: tuple, words: tuple) -> 
 
 
 class OneMemory:
-    """One word for each location."""
+    """A memory with one word for each location."""
 
     def __init__(self, words: Sequence[int]) -> None:
         self.words = list(words)
@@ -53,14 +54,14 @@ class OneMemory:
         self.words[location] = word
 
     def exchange(self, _cpu: int, location: int, new_of_old: Callable[[int], int]) -> int:
-        """Replaces a word, at once, and answers the old one."""
+        """Replaces a word at once, and returns the old one."""
         old = self.words[location]
         self.words[location] = new_of_old(old)
         return old
 
 
 class Caches:
-    """Caches on a bus, by MESI or by MOESI, and memory behind them. A line is one location's word."""
+    """Caches on a bus, by MESI or by MOESI, over memory. A line is one location's word."""
 
     def __init__(self, processors: int, words: tuple, protocol: str) -> None:
         self.memory = list(words)
@@ -69,11 +70,11 @@ class Caches:
         self.keeps_owner = protocol == "moesi"
 
     def others_with(self, cpu: int, location: int) -> List[int]:
-        """The other caches that hold a line."""
+        """Returns the other caches that hold a line."""
         return [it for it in range(len(self.states)) if it != cpu and self.states[it][location] != "I"]
 
     def content(self, location: int) -> int:
-        """The word that a load finds."""
+        """Returns the word that a load finds."""
         for states, copies in zip(self.states, self.copies):
             if states[location] in "MO":
                 return copies[location]
@@ -89,7 +90,7 @@ class Caches:
         return self.copies[cpu][location]
 
     def share(self, cpu: int, location: int) -> None:
-        """Another cache loads a line that this one holds."""
+        """Downgrades a line that another cache loads."""
         state = self.states[cpu][location]
         if state == "M" and self.keeps_owner:
             self.states[cpu][location] = "O"
@@ -102,7 +103,7 @@ class Caches:
         self.exchange(cpu, location, lambda _old: word)
 
     def exchange(self, cpu: int, location: int, new_of_old: Callable[[int], int]) -> int:
-        """Takes a line alone, replaces its word, and answers the old one."""
+        """Takes a line exclusively, replaces its word, and returns the old one."""
         old = self.copies[cpu][location] if self.states[cpu][location] == "E" else self.content(location)
         for other in self.others_with(cpu, location):
             self.states[other][location] = "I"
@@ -131,7 +132,7 @@ class Processor(NamedTuple):
 
 
 def instruction_step(it: Statement, cpu: int, processor: Processor, memory: Union[OneMemory, Caches]) -> Processor:
-    """What an instruction makes of its processor. Requests go to the memory."""
+    """Returns a processor after an instruction. Requests go to the memory."""
     if it.kind == "mfence":
         if processor.buffer:
             raise Refused(4, "FenceWaits")
@@ -156,7 +157,7 @@ def instruction_step(it: Statement, cpu: int, processor: Processor, memory: Unio
 
 
 def locked_step(it: Statement, cpu: int, processor: Processor, memory: Union[OneMemory, Caches]) -> Processor:
-    """XCHG and LOCK XADD, with a location."""
+    """Executes XCHG or LOCK XADD with a location."""
     if processor.buffer:
         raise Refused(5, "SwapWaits")
     operand = processor.registers[it.register]
@@ -167,14 +168,14 @@ def locked_step(it: Statement, cpu: int, processor: Processor, memory: Union[One
 
 
 def step(test: Test, cpu: int, processor: Processor, memory: Union[OneMemory, Caches]) -> Processor:
-    """The next instruction of a processor."""
+    """Executes the next instruction of a processor."""
     if processor.at == len(test.threads[cpu]):
         raise Refused(3, "Ended")
     return instruction_step(test.threads[cpu][processor.at], cpu, processor, memory)
 
 
 def drain(cpu: int, processor: Processor, memory: Union[OneMemory, Caches]) -> Processor:
-    """The oldest entry of a processor's store buffer goes to memory."""
+    """Drains the oldest entry of a processor's store buffer to memory."""
     if not processor.buffer:
         raise Refused(6, "BufferEmpty")
     memory.store(cpu, *processor.buffer[0])

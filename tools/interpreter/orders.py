@@ -1,4 +1,4 @@
-"""The items of a choice of flow paths, and how many orders there are."""
+"""The items of a path assignment, and the number of their orders."""
 from __future__ import annotations
 
 from itertools import combinations, product
@@ -9,7 +9,7 @@ from interpreter.tests import Statement, Test
 
 
 def paths(statements: Sequence[Statement], at: int = 0) -> List[tuple]:
-    """The flow paths from a position to the end: rows of positions."""
+    """Returns the flow paths from a position to the end, as lists of positions."""
     if at == len(statements):
         return [()]
     behind = sorted(set(followers(statements[at], at)))
@@ -17,7 +17,8 @@ def paths(statements: Sequence[Statement], at: int = 0) -> List[tuple]:
 
 
 def accesses_of(statements: Sequence[Statement], path: Sequence[int], is_x86: bool) -> tuple:
-    """The accesses on a path, pairs of a location and whether it is written; its number of items; its number of conflicts within."""
+    """Returns the accesses on a path, pairs of a location and whether it is written; its number of items; its number of conflicts within.
+    """
     accesses, waiting, inner = [], [], 0
     for it in (statements[at] for at in path):
         if it.kind in ("mfence", "xchg", "xadd"):
@@ -37,7 +38,7 @@ def conflicts_between(first: list, second: list) -> int:
 
 
 def orders_of(test: Test) -> Tuple[int, int]:
-    """The most items of a choice of flow paths, and the orders of all choices."""
+    """Returns the maximal number of items of a path assignment, and the number of orders of all path assignments."""
     is_x86, most, orders = test.language == "X86", 0, 0
     for choice in product(*([accesses_of(code, path, is_x86) for path in paths(code)] for code in test.threads)):
         open_conflicts = sum(inner for _, _, inner in choice)

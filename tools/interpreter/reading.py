@@ -20,7 +20,7 @@ MOST_STATEMENTS = {"SRC": 16, "X86": 32}
 
 
 class Reader:
-    """Reads the tokens of a test behind its notes, from left to right, and then those of each cell."""
+    """A reader of the tokens of a test after its notes, from left to right, and then of those of each cell."""
 
     def __init__(self, language, name, tokens, places):
         self.test = Test(language, name)
@@ -39,24 +39,24 @@ class Reader:
         return self.tokens[self.at][0] if self.at < self.end else None
 
     def last(self):
-        """The token that was taken last, in quotes."""
+        """Returns the token that was read last, in quotes."""
         return quoted(self.tokens[self.at - 1][1])
 
     def refused(self, cause, at=None):
-        """The fault at a token, which is the next one where no other is named."""
+        """Returns the fault at a token, by default the next one."""
         return NoTest(cause, self.places[self.at if at is None else at])
 
     def refused_last(self, cause):
-        """The fault at the token that was taken last."""
+        """Returns the fault at the token that was read last."""
         return self.refused(cause, self.at - 1)
 
     def misplaced(self, wanted):
-        """The fault of the next token where something else is wanted."""
+        """Returns the fault of the next token if something else is expected."""
         end = "the end of the text" if self.at == len(self.tokens) else "the end of the cell"
         return self.refused(f"{end if self.next() is None else quoted(self.next())} stands where {wanted} should")
 
     def take(self, wanted=None):
-        """The next token, which is the one that is wanted, if one is."""
+        """Reads the next token, which must be the expected one, if there is one."""
         text = self.next()
         if wanted is not None and text != wanted:
             raise self.misplaced(quoted(wanted))
@@ -81,7 +81,7 @@ class Reader:
         return self.take()
 
     def register_of(self, text):
-        """The number of a register, or None."""
+        """Returns the index of a register, or `None`."""
         text = text.upper() if self.test.language == "X86" else text
         return self.names.index(text) if text in self.names else None
 
@@ -93,7 +93,7 @@ class Reader:
         return found
 
     def location(self):
-        """The number of a location; one that is new comes to the end of the table."""
+        """Returns the index of a location; a new one is appended to the table."""
         name = self.name("a location")
         if RESERVED.fullmatch(name):
             raise self.refused_last(f"{self.last()} is a reserved name, and no location")
@@ -110,7 +110,7 @@ class Reader:
         return location
 
     def site(self):
-        """A location or a thread's register, as the block, the list and the condition name it."""
+        """Reads a location or a thread's register, as the block, the list and the condition name it."""
         if self.next() == "[":
             return ("location", self.in_brackets())
         if self.kind() == "number":
@@ -121,7 +121,7 @@ class Reader:
         return ("location", self.location())
 
     def entries(self, read_one, end):
-        """What stands up to the closing bracket, each ended by `;`, which the last may lack."""
+        """Reads the entries up to the closing bracket, each ended by `;`, which may be absent after the last."""
         while self.next() != end:
             yield read_one()
             if self.next() != end:
@@ -134,7 +134,7 @@ class Reader:
         return site, self.number()
 
     def header(self):
-        """The number of threads."""
+        """Reads the header, and returns the number of threads."""
         threads = 0
         while True:
             self.take(f"P{threads}")
@@ -147,7 +147,7 @@ class Reader:
             self.take("|")
 
     def rows(self, threads):
-        """Of each thread its cells, each by the numbers of its first token and of that behind it."""
+        """Returns, for each thread, its cells, each by the indices of its first token and of that after it."""
         columns = [[] for _ in range(threads)]
         while self.next() not in ("locations", "exists", "forall", "filter", "~"):
             if len(columns[0]) == MOST_ROWS and self.next() is not None:
@@ -176,7 +176,7 @@ class Reader:
         return self.take()
 
     def take_node(self):
-        """The next token, which makes a node of the condition."""
+        """Reads the next token, which is a node of the condition."""
         self.count_node()
         return self.take()
 
@@ -186,7 +186,7 @@ class Reader:
             raise self.refused(f"the condition has more than {MOST_NODES} nodes")
 
     def atom(self):
-        """An atom, a proposition in parentheses, or a negation."""
+        """Reads an atom, a proposition in parentheses, or a negation."""
         if self.next() in ("~", "not"):
             self.take_node()
             return ("not", self.atom())
@@ -217,7 +217,7 @@ class Reader:
     # Cells.
 
     def value(self):
-        """A number, with a `$` before it or without in an x86 test, or a register."""
+        """Reads a number, with or without `$` before it in an x86 test, or a register."""
         if self.test.language == "X86" and self.next() == "$":
             self.take("$")
             return ("number", self.number())
@@ -226,7 +226,7 @@ class Reader:
         return ("register", self.register("a number or a register"))
 
     def statement(self):
-        """A statement of a source test."""
+        """Reads a statement of a source test."""
         if self.next() == "if":
             self.take("if")
             register, sign = self.register(), self.next()
@@ -250,7 +250,7 @@ class Reader:
         return self.assignment(register)
 
     def assignment(self, register):
-        """What stands behind `d :=` for a register d."""
+        """Reads what follows `d :=` for a register d."""
         if self.next() in ("swap", "fetchadd"):
             kind, location = self.take(), self.location()
             return Statement(kind, register, location, ("register", self.register()))
@@ -265,7 +265,7 @@ class Reader:
         return Statement("set", register, value=("register", left))
 
     def instruction(self):
-        """An instruction of an x86 test."""
+        """Reads an instruction of an x86 test."""
         mnemonic = self.name("an instruction").upper()
         if mnemonic == "MFENCE":
             return Statement("mfence")
@@ -296,7 +296,7 @@ class Reader:
         return Statement("set", register, value=self.value())
 
     def exchange(self, kind):
-        """XCHG takes its operands in both orders, XADD with the location first."""
+        """Reads XCHG with its operands in either order, or XADD with the location first."""
         if self.next() == "[" or kind == "xadd":
             location = self.in_brackets()
             self.take(",")
@@ -306,7 +306,7 @@ class Reader:
         return Statement(kind, register, self.in_brackets())
 
     def labels_before(self, labels, number):
-        """Reads the labels at the begin of a cell, which name the statement of a number."""
+        """Reads the labels at the start of a cell, whose target is the statement of this index."""
         while self.at + 1 < self.end and self.tokens[self.at + 1][1] == ":":
             label = self.name("a label")
             if RESERVED.fullmatch(label):
@@ -317,7 +317,7 @@ class Reader:
             self.take(":")
 
     def thread(self, cells):
-        """The statements of a thread, with its jumps resolved."""
+        """Returns the statements of a thread, with its jumps resolved."""
         statements, ends, labels = [], [], {}
         for begin, end in cells:
             self.at, self.end = begin, end
@@ -328,7 +328,7 @@ class Reader:
                 ends.append(self.at)
             if self.next() is not None:
                 raise self.refused(f"{quoted(self.next())} stands behind a statement")
-        # A statement's last token is its label, where it jumps.
+        # A statement's last token is its label, if it jumps.
         return tuple(self.resolved(it, at, labels, ends[at] - 1) for at, it in enumerate(statements))
 
     def check_room(self, statements):
@@ -337,7 +337,7 @@ class Reader:
             raise self.refused(f"the thread has more than {most} {'statements' if self.test.language == 'SRC' else 'instructions'}")
 
     def resolved(self, statement, at, labels, token):
-        """A statement with the position that its jump leads to, whose label has a token's number."""
+        """Returns a statement with the position that its jump targets, whose label is the token at an index."""
         if statement.target is None:
             return statement
         if statement.target not in labels:
@@ -347,7 +347,7 @@ class Reader:
         return replace(statement, target=labels[statement.target])
 
     def read(self):
-        """The whole test."""
+        """Reads the whole test."""
         test = self.test
         self.take("{")
         initial = dict(self.entries(self.initial_entry, "}"))
@@ -372,7 +372,7 @@ class Reader:
 
 
 def heading_of(text: str) -> tuple:
-    """The language and the name of a test, and where its heading ends."""
+    """Returns the language and the name of a test, and where its heading ends."""
     at = 0
     while text[at : at + 1] and text[at] in " \t\r\n" or text.startswith("(*", at):
         at = skip_comment(text, at) if text.startswith("(*", at) else at + 1
@@ -389,7 +389,7 @@ def heading_of(text: str) -> tuple:
 
 
 def read_test(text: str) -> Test:
-    """The test that a text says."""
+    """Returns the test of a text."""
     given_bytes = text.encode()
     if len(given_bytes) > MOST_BYTES:
         raise NoTest(f"the text has more than {MOST_BYTES} bytes", len(given_bytes[:MOST_BYTES].decode(errors="ignore")))

@@ -1,4 +1,4 @@
-"""Replays a schedule, over caches where it is one of an x86 test."""
+"""Replays a schedule, over caches if the test is an x86 test."""
 from __future__ import annotations
 
 import re
@@ -10,7 +10,7 @@ from interpreter.walks import outcome_of, source_start, x86_start
 
 
 def read_schedule(text: str, locations: Sequence[str]) -> List[tuple]:
-    """The events of a schedule: a kind, a processor, and for an eviction a location."""
+    """Returns the events of a schedule: a kind, a processor, and for an eviction a location."""
     events = []
     for word in re.finditer(r"[^ \t\r\n]+", text):
         at = len(text[: word.start()].encode())
@@ -103,7 +103,7 @@ def start_replay(test: Test, protocol: str) -> Union[SourceReplay, X86Replay]:
 
 
 def replay(test: Test, schedule: str, protocol: str = "mesi") -> Tuple[str, int]:
-    """The page of a replay, and its exit status."""
+    """Returns the page of a replay, and its exit status."""
     run = start_replay(test, protocol)
     done, stopped = 0, None
     for event in read_schedule(schedule, test.locations):

@@ -10,7 +10,7 @@ from interpreter.walks import interleaved_moves, outcomes, walk, way_to, x86_mov
 
 
 def observed(test: Test) -> List[Site]:
-    """The sites that a report shows, in its order."""
+    """Returns the sites that a report shows, in its order."""
     return sorted(test.listed | sites_in(test.proposition), key=site_order)
 
 
@@ -19,7 +19,7 @@ def state_line(test: Test, words: tuple) -> str:
 
 
 def states_of(test: Test, found: Iterable[Outcome]) -> list:
-    """The states that outcomes show, sorted, each with the smallest outcome that shows it."""
+    """Returns the states of outcomes, sorted, each with the smallest outcome that has it."""
     sites, states = observed(test), {}
     for outcome in sorted(found):
         states.setdefault(tuple(word_at(site, outcome) for site in sites), outcome)
@@ -27,7 +27,7 @@ def states_of(test: Test, found: Iterable[Outcome]) -> list:
 
 
 def report(test: Test, found: Optional[Iterable[Outcome]] = None) -> str:
-    """The report of a test."""
+    """Returns the report of a test."""
     states = states_of(test, outcomes(test) if found is None else found)
     holding = sum(holds(test.proposition, outcome) for _, outcome in states)
     others = len(states) - holding
@@ -41,7 +41,7 @@ def report(test: Test, found: Optional[Iterable[Outcome]] = None) -> str:
 
 
 def schedules(test: Test) -> str:
-    """A schedule to each state of the report: of a source test one of its compiled program."""
+    """Returns a schedule to each state of the report: for a source test one of its compiled program."""
     program = compiled(test)
     finals, came_from = walk(program, x86_start(program), x86_moves)
     states = states_of(test, finals)
@@ -52,7 +52,7 @@ def schedules(test: Test) -> str:
 
 
 def words_on(test: Test) -> Tuple[str, str]:
-    """What interleaving and x86-TSO say of a test's condition. A source test is taken without fences, each store a plain store."""
+    """Returns what interleaving and x86-TSO say of a test's condition. A source test is taken without fences, each store a plain store."""
     program = compiled(test, with_fences=False)
     interleaved = walk(program, x86_start(program), interleaved_moves)[0]
     return word_on(test, interleaved), word_on(test, outcomes(program))

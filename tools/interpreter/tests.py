@@ -1,4 +1,4 @@
-"""What a test is, as values; and why a text or a schedule is none, or an event can't be done."""
+"""Tests, as values; and why a text or a schedule is rejected, or an event is not enabled."""
 from __future__ import annotations
 
 from dataclasses import dataclass, field
@@ -6,7 +6,7 @@ from typing import Iterable
 
 import given
 
-# What is in them, the classes and functions say that have them.
+# The classes and functions that have them say what is in them.
 Site = Proposition = Value = Outcome = State = tuple
 WORD = 2**32
 REGISTERS = {
@@ -16,15 +16,15 @@ REGISTERS = {
 
 
 class NoTest(given.Fault):
-    """The text is no test: the cause in words, and the place of what is refused, which is the end where the text ends too early."""
+    """The text is no test: the cause in words, and the position of what is refused, which is the end if the text ends too early."""
 
 
 class NoSchedule(Exception):
-    """A word of a schedule is faulty: the fault's number and name, and the byte at which the word begins."""
+    """A word of a schedule is faulty: the fault's code and name, and the byte at which the word starts."""
 
 
 class Refused(Exception):
-    """An event can't be done: the number and the name of the cause."""
+    """An event is not enabled: the code and the name of the cause."""
 
 
 @dataclass(frozen=True)
@@ -56,5 +56,5 @@ class Test:
 
 
 def text_of(lines: Iterable[str]) -> str:
-    """Lines as a text."""
+    """Returns lines as a text."""
     return "".join(f"{line}\n" for line in lines)

@@ -1,4 +1,4 @@
-"""The tokens of a text, behind the notes of its heading."""
+"""The tokens of a text, after the notes of its heading."""
 from __future__ import annotations
 
 import re
@@ -16,17 +16,17 @@ LETTERS = re.compile(r"\w{1,32}|.", re.S)
 
 
 def quoted(text: str) -> str:
-    """A text in quotes; one with letters that can't be seen has their numbers."""
+    """Returns a text in quotes; one with invisible characters has their codes."""
     return f"'{text}'" if text.isprintable() else repr(text)
 
 
 def letters_at(text: str, at: int) -> str:
-    """What stands at a place, in quotes: a word, one letter, or the end."""
+    """Returns what is at a position, in quotes: a word, one character, or the end."""
     return quoted(LETTERS.match(text, at)[0]) if at < len(text) else "the end of the text"
 
 
 def skip_comment(text: str, at: int) -> int:
-    """Where the comment that begins at a place ends; comments nest."""
+    """Returns where the comment that starts at a position ends; comments nest."""
     depth, begin = 0, at
     while True:
         opens, closes = text.find("(*", at), text.find("*)", at)
@@ -41,7 +41,7 @@ def skip_comment(text: str, at: int) -> int:
 
 
 def tokens_of(text: str, at: int) -> Tuple[list, List[int]]:
-    """The tokens from a place on, as pairs of a kind and a text; and of each its place, behind which the end's stands."""
+    """Returns the tokens from a position on, as pairs of a kind and a text; and the position of each, followed by the end's."""
     tokens, places = [], []
     while at < len(text):
         if text.startswith("(*", at):
@@ -58,7 +58,7 @@ def tokens_of(text: str, at: int) -> Tuple[list, List[int]]:
 
 
 def skip_notes(text: str, at: int) -> int:
-    """Where the initial block begins: behind quoted texts, lines `Key=value`, blanks and comments."""
+    """Returns where the initial block starts: after quoted texts, lines `Key=value`, blanks and comments."""
     while at < len(text):
         key = KEY.match(text, at)
         if text[at] in " \t\r\n":
@@ -77,7 +77,7 @@ def skip_notes(text: str, at: int) -> int:
 
 
 def skip_quoted(text: str, at: int) -> int:
-    """Where the quoted text that begins at a place ends."""
+    """Returns where the quoted text that starts at a position ends."""
     end = text.find('"', at + 1)
     if end < 0:
         raise NoTest(f"the quoted text that begins at {given.place(text, at)} is left open", len(text))

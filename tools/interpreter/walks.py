@@ -1,4 +1,4 @@
-"""All final states, by a walk through all states that a test can be in."""
+"""All final states, by a walk through all reachable states of a test."""
 from __future__ import annotations
 
 from collections import deque
@@ -9,7 +9,7 @@ from interpreter.tests import Outcome, Refused, State, Test
 
 
 def source_moves(test: Test, state: State) -> Iterator[tuple]:
-    """The states behind a source test's state, each with its event: a step of one thread on one memory."""
+    """Yields the successors of a source test's state, each with its event: a step of one thread on one memory."""
     places, words = state
     for thread, (at, registers) in enumerate(places):
         if at < len(test.threads[thread]):
@@ -22,7 +22,7 @@ def source_start(test: Test) -> State:
 
 
 def x86_moves(test: Test, state: State) -> Iterator[tuple]:
-    """The states behind an x86 test's state, each with its event: a step or a drain of one processor."""
+    """Yields the successors of an x86 test's state, each with its event: a step or a drain of one processor."""
     processors, words = state
     for cpu, processor in enumerate(processors):
         for event in "PD":
@@ -39,7 +39,7 @@ def x86_start(test: Test) -> State:
 
 
 def interleaved_moves(test: Test, state: State) -> Iterator[tuple]:
-    """The same by interleaving on one memory: each store is drained at once."""
+    """Yields the successors by interleaving on one memory: each store is drained at once."""
     for event, (processors, words) in x86_moves(test, state):
         cpu = int(event[1])
         memory = OneMemory(words)
@@ -49,13 +49,13 @@ def interleaved_moves(test: Test, state: State) -> Iterator[tuple]:
 
 
 def outcome_of(state: State) -> Outcome:
-    """The registers and the words of a state."""
+    """Returns the registers and the words of a state."""
     places, words = state
     return tuple(place.registers if isinstance(place, Processor) else place[1] for place in places), words
 
 
 def walk(test: Test, start: State, moves: Callable) -> Tuple[dict, dict]:
-    """All outcomes that a test ends in, each with a state in which it does; and of each state the shortest way to it."""
+    """Returns all outcomes of a test, each with a final state that has it; and the shortest way to each state."""
     came_from, waiting, finals = {start: None}, deque([start]), {}
     while waiting:
         state = waiting.popleft()
@@ -71,7 +71,7 @@ def walk(test: Test, start: State, moves: Callable) -> Tuple[dict, dict]:
 
 
 def way_to(state: State, came_from: dict) -> str:
-    """The events that lead to a state."""
+    """Returns the events that reach a state."""
     events = []
     while came_from[state]:
         event, state = came_from[state]
@@ -80,7 +80,7 @@ def way_to(state: State, came_from: dict) -> str:
 
 
 def outcomes(test: Test) -> Set[Outcome]:
-    """All outcomes of a test: of a source test by interleaving, of an x86 test with store buffers."""
+    """Returns all outcomes of a test: of a source test by interleaving, of an x86 test with store buffers."""
     if test.language == "SRC":
         return set(walk(test, source_start(test), source_moves)[0])
     return set(walk(test, x86_start(test), x86_moves)[0])

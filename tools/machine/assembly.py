@@ -14,7 +14,7 @@ SECTION = "lw_test"
 NAMES = ("eax", "ebx", "ecx", "edx", "esi", "edi")
 # Location k has its address in register number 8 + k.
 FIRST_ADDRESS = 8
-# A thread has its results' place in %rbp. Of the registers that a function has to restore, these may be others' addresses.
+# A thread has its results' place in %rbp. Of the registers that a function must restore, these may hold others' addresses.
 KEPT_ADDRESSES = range(12, 16)
 # The register of a number that MOVNTI stores. It has the address of the last location in a test of eight.
 SCRATCH = 15
@@ -89,7 +89,7 @@ def registers_of(code: Code) -> Set[int]:
 
 
 def kept_registers(code: Code, places: Sequence[int], registers: Set[int]) -> List[str]:
-    """Returns the registers that a thread's function has to restore: %rbp, in which it has its results' place, and those of its code."""
+    """Returns the registers that a thread's function must restore: %rbp, in which it has its results' place, and those of its code."""
     kept = ["rbp"] + ["rbx"] * (NAMES.index("ebx") in registers)
     addresses = {FIRST_ADDRESS + it for it in places} | ({SCRATCH} if any(it.kind == "scratch" for it in code) else set())
     return kept + [f"r{it}" for it in KEPT_ADDRESSES if it in addresses]

@@ -18,7 +18,7 @@ FLAGS = ["-O2", "-pthread"]
 
 
 def look_at_system() -> None:
-    """Refuses a system that runs no x86 tests, or that lacks objdump."""
+    """Refuses a system that cannot run x86 tests, or that lacks objdump."""
     if sys.platform != "linux" or platform.machine() not in ("x86_64", "AMD64"):
         raise NotRun(f"a test is run on Linux on x86-64 only, and this is {platform.system()} on {platform.machine()}")
     if not shutil.which(disassembly.COMMAND[0]):

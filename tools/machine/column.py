@@ -20,14 +20,15 @@ class Column(NamedTuple):
 
 
 def cell_of(result: Result) -> str:
-    """Returns what the column has of a run."""
+    """Returns the column's text for a run."""
     beyond = len(result.not_listed())
     return f"{len(result.seen_and_listed())} of {len(result.listed.states)}" + (f", and {beyond} not listed" if beyond else "")
 
 
 def column_of(files: List[str], seconds: float, tell: Callable[[str], None]) -> Column:
-    """Runs each file's test for so many seconds, one after another, since runs disturb each other. Without a compiler or objdump nothing is run,
-    and `NotRun` says why."""
+    """Runs each file's test for this number of seconds, one after another, since runs disturb each other. Without a compiler or objdump
+    nothing is run, and `NotRun` says why.
+    """
     made = Column({}, [], False)
     with tempfile.TemporaryDirectory(prefix="lw-machine-") as folder:
         laboratory = Laboratory(["cc"], folder)

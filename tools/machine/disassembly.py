@@ -12,7 +12,8 @@ from machine.faults import NotRun
 from plain import Statement
 
 COMMAND = ("objdump", "--syms", "--disassemble", "--no-show-raw-insn", "-M", "intel", "-j", "lw_test")
-# The labels of a thread's function and around the test's instructions: of that which runs, and of that which runs under the trap flag.
+# The labels of a thread's function and around the test's instructions: of the function that runs, and of that which runs under the trap
+# flag.
 LABELS = (("lw_run_{}", "lw_begin_{}", "lw_end_{}"), ("lw_trapped_{}", "lw_trapped_begin_{}", "lw_trapped_end_{}"))
 SYMBOL = re.compile(r"([0-9a-f]{8,16})\s.*\slw_test\s+[0-9a-f]+\s+(?:\.hidden\s+)?(lw_\w+)")
 LINE = re.compile(r"\s*([0-9a-f]+):\s+(\S.*)")

@@ -2,4 +2,4 @@
 
 
 class NotRun(Exception):
-    """A test can't be run here, and why."""
+    """A test cannot be run here, and why."""

@@ -17,7 +17,7 @@ SET_TRAP_FLAG = ("pushf", "or QWORD PTR [rsp],0x100", "popf", "nop")
 
 
 def run_of(pattern, texts: List[str]) -> List[re.Match]:
-    """Takes the instructions of one kind off the front of a list."""
+    """Removes the instructions of one kind from the front of a list, and returns their matches."""
     taken = []
     while texts and pattern.fullmatch(texts[0]):
         taken.append(pattern.fullmatch(texts.pop(0)))
@@ -31,7 +31,7 @@ def used_by(code: Sequence[Statement]) -> List[int]:
 
 
 def changed_by(code: Sequence[Statement], saved: List[str]) -> List[str]:
-    """Returns the registers that a thread's function changes, has to restore, and does not save."""
+    """Returns the registers that a thread's function changes, must restore, and does not save."""
     numbers = {8 + it.location for it in code if it.location is not None} | ({15} if any(it.kind == "scratch" for it in code) else set())
     changed = {"rbp", *(f"r{it}" for it in numbers)} | ({"rbx"} if 1 in used_by(code) else set())
     return sorted(changed & {*KEPT} - {*saved})

@@ -4,7 +4,7 @@ from typing import Dict, Iterable, Tuple
 from machine.faults import NotRun
 
 SWITCH = ("0", "1")
-# Of each knob its words, of which the harness is passed the index; or the least and the largest number..
+# The words of each knob, of which the harness is passed the index; or the least and the largest number.
 WORDS: Dict[str, Tuple[str, ...]] = {
     "sync": ("none", "flag", "time", "mixed"),
     "stores": ("plain", "nontemporal"),

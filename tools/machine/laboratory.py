@@ -1,4 +1,4 @@
-"""Runs one test after another by one compiled harness, and holds each against its list."""
+"""Runs one test after another with one compiled harness, and compares each with its list."""
 from random import Random
 from typing import List, NamedTuple, Optional, Sequence
 
@@ -16,8 +16,9 @@ NONTEMPORAL = "A CONTROL: stores are MOVNTI, which go past the caches, in place 
 
 
 class Settings(NamedTuple):
-    """How tests are run: until when, by which knobs, whether all registers and locations are looked at, and the test whose list they are held
-    against, if that is another."""
+    """How tests are run: until when, with which knobs, whether all registers and locations are shown, and the test with whose list they are
+    compared, if that is another.
+    """
 
     limits: Limits = Limits()
     knobs: Knobs = DEFAULTS
@@ -50,7 +51,7 @@ class Laboratory:
         return Plan(subject, threads, listed, led, placements, here.has_clock, is_scarce, settings.limits, knobs)
 
     def result_of(self, file: str, text: str, settings: Settings) -> Result:
-        """Runs a test, and holds it against its list or that of another test."""
+        """Runs a test, and compares it with its list or that of another test."""
         subject = subject_of(text, settings.everything)
         other = settings.against
         listed = listed_against(subject, other) if other else listed_of(subject)

@@ -11,7 +11,9 @@ OF_HARNESS = ("sync", "prepare", "ballast", "delay", "stride", "learn", "move", 
 
 
 class Limits(NamedTuple):
-    """When a run ends: after so many seconds, if it is limited in time; after so many runs, if it is limited so; when all listed states were seen."""
+    """When a run ends: after this number of seconds, if it is limited in time; after this number of runs, if it is limited so; when all
+    listed states were seen.
+    """
 
     seconds: Optional[float] = 10.0
     runs: int = 0
@@ -42,7 +44,7 @@ def numbers(words: Sequence[int]) -> str:
 
 
 def lines_of_test(plan: Plan) -> List[str]:
-    """Returns what the harness has to know of the test."""
+    """Returns what the harness must know of the test."""
     test, sites = plan.subject.x86, plan.subject.sites
     pairs = [(site[1], site[2]) if site[0] == "register" else (-1, site[1]) for site in sites]
     return [

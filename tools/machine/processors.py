@@ -9,13 +9,14 @@ Placement = Tuple[int, ...]
 PLACEMENTS = 60
 # The harness knows processors up to this number.
 MOST_PROCESSORS = 1024
-# Both say together that time-stamp counters go at one speed, and never stop.
+# Both together mean that time-stamp counters have a constant rate, and never stop.
 INVARIANT_CLOCK = {"constant_tsc", "nonstop_tsc"}
 
 
 class Processors(NamedTuple):
-    """The processors that this process may use, the core and the node of each, the flags of /proc/cpuinfo, the share of them that a quota of the
-    process's group leaves, or 0 if there is none."""
+    """The processors that this process may use, the core and the node of each, the flags of /proc/cpuinfo, the share of them that a quota
+    of the process's group leaves, or 0 if there is none.
+    """
 
     allowed: Tuple[int, ...]
     cores: Dict[int, str]
@@ -61,7 +62,7 @@ def quota_in(system: str) -> float:
 
 
 def processors_here(system: str = "/sys", info: str = "/proc/cpuinfo") -> Processors:
-    """Reads what there is to know of the processors of this process."""
+    """Reads what is known of the processors of this process."""
     allowed = tuple(it for it in sorted(os.sched_getaffinity(0)) if it < MOST_PROCESSORS)
     siblings = {cpu: read(f"{system}/devices/system/cpu/cpu{cpu}/topology/thread_siblings_list").strip() for cpu in allowed}
     nodes = nodes_in(system)
@@ -79,7 +80,7 @@ def processors_here(system: str = "/sys", info: str = "/proc/cpuinfo") -> Proces
 
 
 def groups_by(key: Callable[[int], object], cpus: Sequence[int]) -> List[Group]:
-    """Puts processors with one key together, in the order in which they appear."""
+    """Groups processors with the same key, in the order in which they appear."""
     groups: Dict[object, Group] = {}
     for cpu in cpus:
         groups.setdefault(key(cpu), []).append(cpu)
@@ -87,7 +88,7 @@ def groups_by(key: Callable[[int], object], cpus: Sequence[int]) -> List[Group]:
 
 
 def together(groups: List[Group]) -> Group:
-    """Returns processors with those of a group beside one another."""
+    """Returns processors with those of a group next to each other."""
     return [cpu for group in groups for cpu in group]
 
 
@@ -120,7 +121,7 @@ def placements_on(here: Processors, threads: int, random: Random) -> List[Placem
 
 
 def sentences_on(here: Processors, threads: int) -> List[str]:
-    """Says what keeps a run of so many threads from showing much, each in a sentence."""
+    """Returns what keeps a run of this number of threads from showing much, each in a sentence."""
     said, count = [], len(here.allowed)
     if count < threads:
         said.append(f"This process may use {count} processor{'s' * (count != 1)} and the test has {threads} threads: they take turns, so a store "

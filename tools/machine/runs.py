@@ -13,7 +13,7 @@ from machine.subjects import Words
 KINDS = ("by a race", "by a halt", "by a schedule")
 # What became of the trap flag, as the harness numbers it.
 TRAPS_UNUSED, TRAPS_WORK, TRAPS_TRACED, TRAPS_CAUGHT = range(4)
-# How often a second threads lose their processor on a machine that is not busy, at most.
+# The maximal number of times a second that threads lose their processor on a machine that is not busy.
 MOST_SWITCHES = 100
 
 
@@ -26,7 +26,7 @@ class Sight(NamedTuple):
 
 
 class Seen(NamedTuple):
-    """What was seen in a run: of each state how it was seen; the number of runs, the seconds, and the facts that the harness tells."""
+    """What was seen in a run: how each state was seen; the number of runs, the seconds, and the facts that the harness reports."""
 
     states: Dict[Words, Sight]
     runs: int
@@ -62,12 +62,12 @@ def read_seen(lines: List[str]) -> Seen:
 
 
 def patience_for(plan: Plan):
-    """Returns the seconds after which a run that should have ended is given up, or None if it has no limit of time."""
+    """Returns the seconds after which a run that should have ended is killed, or `None` if it has no limit of time."""
     return None if plan.limits.seconds is None else 60 + 10 * plan.limits.seconds
 
 
 def why_ended(status: int, printed: bytes) -> str:
-    """Says why the harness ended with a status that is not 0."""
+    """Returns why the harness ended with a status that is not 0."""
     if status < 0:
         return f"the harness is ended by {signal.Signals(-status).name}"
     return last_line(printed)
@@ -90,7 +90,7 @@ def run(program: str, plan: Plan) -> Seen:
 
 
 def sentences_on(seen: Seen, plan: Plan) -> List[str]:
-    """Says what was missing in a run, each in a sentence."""
+    """Returns what was missing in a run, each in a sentence."""
     facts, said = seen.facts, []
     lost = facts["switches"] / seen.seconds if seen.seconds else 0.0
     if lost > MOST_SWITCHES and not plan.is_scarce:

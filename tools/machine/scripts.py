@@ -1,7 +1,7 @@
-"""Scripts by which a run is led: of each listed state a schedule, cut into pieces of so many instructions of one thread.
+"""Scripts that direct a run: a schedule of each listed state, cut into pieces of instructions of one thread.
 
-A script ends where a store waits in a store buffer while another thread goes on: no order of instructions shows that, so from there threads
-race. Scripts need no proof: they say what is tried, and what is seen is counted as it is.
+A script ends where a store waits in a store buffer while another thread continues: no order of instructions shows that, so from there
+threads race. Scripts need no proof: they say what is tried, and what is seen is counted as it is.
 """
 from typing import List, Tuple
 
@@ -12,7 +12,7 @@ from shared.home import BEYOND
 
 Script = Tuple[Tuple[int, int], ...]
 MOST_SCRIPTS, MOST_PIECES = 256, 64
-# The states of the machine at which a search for schedules ends, where neither program lists them.
+# The number of states of the machine at which a search for schedules ends, if neither program lists them.
 MOST_STATES = 100_000
 
 
@@ -41,6 +41,6 @@ def script_of(test: plain.Test, schedule: str) -> Script:
 
 
 def scripts_of(test: plain.Test, text: str) -> List[Script]:
-    """Returns the scripts of an x86 test. Those of one piece lead nothing, and are left out."""
+    """Returns the scripts of an x86 test, without those of one piece, which direct nothing."""
     made = {script_of(test, schedule) for schedule in schedules_of(test, text)}
     return sorted(it for it in made if 1 < len(it) <= MOST_PIECES)[:MOST_SCRIPTS]

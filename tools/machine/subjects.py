@@ -11,7 +11,7 @@ Words = Tuple[int, ...]
 
 
 class Subject(NamedTuple):
-    """A test whose names are printed, its x86 test, what is looked at in the end, and by whom a source test was compiled."""
+    """A test whose names are printed, its x86 test, what is observed at the end, and who compiled it if it is a source test."""
 
     shown: plain.Test
     x86: plain.Test
@@ -23,7 +23,7 @@ class Subject(NamedTuple):
         return plain.state_line(self.shown, words)
 
     def names(self) -> List[str]:
-        """Returns the names that states speak of."""
+        """Returns the names that states mention."""
         return [plain.site_name(self.shown, site) for site in self.sites]
 
     def holds(self, words: Words) -> bool:
@@ -39,14 +39,14 @@ class Subject(NamedTuple):
 
 
 class Listed(NamedTuple):
-    """The listed states, by whom the list was made, and by whom its test was compiled, if that is a source test."""
+    """The listed states, who made the list, and who compiled its test, if that is a source test."""
 
     states: List[Words]
     by: answers.Maker
     compiled_by: Optional[answers.Maker] = None
 
     def by_whom(self) -> str:
-        """Says by whom the list was made, and whether that is proved."""
+        """Returns who made the list, and whether that is proved."""
         is_proved = answers.are_proved(it for it in (self.by, self.compiled_by) if it)
         compiled = f", of the test that {self.compiled_by.value} compiled" if self.compiled_by else ""
         return f"{self.by.value}{compiled}, {'proved complete' if is_proved else 'not proved'}"

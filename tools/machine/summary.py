@@ -10,7 +10,9 @@ NOT_LISTED = "SEEN AND NOT LISTED"
 
 
 class Result(NamedTuple):
-    """A run, and what it is held against. `against` is the name of another test, or empty; `notes` has what is to be known of the run."""
+    """A run, and the test with which it is compared. `against` is the name of another test, or empty; `notes` has what must be known of the
+    run.
+    """
 
     file: str
     subject: Subject
@@ -33,7 +35,7 @@ class Result(NamedTuple):
         return sorted(set(self.seen.states) - set(self.listed.states))
 
     def list_name(self) -> str:
-        """Says by whom the list is made, and of which test."""
+        """Returns who made the list, and of which test it is."""
         whose = f" of {self.against}" if self.against else ""
         return f"The list{whose} by {self.listed.by_whom()}"
 

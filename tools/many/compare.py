@@ -1,4 +1,4 @@
-"""The answers, compared with a log of an earlier run or of herd's tools, and with what machines showed."""
+"""Compares the answers with a log of an earlier run or of herd's tools, and with what machines showed."""
 from __future__ import annotations
 
 import sys

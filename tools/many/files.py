@@ -5,7 +5,7 @@ import os
 import sys
 from collections import namedtuple
 
-# The endings of programs, which tools/from_c.py takes. All other files are tests.
+# The suffixes of programs, which tools/from_c.py converts. All other files are tests.
 PROGRAMS = (".c", ".cc", ".cpp", ".cxx", ".rs")
 ENDINGS = (".litmus", *PROGRAMS)
 # A shard's number, counted from 1, and how many there are.
@@ -13,7 +13,9 @@ Shard = namedtuple("Shard", "number of")
 
 
 def files_of(names: list) -> list:
-    """Returns the files that names mean: of a folder those with an ending of tests or programs. Standard input has the names if there is none."""
+    """Returns the files that names mean: of a folder those with a suffix of tests or programs. Reads the names from standard input if there
+    is none.
+    """
     files = []
     for name in names or [line.strip() for line in sys.stdin if line.strip()]:
         if os.path.isdir(name):
@@ -24,12 +26,12 @@ def files_of(names: list) -> list:
 
 
 def is_program(file: str) -> bool:
-    """Says whether a file is a program in C, C++ or Rust."""
+    """Returns whether a file is a program in C, C++ or Rust."""
     return file.endswith(PROGRAMS)
 
 
 def shard_in(text: str) -> Shard | None:
-    """Reads `I/N`. Returns None if the text is no shard."""
+    """Reads `I/N`. Returns `None` if the text is no shard."""
     number, slash, of = text.partition("/")
     is_number = slash and all(it.isascii() and it.isdigit() for it in (number, of))
     return Shard(int(number), int(of)) if is_number and 1 <= int(number) <= int(of) else None

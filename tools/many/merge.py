@@ -1,4 +1,4 @@
-"""Tables of shards, put together into one."""
+"""Merges the tables of shards."""
 from __future__ import annotations
 
 import json
@@ -8,11 +8,11 @@ from many.rows import Row
 
 
 class NoTable(Exception):
-    """Why tables are not put together."""
+    """Why tables are not merged."""
 
 
 def table_in(name: str) -> list:
-    """Reads a table of JSON. Returns its rows as they are there."""
+    """Reads a table of JSON. Returns its rows unchanged."""
     with open(name, encoding="utf-8") as file:
         try:
             found = json.load(file)
@@ -24,13 +24,13 @@ def table_in(name: str) -> list:
 
 
 def is_row(it) -> bool:
-    """Says whether a value of JSON is a row of a table."""
+    """Returns whether a value of JSON is a row of a table."""
     is_whole = isinstance(it, dict) and {*Row._fields} - {"seen"} <= {*it} and isinstance(it["file"], str)
     return is_whole and ("part" not in it or shard_in(str(it["part"])) is not None and isinstance(it.get("parts"), int))
 
 
 def check_parts(found: list) -> None:
-    """Looks whether the rows of shards are all rows of all shards of one split."""
+    """Checks that the rows of shards are all rows of all shards of one split."""
     splits = {(it["part"].partition("/")[2], it["parts"]) for it in found if "part" in it}
     if not splits:
         return
@@ -44,7 +44,7 @@ def check_parts(found: list) -> None:
 
 
 def merged(names: list) -> list:
-    """Returns the rows of several tables of JSON, sorted by their files. Refuses tables that are not whole, or have one file twice."""
+    """Returns the rows of several tables of JSON, sorted by their files. Refuses tables that are incomplete, or have a file twice."""
     tables = [(name, row) for name in names for row in table_in(name)]
     where = {}
     for name, row in tables:

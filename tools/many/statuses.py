@@ -6,5 +6,5 @@ SEEN_AND_NOT_LISTED, NOT_RUN, NO_VERDICT, NOT_OK = 3, 5, 6, 7
 
 
 def status_of(statuses: set) -> int:
-    """Returns the exit status of a command of which several hold: a contradiction comes first, then the largest."""
+    """Returns the exit status of a command if several apply: a contradiction comes first, then the largest."""
     return SEEN_AND_NOT_LISTED if SEEN_AND_NOT_LISTED in statuses else max(statuses)

@@ -1,28 +1,28 @@
-"""Makes manual pages of the tools from their head comments, which are what `--help` prints."""
+"""Makes manual pages of the tools from their module docstrings, which are what `--help` prints."""
 import ast
 import re
 
 from packing import tree
 
-# How a head comment names a tool: as a file of the repository.
+# How a module docstring names a tool: as a file of the repository.
 NAMED = re.compile(r"(?:python3 )?(?:tools/(\w+)\.py|\./(page)\b)")
 ITEM = "- "
 
 
 def named_as_command(words):
-    """A tool's name as that of its command, if it is one."""
+    """Returns a tool's name as that of its command, if it is one."""
     tool = words[1] or words[2]
     return tree.command_of(tool) if tool in tree.TOOLS else words[0]
 
 
 def roff(text):
-    """A text as roff reads it: no character of it is a request or an escape."""
+    """Returns a text for roff, in which no character is a request or an escape."""
     escaped = text.replace("\\", "\\e").replace("-", "\\-")
     return re.sub(r"^(?=[.'])", r"\\&", escaped, flags=re.M)
 
 
 def items_of(lines):
-    """The items of a list, each with the lines that continue it."""
+    """Returns the items of a list, each with the lines that continue it."""
     found = []
     for line in lines:
         if line.startswith(ITEM):
@@ -33,7 +33,7 @@ def items_of(lines):
 
 
 def paragraph(text):
-    """A paragraph of a head comment: lines of commands, items, or text."""
+    """Returns a paragraph of a docstring: lines of commands, items, or text."""
     lines = text.split("\n")
     if all(it.startswith("    ") for it in lines):
         shown = "\n".join(it[4:] for it in lines)

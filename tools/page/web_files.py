@@ -30,7 +30,7 @@ def read(name):
 
 
 def all_files():
-    """Of each path the kind of its file, and its bytes."""
+    """Returns the type of each path's file, and its bytes."""
     table = {}
     for name in sorted(os.listdir(f"{HOME}/web")):
         path, ending = f"{HOME}/web/{name}", os.path.splitext(name)[1]
@@ -44,13 +44,14 @@ def all_files():
 
 
 def module():
-    """The bytes of the module with a memory of 64 bits; none where there is none of the sources as they are."""
+    """Returns the bytes of the module with a memory of 64 bits; none if there is none of the present sources."""
     return (modules() or [b""])[0]
 
 
 def modules():
-    """The bytes of the modules that are of the sources as they are, that with a memory of 64 bits first; none where that is missing.
-    Where there are no sources, they are what was handed on."""
+    """Returns the bytes of the modules that are of the present sources, that with a memory of 64 bits first; none if that is missing. If
+    there are no sources, they are those of the package.
+    """
     if os.path.exists(f"{HOME}/crates.txt") and read_or_none("crates/lw_library/out/modules-of") != build_wasm.sum_of_sources() + "\n":
         return []
     found = []
@@ -68,7 +69,7 @@ def read_or_none(name):
 
 
 def families():
-    """The examples by family, as examples/INDEX.md has them."""
+    """Returns the examples by family, as examples/INDEX.md has them."""
     found = []
     for part in read("examples/INDEX.md").split("\n## ")[1:]:
         rows = re.findall(r"^\| (?!Test )(\S+) \| (.*?) \| (.*?) ?\| (.*?) ?\| [^|]* \| [^|]* \|$", part, re.M)
@@ -80,7 +81,7 @@ def families():
 
 
 def example(name, shows, also):
-    """An example: its text without its comment, what the comment tells, and apart from that what is known of its answer."""
+    """Returns an example: its text without its comment, what the comment says, and separately what is known of its answer."""
     text = read(f"examples/{name}.litmus")
     heading, comment, rest = re.fullmatch(r"(\S+ \S+\n)\(\*(.*?)\*\)\n(.*)", text, re.S).groups()
     comment = " ".join(comment.split())
@@ -90,7 +91,7 @@ def example(name, shows, also):
 
 
 def sentences():
-    """What docs/FORMAT.md says of each fault, each limit and each event that is refused: by its kind and its number."""
+    """Returns what docs/FORMAT.md says of each fault, each limit and each event that is refused: by its kind and its code."""
     found, kind = {}, None
     for line in read("docs/FORMAT.md").splitlines():
         begins = re.match(r"\*\*(Text|Cell|Schedule) faults|\*\*(Limit)s|### (How a replay ends)", line)

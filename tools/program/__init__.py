@@ -1,1 +1,1 @@
-"""Builds the program, where there is none of the sources as they are."""
+"""Builds the program, if there is none of the present sources."""

@@ -49,7 +49,7 @@ class Failed(Exception):
 
 
 class Program:
-    """A program of the repository: its name, which is that of its crate, where it is, and the file that says what it was made of."""
+    """A program of the repository: its name, which is that of its crate, its path, and the file that says of which sources it is."""
 
     def __init__(self, name):
         self.name = name
@@ -58,7 +58,7 @@ class Program:
         self.made_of = f"{self.crate}/out/made-of"
 
     def tell(self, text):
-        """Prints a line on standard error, over what a terminal shows of the progress."""
+        """Prints a line on standard error, over the progress on a terminal."""
         print(f"{clear()}{self.name}: {text}", file=sys.stderr, flush=True)
 
 
@@ -71,14 +71,14 @@ def clear():
 
 
 def ask_program_sh(command, program=LW):
-    """What a command over the functions of tools/program/program.sh prints, or None where it fails."""
+    """Returns what a command over the functions of tools/program/program.sh prints, or `None` if it fails."""
     words = ["sh", "-c", f'home=$1; . "$home/tools/program/program.sh"; use_program {program.name}; {command}', "sh", HOME]
     ran = subprocess.run(words, stdout=subprocess.PIPE, check=False)
     return None if ran.returncode else ran.stdout
 
 
 class Crate:
-    """A crate of the program: those that it stands on, and its minutes of proof by tools/program/minutes.txt."""
+    """A crate of the program: those on which it depends, and its minutes of proof by tools/program/minutes.txt."""
 
     def __init__(self, name, below, minutes):
         self.name, self.below, self.minutes = name, below, minutes
@@ -93,18 +93,18 @@ class Crate:
         return found
 
     def newest(self):
-        """When the crate was last changed, or one on which it stands."""
+        """Returns when the crate was last changed, or one on which it depends."""
         own = [f"{at}/{name}" for part in PARTS for at, _, names in os.walk(f"{self.folder}/{part}") for name in names]
         return max([os.path.getctime(it) for it in own] + [it.newest() for it in self.below])
 
     def seems_built(self):
-        """Whether its library is younger than its sources; a guess, for how long the build takes."""
+        """Returns whether its library is younger than its sources; a guess, for how long the build takes."""
         with contextlib.suppress(OSError):
             return os.path.getmtime(f"{self.folder}/out/rlib/stamp") > self.newest()
         return False
 
     def functions(self):
-        """How many of its functions the log tells as checked, and how many it has."""
+        """Returns how many of its functions the log reports as checked, and how many it has."""
         with contextlib.suppress(OSError), open(self.log, errors="replace", encoding="utf-8") as it:
             told = re.findall(r"(\d+) of (\d+) functions", it.read())
             if told:
@@ -112,13 +112,13 @@ class Crate:
         return 0, 0
 
     def share_done(self):
-        """The share of its functions that are checked."""
+        """Returns the share of its functions that are checked."""
         done, number = self.functions()
         return done / max(number, 1)
 
 
 def crates_of_program(program=LW):
-    """The crates that a program is made of, lowest first."""
+    """Returns the crates of a program, lowest first."""
     with open(f"{HOME}/crates.txt", encoding="utf-8") as it:
         named = dict(re.findall(r"^(\w+):(.*)$", it.read(), re.M))
     minutes = proof_minutes()
@@ -148,12 +148,12 @@ class Build:
         self.estimate = Estimate(self.plan, list(crates))
 
     def to_go(self):
-        """The bounds of the minutes to go."""
+        """Returns the bounds of the minutes to go."""
         running = {it: Running(1 - it.share_done(), self.jobs[it]) for it in self.running}
         return self.estimate.bounds(self.left, running, (time.monotonic() - self.began) / 60)
 
     def start_ready(self):
-        """Starts the crates whose libraries are proved."""
+        """Starts the crates whose dependencies are proved."""
         for crate, jobs in self.plan.next_jobs(self.left, list(self.running)).items():
             self.left.remove(crate)
             self.jobs[crate] = jobs
@@ -164,7 +164,7 @@ class Build:
             if process.poll() is not None:
                 del self.running[crate]
                 end(crate)
-                # What the program itself ends with says nothing of its build.
+                # The exit status of the program itself says nothing about its build.
                 if process.returncode and not (crate.name == self.program.name and os.path.exists(self.program.path)):
                     with open(crate.log, errors="replace", encoding="utf-8") as it:
                         print(clear() + "".join(it.readlines()[-20:]), end="", file=sys.stderr)
@@ -201,8 +201,9 @@ class Build:
 
 
 def start(crate, jobs, is_program):
-    """Starts the build of a crate. Two rt that stand on one crate wait for each other, so each library has copies of its own of
-    those below it, with what is built of them. A program, run with no words, only prints its usage line."""
+    """Starts the build of a crate. Two processes of rt that depend on the same crate wait for each other, so each library has its own
+    copies of those below it, with what is built of them. A program, run without arguments, only prints its usage line.
+    """
     os.makedirs(f"{crate.folder}/out", exist_ok=True)
     verb, folder = ("run", crate.folder) if is_program else ("lib", copy(crate))
     with open(crate.log, "wb") as log:
@@ -211,8 +212,9 @@ def start(crate, jobs, is_program):
 
 
 def copy(crate):
-    """Makes a repository of the crate and those below it, with links to what is built of these and with the work that is kept of
-    it, and returns the crate's folder there."""
+    """Makes a repository of the crate and those below it, with links to what is built of these and with the intermediate results that are
+    kept of it, and returns the crate's folder there.
+    """
     top = f"{COPIES}/{crate.name}"
     shutil.rmtree(top, ignore_errors=True)
     taken = [*crate.all_below(), crate]
@@ -230,7 +232,7 @@ def copy(crate):
 
 
 def end(crate):
-    """Puts back what the build of a crate has made, and removes its copies."""
+    """Moves back what the build of a crate has made, and removes its copies."""
     made = f"{COPIES}/{crate.name}/crates/{crate.name}/out"
     for part in ("incremental", "rlib"):
         move(f"{made}/{part}", f"{crate.folder}/out/{part}")
@@ -253,7 +255,7 @@ def stop(process):
 
 
 class FirstAnswer:
-    """What a program answers before it is proved, to words and to what standard input gives."""
+    """The answer of a program before it is proved, to the arguments and to standard input."""
 
     def __init__(self, program, words, room):
         self.program = program
@@ -263,8 +265,9 @@ class FirstAnswer:
         self.reader.start()
 
     def read(self):
-        """Keeps what the program reads: all of standard input, but no more than it takes. Where it can't be read, there is no first
-        answer, and the proved program is left to tell that."""
+        """Stores what the program reads: all of standard input, but no more than it takes. If it cannot be read, there is no first answer,
+        and the proved program reports that.
+        """
         given, more = b"", b" "
         with contextlib.suppress(OSError):
             while more and len(given) < MOST_INPUT:
@@ -275,7 +278,7 @@ class FirstAnswer:
             self.is_read = True
 
     def look(self):
-        """Starts the unproved program when its input is there, and shows what it has answered."""
+        """Starts the unproved program when its input is complete, and shows its answer."""
         if self.process is None and self.is_read:
             with open(self.input, "rb") as given, open(self.output, "wb") as output, open(self.errors, "wb") as errors:
                 how = {"stdin": given, "stdout": output, "stderr": errors, "start_new_session": True}
@@ -294,7 +297,7 @@ class FirstAnswer:
         sys.stderr.flush()
 
     def is_other(self, words):
-        """Whether the proved program answers otherwise."""
+        """Returns whether the proved program answers otherwise."""
         with open(self.input, "rb") as given:
             ran = subprocess.run([self.program.path, *words], stdin=given, stdout=subprocess.PIPE, stderr=subprocess.DEVNULL, check=False)
         return (read_bytes(self.output), self.status) != (ran.stdout, ran.returncode)
@@ -310,7 +313,7 @@ def read_bytes(file):
 
 
 def build(program, at_each_turn=lambda: None):
-    """Builds the program of the sources as they are. What changes meanwhile has it built again."""
+    """Builds the program of the present sources. A change during the build starts it again."""
     for it in (LOCK, program.path):
         os.makedirs(os.path.dirname(it), exist_ok=True)
     with open(LOCK, "w", encoding="utf-8") as lock:
@@ -347,7 +350,7 @@ def build_once(program, at_each_turn):
 
 
 def build_and_answer(program, words):
-    """Builds the program with a first answer beside it, and then gives the proved one. Returns its status."""
+    """Builds the program with a first answer meanwhile, and then prints the proved one. Returns its status."""
     with tempfile.TemporaryDirectory(prefix="lw-") as room:
         first = FirstAnswer(program, words, room)
         try:
@@ -370,7 +373,7 @@ def interrupted(*_):
 
 
 def main(*words):
-    """Builds the program that the words of the command line name. Returns the exit status."""
+    """Builds the program that the command line names. Returns the exit status."""
     program = LW
     if words[:1] == ("--program",):
         program, words = Program(words[1]), words[2:]

@@ -7,13 +7,13 @@ it, and the bounds become narrower.
 from typing import Dict, Hashable, List, NamedTuple, Sequence
 
 Crate = Hashable
-# What a check gains by each further job: less than it does on a crate by itself, since a build has several side by side.
+# What a check gains by each further job: less than it does on a crate by itself, since a build has several in parallel.
 GAIN = 0.1
 MOST_JOBS = 4
 # How many times the planned minutes a build takes, before anything is proved; and how many planned minutes count as much as that guess.
 USUAL_PACE = 1.1
 GUESSED_MINUTES = 4.0
-# So many planned minutes say what the machine does now: others may have work for it too, and end it, while a build runs.
+# The planned minutes that show the machine's present pace: others may start and end work on it while a build runs.
 RECENT_MINUTES = 5.0
 # The bounds are the expected minutes, divided and multiplied by a number: by the first before anything is proved, later by less.
 FIRST_WIDTH = 1.6
@@ -39,26 +39,26 @@ class Running(NamedTuple):
 
 
 def speed(jobs: int) -> float:
-    """How many times as fast as one job so many jobs are."""
+    """Returns how many times as fast as one job this number of jobs is."""
     return 1 + GAIN * (min(jobs, MOST_JOBS) - 1)
 
 
 class Plan:
-    """The order in which crates are proved, each after those below it, on so many processors; `minutes` has those of each crate."""
+    """The order in which crates are proved, each after those below it, on this number of processors; `minutes` has those of each crate."""
 
     def __init__(self, below: Dict[Crate, Sequence[Crate]], minutes: Dict[Crate, float], processors: int):
         self.below, self.minutes, self.processors = below, minutes, processors
         self.chains: Dict[Crate, float] = {}
 
     def chain(self, crate: Crate) -> float:
-        """The minutes of the longest chain of crates that begins with this one."""
+        """Returns the minutes of the longest chain of crates that starts with this one."""
         if crate not in self.chains:
             above = [self.chain(it) for it, below in self.below.items() if crate in below]
             self.chains[crate] = self.minutes[crate] + max(above, default=0)
         return self.chains[crate]
 
     def next_jobs(self, left: Sequence[Crate], running: Sequence[Crate]) -> Dict[Crate, int]:
-        """The crates that can start now, and the jobs of each. The one with the longest chain gets the processors that are left."""
+        """Returns the crates that can start now, and the jobs of each. The one with the longest chain gets the processors that are left."""
         waiting = {*left, *running}
         ready = [it for it in left if not waiting & {*self.below[it]}]
         ready.sort(key=self.chain, reverse=True)
@@ -67,7 +67,7 @@ class Plan:
         return {it: 1 if at else min(most, max(self.processors - others, 2)) for at, it in enumerate(ready)}
 
     def minutes_to_go(self, left: Sequence[Crate], running: Dict[Crate, Running]) -> float:
-        """The minutes by the clock until all are proved: those that are left, and those that run."""
+        """Returns the minutes by the clock until all are proved: those that are left, and those that run."""
         left, running, passed = list(left), dict(running), 0.0
         while left or running:
             for crate, jobs in self.next_jobs(left, list(running)).items():
@@ -92,7 +92,7 @@ class Estimate:
         self.passed = [(0.0, 0.0)]  # the planned minutes that were done, and the minutes by the clock
 
     def bounds(self, left: Sequence[Crate], running: Dict[Crate, Running], spent: float) -> Bounds:
-        """The minutes to go after so many minutes by the clock."""
+        """Returns the bounds of the minutes to go after this number of minutes by the clock."""
         to_go = self.plan.minutes_to_go(left, running)
         done = self.whole - to_go
         if done > self.passed[-1][0] + 0.1:

@@ -1,4 +1,4 @@
-"""What the gate took, crate by crate, as minutes.txt keeps it."""
+"""What the gate took, crate by crate, as minutes.txt records it."""
 import os
 
 FILE = os.path.join(os.path.dirname(os.path.abspath(__file__)), "minutes.txt")
@@ -7,11 +7,11 @@ OTHERS = {"other": "other processes of rt ci", "library": "the library's builds"
 
 
 def lines():
-    """The lines of the file, by words."""
+    """Returns the lines of the file, split into words."""
     with open(FILE, encoding="utf-8") as it:
         return [line.split() for line in it if not line.startswith("#")]
 
 
 def proof_minutes():
-    """The minutes of the proof of each crate that has any."""
+    """Returns the minutes of the proof of each crate that has any."""
     return {name: float(cells[0]) for name, *cells in lines() if name not in OTHERS and cells[0] != "-"}

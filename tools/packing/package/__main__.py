@@ -16,12 +16,12 @@ import sys
 HOME = os.path.dirname(os.path.abspath(__file__))
 TOOLS = os.path.join(HOME, "tools")
 PROGRAMS = {name: os.path.join(HOME, "crates", name, "out", name) for name in ("lw", "beyond")}
-# How many words a command of lw takes, itself included.
+# The numbers of arguments that a command of lw takes, itself included.
 LENGTHS = {"states": (1,), "schedules": (1,), "compile": (1,), "replay": (2, 4)}
 
 
 def tools():
-    """The names of the tools, each with its file."""
+    """Returns the names of the tools, each with its file."""
     with open(os.path.join(HOME, "tools.txt"), encoding="utf-8") as it:
         return dict(line.split() for line in it)
 
@@ -35,7 +35,7 @@ def print_usage():
 
 
 def run_tool(path):
-    """Runs a tool in this process. It ends the process."""
+    """Runs a tool in this process, and exits."""
     sys.path.insert(0, TOOLS)
     sys.argv[0] = os.path.join(HOME, path)
     runpy.run_path(sys.argv[0], run_name="__main__")
@@ -55,7 +55,7 @@ commands = Commands()
 
 
 def parted(name, words):
-    """The words of a program, and the file after them, if there is one."""
+    """Returns the arguments of a program, and the file after them, if there is one."""
     before, last = words[:-1], words[-1] if words else ""
     if last.startswith("-") and last != "-":
         return words, None
@@ -67,7 +67,7 @@ def parted(name, words):
 
 
 def run_program(name, words):
-    """Goes on as a program. Returns an exit status if that can't be."""
+    """Replaces this process by a program. Returns an exit status if that is not possible."""
     words, file = parted(name, words)
     if file not in (None, "-"):
         try:
@@ -83,7 +83,7 @@ def run_program(name, words):
 
 
 def main():
-    """Runs what the words of the command line say. Returns the exit status."""
+    """Runs the command line. Returns the exit status."""
     words = sys.argv[1:]
     if words and words[0] in ("--help", "-h"):
         return print_usage()
