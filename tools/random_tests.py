@@ -22,7 +22,7 @@ from shared.home import HOME, PROGRAM
 import plain
 
 PROTOCOLS = ("mesi", "moesi")
-# What a mistake puts into a text, and into a schedule.
+# What a mistake inserts into a text, and into a schedule.
 MISTAKES = (
     "r0 r5 r6 r9 EAX EBX ebp x y z L1 if goto swap fetchadd exists forall locations filter true false not MOV ADD CMP XCHG LOCK "
     "XADD MFENCE JE JMP ; | : := , $ = != + /\\ \\/ ~ ( ) { } [ ] 0 1 4294967295 4294967296 0x 0xff 00012 P0 P1 P4 (* *) \" A=b - # "
@@ -32,7 +32,7 @@ FAULTY_WORDS = ("Q0", "P", "P4", "P00", "D7", "E0", "E0:", "E0:nowhere", "E7:x",
 
 
 class Writer:
-    """Writes one random test."""
+    """A writer of one random test."""
 
     def __init__(self, language, seed):
         self.random = Random(f"{language} {seed}")
@@ -58,7 +58,7 @@ class Writer:
         return self.random.choice(self.locations)
 
     def statement(self):
-        """A statement of a source test that does not jump."""
+        """Returns a statement of a source test that does not jump."""
         make = self.random.choices(
             (
                 lambda: f"{self.location()} := {self.value()}",
@@ -73,7 +73,7 @@ class Writer:
         return make()
 
     def instruction(self):
-        """An instruction of an x86 test that does not jump."""
+        """Returns an instruction of an x86 test that does not jump."""
         make = self.random.choices(
             (
                 lambda: f"MOV [{self.location()}],{self.value()}",
@@ -98,7 +98,7 @@ class Writer:
         return self.random.choice((branch, branch, f"goto {label}"))
 
     def column(self):
-        """The cells of a thread."""
+        """Returns the cells of a thread."""
         size = self.random.randint(0, 6 if self.threads < 4 else 3)
         cells, targets = [], set()
         for at in range(size):
@@ -147,7 +147,7 @@ class Writer:
         return text + f"{self.random.choice(('exists', '~exists', 'forall'))} ({self.proposition(3)})\n"
 
     def with_mistakes(self, text):
-        """A text with a token or two that are left out, replaced, put in, or the last."""
+        """Returns a text with one or two tokens omitted, replaced or inserted, or with its end cut off."""
         for _ in range(self.random.choice((1, 1, 2))):
             tokens = re.findall(r"\s+|\w+|:=|/\\|\\/|!=|.", text) or [""]
             at = self.random.randrange(len(tokens))
@@ -158,14 +158,14 @@ class Writer:
         return text
 
     def schedule(self, test):
-        """Words of events; now and then one is faulty."""
+        """Returns the words of events; now and then one is faulty."""
         events = self.events(test)
         if self.random.random() < 0.05:
             events.insert(self.random.randint(0, len(events)), self.random.choice(FAULTY_WORDS))
         return self.random.choice((" ", " ", "  ", "\t")).join(events)
 
     def events(self, test):
-        """Events of which most can be done; the first that can't be done is sometimes the last."""
+        """Returns events of which most are enabled; the first that is not is sometimes the last."""
         run = plain.start_replay(test, "mesi")
         events = []
         for _ in range(self.random.randint(0, 30)):
@@ -184,20 +184,20 @@ class Writer:
 
 
 def told(words, text):
-    """What the program prints on both streams, and its exit status."""
+    """Returns what the program prints on both streams, and its exit status."""
     ran = subprocess.run([PROGRAM, *words], input=text.encode(), capture_output=True, timeout=120)
     return ran.stdout.decode(), ran.stderr.decode(), ran.returncode
 
 
 def compare_replays(what, text, test, schedule):
-    """One schedule, replayed by both, over both protocols."""
+    """Compares the replays of one schedule by both, over both protocols."""
     for protocol in PROTOCOLS:
         words = ["replay", schedule, "--protocol", protocol]
         yield f"{what}, {' '.join(words)}\n{text}", replay_by_plain(test, schedule, protocol), told(words, text)
 
 
 def replay_by_plain(test, schedule, protocol):
-    """What the program should print of a replay."""
+    """Returns what the program should print of a replay."""
     try:
         page, status = plain.replay(test, schedule, protocol)
     except plain.NoSchedule as fault:
@@ -206,18 +206,18 @@ def replay_by_plain(test, schedule, protocol):
 
 
 def compare_mistaken(what, text):
-    """A text that may be no test: whether both take it, and its first page."""
+    """Compares both on a text that may be no test: whether they accept it, and its first page."""
     out, err, status = told(["replay", ""], text)
     try:
         wanted = replay_by_plain(plain.read_test(text), "", "mesi")
     except plain.NoTest:
-        # Which fault of docs/FORMAT.md it is, plain.py does not say.
+        # plain.py does not say which fault of docs/FORMAT.md it is.
         wanted = "", err if re.fullmatch(r"lw: (text|cell) \d+ \w+ at \d+\n", err) else "a fault", 1
     yield f"{what}, with mistakes\n{text}", wanted, (out, err, status)
 
 
 def end_of(test, schedule):
-    """How a replay by plain.py ends, where all events can be done: whether it is final, and its registers and words."""
+    """Returns the end of a replay by plain.py, if all events are enabled: whether it is final, and its registers and words."""
     run = plain.start_replay(test, "mesi")
     for event in plain.read_schedule(schedule, test.locations):
         run.do(*event)
@@ -225,7 +225,7 @@ def end_of(test, schedule):
 
 
 def compare_schedules(what, text, test, states):
-    """The program's list of schedules: its states, and where each schedule leads."""
+    """Compares the program's list of schedules: its states, and the state that each schedule reaches."""
     out, err, status = told(["schedules"], text)
     lines = out.splitlines()
     wanted = [plain.state_line(test, words) for words, _ in states]
@@ -238,7 +238,7 @@ def compare_schedules(what, text, test, states):
 
 
 def compare_lists(what, text, test):
-    """The report and the list of schedules, or the limit that the test is beyond."""
+    """Compares the report and the list of schedules, or the limit that the test exceeds."""
     most, orders = plain.orders_of(test)
     if most > 128 or orders > 2**20:
         limit = "1 TooManyItems" if most > 128 else "2 TooManyOrders"
@@ -251,7 +251,7 @@ def compare_lists(what, text, test):
 
 
 def comparisons(language, seed):
-    """All that is compared of one random test: what, what plain.py says, what the program says."""
+    """Returns all comparisons of one random test: what is compared, what plain.py says, what the program says."""
     writer = Writer(language, seed)
     what, text = f"random test {seed} of {language}", writer.test()
     test = plain.read_test(text)
@@ -266,12 +266,12 @@ def comparisons(language, seed):
 
 
 def compared_of(job):
-    """The same in a list, of a language and a seed."""
+    """Returns the same as a list, for a language and a seed."""
     return list(comparisons(*job))
 
 
 def jobs(count, first=1):
-    """The random tests to be compared, each a language and a seed."""
+    """Returns the random tests to compare, each a language and a seed."""
     return [(language, seed) for seed in range(first, first + count) for language in ("SRC", "X86")]
 
 

@@ -33,7 +33,7 @@ END = f"End (?:(Final|NotFinal)|Stopped at {NUMBER} by {NUMBER} ([A-Za-z]+))"
 
 
 class NoReplay(given.Fault):
-    """The text is not what a replay prints: the cause in words, and the place of the line that is refused."""
+    """The text is not what a replay prints: the cause in words, and the position of the line that is refused."""
 
 
 class Page:
@@ -44,7 +44,7 @@ class Page:
         self.at = self.before = 0
 
     def take(self, pattern):
-        """What the groups of a pattern match in the next line. A line that it does not match is refused."""
+        """Reads the next line. Returns the groups that a pattern matches in it, and refuses a line that it does not match."""
         if not self.lines:
             raise NoReplay("the last line has no end" if self.rest else "the text ends, and a replay prints more", self.at)
         line = self.lines.pop(0)
@@ -54,7 +54,7 @@ class Page:
         return found.groups()
 
     def words(self, text):
-        """The pairs of a name and a word in the line that was read last."""
+        """Returns the pairs of a name and a word in the line that was read last."""
         found = [[name, int(word)] for name, word in pairs(text)]
         self.require(all(word < 2**32 for _, word in found))
         return found
@@ -65,28 +65,28 @@ class Page:
             raise NoReplay("a replay prints no such line here", self.before)
 
     def close(self):
-        """Refuses what follows the last line of a replay."""
+        """Refuses whatever follows the last line of a replay."""
         if self.lines or self.rest:
             raise NoReplay("a replay prints no line here", self.at)
 
 
 def pairs(text):
-    """The pairs of a name and what follows its `=`."""
+    """Returns the pairs of a name and what follows its `=`."""
     return [it.split("=") for it in text.split()]
 
 
 def names_of(found):
-    """The names of pairs."""
+    """Returns the names of pairs."""
     return tuple(name for name, _ in found)
 
 
 def end_of(kind, at, number, cause):
-    """How a run ended."""
+    """Returns how a run ended."""
     return {"kind": kind} if kind else {"kind": "Stopped", "at": int(at), "number": int(number), "cause": cause}
 
 
 def read_thread(page, number, languages):
-    """The state of the thread with a number, whose registers are those of one of some languages."""
+    """Reads the state of the thread at an index, whose registers are those of one of some languages."""
     at, text = page.take(f"P{number} at {NUMBER}{WORDS}")
     thread = {"at": int(at), "registers": page.words(text)}
     page.require(names_of(thread["registers"]) in languages)
@@ -97,7 +97,7 @@ def read_thread(page, number, languages):
 
 
 def read_threads(page):
-    """The states of all threads, which are of one language."""
+    """Reads the states of all threads, which are of one language."""
     threads = [read_thread(page, 0, (X86, SOURCE))]
     language = names_of(threads[0]["registers"])
     while len(threads) < MOST_THREADS and page.lines[:1] and page.lines[0].startswith("P"):
@@ -106,7 +106,7 @@ def read_threads(page):
 
 
 def read_state(text):
-    """The state that a replay's text says."""
+    """Returns the state that a replay's text describes."""
     page = Page(text)
     state = {"name": page.take("Test ([!-~]{1,128})")[0], "steps": int(page.take(f"Steps {NUMBER}")[0]), "end": end_of(*page.take(END))}
     state["threads"] = read_threads(page)
@@ -121,17 +121,17 @@ def read_state(text):
 
 
 def register_number(name):
-    """The number of a register of either language, by its name."""
+    """Returns the index of a register of either language, by its name."""
     return int(name[1:]) if name.startswith("r") else ("EAX", "EBX", "ECX", "EDX", "ESI", "EDI").index(name)
 
 
 def words_of(line):
-    """What a line of a report says: pairs of an observed name and a word."""
+    """Returns the pairs of an observed name and a word in a line of a report."""
     return [(name, int(word)) for name, word in re.findall(r"(\S+)=(\d+);", line)]
 
 
 def ends_in(state, line):
-    """Whether a run is final, in the state that a line of a report tells of. A register is named in either language."""
+    """Returns whether a run is final, in the state of a line of a report. A register may have its name in either language."""
     content = dict(state["content"])
     for name, word in words_of(line):
         thread, is_register, register = name.rpartition(":")
@@ -142,7 +142,7 @@ def ends_in(state, line):
 
 
 def show(_words, text):
-    """Prints the state that a replay's text tells of. Returns the exit status."""
+    """Prints the state that a replay's text describes. Returns the exit status."""
     print(json.dumps(read_state(text), indent=1))
     return 0
 

@@ -68,14 +68,14 @@ class Progress:
         self.is_terminal = sys.stderr.isatty()
 
     def step(self, name: str) -> None:
-        """One run more is done."""
+        """Counts one more run as done."""
         self.done += 1
         if self.is_terminal and time.monotonic() - self.shown > 0.1:
             self.shown = time.monotonic()
             print(f"\r{min(self.done, self.total)} of {self.total}: {name[-50:]:50}", end="", file=sys.stderr, flush=True)
 
     def end(self) -> None:
-        """Takes the line away."""
+        """Removes the line."""
         if self.is_terminal:
             print(f"\r{'':70}\r", end="", file=sys.stderr, flush=True)
 
@@ -104,7 +104,7 @@ def name_of(text: str) -> str:
 
 
 def words_of() -> argparse.Namespace:
-    """Reads the words of the command."""
+    """Reads the arguments of the command."""
     reader = command.words_of(__doc__)
     reader.add_argument("names", nargs="*", metavar="FOLDER|FILE")
     reader.add_argument("--as", dest="form", choices=FORMS, default="text")
@@ -124,7 +124,7 @@ def words_of() -> argparse.Namespace:
 
 
 def tell_of(table: list, is_ok_expected: bool) -> set:
-    """Says on standard error which files are refused and, if Ok is expected, whose verdict is No. Returns the exit statuses."""
+    """Reports on standard error which files are refused and, if Ok is expected, whose verdict is No. Returns the exit statuses."""
     refused = [it for it in table if it.verdict == rows.REFUSED]
     without = [it for it in table if it.verdict == rows.NO_VERDICT]
     other = [it for it in table if is_ok_expected and it.verdict not in (rows.AS_ASKED, rows.REFUSED, rows.NO_VERDICT)]
@@ -136,7 +136,7 @@ def tell_of(table: list, is_ok_expected: bool) -> set:
 
 
 def tell_notes(done: list) -> None:
-    """Says on standard error what was left out of converted files or taken otherwise, and whose lists are not proved."""
+    """Reports on standard error what was left out of converted files or read otherwise, and whose lists are not proved."""
     for row in (it.row for it in done if it.row.converted):
         for note in row.notes:
             print(note, file=sys.stderr)
@@ -145,7 +145,7 @@ def tell_notes(done: list) -> None:
 
 
 def merge(words: argparse.Namespace) -> int:
-    """Puts tables together, and prints the whole. Returns the exit status."""
+    """Merges tables, and prints the result. Returns the exit status."""
     from many.merge import NoTable, merged
 
     try:
@@ -159,7 +159,7 @@ def merge(words: argparse.Namespace) -> int:
 
 
 def comparisons(done: list, words: argparse.Namespace) -> set:
-    """Compares the answers with logs, as far as that is asked for. Returns the exit statuses."""
+    """Compares the answers with logs, as far as that is requested. Returns the exit statuses."""
     if not (words.against or words.machine_log):
         return {0}
     from many import compare
@@ -169,7 +169,7 @@ def comparisons(done: list, words: argparse.Namespace) -> set:
 
 
 def rows_with_seen(table: list, seconds: float | None) -> tuple:
-    """Returns the rows, with what was seen on this machine if that is asked for, and the exit status."""
+    """Returns the rows, with what was seen on this machine if that is requested, and the exit status."""
     if seconds is None:
         return table, 0
     from many import compare
@@ -182,7 +182,7 @@ def rows_with_seen(table: list, seconds: float | None) -> tuple:
 
 
 def work(words: argparse.Namespace) -> int:
-    """Runs the files, and prints what is asked for. Returns the exit status."""
+    """Runs the files, and prints what is requested. Returns the exit status."""
     named = files.files_of(words.names)
     chosen = files.part_of(named, words.shard) if words.shard else named
     progress = Progress(len(chosen))

@@ -4,7 +4,7 @@ from typing import FrozenSet, List, NamedTuple, Tuple
 import plain
 from plain import Statement, Test, word_of
 
-# Kinds of statements that nothing outside their thread takes part in.
+# Kinds of statements that involve nothing outside their thread.
 LOCAL = frozenset(("set", "add", "cmp", "je", "jne", "jmp", "sum", "if equal", "if unequal", "goto"))
 READS_REGISTER = frozenset(("add", "cmp", "if equal", "if unequal", "xchg", "xadd"))
 WRITES_REGISTER = frozenset(("load", "set", "add", "sum", "xchg", "xadd", "swap", "fetchadd"))
@@ -13,7 +13,7 @@ WRITES_MEMORY = frozenset(("store", "xchg", "xadd", "swap", "fetchadd"))
 
 
 class Here(NamedTuple):
-    """Where a thread stands: its position, its registers, the zero flag, and its store buffer."""
+    """The state of a thread: its position, its registers, the zero flag, and its store buffer."""
 
     at: int
     registers: Tuple[int, ...]
@@ -37,7 +37,7 @@ class Code:
             self.look_back(at, self.statements[at])
 
     def look_back(self, at: int, it: Statement) -> None:
-        """What a position needs, by its statement and by those that may follow."""
+        """Computes what a position needs, from its statement and those that may follow."""
         after = plain.followers(it, at)
         needed = frozenset().union(*(self.needed[next_one] for next_one in after))
         if it.kind in WRITES_REGISTER:
@@ -55,11 +55,11 @@ class Code:
                 masks[at] |= 1 << it.location
 
     def waiting(self, here: Here) -> bool:
-        """Whether the next statement waits for the store buffer to be empty."""
+        """Returns whether the next statement waits for an empty store buffer."""
         return bool(here.buffer) and self.statements[here.at].kind in ("mfence", "xchg", "xadd")
 
     def run(self, here: Here) -> Tuple[Here, int]:
-        """The thread goes on as long as nothing outside it takes part: where it stands then, and how many statements that took."""
+        """Runs the thread as long as nothing outside it is involved. Returns its state then, and the number of statements executed."""
         steps = 0
         while here.at < self.end:
             it = self.statements[here.at]
@@ -76,7 +76,7 @@ class Code:
         return self.cleared(here), steps
 
     def local_step(self, it: Statement, here: Here) -> Here:
-        """A statement that nothing outside the thread takes part in."""
+        """Executes a statement that involves nothing outside the thread."""
         at, registers, zero, buffer = here
         if not self.is_x86:
             at, registers, _ = plain.source_statement(it, at, registers, ())
@@ -85,7 +85,7 @@ class Code:
         return Here(after.at, after.registers, after.zero, buffer)
 
     def cleared(self, here: Here) -> Here:
-        """The same with 0 for what no longer matters."""
+        """Returns the same state with 0 for what no longer matters."""
         needed = self.needed[here.at]
         registers = tuple(word if number in needed else 0 for number, word in enumerate(here.registers))
         return Here(here.at, registers, here.zero and self.flag_needed[here.at], here.buffer)

@@ -1,8 +1,8 @@
-"""The search: all states that a test can be in, each once, the nearest first, with the way to each.
+"""The search: all reachable states of a test, without duplicates, the nearest first, with the way to each.
 
-A thread that does what no other can notice or disturb any more does it at once, and nothing else is looked at from there: a step or a drain
-of a location that no other thread may still read or write, or a load of one that no other may still write. Every final state is reached
-still: what the others do may be put behind it.
+A thread whose next event no other thread can notice or disturb any more executes it at once, and nothing else is explored from there: a
+step or a drain of a location that no other thread may still read or write, or a load of one that no other may still write. Every final
+state is still reached, since the events of the others may follow it.
 """
 from typing import Callable, Dict, Iterator, List, NamedTuple, Optional, Tuple
 
@@ -11,12 +11,12 @@ from plain import Test
 from search.threads import EXCHANGE, FORWARD, LOAD, NONE, STORE, Place, Thread
 
 STEP, DRAIN = 0, 1
-# A move: the kind, the location that is written or -1, the word, the place behind, and the statements that are carried out.
+# A move: its kind, the location that is written or -1, the word, the place after it, and the number of statements executed.
 Move = Tuple[int, int, int, int, int]
 
 
 class Found(NamedTuple):
-    """What a search found: of each final state the words that are observed, and a schedule; whether it came to an end; the states seen."""
+    """The result of a search: for each final state the observed words, and a schedule; whether it is complete; the number of states."""
 
     schedules: Dict[Tuple[int, ...], str]
     is_whole: bool
@@ -38,7 +38,7 @@ class Search:
         self.origins: List[tuple] = [()]  # of each state the number of the one before, a thread, a kind of move, statements
 
     def with_word(self, memory: int, location: int, word: int) -> int:
-        """The number of a memory with another word."""
+        """Returns the index of a memory with another word."""
         key = (memory, location, word)
         found = self.stored.get(key)
         if found is None:
@@ -51,7 +51,7 @@ class Search:
         return found
 
     def step_of(self, thread: Thread, place: Place, words: Tuple[int, ...]) -> Move:
-        """The step of a thread."""
+        """Returns the step of a thread."""
         kind, location = place.kind, place.location
         if kind == FORWARD:
             return STEP, -1, 0, *place.end
@@ -62,7 +62,7 @@ class Search:
         return STEP, location if kind == EXCHANGE else -1, new, *end
 
     def moves(self, state: tuple) -> Iterator[Tuple[int, Move]]:
-        """The moves from a state, each with its thread: one alone where it is enough to look at that."""
+        """Yields the moves from a state, each with its thread; only one if it is sufficient to explore that."""
         words = self.words[state[0]]
         places = [thread.places[number] for thread, number in zip(self.threads, state[1:])]
         for at, place in enumerate(places):
@@ -82,7 +82,7 @@ class Search:
                 yield at, self.step_of(self.threads[at], place, words)
 
     def move_alone(self, at: int, place: Place, words: Tuple[int, ...], reads: int, writes: int) -> Optional[Move]:
-        """A move of a thread that no other can notice or disturb, if it has one: the others may still read and write these."""
+        """Returns a move of a thread that no other can notice or disturb, if it has one: the others may still read and write these."""
         if place.drain and not (reads | writes) >> place.drain[0] & 1:
             return (DRAIN, *place.drain)
         if place.kind == NONE:
@@ -91,7 +91,7 @@ class Search:
         return None if watched >> place.location & 1 else self.step_of(self.threads[at], place, words)
 
     def run(self, most: int, tell: Callable[[int, int], None]) -> Found:
-        """Looks at states, at most so many."""
+        """Explores at most `most` states."""
         at, finals = 0, {}
         observed = plain.observed(self.test)
         while at < len(self.states) and at < most:
@@ -113,13 +113,13 @@ class Search:
         return Found({words: self.schedule_to(number) for words, number in finals.items()}, is_whole, len(self.states))
 
     def word_at(self, state: tuple, site: tuple) -> int:
-        """The word of a site in a final state."""
+        """Returns the word of a site in a final state."""
         if site[0] == "location":
             return self.words[state[0]][site[1]]
         return self.threads[site[1]].places[state[1 + site[1]]].here.registers[site[2]]
 
     def schedule_to(self, number: int) -> str:
-        """The events that lead to a state."""
+        """Returns the events that reach a state."""
         parts: List[str] = []
         while number:
             number, thread, kind, steps = self.origins[number]

@@ -1,4 +1,4 @@
-"""The report of what a search found, as `lw states` prints it."""
+"""The report of a search's result, as `lw states` prints it."""
 from typing import Tuple
 
 import plain
@@ -7,7 +7,7 @@ from search.explore import Found
 
 
 def outcome_of(test: plain.Test, words: Tuple[int, ...]) -> Outcome:
-    """An outcome that shows the words that are observed: what is not observed is 0."""
+    """Returns an outcome with the observed words: what is not observed is 0."""
     registers = [[0] * 6 for _ in test.threads]
     memory = [0] * len(test.locations)
     for site, word in zip(plain.observed(test), words):
@@ -19,5 +19,5 @@ def outcome_of(test: plain.Test, words: Tuple[int, ...]) -> Outcome:
 
 
 def report_of(test: plain.Test, found: Found) -> str:
-    """The report of the states that were found."""
+    """Returns the report of the states that were found."""
     return plain.report(test, {outcome_of(test, words) for words in found.schedules})

@@ -1,12 +1,12 @@
-"""The places of a thread, each with a number and with the moves that it has: the search works on numbers alone."""
+"""The places of a thread, each with an index and with its moves: the search uses only the indices."""
 from typing import Dict, List, Optional, Tuple
 
 from plain import WORD, Test, word_of
 from search.code import Code, Here
 
-# Kinds of steps: none, a load that takes the own newest store, a load, a store to memory, and an exchange.
+# Kinds of steps: none, a load that is forwarded from the own newest store, a load, a store to memory, and an exchange.
 NONE, FORWARD, LOAD, STORE, EXCHANGE = range(5)
-# A move's end: the number of the place behind it, and the statements that are carried out by it.
+# A move's end: the index of the place after it, and the number of statements executed.
 End = Tuple[int, int]
 
 
@@ -30,7 +30,7 @@ class Place:
 
 
 class Thread:
-    """All places of a thread that the search comes to."""
+    """All places of a thread that the search reaches."""
 
     def __init__(self, test: Test, number: int):
         self.code = Code(test, number)
@@ -39,7 +39,7 @@ class Thread:
         self.start, self.first_steps = self.number_of(Here(0, test.registers[number], False, ()))
 
     def number_of(self, here: Here, steps: int = 0) -> End:
-        """The number of the place to which a thread goes on from here."""
+        """Returns the index of the place at which a thread stops after running from here."""
         here, more = self.code.run(here)
         if here not in self.numbers:
             self.numbers[here] = len(self.places)
@@ -48,7 +48,7 @@ class Thread:
         return self.numbers[here], steps + more
 
     def fill(self, place: Place) -> None:
-        """Finds the moves of a place."""
+        """Computes the moves of a place."""
         here = place.here
         if here.buffer:
             location, word = here.buffer[0]
@@ -69,12 +69,12 @@ class Thread:
             place.kind = EXCHANGE
 
     def with_word(self, here: Here, register: int, word: int, zero: Optional[bool] = None) -> Here:
-        """The place behind a statement that gives a word to a register."""
+        """Returns the place after a statement that gives a word to a register."""
         registers = here.registers[:register] + (word,) + here.registers[register + 1 :]
         return Here(here.at + 1, registers, here.zero if zero is None else zero, here.buffer)
 
     def end_by(self, place: Place, word: int) -> Tuple[int, int, int]:
-        """The word behind a load or an exchange that finds a word, the place, and the statements."""
+        """Returns the word after a load or an exchange that finds a word, the place, and the number of statements."""
         it, here, new = self.code.statements[place.here.at], place.here, word
         zero = None
         if place.kind == EXCHANGE:

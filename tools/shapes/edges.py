@@ -1,10 +1,10 @@
-"""Cycles of edges by the names of diy: what each edge leads from and to, and which cycles are critical."""
+"""Cycles of edges by the names of diy: the source and the target of each edge, and which cycles are critical."""
 import re
 from dataclasses import dataclass
 from itertools import product
 from typing import Iterator, List, Optional, Tuple
 
-# Edges between threads or within one, to the same location: what they lead from and to.
+# Edges between threads or within one, to the same location: their source and target.
 COMMUNICATIONS = {"Rf": "WR", "Fr": "RW", "Co": "WW", "Ws": "WW"}
 COMMUNICATION = re.compile(r"(Rf|Fr|Co|Ws)([ei])([AP]{2})?")
 ORDER = re.compile(r"(Po|MFence|LockXchg|LockXadd)([sd])([RW])([RW])([AP]{2})?")
@@ -12,12 +12,12 @@ BETWEEN = {"Po": None, "MFence": "mfence", "LockXchg": "xchg", "LockXadd": "xadd
 
 
 class NoCycle(Exception):
-    """Why words are no cycle that is made to a test."""
+    """Why names are no cycle of which a test can be made."""
 
 
 @dataclass(frozen=True)
 class Edge:
-    """An edge: its name, the accesses that it leads from and to, and what it says of their threads and locations."""
+    """An edge: its name, the accesses that are its source and target, and what it says of their threads and locations."""
 
     name: str
     source: str
@@ -29,12 +29,12 @@ class Edge:
 
     @property
     def is_order(self) -> bool:
-        """Whether the edge is the order of one thread."""
+        """Returns whether the edge is the order of one thread."""
         return not self.is_external and ORDER.fullmatch(self.name) is not None
 
 
 def edge_of(name: str) -> Edge:
-    """The edge of a name."""
+    """Returns the edge of a name."""
     found = COMMUNICATION.fullmatch(name)
     if found:
         source, target = COMMUNICATIONS[found[1]]
@@ -46,7 +46,7 @@ def edge_of(name: str) -> Edge:
 
 
 def cycle_of(names: List[str]) -> List[Edge]:
-    """The cycle of some names, turned so that its last edge leads to another thread."""
+    """Returns the cycle of some names, rotated so that its last edge goes to another thread."""
     edges = [edge_of(name) for name in names]
     if not edges:
         raise NoCycle("a cycle has edges")
@@ -64,22 +64,24 @@ def cycle_of(names: List[str]) -> List[Edge]:
 
 
 def turned(names: Tuple[str, ...]) -> Iterator[Tuple[str, ...]]:
-    """A cycle from each of its edges on."""
+    """Yields the rotations of a cycle."""
     for at in range(len(names)):
         yield names[at:] + names[:at]
 
 
 def standard(names: Tuple[str, ...]) -> Tuple[str, ...]:
-    """One of the ways to begin a cycle, the same for all of them."""
+    """Returns one rotation of a cycle, the same for all of them."""
     return min(turned(names))
 
 
-# Critical cycles: each thread has one or two accesses, of two locations; from thread to thread leads one of these.
+# Critical cycles: each thread has one or two accesses, to two locations; one of these goes from thread to thread.
 LINKS = {"WR": (("Rfe",), ("Coe", "Rfe")), "WW": (("Coe",),), "RW": (("Fre",),), "RR": (("Fre", "Rfe"),)}
 
 
 def critical_cycles(most_edges: int, most_threads: int, orders: Tuple[str, ...] = ("Pod",)) -> Iterator[Tuple[str, ...]]:
-    """All critical cycles of at most so many edges and threads, each once. `orders` are the edges within a thread, without letters."""
+    """Yields all critical cycles of at most this number of edges and threads, without duplicates. `orders` are the edges within a thread,
+    without letters.
+    """
     seen = set()
     for pairs in range(2, most_threads + 1):
         if 2 * pairs <= most_edges:
@@ -92,7 +94,7 @@ def critical_cycles(most_edges: int, most_threads: int, orders: Tuple[str, ...] 
 
 
 def linked(blocks: tuple) -> Iterator[Tuple[str, ...]]:
-    """The cycles that have these edges within threads, one after another."""
+    """Yields the cycles that have these edges within threads, in sequence."""
     ways = [LINKS[this[1] + after[0]] for (_, this), (_, after) in zip(blocks, [*blocks[1:], blocks[0]])]
     for links in product(*ways):
         yield tuple(name for (order, letters), link in zip(blocks, links) for name in (order + letters, *link))

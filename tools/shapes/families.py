@@ -1,4 +1,4 @@
-"""The names of shapes: the families of docs/FAMILIES.md, and what is added for what stands between accesses."""
+"""The names of shapes: the families of docs/FAMILIES.md, with a suffix for what is between accesses."""
 import re
 from typing import Dict, List, Optional, Tuple
 
@@ -42,17 +42,17 @@ BETWEEN = {"MFence": "mfence", "LockXchg": "xchg", "LockXadd": "xadd", "Po": "po
 
 
 def plain_name(name: str) -> str:
-    """An edge without what stands between its accesses."""
+    """Returns an edge without what is between its accesses."""
     return re.sub(r"^(MFence|LockXchg|LockXadd)", "Po", name)
 
 
 def family_of(names: Tuple[str, ...]) -> Optional[str]:
-    """The family of a cycle, whatever stands between its accesses."""
+    """Returns the family of a cycle, whatever is between its accesses."""
     return BY_CYCLE.get(standard(tuple(plain_name(name) for name in names)))
 
 
 def name_of(edges: List[Edge]) -> str:
-    """The name of a cycle: its family's, with what stands between accesses, or its edges."""
+    """Returns the name of a cycle: its family's, with a suffix for what is between accesses, or its edges."""
     names = tuple(edge.name for edge in edges)
     family = family_of(names)
     if not family:
@@ -63,7 +63,7 @@ def name_of(edges: List[Edge]) -> str:
 
 
 def suffix(names: Tuple[str, ...]) -> str:
-    """What is added to a family's name."""
+    """Returns the suffix of a family's name."""
     between = [BETWEEN[kind] for name in names for kind in BETWEEN if name.startswith(kind)]
     if not any(it != "po" for it in between):
         return ""

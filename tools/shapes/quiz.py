@@ -23,14 +23,14 @@ class Question(NamedTuple):
 
 
 def level_of(names: Tuple[str, ...]) -> int:
-    """How difficult a cycle is, by its threads, and by whether something stands between or a thread sees its own store."""
+    """Returns how difficult a cycle is, by its threads, and by whether something is between accesses or a thread reads its own store."""
     threads = sum(name[-1] == "e" for name in names)
     is_simple = all(name.startswith("Po") or name[-1] == "e" for name in names)
     return min(2 * (threads - 2) + (not is_simple), len(LEVELS) - 1)
 
 
 def with_own_loads(names: Tuple[str, ...], random: Random) -> Tuple[str, ...]:
-    """A cycle of which some threads load what they stored before they go on."""
+    """Returns a cycle in which some threads load what they stored before they continue."""
     changed: List[str] = []
     for name in names:
         is_changed = name.startswith("PodW") and random.random() < 0.4
@@ -39,7 +39,7 @@ def with_own_loads(names: Tuple[str, ...], random: Random) -> Tuple[str, ...]:
 
 
 def pool_of(random: Random) -> List[List[Tuple[str, ...]]]:
-    """Cycles that no family of docs/FAMILIES.md is, by level, in a random order."""
+    """Returns cycles of no family of docs/FAMILIES.md, by level, in a random order."""
     known, pool = set(FAMILIES.values()), [[] for _ in LEVELS]
     for names in critical_cycles(MOST_EDGES, 4, ("Pod", "MFenced")):
         names = with_own_loads(names, random)
@@ -52,13 +52,13 @@ def pool_of(random: Random) -> List[List[Tuple[str, ...]]]:
 
 
 def turned_at_random(shape_names: Tuple[str, ...], random: Random) -> Shape:
-    """A cycle's shape, begun at some edge, so that its threads stand in another order."""
+    """Returns a cycle's shape, started at some edge, so that its threads are in another order."""
     at = random.randrange(len(shape_names))
     return shape_of(cycle_of(list(shape_names[at:] + shape_names[:at])))
 
 
 def renamed(text: str, random: Random) -> str:
-    """A test's text with other names for its locations."""
+    """Returns a test's text with other names for its locations."""
     letters = random.sample("abcdfghjkmpquvw", 8)
     table = {old: new for old, new in zip("stuvwxyz", letters)}
     heading, notes, *rest = text.split("\n")
@@ -67,12 +67,12 @@ def renamed(text: str, random: Random) -> str:
 
 
 def is_lone(line: str, at: int) -> bool:
-    """Whether a letter stands alone in a line."""
+    """Returns whether a letter is a word by itself in a line."""
     return not (line[at - 1 : at].isalnum() or line[at + 1 : at + 2].isalnum())
 
 
 def question_of(names: Tuple[str, ...], number: int, random: Random) -> Question:
-    """A question of a cycle."""
+    """Returns a question of a cycle."""
     shape = turned_at_random(names, random)
     text = renamed(text_of(shape, f"quiz{number}", X86), random)
     test = plain.read_test(text)
@@ -82,13 +82,13 @@ def question_of(names: Tuple[str, ...], number: int, random: Random) -> Question
 
 
 def taken(cycles: List[Tuple[str, ...]], wanted: bool, number: int, random: Random) -> Question:
-    """A question of the next cycle whose answer is the wanted one, or of the next, where there is none; the cycle is taken out."""
+    """Returns a question of the next cycle with the wanted answer, or of the next one if there is none; the cycle is removed."""
     at = next((at for at, names in enumerate(cycles) if bool(early_edges(list(names))) == wanted), 0)
     return question_of(cycles.pop(at), number, random)
 
 
 def quiz_of(count: int, seed: str) -> List[Question]:
-    """So many questions, the easier ones first, each of another cycle. About half of the outcomes are allowed."""
+    """Returns this number of questions, the easier ones first, each of another cycle. About half of the outcomes are allowed."""
     random = Random(f"quiz {seed}")
     questions, balance = [], 0
     pool = [cycles for cycles in pool_of(random) if cycles]
@@ -105,13 +105,14 @@ def quiz_of(count: int, seed: str) -> List[Question]:
 
 
 def early_edges(names: List[str]) -> List[str]:
-    """The edges of a cycle that do not hold on x86-TSO: a store and a later load, or a load of the own store and a later load."""
+    """Returns the edges of a cycle that x86-TSO does not preserve: a store and a later load, or a load of the own store and a later load.
+    """
     pairs = zip(names, [*names[1:], names[0]])
     return [name if name != "Rfi" else f"Rfi {after}" for name, after in pairs if name == "PodWR" or (name, after) == ("Rfi", "PodRR")]
 
 
 def reason_of(it: Question) -> str:
-    """Why an outcome is allowed or forbidden, in a few words."""
+    """Returns why an outcome is allowed or forbidden, in a few words."""
     early = early_edges(it.cycle.split())
     if early:
         return "a load goes ahead of a store that waits: the cycle has " + " and ".join(sorted(set(early)))
@@ -119,7 +120,7 @@ def reason_of(it: Question) -> str:
 
 
 def answer_of(it: Question, number: int) -> str:
-    """The answer to a question, for a teacher."""
+    """Returns the answer to a question, for a teacher."""
     finals, came_from = plain.walk(it.test, plain.x86_start(it.test), plain.x86_moves)
     holding = [outcome for outcome in sorted(finals) if plain.holds(it.test.proposition, outcome)]
     lines = [f"{number}. {'Yes' if it.is_allowed else 'No'}. {LEVELS[it.level]}. {it.name}: {it.cycle}", f"   {reason_of(it)}."]

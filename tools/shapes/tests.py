@@ -1,4 +1,4 @@
-"""A cycle of edges as a test: its accesses, threads, locations and words, and the question whether all its edges can be at once."""
+"""A cycle of edges as a test: its accesses, threads, locations and words, and the question whether all its edges can hold together."""
 from dataclasses import dataclass
 from typing import Dict, List
 
@@ -11,7 +11,7 @@ X86, SRC = "X86", "SRC"
 
 @dataclass
 class Access:
-    """An access: `R` or `W`, its thread, its location, its word, whether it is locked; of a load its register; what stands before it."""
+    """An access: `R` or `W`, its thread, its location, its word, whether it is locked; a load's register; what precedes it."""
 
     kind: str
     thread: int = 0
@@ -24,20 +24,20 @@ class Access:
 
 @dataclass
 class Shape:
-    """A cycle's accesses in its order, and how many stores each location has."""
+    """A cycle's accesses in its order, and the number of stores to each location."""
 
     edges: List[Edge]
     accesses: List[Access]
     stores: Dict[str, int]
 
     def threads(self) -> List[List[Access]]:
-        """The accesses of each thread."""
+        """Returns the accesses of each thread."""
         count = 1 + max(it.thread for it in self.accesses)
         return [[it for it in self.accesses if it.thread == thread] for thread in range(count)]
 
 
 def shape_of(edges: List[Edge]) -> Shape:
-    """The accesses of a cycle."""
+    """Returns the accesses of a cycle."""
     accesses = [Access(edge.source) for edge in edges]
     thread = place = 0
     for at, edge in enumerate(edges):
@@ -56,7 +56,7 @@ def shape_of(edges: List[Edge]) -> Shape:
 
 
 def fix_locations(accesses: List[Access], edges: List[Edge], places: int) -> None:
-    """Names the locations. Behind the last edge to another location the first location is meant."""
+    """Assigns locations. The last edge to another location goes back to the first location."""
     if places > 8:
         raise NoCycle("the cycle has more than eight locations, and lw has eight at most")
     names = "stuvwxyz"[-places:] if places > 2 else "xy"
@@ -65,7 +65,7 @@ def fix_locations(accesses: List[Access], edges: List[Edge], places: int) -> Non
 
 
 def fix_words(shape: Shape) -> None:
-    """Gives stores and loads their words: in each location's row of accesses, each store has the next number."""
+    """Assigns words to stores and loads: each store to a location has the next number."""
     edges, accesses = shape.edges, shape.accesses
     begins = [at for at in range(len(edges)) if not edges[at - 1].same_location]
     for begin in begins:
@@ -90,7 +90,7 @@ def fix_words(shape: Shape) -> None:
 
 
 def cells_of(it: Access, language: str) -> List[str]:
-    """The statements or instructions of an access."""
+    """Returns the statements or instructions of an access."""
     spare, second = SPARE[language]
     dummy = f"own{it.thread}"
     is_x86 = language == X86
@@ -112,7 +112,7 @@ def cells_of(it: Access, language: str) -> List[str]:
 
 
 def question_of(shape: Shape, language: str) -> str:
-    """Whether all edges can be at once: the loads' words, and the last words of locations with two stores."""
+    """Returns the question whether all edges can hold together: the loads' words, and the last words of locations with two stores."""
     atoms = []
     for it in sorted((it for it in shape.accesses if it.kind == "R"), key=lambda it: (it.thread, it.register)):
         atoms.append(f"{it.thread}:{plain.REGISTERS[language][int(it.register)]}={it.word}")
@@ -121,7 +121,7 @@ def question_of(shape: Shape, language: str) -> str:
 
 
 def text_of(shape: Shape, name: str, language: str, quantifier: str = "exists") -> str:
-    """The text of the test."""
+    """Returns the text of the test."""
     if language == SRC and any(edge.between == "mfence" for edge in shape.edges):
         raise NoCycle("a source test has no fences: lw compile puts them in")
     columns = [[cell for it in thread for cell in cells_of(it, language)] for thread in shape.threads()]
@@ -135,5 +135,5 @@ def text_of(shape: Shape, name: str, language: str, quantifier: str = "exists") 
 
 
 def threads_of(shape: Shape) -> str:
-    """The threads in the words of docs/FAMILIES.md."""
+    """Returns the threads in the words of docs/FAMILIES.md."""
     return ", ".join(" ".join(f"{it.kind}{it.location}" for it in thread) for thread in shape.threads())

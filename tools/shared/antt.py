@@ -14,13 +14,13 @@ OPENING, CLOSING = ("(", "{", "["), (")", "}", "]")
 
 
 def files(*patterns):
-    """The .antt files of the crates, by patterns below a crate's folder, without what is built."""
+    """Returns the .antt files of the crates, by patterns below a crate's folder, without what is built."""
     found = {it for pattern in patterns for it in glob.glob(f"{HOME}/crates/*/{pattern}", recursive=True)}
     return sorted(it for it in found if it.endswith(".antt") and "/out/" not in it)
 
 
 def tokens_of(text):
-    """The tokens of a text, without comments."""
+    """Returns the tokens of a text, without comments."""
     return [it[0] for it in TOKEN.finditer(text) if not it["comment"]]
 
 
@@ -29,7 +29,7 @@ def has_comment(text):
 
 
 class Sentence:
-    """Lines that belong together: their text, the number of the first (from 1), and whether it is no sentence but stands between."""
+    """Lines that belong together: their text, the number of the first (from 1), and whether they are between sentences."""
 
     def __init__(self, number, line, is_between=False):
         self.number, self.lines, self.is_between = number, [line], is_between
@@ -48,19 +48,19 @@ def indent_of(line):
 
 
 def depth_after(line, depth):
-    """How many brackets are open behind a line."""
+    """Returns the number of brackets that are open after a line."""
     tokens = tokens_of(line)
     return depth + sum(it in OPENING for it in tokens) - sum(it in CLOSING for it in tokens)
 
 
 class Reader:
-    """Gathers the sentences of a text in the layout of rt fmt."""
+    """A reader that gathers the sentences of a text in the layout of rt fmt."""
 
     def __init__(self):
         self.found, self.kept, self.blocks, self.depth, self.opens = [], [], [0], 0, False
 
     def begins(self, line):
-        """Whether a line begins a sentence."""
+        """Returns whether a line starts a sentence."""
         indent = indent_of(line)
         if self.depth:
             return False
@@ -95,7 +95,7 @@ class Reader:
 
 
 def sentences_of(text):
-    """The sentences of a text, and the lines between them, in their sequence."""
+    """Returns the sentences of a text, and the lines between them, in their order."""
     reader = Reader()
     for number, line in enumerate(text.split("\n"), 1):
         reader.add(number, line)

@@ -13,7 +13,7 @@ BUILT_IN = set(
     "pub abbrev unfoldable data record module where open use let in as at elim absurd tt Unit Type tactic lib"
     " rw simp search assumption cc omega grind hlevel first_of _ ? : = → λ | ↦ ← × ⊥ ¬ .".split()
 )
-# Constructors without arguments that are written small.
+# Constructors without arguments that are written in lower case.
 CONSTRUCTORS = {"zero", "true", "false"}
 BRACKETS = {*antt.OPENING, *antt.CLOSING}
 SKIPPED = re.compile(r"\s*(?:(?:unfoldable )?(?:pub )?(?:use|mod)|open|unfolding|ruleset|infix[lr]?) ")
@@ -22,7 +22,7 @@ NUMERAL_OR_TEXT = re.compile(r'[\d"]')
 
 
 def until(tokens, at, ends):
-    """The tokens from a place on, up to the first of these."""
+    """Returns the tokens from an index on, up to the first of these."""
     found = []
     while at < len(tokens) and tokens[at] not in ends:
         found.append(tokens[at])
@@ -31,7 +31,7 @@ def until(tokens, at, ends):
 
 
 def without_types(tokens):
-    """Some tokens, without what stands in their brackets behind colons."""
+    """Returns some tokens, without what follows colons in their brackets."""
     found, depth, depth_of_type = [], 0, None
     for token in tokens:
         depth += (token in antt.OPENING) - (token in antt.CLOSING)
@@ -45,7 +45,7 @@ def without_types(tokens):
 
 
 def pattern_before(tokens, at):
-    """The tokens of the pattern that ends before a place: from the bar or the bracket that it stands behind."""
+    """Returns the tokens of the pattern that ends before an index: from the bar or the bracket before it."""
     depth, begin = 0, at
     while begin and (depth or tokens[begin - 1] not in ("|", *antt.OPENING)):
         begin -= 1
@@ -54,7 +54,7 @@ def pattern_before(tokens, at):
 
 
 def variables_of(pattern):
-    """What patterns bind: their words, but for constructors, which have arguments, or are written large with more than two letters."""
+    """Returns what patterns bind: their words, except constructors, which have arguments, or are capitalized with more than two letters."""
     found = set()
     for before, word, behind in zip(["", *pattern], pattern, [*pattern[1:], ""]):
         has_arguments = before == "(" and (behind[:1].isalpha() or behind in ("(", "{", "_"))
@@ -65,7 +65,7 @@ def variables_of(pattern):
 
 
 def bound_by_words(tokens):
-    """What `λ`, `let`, the cases of `elim`, parameters and fields bind."""
+    """Returns what `λ`, `let`, the cases of `elim`, parameters and fields bind."""
     found = set()
     for at, token in enumerate(tokens):
         if token == "λ":
@@ -84,7 +84,7 @@ def bound_by_words(tokens):
 
 
 def head_of(tokens):
-    """What stands before the sign of an equation or a signature, and that sign."""
+    """Returns what precedes the sign of an equation or a signature, and that sign."""
     depth = 0
     for at, token in enumerate(tokens):
         depth += (token in antt.OPENING) - (token in antt.CLOSING)
@@ -94,7 +94,7 @@ def head_of(tokens):
 
 
 def bound_in(sentence):
-    """What a sentence binds."""
+    """Returns what a sentence binds."""
     opened = OPENED.match(sentence.text)
     if opened:
         return {it.strip() for it in opened[1].split(",")}
@@ -109,7 +109,7 @@ def bound_in(sentence):
 
 
 def lemmas_of(sentences):
-    """The sentences in groups: a signature or a block's head at the margin, its clauses, and what stands under it."""
+    """Returns the sentences in groups: a signature or a block's head at the margin, its clauses, and what is indented below it."""
     groups = []
     for it in sentences:
         tokens = words_of(it)
@@ -120,7 +120,9 @@ def lemmas_of(sentences):
 
 
 def in_scope_everywhere(file):
-    """The names that a whole file has: what it brings in and declares, the parts of its operators, and what its heads and records bind."""
+    """Returns the names that a whole file has: what it imports and declares, the parts of its operators, and what its heads and records
+    bind.
+    """
     known = {*BUILT_IN, *BRACKETS, *file.brings, *file.modules, *(it.name for it in file.declarations)}
     for it in file.declarations:
         for part in it.parts:
@@ -133,7 +135,7 @@ def in_scope_everywhere(file):
 
 
 def free_in(file):
-    """The free names of a file, in their sequence."""
+    """Returns the free names of a file, in their order."""
     known, found = in_scope_everywhere(file), []
     for lemma in lemmas_of(file.sentences):
         bound = set().union(*map(bound_in, lemma))

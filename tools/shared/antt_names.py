@@ -1,4 +1,4 @@
-"""Which names .antt files declare, which they bring in, and what a name in a file means."""
+"""Which names .antt files declare and import, and what a name in a file means."""
 import os
 import re
 
@@ -14,7 +14,7 @@ IMPORT = re.compile(r"^\s*(?:unfoldable )?(pub )?use ([^\s{]+?)(?:\.\{([^}]*)\}|
 class Declaration:
     """A lemma, a definition, a record or a type: its signature or head, and its clauses or fields.
 
-    `scope` are the heads of the modules that it stands in; `owner` is the sentence under whose `where` it stands, if any.
+    `scope` are the heads of the modules around it; `owner` is the sentence whose `where` it is in, if any.
     """
 
     def __init__(self, file, name, sentence, scope, owner):
@@ -33,7 +33,7 @@ def words_of(sentence):
 
 
 class File:
-    """A file: its module, its declarations, and what it brings in."""
+    """A file: its module, its declarations, and its imports."""
 
     def __init__(self, path):
         self.path = path
@@ -51,7 +51,8 @@ class File:
         self.own = {it.name for it in self.declarations if it.owner is None}
 
     def read_imports(self):
-        """What `use` lines bring in: names with the module and the name that each has there, and modules; and which names are passed on."""
+        """Reads the `use` lines: names with the module and the name that each has there, and modules; and which names are exported again.
+        """
         for public, module, group, short in IMPORT.findall(self.text):
             module = module.replace("package.", "")
             if not group:
@@ -64,7 +65,7 @@ class File:
                     self.passes.add(renamed or last)
 
     def read_declarations(self):
-        """Goes through the sentences, with the blocks in which each stands: their indents, heads and kinds."""
+        """Reads the sentences, with the blocks that contain each: their indents, heads and kinds."""
         blocks, before = [], None
         for sentence in self.sentences:
             while blocks and blocks[-1][0] >= sentence.indent:
@@ -106,7 +107,7 @@ class File:
         self.declarations.append(Declaration(self, name, sentence, scope, owners[-1] if owners else None))
 
     def add_clause(self, words, sentence):
-        """Adds a clause to what it is of: the last declaration of that name, or (of an operator) the last."""
+        """Adds a clause to its declaration: the last one of that name, or (for an operator) the last."""
         named = [it for it in self.declarations if it.name in words[:1]] or self.declarations[-1:]
         for it in named[-1:]:
             it.parts.append(sentence)
@@ -122,7 +123,7 @@ class Files:
         self.by_module = {it.module: it for it in self.all}
 
     def origin(self, module, name):
-        """The module that declares a name, whatever passes it on."""
+        """Returns the module that declares a name, whatever exports it again."""
         seen = set()
         while module in self.by_module and (module, name) not in seen:
             seen.add((module, name))
@@ -133,7 +134,7 @@ class Files:
         return module, name
 
     def meaning(self, file, word):
-        """What a word means in a file, whoever writes it."""
+        """Returns what a word means in a file."""
         first, dot, rest = word.partition(".")
         if first in file.own:
             return f"{file.module}.{word}"

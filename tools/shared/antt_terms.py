@@ -5,13 +5,13 @@ raises Unread.
 """
 from shared.antt import CLOSING, OPENING
 
-# Operators, those that bind least first. A row's are of one level.
+# Operators, by increasing precedence. Those of a row have the same.
 OPERATORS = (
     ("→",), ("↔",), ("⊎",), ("×",), ("≡", "≢"), ("<", "≤", "==", "⊑"), ("∙",), ("||",), ("&&",), ("∷", "++"), ("+", "-"), ("*", "/", "%"),
     ("^",),
 )
 LEVELS = {operator: level for level, row in enumerate(OPERATORS) for operator in row}
-# Words of signs alone that are no infix operators.
+# Words of signs only that are no infix operators.
 ATOMS = {"?", "[]", "⊥", "¬", "←"}
 UNREAD = {"do", "unfold", "where", "mutual"}
 CLOSED_BY = dict(zip(OPENING, CLOSING))
@@ -22,14 +22,14 @@ class Unread(Exception):
 
 
 class Group:
-    """What stands in a pair of brackets, and a field's name behind them."""
+    """The content of a pair of brackets, and a field's name after them."""
 
     def __init__(self, opening, inner):
         self.opening, self.inner, self.suffix = opening, inner, ""
 
 
 def grouped(tokens):
-    """Words and groups for the tokens of a term."""
+    """Returns words and groups for the tokens of a term."""
     stack = [("", [])]
     for token in tokens:
         if token in OPENING:
@@ -50,11 +50,11 @@ def grouped(tokens):
     return stack[0][1]
 
 
-# Terms. `chained` says whether two lets follow one another in a term: such terms never stand on one line.
+# Terms. `chained` says whether two lets follow one another in a term: such terms are never on one line.
 
 
 class Word:
-    """What is never broken."""
+    """A word, which is never broken."""
 
     chained = False
 
@@ -63,7 +63,7 @@ class Word:
 
 
 class Bracket:
-    """A term in brackets, with what stands before it in them (`x : `, `x = `)."""
+    """A term in brackets, with what precedes it in them (`x : `, `x = `)."""
 
     def __init__(self, opening, before, inner, suffix):
         self.opening, self.before, self.inner, self.closing = opening, before, inner, CLOSED_BY[opening] + suffix
@@ -72,9 +72,9 @@ class Bracket:
 
 
 class Rows:
-    """Items that stand one on a line where they do not fit on one: of a tuple, of a record, or the cases of an `elim`.
+    """Items of which each has its own line if they do not fit on one: of a tuple, of a record, or the cases of an `elim`.
 
-    An item is what stands before a term, and the term; `lead` is written before each item where they stand apart, and `end` behind it.
+    An item is a prefix and a term; `lead` is written before each item if they are on separate lines, and `end` after it.
     """
 
     def __init__(self, head, opening, items, closing):
@@ -87,7 +87,7 @@ class Rows:
 
 
 class Application:
-    """A function and its arguments, or binders one behind another."""
+    """A function and its arguments, or binders in sequence."""
 
     def __init__(self, parts):
         self.parts = parts
@@ -96,7 +96,7 @@ class Application:
 
 
 class Chain:
-    """Terms with operators of one level between them, or with words (`then`, `else`). An operator stands before its second term."""
+    """Terms with operators of one precedence between them, or with words (`then`, `else`). An operator precedes its second term."""
 
     def __init__(self, first, others):
         self.first, self.others = first, others
@@ -127,7 +127,7 @@ def raise_if(holds, why):
 
 
 def split(nodes, mark):
-    """The parts of a row of nodes between the marks, without empty ones at its ends."""
+    """Returns the parts of a list of nodes between the marks, without empty ones at its ends."""
     parts = [[]]
     for node in nodes:
         if node == mark:
@@ -138,12 +138,12 @@ def split(nodes, mark):
 
 
 def index_of(nodes, *marks):
-    """The place of the first of some words, or None."""
+    """Returns the index of the first of some words, or `None`."""
     return next((at for at, it in enumerate(nodes) if it in marks), None)
 
 
 def is_sign(word):
-    """Whether a word is made of signs alone, and so may be an infix operator."""
+    """Returns whether a word consists of signs only, and so may be an infix operator."""
     return not any(it.isalnum() or it in "◌\"'_" for it in word) and word not in ATOMS
 
 
@@ -162,7 +162,7 @@ def read_let(nodes):
 
 
 def flat_pattern(nodes):
-    """A pattern or binders on one line."""
+    """Returns a pattern or binders on one line."""
     return " ".join(it.flat for it in joined(nodes, read_word))
 
 
@@ -173,7 +173,7 @@ def read_lambda(nodes):
 
 
 def read_items(group, *marks):
-    """The items of a record or of cases: what stands up to the mark, and the term behind it."""
+    """Reads the items of a record or of cases: what precedes the mark, and the term after it."""
     found = []
     for part in split(group.inner, "|" if group.opening == "[" else ";"):
         at = index_of(part, *marks)
@@ -183,7 +183,7 @@ def read_items(group, *marks):
 
 
 def read_group(group):
-    """A group that stands as a word: a tuple, a bracketed term, a binder, an implicit argument."""
+    """Reads a group that is used as a word: a tuple, a bracketed term, a binder, an implicit argument."""
     nodes = group.inner
     raise_if(group.opening == "[" or not nodes or ";" in nodes, "a group")
     if "," in nodes:
@@ -207,7 +207,7 @@ def read_word(node):
 
 
 def read_elim(nodes, at):
-    """An `elim`, and the place behind it."""
+    """Reads an `elim`. Returns it and the index after it."""
     end = next((it for it in range(at, len(nodes)) if isinstance(nodes[it], Group) and nodes[it].opening == "["), None)
     raise_if(end is None, "an elim")
     head = applied([Word("elim"), *joined(nodes[at + 1 : end], read_word)])
@@ -215,7 +215,7 @@ def read_elim(nodes, at):
 
 
 def read_record(nodes, at):
-    """A record, or a record with other fields, and the place behind it."""
+    """Reads a record, or a record with other fields. Returns it and the index after it."""
     end = next((it for it in (at + 1, at + 2) if it < len(nodes) and isinstance(nodes[it], Group) and nodes[it].opening == "{"), None)
     raise_if(end is None, "a record")
     head = applied([Word("record"), *joined(nodes[at + 1 : end], read_word)])
@@ -225,7 +225,7 @@ def read_record(nodes, at):
 
 
 def joined(nodes, read):
-    """Terms for words and groups, where an `elim` or a `record` is one term with its bracket. Operators are left as they are."""
+    """Returns terms for words and groups, where an `elim` or a `record` is one term with its bracket. Operators are unchanged."""
     found, at = [], 0
     while at < len(nodes):
         if nodes[at] in ("elim", "record"):
@@ -238,7 +238,7 @@ def joined(nodes, read):
 
 
 def read_term(nodes):
-    """The term that a row of words and groups is."""
+    """Returns the term of a list of words and groups."""
     raise_if(not nodes, "nothing")
     if nodes[0] == "let":
         return read_let(nodes)
@@ -259,13 +259,13 @@ def read_if(nodes):
 
 
 def applied(terms):
-    """The first of some terms applied to the others."""
+    """Returns the first of some terms applied to the others."""
     raise_if(not terms, "nothing")
     return terms[0] if len(terms) == 1 else Application(terms)
 
 
 def read_operators(terms):
-    """The term of a row of terms with operators between them."""
+    """Returns the term of a list of terms with operators between them."""
     operators = [it for it in terms if isinstance(it, str)]
     if not operators:
         return applied(terms)

@@ -1,4 +1,6 @@
-"""Many tests by tools/plain.py or by the search of tools/beyond.py side by side, why a file has no report, and many replays of one test."""
+"""Runs many tests by tools/plain.py or by the search of tools/beyond.py in parallel, says why a file has no report, and replays one test
+many times.
+"""
 import functools
 import os
 import tempfile
@@ -12,7 +14,7 @@ from shared import answers, spawn
 
 
 def run_by(report_of: Callable[[plain.Test], str], file: str) -> spawn.Run:
-    """The run of a file whose report a function makes."""
+    """Returns the run of a file whose report a function computes."""
     begin = time.process_time()
     told, status = "", 1
     try:
@@ -27,7 +29,7 @@ def run_by(report_of: Callable[[plain.Test], str], file: str) -> spawn.Run:
 
 
 def runs_by(report_of: Callable[[plain.Test], str], files: Sequence[str], tell: Callable[[str], None]) -> List[spawn.Run]:
-    """The reports of all files by a function, such as `plain.report` or `answers.made_by_search`."""
+    """Returns the reports of all files by a function, such as `plain.report` or `answers.made_by_search`."""
     done = []
     with ProcessPoolExecutor(os.cpu_count() or 1) as pool:
         for run in pool.map(functools.partial(run_by, report_of), files):
@@ -37,7 +39,7 @@ def runs_by(report_of: Callable[[plain.Test], str], files: Sequence[str], tell: 
 
 
 def fault_of(run: spawn.Run) -> str:
-    """Why a file has no report: `FILE:LINE:COLUMN: cause` for a text that is no test, else what the program says."""
+    """Returns why a file has no report: `FILE:LINE:COLUMN: cause` for a text that is no test, otherwise what the program says."""
     try:
         with open(run.file, "rb") as it:
             read = it.read()
@@ -53,7 +55,7 @@ def fault_of(run: spawn.Run) -> str:
 
 
 def place_of_fault(text: str) -> Optional[int]:
-    """Where a text is faulty as a test of lw, or None if it is none that tools/plain.py finds."""
+    """Returns where a text is faulty as a test of lw, or `None` if tools/plain.py finds no fault."""
     try:
         plain.read_test(text)
     except given.Fault as fault:
@@ -64,7 +66,7 @@ def place_of_fault(text: str) -> Optional[int]:
 
 
 def replays(text: str, schedules: Sequence[str]) -> Optional[List[str]]:
-    """The pages of many replays of one test by the program, or None where it is not there, or does not start on this system."""
+    """Returns the pages of many replays of one test by the program, or `None` if it is missing, or does not start on this system."""
     if not spawn.can_spawn():
         return None
     with tempfile.TemporaryDirectory(prefix="lw-") as room:

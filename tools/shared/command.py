@@ -1,4 +1,4 @@
-"""The words of a command, and the files that it is given: each is read, and a fault is told as FILE:LINE:COLUMN and a cause in words."""
+"""The arguments of a command, and its files: each is read, and a fault is reported as FILE:LINE:COLUMN and a cause in words."""
 from __future__ import annotations
 
 import argparse
@@ -8,19 +8,19 @@ import given
 
 
 class Help(argparse.RawDescriptionHelpFormatter):
-    """The form of `--help`. Its width is fixed: to ask for the terminal's, argparse imports more than it takes to run a small test."""
+    """The form of `--help`. Its width is fixed: to query the terminal's, argparse imports more than it takes to run a small test."""
 
     def __init__(self, prog: str):
         super().__init__(prog, width=118)
 
 
 def words_of(usage: str) -> argparse.ArgumentParser:
-    """A reader of a command's words. `--help` prints the command's head comment."""
+    """Returns a parser of a command's arguments. `--help` prints the command's module docstring."""
     return argparse.ArgumentParser(description=usage, formatter_class=Help)
 
 
 def number_from(least: int) -> Callable[[str], int]:
-    """The reader of a word that is a number, and not below another."""
+    """Returns the parser of an argument that is a number, and at least another."""
 
     def read(text: str) -> int:
         number = int(text)
@@ -33,7 +33,7 @@ def number_from(least: int) -> Callable[[str], int]:
 
 
 def seconds_in(text: str) -> float | None:
-    """Reads a number of seconds, from a thousandth to some months. Returns None if the text says none."""
+    """Reads a number of seconds, from a thousandth to some months. Returns `None` if the text says none."""
     try:
         seconds = float(text)
     except ValueError:
@@ -42,7 +42,7 @@ def seconds_in(text: str) -> float | None:
 
 
 def for_each(tool: str, names: list[str], work: Callable[[str, str], int | None]) -> int:
-    """Calls `work` with the name and the text of each file, of standard input where there is none. Returns the exit status."""
+    """Calls `work` with the name and the text of each file, or of standard input if there is none. Returns the exit status."""
     status = 0
     for name in names or [given.STANDARD_INPUT]:
         status = max(status, for_one(tool, name, work))
@@ -50,7 +50,7 @@ def for_each(tool: str, names: list[str], work: Callable[[str, str], int | None]
 
 
 def for_one(tool: str, name: str, work: Callable[[str, str], int | None]) -> int:
-    """The same for one file."""
+    """Does the same for one file."""
     try:
         read = given.bytes_of(name)
     except OSError as why:
@@ -64,5 +64,5 @@ def for_one(tool: str, name: str, work: Callable[[str, str], int | None]) -> int
 
 
 def note(name: str, text: str, at: int, says: str) -> str:
-    """A line on standard error that says something of a place in a text, and is no fault."""
+    """Returns a line for standard error that says something about a position in a text, and is no fault."""
     return f"{name}:{given.place(text, at)}: note: {says}"
