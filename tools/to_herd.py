@@ -24,7 +24,7 @@ from shared import answers, command, start
 
 
 def program_of(text: str) -> plain.Test:
-    """The x86 test that a test is, or is compiled to."""
+    """Returns the x86 test that a test is, or is compiled to."""
     test = plain.read_test(text)
     if test.language == "X86":
         return test

@@ -9,7 +9,7 @@ from shared import answers
 
 HEADING = re.compile(r"Test (\S+)(?: (\S+))?")
 COUNT = re.compile(r"(?:States|Histogram \()\s*(\d+)")
-# A name and its word. Programs in C have x+8 for what is 8 bytes after the begin of x, and words that are addresses, as &x.
+# A name and its word. Programs in C have x+8 for what is 8 bytes after the start of x, and words that are addresses, such as &x.
 ATOM = re.compile(r"(?:(P?\d+):)?\[?%?([\w.+]+)\]?=(-?(?:0x[0-9a-fA-F]+|\d+)|&[^;]+)")
 State = FrozenSet[str]
 NOT_IN_LOG, IN_LOG_ONLY = "it is not in the log", "it is in the log alone"
@@ -25,7 +25,7 @@ class Difference(NamedTuple):
 
 
 def atom_of(found) -> str:
-    """A name and its word, in one spelling for all tools."""
+    """Returns a name and its word, in one spelling for all tools."""
     thread, name, word = found
     register = register_of(name) if thread else None
     site = f"{thread.lstrip('P') + ':' if thread else ''}{register[0] if register else name}"
@@ -37,17 +37,19 @@ def atom_of(found) -> str:
 
 
 def state_of(line: str) -> State:
-    """The state that a line says, with or without the number of times that it was seen."""
+    """Returns the state that a line says, with or without the number of times that it was seen."""
     return frozenset(atom_of(found) for found in ATOM.findall(line.rpartition(">")[2]))
 
 
 def spelled(state: State) -> str:
-    """A state as a line."""
+    """Returns a state as a line."""
     return " ".join(f"{atom};" for atom in sorted(state))
 
 
 def states_in(lines: Iterable[str]) -> Dict[str, Set[State]]:
-    """The states of each test in a log. A test that appears twice has the states of both. A list that is cut off has those that it has."""
+    """Returns the states of each test in a log. A test that appears twice has the states of both. A list that is cut off has those before
+    the cut.
+    """
     logs: Dict[str, Set[State]] = {}
     name, total, left = "", 0, 0
     for line in lines:
@@ -65,13 +67,14 @@ def states_in(lines: Iterable[str]) -> Dict[str, Set[State]]:
 
 
 def names_of(states: Iterable[State]) -> Set[str]:
-    """The names that states speak of."""
+    """Returns the names that states mention."""
     return {atom.rpartition("=")[0] for state in states for atom in state}
 
 
 class Listed(NamedTuple):
     """The states that are listed here for a test, those names that a log may lack, why they are not compared, if they are not, and how
-    often a run goes through each loop at most, or 0 if that has no limit."""
+    often a run passes each loop at most, or 0 if that has no limit.
+    """
 
     states: Set[State]
     extra: Set[str] = set()
@@ -83,15 +86,17 @@ TWO_FILES = "two files have a test of this name, with different states, and it i
 
 
 class Here(NamedTuple):
-    """The tests that are listed here: by their own names, those that were converted also by the names of their originals, and which original
-    each of these has."""
+    """The tests that are listed here: by their own names, those that were converted also by the names of their originals, and the original
+    of each of these.
+    """
 
     own: Dict[str, Listed]
     originals: Dict[str, Listed]
     original_of: Dict[str, str]
 
     def beside(self, there: Dict[str, Set[State]]) -> Dict[str, Listed]:
-        """The tests by the names of a log: that of an earlier run has a converted test by its own names, others have its original."""
+        """Returns the tests by the names of a log: that of an earlier run has a converted test by its own name, others have its original.
+        """
         chosen = {}
         for name, listed in self.own.items():
             original, seen = self.original_of.get(name), there.get(name)
@@ -103,13 +108,13 @@ class Here(NamedTuple):
 
 
 def is_own(own: Listed, original: Listed, seen: Set[State]) -> bool:
-    """Whether the states of a log are those of a converted test by its own names, and not those of its original."""
+    """Returns whether the states of a log are those of a converted test by its own names, and not those of its original."""
     names = names_of(seen)
     return seen == own.states or names == names_of(own.states) and names != names_of(original.states)
 
 
 def listed_by(reports: Iterable[Tuple[str, str]]) -> Here:
-    """The states of reports of lw, each with the text of its test."""
+    """Returns the states of reports of lw, each with the text of its test."""
     here = Here({}, {}, {})
     translated: Dict[str, Translated] = {}
     for text, report in reports:
@@ -132,8 +137,9 @@ def listed_by(reports: Iterable[Tuple[str, str]]) -> Here:
 
 
 def add_converted(here: Here, report: str, tests: Iterable[Tuple[str, str]], tries: int) -> None:
-    """Adds the report of a file that was converted for this run: by its own report, and by its tests of lw with theirs, if it has any. A limit of
-    tries is 0 if there is none."""
+    """Adds the report of a file that was converted for this run: by its own report, and by its tests of lw with theirs, if it has any. A
+    limit of tries is 0 if there is none.
+    """
     for name, states in states_in(report.splitlines()).items():
         is_other = name in here.own and here.own[name].states != states
         here.own[name] = Listed(states, why=TWO_FILES if is_other else "", tries=tries)
@@ -144,18 +150,18 @@ def add_converted(here: Here, report: str, tests: Iterable[Tuple[str, str]], tri
 
 
 def named(site: str) -> Tuple[str, str]:
-    """The thread and the name of a site, the thread empty if it is a location."""
+    """Returns the thread and the name of a site; the thread is empty if it is a location."""
     thread, _, name = site.rpartition(":")
     return thread, name
 
 
 def on_names(states: Iterable[State], names: Set[str]) -> Set[State]:
-    """What states say of some names."""
+    """Returns what states say of some names."""
     return {frozenset(atom for atom in state if atom.rpartition("=")[0] in names) for state in states}
 
 
 def differences(listed: Here, there: Dict[str, Set[State]]) -> Iterator[Difference]:
-    """The tests that both have, and whose states differ; and those that only one has."""
+    """Yields the tests that both have and whose states differ, and those that only one has."""
     here = listed.beside(there)
     for name in sorted({*here, *there}):
         if name not in there:
@@ -169,7 +175,7 @@ def differences(listed: Here, there: Dict[str, Set[State]]) -> Iterator[Differen
 
 
 def difference(name: str, listed: Listed, seen: Set[State]) -> Iterator[Difference]:
-    """How the states of a test that both have differ, if they do."""
+    """Yields how the states of a test that both have differ, if they do."""
     names = names_of(seen)
     states = on_names(listed.states, names) if seen else listed.states
     if seen and listed.states and (names - names_of(listed.states) or names_of(listed.states) - names - listed.extra):
@@ -182,14 +188,14 @@ def difference(name: str, listed: Listed, seen: Set[State]) -> Iterator[Differen
 
 
 def told(it: Difference) -> str:
-    """The lines that tell of a difference."""
+    """Returns the lines that report a difference."""
     lines = [f"{it.name}: {it.why or f'missing {len(it.missing)}, too much {len(it.too_much)}'}"]
     lines += [f"  missing: {line}" for line in it.missing] + [f"  too much: {line}" for line in it.too_much]
     return "".join(f"{line}\n" for line in lines)
 
 
 def told_of_machine(it: Difference) -> str:
-    """The lines that tell of a test that a machine ran."""
+    """Returns the lines that report a test that a machine ran."""
     counts = f"{len(it.missing)} states were seen that are not listed, {len(it.too_much)} are listed and were not seen"
     lines = [f"{it.name}: {it.why or counts}"] + [f"  seen and not listed: {line}" for line in it.missing]
     return "".join(f"{line}\n" for line in lines)

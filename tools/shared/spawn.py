@@ -1,5 +1,6 @@
-"""Runs of the program, many side by side, each a process of its own that reads its file itself. Little is imported here, so that the
-processor time goes to the program."""
+"""Runs the program many times in parallel, each run a process of its own that reads its file itself. Little is imported here, so that the
+processor time goes to the program.
+"""
 from __future__ import annotations
 
 import os
@@ -8,17 +9,17 @@ from collections import namedtuple
 from shared.home import HOME, PROGRAM
 
 IS_CURRENT = 'home=$1; . "$home/tools/program/program.sh"; use_program "$2"; is_current 2>/dev/null'
-# A file's run: what is printed, on whichever stream, the exit status, and the seconds of processor time.
+# A file's run: what is printed, on either stream, the exit status, and the seconds of processor time.
 Run = namedtuple("Run", "file out status seconds")
 
 
 def can_spawn() -> bool:
-    """Whether this system starts processes as it is done here."""
+    """Returns whether this system starts processes as it is done here."""
     return hasattr(os, "posix_spawn")
 
 
 def spawned(file: str, words: list) -> tuple:
-    """Starts a command on a file: the process, and the end of the pipe that both its streams go to."""
+    """Starts a command on a file. Returns the process, and the end of the pipe to which both its streams go."""
     end, other_end = os.pipe()
     streams = [(os.POSIX_SPAWN_OPEN, 0, file, os.O_RDONLY, 0), (os.POSIX_SPAWN_DUP2, other_end, 1), (os.POSIX_SPAWN_DUP2, other_end, 2)]
     try:
@@ -31,15 +32,16 @@ def spawned(file: str, words: list) -> tuple:
 
 
 def collected(file: str, process: int, printed: list) -> Run:
-    """The run of a process that has printed all."""
+    """Returns the run of a process that has printed everything."""
     _, status, used = os.wait4(process, 0)
     code = os.WEXITSTATUS(status) if os.WIFEXITED(status) else 4
     return Run(file, b"".join(printed).decode(), code, used.ru_utime + used.ru_stime)
 
 
 def runs(jobs: list, tell=lambda _file: None, program: str = PROGRAM) -> list:
-    """The runs of all jobs, in their sequence: a job is a file, and the words of a command of the program. A run that does not start has no
-    status."""
+    """Returns the runs of all jobs, in their order: a job is a file, and the arguments of a command of the program. A run that does not
+    start has no status.
+    """
     import select
 
     waiting, done = iter(range(len(jobs))), [None] * len(jobs)
@@ -76,7 +78,7 @@ def runs(jobs: list, tell=lambda _file: None, program: str = PROGRAM) -> list:
 
 
 def is_current(name: str = "lw") -> bool:
-    """Whether the program of this name is there and is that of the sources, as ./lw and ./beyond ask too."""
+    """Returns whether the program of this name exists and is that of the present sources, as ./lw and ./beyond check too."""
     if not can_spawn():
         return False
     try:

@@ -18,7 +18,7 @@ class Unread(BaseException):
 
 
 class Unwritten(BaseException):
-    """The output can't be written, and why."""
+    """The output cannot be written, and why."""
 
 
 class Output(io.TextIOWrapper):
@@ -29,7 +29,7 @@ class Output(io.TextIOWrapper):
         return self.guarded(super().write, text)
 
     def flush(self):
-        """Writes what was kept."""
+        """Writes what is buffered."""
         return self.guarded(super().flush)
 
     @staticmethod
@@ -44,8 +44,9 @@ class Output(io.TextIOWrapper):
 
 
 def guarded_output(stream, mode):
-    """A stream of output as an `Output`. If it was closed when the command started, it is one of the null device, opened in a mode: for
-    reading, so that each write fails, or for writing."""
+    """Returns a stream of output as an `Output`. If it was closed when the command started, it is one of the null device, opened in a mode:
+    for reading, so that each write fails, or for writing.
+    """
     if stream is None:
         return Output(io.BufferedWriter(io.FileIO(os.open(os.devnull, mode), "w")), encoding="utf-8")
     how = {"encoding": stream.encoding, "errors": stream.errors, "line_buffering": stream.line_buffering}
@@ -53,7 +54,7 @@ def guarded_output(stream, mode):
 
 
 def drop_output():
-    """From here on what is printed goes nowhere, also what the interpreter writes at its end."""
+    """Discards all further output, also what the interpreter writes at its end."""
     nowhere = os.open(os.devnull, os.O_WRONLY)
     for stream in (sys.stdout, sys.stderr):
         os.dup2(nowhere, stream.fileno())
@@ -61,7 +62,7 @@ def drop_output():
 
 
 def run(main, usage=None):
-    """Runs the `main` of a command. `usage` is the head comment, of a command that leaves `--help` to this. Returns the exit status."""
+    """Runs the `main` of a command. `usage` is the module docstring, of a command that leaves `--help` to this. Returns the exit status."""
     sys.stdout = guarded_output(sys.stdout, os.O_RDONLY)
     sys.stderr = guarded_output(sys.stderr, os.O_WRONLY)
     try:
