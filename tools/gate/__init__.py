@@ -1,1 +1,1 @@
-"""What the test command looks at beside `rt ci`."""
+"""What the test command checks beside `rt ci`."""

@@ -13,7 +13,7 @@ from shared.home import close
 
 
 def counted(name):
-    """An assertion of `unittest`, which is counted."""
+    """Returns an assertion of `unittest` that is counted."""
 
     def compare(self, *values, **more):
         self.made += 1
@@ -36,7 +36,7 @@ class Case(unittest.TestCase):
 
 
 class Count(unittest.TestResult):
-    """What has failed, and how many assertions have held."""
+    """The failures, and the number of assertions that held."""
 
     held = 0
 
@@ -46,12 +46,12 @@ class Count(unittest.TestResult):
 
 
 def comparisons(module):
-    """All tests of a module, as tools/check_documents.py has it: what is compared, what is wanted, and what is told."""
+    """Returns all comparisons of a module's tests, for tools/check_documents.py: what is compared, what is expected, and what was found."""
     yield from compared(unittest.defaultTestLoader.loadTestsFromModule(module))
 
 
 def compared(suite):
-    """The same of some tests."""
+    """Returns the same for some tests."""
     count = Count()
     suite.run(count)
     yield from [("an assertion", "holds", "holds")] * count.held

@@ -33,33 +33,33 @@ from search.reports import report_of
 from shared.answers import MOST_STATES
 from shared.home import BEYOND, HOME, PROGRAM, close
 
-# A test of bench/beyond/INDEX.md with more states than this is not listed here: it takes too long.
+# A test of bench/beyond/INDEX.md with more states than this is not listed here, since it takes too long.
 MOST_VISITED = 5_000_000
 LARGE_BUDGET = 100_000_000
 # A search that takes more than two seconds.
 LONG_SEARCH = "sb4own-x86"
-# The most states that a search of an example within the limits may visit.
+# The maximal number of states that a search of an example within the limits may visit.
 EXAMPLE_BUDGET = 200_000
-# Of a longer list only so many schedules are replayed.
+# The maximal number of schedules of a list that are replayed.
 MOST_REPLAYS = 40
 FAULTS = ("", "SRC", "X86_64 A\n", "SRC A {} P0; x := ; exists (true)", "X86 A {} P0; MOV EAX,$x; exists (true)", "x" * 65537)
 ROW = re.compile(r"^\| (\S+) \| ([\d,]+) \| ([\d,]+) \| ([\d,]+) \| (.*) \| ([0-9a-f]{16}) \|$", re.M)
 
 
 def run(words, text):
-    """What a command prints on both streams, and its exit status."""
+    """Returns what a command prints on both streams, and its exit status."""
     ran = subprocess.run(words, input=text.encode(), capture_output=True, check=False, timeout=300)
     return ran.stdout.decode(), ran.stderr.decode(), ran.returncode
 
 
 def lines_of_schedules(listed):
-    """The states of a list of schedules, each with its schedule."""
+    """Returns the states of a list of schedules, each with its schedule."""
     lines = listed.splitlines()[2:]
     return list(zip(lines[::2], lines[1::2]))
 
 
 def state_in(page, state):
-    """The state that a replay's page has, of the registers and locations of another one."""
+    """Returns the state of a replay's page, with the registers and locations of another state."""
     lines = page.splitlines()
     registers = {it[1]: dict(re.findall(r"(\w+)=(\d+)", it)) for it in lines if re.match(r"P\d at ", it)}
     content = dict(re.findall(r"(\w+)=(\d+)", lines[-1]))
@@ -75,7 +75,7 @@ def state_in(page, state):
 
 
 def check_schedules(name, text):
-    """The schedules of a search, by replays: each ends, and in its state."""
+    """Checks the schedules of a search by replays: each ends, and in its state."""
     told, _, status = run([BEYOND, "--search", "schedules"], text)
     yield f"beyond --search schedules, {name}: status", 0, status
     replayed = run([PROGRAM, "compile"], text)[0] if text.startswith("SRC") else text
@@ -85,12 +85,12 @@ def check_schedules(name, text):
 
 
 def states_of_schedules(listed):
-    """The lines of a list of schedules that say which states it has."""
+    """Returns the lines of a list of schedules that say which states it has."""
     return listed.splitlines()[:2] + [state for state, _ in lines_of_schedules(listed)]
 
 
 def check_within(name, text):
-    """A test within the limits: the bytes of `lw`; and the same states by a search."""
+    """Checks a test within the limits: the bytes of `lw`; and the same states by a search."""
     for command in ("states", "schedules"):
         yield f"beyond {command}, {name}", run([PROGRAM, command], text), run([BEYOND, command], text)
     told = run([BEYOND, "--method", "states"], text)[1]
@@ -103,14 +103,14 @@ def check_within(name, text):
 
 
 def check_refused(name, text):
-    """A test that `lw` refuses for size."""
+    """Checks a test that `lw` refuses for size."""
     for command in ("states", "schedules"):
         _, line, status = run([PROGRAM, command], text)
         yield f"lw {command}, {name}", (True, 3), (line.startswith("lw: limit "), status)
 
 
 def check_budget(name, text, count):
-    """The budget of a test that is searched: so many states are enough, and one less is not."""
+    """Checks the budget of a test that is searched: `count` states are sufficient, and one fewer is not."""
     told = run([BEYOND, "--budget", str(count), "--method", "states"], text)
     yield f"beyond --budget {count}, {name}", (f"beyond: listed by a search of {count} states\n", 0), told[1:]
     told = run([BEYOND, "--budget", str(count - 1), "schedules"], text)
@@ -118,19 +118,20 @@ def check_budget(name, text, count):
 
 
 def rows():
-    """The rows of bench/beyond/INDEX.md: of each test the orders, the states that a search visits, those of its report, what its report
-    observes, and the checksum of that."""
+    """Returns the rows of bench/beyond/INDEX.md: for each test the orders, the states that a search visits, those of its report, what its
+    report observes, and the checksum of that.
+    """
     number = lambda word: int(word.replace(",", ""))
     return [(it[0], *map(number, it[1:4]), *it[4:]) for it in ROW.findall(read("bench/beyond/INDEX.md"))]
 
 
 def checksum(report):
-    """The first 16 digits of a report's SHA-256."""
+    """Returns the first 16 digits of a report's SHA-256."""
     return hashlib.sha256(report.encode()).hexdigest()[:16]
 
 
 def check_row(name, orders, visited, states, observed, sum_of_report):
-    """A row of bench/beyond/INDEX.md."""
+    """Checks a row of bench/beyond/INDEX.md."""
     text = read(f"bench/beyond/{name}.litmus")
     test = plain.read_test(text)
     yield f"bench/beyond/{name}, its orders", (True, orders), (orders > 2**20, plain.orders_of(test)[1])
@@ -148,12 +149,12 @@ def check_row(name, orders, visited, states, observed, sum_of_report):
 
 
 def report_by_search(test):
-    """The report of a test by the search of tools/beyond.py."""
+    """Returns the report of a test by the search of tools/beyond.py."""
     return report_of(test, Search(test).run(MOST_STATES, lambda *_: None))
 
 
 def check_past(name, text, report_by):
-    """A test that `lw` refuses for size, whose report this function makes too."""
+    """Checks a test that `lw` refuses for size, whose report this function computes too."""
     yield from check_refused(name, text)
     report, line, status = run([BEYOND, "--method", "states"], text)
     yield f"beyond states, {name}", (report_by(plain.read_test(text)), 0), (report, status)
@@ -162,19 +163,19 @@ def check_past(name, text, report_by):
 
 
 def check_fault(text):
-    """A text that is no test."""
+    """Checks a text that is no test."""
     for words in (["states"], ["--search", "--method", "schedules"]):
         yield f"beyond {' '.join(words)}, {text[:40]!r}", run([PROGRAM, words[-1]], text), run([BEYOND, *words], text)
 
 
 def check_index():
-    """bench/beyond/INDEX.md has each test once."""
+    """Checks that bench/beyond/INDEX.md has each test, without duplicates."""
     files = sorted(os.path.basename(it)[: -len(".litmus")] for it in glob.glob(f"{HOME}/bench/beyond/*.litmus"))
     yield "bench/beyond/INDEX.md has each test", files, sorted(it[0] for it in rows())
 
 
 def texts_of_tables():
-    """The texts of tables/ on lists: of each its file, its text, and whether `lw` refuses it for size."""
+    """Returns the texts of tables/ on lists: the file of each, its text, and whether `lw` refuses it for size."""
     for path in sorted(glob.glob(f"{HOME}/tables/reports/*") + glob.glob(f"{HOME}/tables/schedules/*")):
         with open(path, encoding="utf-8", newline="\n") as it:
             _, text, told = check_tables.case_in(it.read())
@@ -209,7 +210,7 @@ def run_on_terminal(path):
 
 
 def check_seconds():
-    """A search that takes long shows on a terminal how long, and leaves nothing of that; a short one shows nothing."""
+    """Checks that a search that takes long shows on a terminal how long, and leaves nothing of that; and that a short one shows nothing."""
     made, shown = run_on_terminal("examples/beyond/3.TryLock.litmus")
     yield "beyond on a terminal, a short search", "\r\x1b[Kbeyond: listed by a search of 65 states\r\n", shown
     yield "its report", run([BEYOND, "states"], read("examples/beyond/3.TryLock.litmus"))[0], made
@@ -220,7 +221,7 @@ def check_seconds():
 
 
 def checks():
-    """All checks: functions with their arguments, each of which is one thing to do. What takes long comes first."""
+    """Returns all checks: functions with their arguments. What takes long comes first."""
     yield (check_index,)
     yield (check_seconds,)
     for row in sorted(rows(), key=lambda it: it[2], reverse=True):
@@ -238,7 +239,7 @@ def checks():
 
 
 def comparisons():
-    """All comparisons: what is compared, what is wanted, and what is told."""
+    """Returns all comparisons: what is compared, what is expected, and what was found."""
     for check, *words in checks():
         yield from check(*words)
 

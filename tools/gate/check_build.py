@@ -23,7 +23,7 @@ from program import build
 from shared.home import HOME
 
 CHANGED = "lw_fence"
-# `rt lib` keeps, as the real one does, a sum of the sources that a library was built of, and builds nothing where that is the same.
+# `rt lib` stores, as the real one does, a checksum of the sources of which a library was built, and builds nothing if that is the same.
 RT = r"""#!/bin/sh
 sum=$(cat ../*/src/*.rt | cksum)
 case $1 in
@@ -57,7 +57,7 @@ esac
 
 
 class Place:
-    """A copy of what ./lw is made of, with the stand-in first on PATH."""
+    """A copy of what ./lw consists of, with the stand-in first on PATH."""
 
     def __init__(self, room):
         self.home, self.kit = f"{room}/home", f"{room}/kit"
@@ -70,7 +70,7 @@ class Place:
         for it in ("crates.txt", "lw", "beyond"):
             shutil.copy(f"{HOME}/{it}", f"{self.home}/{it}")
         self.crates = [it.name for it in build.crates_of_program()]
-        # Those that only the other program stands on.
+        # Those on which only the other program depends.
         self.further = [it.name for it in build.crates_of_program(build.BEYOND) if it.name not in self.crates]
         for it in self.crates + self.further:
             os.makedirs(f"{self.home}/crates/{it}/src")
@@ -87,12 +87,12 @@ class Place:
         return subprocess.Popen([f"{self.home}/{words[0]}", *words[1:]], start_new_session=True, **{**how, **more})
 
     def run(self, *words):
-        """What ./lw, or a command, prints on both streams, and what it has asked the stand-in to do."""
+        """Returns what ./lw, or a command, prints on both streams, and what it has asked the stand-in to do."""
         told = self.start(words or ("lw", "states")).communicate(b"text\n", timeout=60)
         return told[0], told[1].decode(), self.record()
 
     def record(self):
-        """The record since it was last looked at."""
+        """Returns the record since the last call."""
         path = f"{self.kit}/record"
         if not os.path.exists(path):
             return []
@@ -113,7 +113,7 @@ def begun(record):
 
 
 def is_in_order(record):
-    """Whether each crate began behind the ends of those that it stands on."""
+    """Returns whether each crate started after the ends of those on which it depends."""
     below = {it.name: [other.name for other in it.below] for it in build.crates_of_program()}
     return all(
         f"ends {it}" in record[:at] or f"begins {it}" not in record
@@ -124,7 +124,7 @@ def is_in_order(record):
 
 
 def above(crate):
-    """The crate, and all of the program that stand on it."""
+    """Returns the crate, and all crates of the program that depend on it."""
     return sorted(it.name for it in build.crates_of_program() if it.name == crate or crate in [other.name for other in it.all_below()])
 
 
@@ -146,7 +146,7 @@ def check_builds(place):
 
 
 def check_copies(place, room):
-    """A tree with the same content answers at once: at other times, with other modes, elsewhere, without rt, for who may only read."""
+    """Checks that a tree with the same content answers at once: at other times, with other modes, elsewhere, without rt, and read-only."""
     os.utime(f"{place.home}/crates/{CHANGED}/src/lib.rt")
     yield "a file of another time with the same content has nothing built", (ANSWER, "", []), place.run()
     subprocess.run(["chmod", "-R", "go-rwx", place.home], check=True)
@@ -192,7 +192,7 @@ def check_failures(place):
 
 
 def on_terminal(place, output):
-    """What a call shows on a terminal, standard error, and what it writes to standard output."""
+    """Returns what a call shows on a terminal, standard error, and what it writes to standard output."""
     ours, theirs = pty.openpty()
     ran = place.start(stdin=subprocess.PIPE, stdout=output, stderr=theirs)
     os.close(theirs)
@@ -224,7 +224,7 @@ def check_first_answer(place, room):
 
 
 def check_other_program(place, room):
-    """./beyond, when ./lw is built."""
+    """Checks ./beyond, when ./lw is built."""
     place.run()
     file = f"{room}/a test"
     place.write(file, "in a file\n")
@@ -247,7 +247,7 @@ def check_other_program(place, room):
 
 
 def comparisons():
-    """All comparisons: what is compared, what is wanted, and what is told."""
+    """Returns all comparisons: what is compared, what is expected, and what was found."""
     with tempfile.TemporaryDirectory() as room:
         place = Place(room)
         checks = check_builds(place), check_copies(place, room), check_failures(place), check_first_answer(place, room)

@@ -27,27 +27,27 @@ LIMITS = (("four threads", "one to four of them"), ("eight locations", "There ar
 
 
 def ask(lines):
-    """What the program tells of a test when it compiles it, which reads all of it, and the exit status."""
+    """Returns what the program prints about a test when it compiles it, which reads all of it, and the exit status."""
     ran = subprocess.run([PROGRAM, "compile"], input="".join(f"{it}\n" for it in lines).encode(), capture_output=True, check=False)
     return ran.stderr.decode(), ran.returncode
 
 
 def tests_of(card):
-    """The lines of the two tests, which stand side by side."""
+    """Returns the lines of the two tests, which are next to each other."""
     block = next(lines for kind, lines in markdown.blocks(card) if kind == "fence")
     at = block[0].index("X86")
     return {"SRC": [it[:at].rstrip() for it in block], "X86": [it[at:].rstrip() for it in block]}
 
 
 def put(test, written):
-    """A test with rows in place of its first row, or with a question in place of its question."""
+    """Returns a test with rows in place of its first row, or with a question in place of its question."""
     if written.startswith(" "):
         return [*test[:FIRST_ROW], *written.split("\n"), *test[FIRST_ROW + 1 :]]
     return [*test[:QUESTION], written]
 
 
 def tables_of(card):
-    """The rows of the tables, each with its cells, without their headers."""
+    """Returns the rows of the tables, each with its cells, without their headers."""
     return [[markdown.cells(it) for it in lines[2:]] for kind, lines in markdown.blocks(card) if kind == "table"]
 
 
@@ -56,7 +56,7 @@ def spans(cell):
 
 
 def comparisons():
-    """All comparisons: what is compared, what is wanted, and what is told."""
+    """Returns all comparisons: what is compared, what is expected, and what was found."""
     card, form = read("docs/CARD.md"), " ".join(read("docs/FORMAT.md").split())
     tests = tests_of(card)
     statements, faults = tables_of(card)

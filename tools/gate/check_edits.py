@@ -21,7 +21,7 @@ MOST = 200
 
 
 def edits():
-    """The wrong bodies of all crates, as CRATE/NAME.edit."""
+    """Returns the wrong bodies of all crates, as CRATE/NAME.edit."""
     found = []
     for crate in sorted(os.listdir(f"{HOME}/crates")):
         folder = f"{HOME}/crates/{crate}/must-fail"
@@ -31,13 +31,13 @@ def edits():
 
 
 def told_in(log):
-    """What the log tells of each wrong body."""
+    """Returns what the log says of each wrong body."""
     with open(log, encoding="utf-8", errors="replace") as it:
         return dict(re.findall(r"^rt: must-fail (\S+\.edit): (.*)$", it.read(), re.M))
 
 
 def function_at(path, line):
-    """The name of the function of a source file in which a line stands, or before which it stands as an attribute."""
+    """Returns the name of the function of a source file that contains a line, or to which the line belongs as an attribute."""
     with open(path, encoding="utf-8") as it:
         lines = it.read().split("\n")
     while lines[line - 1].lstrip().startswith("#["):
@@ -47,7 +47,7 @@ def function_at(path, line):
 
 
 def fault_of(edit, told):
-    """What is wrong with how a wrong body was refused, or None."""
+    """Returns what is wrong with how a wrong body was refused, or `None`."""
     crate, name = edit.split("/")
     with open(f"{HOME}/crates/{crate}/must-fail/{name}", encoding="utf-8") as it:
         text = it.read()
@@ -61,8 +61,8 @@ def fault_of(edit, told):
         return told
     *modules, function = head[2].split("::")
     if at[1].startswith("proofs/"):
-        # (of functions that call each other, the folder of the first, or that of their cycle's name, is marked, and the goals in it
-        # begin with their function's name)
+        # (For functions that call each other, the folder of the first, or that of their cycle's name, is marked, and the names of goals in
+        # it start with their function's name.)
         folder, home = os.path.dirname(at[1]), "/".join(["proofs", *modules])
         is_of_cycle = folder.startswith(f"{home}/+") and head[3].startswith(f"{function}-")
         is_there = folder.replace("+", "") == f"{home}/{function}" or is_of_cycle

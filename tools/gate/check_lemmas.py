@@ -24,9 +24,9 @@ from shared.home import HOME
 
 IMPORTS = re.compile(r"\s*(unfoldable )?(pub )?use ")
 ANSWERS = {"Answers.antt", "Invariants.antt", "Proof.antt"}
-# What a statement has that claims something.
+# The signs of a statement that claims something.
 CLAIMS = {"≡", "≢", "<", "≤", "⊎", "×", "↔", "⊥", "→"}
-# What nothing names, or what stands twice, and why.
+# What nothing names, or what appears twice, and why.
 ALLOWED = {
     "Rattle.lw_base.specs.Types.TokenList": "a row of tokens and a table of names are lists of texts, and are not meant for one another",
     "Rattle.lw_tso.specs.Runs.InitialWords": "where a run begins is of the shape of an outcome, and is none",
@@ -40,7 +40,7 @@ def is_proof(file):
 
 
 def answers(declaration):
-    """Whether a declaration answers a goal."""
+    """Returns whether a declaration answers a goal."""
     return declaration.is_public and os.path.basename(declaration.file.path) in ANSWERS and not declaration.scope
 
 
@@ -48,13 +48,13 @@ def answers(declaration):
 
 
 def first_words(word):
-    """A word of a text, and what it may be the field or the module of."""
+    """Returns a word of a text, and what it may be the field or the module of."""
     parts = word.split(".")
     return {word, *(".".join(parts[:many]) for many in range(1, len(parts)))}
 
 
 class Named:
-    """Which names are named, and where."""
+    """Which names are used, and where."""
 
     def __init__(self, files):
         self.files, self.abroad = files, set()
@@ -63,7 +63,9 @@ class Named:
         self.code = code_names()
 
     def read_imports(self, file):
-        """What a file names of others: each name that it brings in, but for those that it only passes on, and what it names by a path."""
+        """Reads what a file uses of others: each name that it imports, except those that it only exports again, and what it names by a
+        path.
+        """
         bodies = [it for it in file.sentences if not IMPORTS.match(it.text)]
         words = {part for it in bodies for word in words_of(it) for part in first_words(word)}
         for name, (module, there) in file.brings.items():
@@ -87,12 +89,12 @@ class Named:
 
 
 def is_in(name, sentence):
-    """Whether a sentence names a name, or a field of it."""
+    """Returns whether a sentence names a name, or a field of it."""
     return any(it == name or it.startswith(f"{name}.") for it in words_of(sentence))
 
 
 def sentences_under(declaration):
-    """The sentence under which a declaration stands, and all that stands under it."""
+    """Returns the sentence that contains a declaration, and all that it contains."""
     sentences = declaration.file.sentences
     at = sentences.index(declaration.owner)
     found = [declaration.owner]
@@ -104,7 +106,7 @@ def sentences_under(declaration):
 
 
 def code_names():
-    """The names of proofs that .rt files have, as a module and a name."""
+    """Returns the names of proofs in .rt files, as a module and a name."""
     found = set()
     for crate in sorted(os.listdir(f"{HOME}/crates")):
         for at, _, names in os.walk(f"{HOME}/crates/{crate}/src"):
@@ -115,7 +117,7 @@ def code_names():
 
 
 def names_of_code(crate, text):
-    """The names of proofs in the text of a crate's file: in attributes, and in `ghost use` items."""
+    """Returns the names of proofs in the text of a crate's file: in attributes, and in `ghost use` items."""
     for home, path in re.findall(r"\b(\w+)::proofs::([\w:'-]+)", text):
         yield split_path(crate if home == "crate" else home, path.replace("::", "."))
     for home, path, group in re.findall(r"Rattle\.(\w+)\.proofs\.([\w.'-]+?)(?:\.\{([^}]*)\})?[;\s,)]", text):
@@ -129,7 +131,7 @@ def split_path(crate, path):
 
 
 def unnamed(files):
-    """What nothing names."""
+    """Returns what nothing names."""
     named = Named(files)
     for file in filter(is_proof, files.all):
         for it in file.declarations:
@@ -137,7 +139,7 @@ def unnamed(files):
                 yield it
 
 
-# What stands twice.
+# What appears twice.
 
 
 class Statement:
@@ -159,7 +161,7 @@ class Statement:
         self.words.append(word)
 
     def add(self, nodes):
-        """Adds words and groups, in their sequence: binders one by one, without arrows behind them."""
+        """Adds words and groups, in their order: binders one by one, without arrows after them."""
         for at, node in enumerate(nodes):
             if isinstance(node, Group):
                 self.add_group(node)
@@ -186,7 +188,7 @@ class Statement:
 
 
 def parameters(declaration):
-    """The binders of the modules that a declaration stands in."""
+    """Returns the binders of the modules around a declaration."""
     found = []
     for head in declaration.scope:
         found += [it for it in grouped(words_of(head)) if isinstance(it, Group)]
@@ -207,7 +209,7 @@ def names_in(nodes):
 
 
 def bound_by_modules(declaration, nodes):
-    """The binders of modules that a statement rests on: those whose names it has, and premises that say something of these."""
+    """Returns the binders of modules on which a statement depends: those whose names it has, and premises about these."""
     groups = parameters(declaration)
     wanted = set(names_in(nodes))
     told = None
@@ -222,13 +224,13 @@ def bound_by_modules(declaration, nodes):
 
 
 def is_definition(declaration):
-    """Whether a declaration says what something is, and not that something holds."""
+    """Returns whether a declaration says what something is, and not that something holds."""
     first = [it for it in words_of(declaration.head)[:3] if it not in MARKS][0]
     return declaration.is_definition or first in ("record", "data") or not is_proof(declaration.file) and "/laws/" not in declaration.file.path
 
 
 def statement_of(files, declaration):
-    """What a declaration says, as words."""
+    """Returns what a declaration says, as words."""
     nodes = grouped(words_of(declaration.head))
     if is_definition(declaration):
         for part in declaration.parts:
@@ -258,7 +260,9 @@ def before_equals(part):
 
 
 def is_compared(declaration):
-    """Whether a declaration may not stand twice: not a module's own shorthand, a number, or what has no premise and claims nothing."""
+    """Returns whether a declaration may not appear twice: it is not a module's own abbreviation, a number, or without a premise and a
+    claim.
+    """
     if declaration.owner is not None or answers(declaration):
         return False
     if is_definition(declaration):
@@ -268,7 +272,7 @@ def is_compared(declaration):
 
 
 def twice(files):
-    """The declarations that say the same, in groups."""
+    """Returns the declarations that say the same, in groups."""
     groups = defaultdict(list)
     for file in files.all:
         for it in filter(is_compared, file.declarations):
@@ -280,7 +284,7 @@ def twice(files):
 
 
 def uncommented(files):
-    """The `pub` lemmas of proofs/api/ with no comment above them."""
+    """Returns the `pub` lemmas of proofs/api/ without a comment above them."""
     for file in files.all:
         if "/proofs/api/" in file.path:
             lines = file.text.split("\n")
@@ -294,7 +298,7 @@ def full_name(declaration):
 
 
 def faults(files):
-    """A line for each that is wrong."""
+    """Returns a line for each fault."""
     for it in unnamed(files):
         if full_name(it) not in ALLOWED:
             yield f"{it.place}: nothing names {it.name}"
@@ -307,7 +311,7 @@ def faults(files):
 
 
 def comparisons():
-    """For tools/check_documents.py."""
+    """Returns all comparisons, for tools/check_documents.py."""
     files = Files()
     yield "there are lemmas to look at", True, sum(len(it.declarations) for it in files.all) > 5000
     yield "lemmas: what nothing names, what stands twice, what has no comment (tools/gate/check_lemmas.py)", [], list(faults(files))

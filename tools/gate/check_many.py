@@ -59,14 +59,14 @@ TOLD_OF_LOG = """SB-x86: missing 1, too much 2
 
 
 def observation_on_page(name):
-    """The states and the observation that an example's page tells."""
+    """Returns the states and the observation of an example's page."""
     page = read(f"examples/{name}.page")
     observation = rf"^Observation {re.escape(os.path.basename(name))} (.*)$"
     return re.search(r"^States (\d+)$", page, re.M)[1], re.search(observation, page, re.M)[1]
 
 
 def check_tables():
-    """The tables of run_all.py."""
+    """Checks the tables of run_all.py."""
     wanted = {name: observation_on_page(name) for name, _ in examples()}
     told, _, status = run(["run_all.py", "examples", "--as", "csv"])
     rows = list(csv.DictReader(io.StringIO(told)))
@@ -81,7 +81,7 @@ def check_tables():
 
 
 def check_past_limits():
-    """Tests that lw refuses for their size: by the program beyond, and by the search that is not proved."""
+    """Checks tests that lw refuses for their size: by the program beyond, and by the search that is not proved."""
     if not spawn.is_current():
         return
     files = sorted(glob.glob(f"{HOME}/examples/beyond/*.litmus"))
@@ -97,7 +97,7 @@ def check_past_limits():
 
 
 def check_faults():
-    """Files without a report."""
+    """Checks files without a report."""
     out, err, status = run(["run_all.py", "tools/herd/tests/Less.litmus", "nowhere", "examples/SB.litmus"])
     wanted = "tools/herd/tests/Less.litmus:6:2: 'JL' is no instruction that is read"
     told = [line.partition(";")[0] for line in err.splitlines() if not line.startswith("run_all:")]
@@ -111,7 +111,7 @@ def check_faults():
 
 
 def check_against():
-    """Comparisons with an earlier run, and with a log of herd's."""
+    """Checks comparisons with an earlier run, and with a log of herd's."""
     with tempfile.TemporaryDirectory(prefix="lw-many-") as room:
         log = os.path.join(room, "log")
         with open(log, "w", encoding="utf-8") as it:
@@ -130,7 +130,7 @@ def check_against():
 
 
 def seconds_of(words, text=""):
-    """The processor time of a command of tools/ and of what it starts, and the sum of the times that its table has."""
+    """Returns the processor time of a command of tools/ and of what it starts, and the sum of the times in its table."""
     before = os.times()
     ran = subprocess.run([sys.executable, "-S", *words], input=text.encode(), capture_output=True, cwd=TOOLS)
     after = os.times()
@@ -139,14 +139,14 @@ def seconds_of(words, text=""):
 
 
 def times_of(words, text=""):
-    """How many times the processor time of the programs is taken, at the best of some tries."""
+    """Returns how many times the processor time of the programs a command takes, at the best of several tries."""
     start = "import sys; sys.path.insert(0, '.'); from shared import spawn; spawn.is_current()"
     look = min(seconds_of(["-c", start])[0] - seconds_of(["-c", "import sys"])[0] for _ in range(3))
     return min(used / (programs + max(0.0, look)) for used, programs in (seconds_of(words, text) for _ in range(3)))
 
 
 def check_times():
-    """The processor time of run_all.py beside that of the program."""
+    """Compares the processor time of run_all.py with that of the program."""
     if not spawn.is_current():
         return
     with tempfile.TemporaryDirectory(prefix="lw-many-") as room:
@@ -162,7 +162,7 @@ def check_times():
 
 
 def check_search():
-    """The states that beyond.py finds within the limits."""
+    """Checks the states that beyond.py finds within the limits."""
     made = [(f"random {language} {seed}", random_tests.Writer(language, seed).test()) for language, seed in random_tests.jobs(60)]
     for name, text in [*examples(), *made]:
         test = plain.read_test(text)
@@ -175,7 +175,7 @@ def check_search():
 
 
 def check_beyond():
-    """Tests beyond the limits."""
+    """Checks tests past the limits."""
     by = "lw" if os.path.exists(spawn.PROGRAM) else "tools/plain.py"
     for path in sorted(glob.glob(f"{TOOLS}/search/tests/*.litmus")):
         name, test = os.path.basename(path), plain.read_test(read(path))
@@ -201,7 +201,7 @@ def check_beyond():
 
 
 def comparisons():
-    """All comparisons: what is compared, what is wanted, and what is told."""
+    """Returns all comparisons: what is compared, what is expected, and what was found."""
     for check in (check_tables, check_past_limits, check_faults, check_against, check_times, check_search, check_beyond):
         yield from check()
 

@@ -36,7 +36,7 @@ ENDINGS = "", ".antt", ".rt", ".py", ".md", ".txt", ".litmus"
 WORD = re.compile(r"[^\W\d][\w'-]*")
 PATH = re.compile(r"^(?:[\w.+-]+/)+[\w.*+-]*$")
 QUALIFIED = re.compile(r"^(?:(lw_\w+)::)?(\w+(?:::\w+)*)$")
-# What stands for a name.
+# Placeholders for names.
 PLACEHOLDER = re.compile(r"\b(NAME|CRATE|NN|FILE|WORD|KIT)")
 # A link from a name to a file of a crate.
 LINKED_NAME = re.compile(r"\[`([\w'+-]+)`\]\(\.\./(crates/[^)\s]+)\)")
@@ -47,7 +47,7 @@ COMMON = {"where", "impl", "Vec", "String", "Option", "Err", "Ok", "Some", "None
 
 
 def files(*patterns):
-    """The files of some patterns, without what is built."""
+    """Returns the files of some patterns, without what is built."""
     found = [it for pattern in patterns for it in glob.glob(f"{HOME}/{pattern}", recursive=True)]
     return [it for it in found if os.path.isfile(it) and "/out/" not in it]
 
@@ -73,12 +73,12 @@ class Names:
         self.declared = set(re.findall(declared, code)) | set(re.findall(fields, specs + "\n" + code, re.M)) | COMMON
 
     def has_path(self, path):
-        """Whether a file or folder of the repository, of a crate or of some crate is meant by a path."""
+        """Returns whether a path means a file or folder of the repository, of a crate or of some crate."""
         places = [path, f"crates/{path}", f"crates/*/{path}", f"crates/*/specs/{path}", f"crates/*/proofs/{path}", f"docs/{path}"]
         return any(glob.glob(f"{HOME}/{place.rstrip('/')}{ending}") for place in places for ending in ENDINGS)
 
     def members(self, name):
-        """The code of all types, traits and impls of a name."""
+        """Returns the code of all types, traits and impls of a name."""
         opening = re.compile(rf"^(?:pub(?:\(crate\))? )?(?:impl|trait|enum|struct)\b[^\n]*\b{name}\b")
         found = []
         for text in (text for texts in self.code.values() for text in texts):
@@ -91,7 +91,7 @@ class Names:
         return "\n".join(found)
 
     def has_call(self, crate, parts):
-        """Whether a crate, or some crate, declares what the parts of a qualified name say."""
+        """Returns whether a crate, or some crate, declares what the parts of a qualified name say."""
         if crate and crate not in self.crates:
             return False
         *types, last = parts
@@ -102,7 +102,7 @@ class Names:
         return re.search(rf"(?:fn|struct|enum|trait|const) {last}\b|pub use [^;]*\b{last}\b", whole) is not None
 
     def is_there(self, name, in_contracts):
-        """Whether a name is there; None where it is no name that is looked at."""
+        """Returns whether a name exists; `None` if it is no name that is checked."""
         if name in self.crates or PLACEHOLDER.search(name):
             return True
         if OF_KIT.fullmatch(name):
@@ -122,7 +122,7 @@ class Names:
 
 
 def named(text):
-    """What a document has in backticks, each with whether it stands in a column of contracts."""
+    """Returns what a document has in backticks, each with whether it is in a column of contracts."""
     found, contracts = [], False
     for line in text.split("\n"):
         if line.startswith("|"):
@@ -137,13 +137,13 @@ def named(text):
 
 
 def paths_of(text):
-    """The whole paths of files of the repository that a text has, in commands and sentences: those that begin with one of its folders."""
+    """Returns the whole paths of files of the repository in a text, in commands and sentences: those that start with one of its folders."""
     folders = "|".join(sorted(it for it in os.listdir(HOME) if os.path.isdir(f"{HOME}/{it}") and not it.startswith(".")))
     return re.findall(rf"(?<![\w./<-])(?:{folders})/[\w.+/-]*\w(?![\w*/$%{{}}<>])", text)
 
 
 def path_faults(page, text):
-    """The links and whole paths of a page, README.md or one of docs/, that lead to nothing."""
+    """Returns the broken links and whole paths of a page, README.md or one of docs/."""
     folder = os.path.dirname(page)
     for link in dict.fromkeys(re.findall(r"\]\(([^)#:\s]+)(?:#[^)]*)?\)", text)):
         if not os.path.exists(os.path.join(HOME, folder, link)):
@@ -174,12 +174,12 @@ def text_of(path):
 
 
 def crate_rows(text):
-    """The rows of docs/MAP.md's table of crates: each crate with those that it names, in words."""
+    """Returns the rows of docs/MAP.md's table of crates: each crate with those that it names, in words."""
     return dict(re.findall(r"^\| [\w ]+ \| (?!Crate )(\w+) \| [^|]* \| ([^|]*?) \| [^|]*\|$", text, re.M))
 
 
 def table_faults(rows, lines):
-    """Where the table of crates is not as crates.txt. `lines` has what each crate stands on there."""
+    """Returns where the table of crates differs from crates.txt. `lines` has the dependencies of each crate there."""
     for crate in sorted({*rows} ^ {*lines}):
         yield f"docs/MAP.md has {'a' if crate in rows else 'no'} row for {crate}, which crates.txt has{'' if crate in lines else ' not'}"
     above = []
@@ -192,14 +192,14 @@ def table_faults(rows, lines):
 
 
 def logic_faults(text, told):
-    """Where README.md names another logic than what `rt version` prints."""
+    """Returns where README.md names another logic than what `rt version` prints."""
     named_here, there = (re.search(r"\blogic [0-9a-f]{16}\b", it) for it in (text, told))
     if not named_here or there and named_here[0] != there[0]:
         yield f"README.md names '{named_here and named_here[0]}', and `rt version` '{there and there[0]}'"
 
 
 def version():
-    """What `rt version` prints, or nothing where there is none."""
+    """Returns what `rt version` prints, or nothing if there is none."""
     try:
         return subprocess.run(["rt", "version"], capture_output=True, text=True, check=False).stdout
     except OSError:
@@ -207,7 +207,7 @@ def version():
 
 
 def name_faults(names):
-    """The names that are not there, a line each."""
+    """Returns the names that do not exist, a line each."""
     for document in DOCUMENTS:
         for name, in_contracts in dict.fromkeys(named(read(f"{HOME}/docs/{document}.md"))):
             if names.is_there(name, in_contracts) is False:
@@ -215,7 +215,7 @@ def name_faults(names):
 
 
 def faults():
-    """All that documents name and is not there, a line each."""
+    """Returns all that documents name and that does not exist, a line each."""
     found = list(name_faults(Names()))
     for path in ("README.md", *sorted(os.path.relpath(it, HOME) for it in glob.glob(f"{HOME}/docs/*.md"))):
         text = read(f"{HOME}/{path}")

@@ -37,7 +37,7 @@ FIGURE = re.compile(r'<figure data-kind="(\w+)" data-test="([\w-]+)" data-schedu
 LIST = re.compile(r'<pre data-kind="(\w+)" data-test="([\w-]+)">(.*?)</pre>', re.S)
 TEXT = re.compile(r'<text [^>]*?(?: class="([\w ]+)")?>([^<]*)</text>')
 OUTWARD = re.compile(r"https?:|\bsrc=|\bhref=|@import|url\((?!#)|(?<!:)//\w")
-# What slides show of tests before the tasks that are about them: of a text, a list or a picture its kind and its test.
+# What slides show of tests before the tasks about them: the kind and the test of a text, a list or a picture.
 BEFORE = {("code", "A1"), ("code", "A2"), ("states", "A1-turns"), ("state", "A1-turns"), ("state", "Slip")}
 # What the sheet says of task 1, and its slide.
 SAID = "Say why, whatever you answer."
@@ -46,17 +46,17 @@ PAGE = re.compile(rb"/Type\s*/Page\b")
 
 
 def ask(words, text):
-    """What the program prints."""
+    """Returns what the program prints."""
     return subprocess.run([PROGRAM, *words], input=text, stdout=subprocess.PIPE, stderr=subprocess.STDOUT, check=False).stdout.decode()
 
 
 def replayed(text, schedule):
-    """The state that a schedule leads to, by the program."""
+    """Returns the state that a schedule reaches, by the program."""
     return read_state(ask(["replay", schedule], text))
 
 
 def check_page(page):
-    """The page as a whole."""
+    """Checks the page as a whole."""
     titles = re.findall(r'<section class="slide">\n<h2>(.*?)</h2>', page)
     yield "there are twelve slides, each with its own title", (COUNT, COUNT), (len(titles), len(set(titles)))
     yield "the slides are numbered", [f"{at} / {COUNT}" for at in range(1, COUNT + 1)], re.findall(r"<footer>(.*?)</footer>", page)
@@ -75,7 +75,7 @@ def check_page(page):
 
 
 def check_lists(page, tests):
-    """The texts and the lists."""
+    """Checks the texts and the lists."""
     found = LIST.findall(page)
     yield "how many lists there are", True, sum(kind == "states" for kind, _, _ in found) >= 2
     for kind, name, shown in found:
@@ -84,7 +84,7 @@ def check_lists(page, tests):
 
 
 def threads_in(svg):
-    """What a picture of one state shows: of each thread its texts and its entries, and the words of memory."""
+    """Returns what a picture of one state shows: the texts and the entries of each thread, and the words of memory."""
     threads, content = [], None
     for kind, text in TEXT.findall(svg):
         if kind == "title" and re.fullmatch(r"P\d", text):
@@ -103,12 +103,12 @@ def words_of(pairs):
 
 
 def begin_of_buffer(shown):
-    """Where the store buffer begins in what is shown of a thread."""
+    """Returns where the store buffer starts in what is shown of a thread."""
     return shown.index("store buffer") if "store buffer" in shown else len(shown)
 
 
 def comparisons_of_state(what, svg, state):
-    """A picture of one state, beside the state that the program replays."""
+    """Compares a picture of one state with the state that the program replays."""
     threads, content = threads_in(svg)
     yield f"{what}: the words of memory", words_of(state["content"]), content
     yield f"{what}: its threads", len(state["threads"]), len(threads)
@@ -122,7 +122,7 @@ def comparisons_of_state(what, svg, state):
 
 
 def check_figures(page, tests):
-    """The pictures."""
+    """Checks the pictures."""
     found = FIGURE.findall(page)
     yield "how many pictures there are", True, len(found) >= 6
     for kind, name, schedule, svg in found:
@@ -137,7 +137,7 @@ def check_figures(page, tests):
 
 
 def check_command():
-    """The command."""
+    """Checks the command."""
     with tempfile.TemporaryDirectory(prefix="lw-slides-") as room:
         yield "make_slides.py OUT.html", ("", "", 0), run(["make_slides.py", f"{room}/slides.html"])
         with open(f"{room}/slides.html", encoding="utf-8") as it:
@@ -149,7 +149,7 @@ def check_command():
 
 
 def check_browser(room):
-    """The keys, clicks, and the pages of paper."""
+    """Checks the keys, clicks, and the pages of paper."""
     if not users.is_there():
         return
     driver = users.start_chromium(room)
@@ -180,7 +180,7 @@ def check_browser(room):
 
 
 def comparisons():
-    """All comparisons: what is compared, what is wanted, and what is told."""
+    """Returns all comparisons: what is compared, what is expected, and what was found."""
     tests = slides.texts()
     page = make_slides.page()
     yield from check_page(page)

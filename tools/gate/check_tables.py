@@ -32,24 +32,24 @@ STATUSES = {b"text": 1, b"cell": 1, b"schedule": 1, b"limit": 3}
 
 
 def bytes_of(spelled):
-    """The bytes that the words of a case stand for."""
+    """Returns the bytes that the words of a case represent."""
     repeated = re.sub(r"<(\d+) ([^>]*)>", lambda it: it[2] * int(it[1]), spelled)
     return re.sub(rb"<([0-9a-f]{2})>", lambda it: bytes([int(it[1], 16)]), repeated.encode())
 
 
 def in_lines(spelled):
-    """What stands in a line of a table, in lines."""
+    """Returns the lines that a line of a table represents."""
     return spelled.replace("$", "\n").replace("@", "$")
 
 
 def words_of(schedule):
-    """The words of a replay by a schedule, behind which may stand the protocol."""
+    """Returns the arguments of a replay by a schedule, which the protocol may follow."""
     events, option, protocol = schedule.partition(" --protocol ")
     return ["replay", bytes_of(events), *([option.strip(), protocol] if option else [])]
 
 
 def case_of(command, line):
-    """The words behind `lw`, the text and what is told of a case, or None."""
+    """Returns the arguments after `lw`, the text and the expected output of a case, or `None`."""
     name, _, text = command.removeprefix("lw ").partition(" ")
     parts = in_lines(line).split(" => ")
     if name == "replay":
@@ -65,7 +65,7 @@ def case_of(command, line):
 
 
 def cases_of(table):
-    """The cases of a table, each with its line."""
+    """Returns the cases of a table, each with its line."""
     command = ""
     with open(table, encoding="utf-8", newline="\n") as lines:
         for line in lines.read().split("\n"):
@@ -76,7 +76,7 @@ def cases_of(table):
 
 
 def case_in(text):
-    """The words behind `lw`, the text and what is told of a case in a file of its own, or None."""
+    """Returns the arguments after `lw`, the text and the expected output of a case in a file of its own, or `None`."""
     found = re.fullmatch(r"(?:-- .*\n)*lw (states|schedules|compile|replay)(?: (.*))?\n((?:.*\n)*?)=>\n((?:.*\n)*)", text)
     if not found or found[2] and found[1] != "replay":
         return None
@@ -86,7 +86,7 @@ def case_in(text):
 
 
 def wanted_of(words, told):
-    """Standard output, standard error and the exit status, where this is told."""
+    """Returns the expected standard output, standard error and exit status."""
     told = bytes_of(told)
     if told.startswith(b"lw: "):
         return b"", told + b"\n", STATUSES.get(told.split()[1])
@@ -100,12 +100,12 @@ def run(program, words, text):
 
 
 def is_page(told):
-    """Whether this is told of a replay that is carried out."""
+    """Returns whether the expected output is the page of a replay."""
     return told[0].startswith(b"Test ") and told[1] == b"" and told[2] in (0, 1)
 
 
 def outcome_of(program, case):
-    """What is wanted of a case, and what is told."""
+    """Returns what is expected of a case, and what was found."""
     if case is None:
         return "a case that is understood", None
     words, text, told = case
@@ -119,13 +119,13 @@ def outcome_of(program, case):
 
 
 def are_there():
-    """Whether tables/ has its tables and folders, and no others."""
+    """Returns whether tables/ has its tables and folders, and no others."""
     found = sorted(os.path.basename(it) for it in glob.glob(f"{HOME}/tables/*"))
     yield "what there is in tables/", sorted([*FOLDERS, *(f"{name}.txt" for name in TABLES)]), found
 
 
 def comparisons(program, name):
-    """Of each case of a table: what is compared, what is wanted, and what is told. A table without cases is wrong."""
+    """Returns, for each case of a table, what is compared, what is expected, and what was found. A table without cases is a fault."""
     cases = list(cases_of(f"{HOME}/tables/{name}.txt"))
     yield f"tables/{name}.txt has cases", True, bool(cases)
     for line, case in cases:
@@ -133,7 +133,7 @@ def comparisons(program, name):
 
 
 def comparisons_in(program, name):
-    """The same of each file of a folder."""
+    """Returns the same for each file of a folder."""
     files = sorted(os.listdir(f"{HOME}/tables/{name}"))
     yield f"tables/{name} has cases", True, bool(files)
     for it in files:

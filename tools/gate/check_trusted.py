@@ -25,7 +25,7 @@ LOG = f"{HOME}/crates/lw/out/log"
 PAGE = f"{HOME}/docs/TRUSTED.md"
 # What the verdict of a build has, and that of `rt ci` may lack.
 OF_BUILDS = {"incremental=trusted"}
-# The parts of a log of `rt ci` begin with such lines.
+# The lines with which the parts of a log of `rt ci` start.
 PART = re.compile(r"^== (.+)$", re.M)
 ROW = re.compile(r"^\| `(\w+(?:::\w+)+)` \|", re.M)
 
@@ -43,7 +43,7 @@ def part_of(log):
 
 
 def line_with(start_of_line, text):
-    """Returns the last line that begins so, with or without blanks before it, or None if there is none."""
+    """Returns the last line that starts so, with or without blanks before it, or `None` if there is none."""
     found = re.findall(rf"^ *({start_of_line}.*)$", text, re.M)
     return found[-1] if found else None
 

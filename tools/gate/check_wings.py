@@ -35,19 +35,19 @@ MEANING = (
 )
 READING = ("lw_text", "lw_statements", "lw_source", "lw_x86")
 ABOVE = ("lw_bench", "lw", "lw_arena", "lw_library", "lw_axiomatic", "lw_beyond", "beyond")
-# The crates of lists of any size, and what does without them.
+# The crates of lists of any size, on which the program does not depend.
 SEARCHING = ("lw_search", "lw_beyond", "beyond")
 WITHOUT_SEARCH = ("lw",)
 
 
 def lines_of_crates():
-    """What each crate of crates.txt stands on."""
+    """Returns the dependencies of each crate in crates.txt."""
     with open(f"{HOME}/crates.txt", encoding="utf-8") as it:
         return {name: below.split() for name, below in re.findall(r"^(\w+)[^:#\n]*:(.*)$", it.read(), re.M)}
 
 
 def files_of(crate):
-    """The source files, definitions and proofs of a crate, with their text."""
+    """Returns the source files, definitions and proofs of a crate, with their text."""
     for folder in ("src", "specs", "proofs"):
         for at, _, names in sorted(os.walk(f"{HOME}/crates/{crate}/{folder}")):
             for name in sorted(names):
@@ -57,13 +57,13 @@ def files_of(crate):
 
 
 def named_in(text):
-    """The crates of the workbench that a file names outside of its comments."""
+    """Returns the crates of the workbench that a file names outside of its comments."""
     code = re.sub(r"^\s*(//|--).*$", "", text, flags=re.M)
     return set(re.findall(r"\b(lw_\w+)(?:::|\.(?:specs|proofs)\b)", code))
 
 
 def ways_down(crate, below):
-    """The crates on which a crate stands, each with the crates on the way to it."""
+    """Returns the crates on which a crate depends, each with the crates on the way to it."""
     found = {}
     waiting = [(it, [crate, it]) for it in below.get(crate, [])]
     while waiting:
@@ -75,7 +75,7 @@ def ways_down(crate, below):
 
 
 def faults_of(crate, below):
-    """What is wrong with what a crate names: of any crate that it names what its line lacks; of the meaning wing, what it reads."""
+    """Returns what is wrong with what a crate names: what its line lacks; and for the meaning wing, what it names of the reading wing."""
     found = []
     ways = ways_down(crate, below)
     if crate in MEANING:
@@ -89,7 +89,7 @@ def faults_of(crate, below):
 
 
 def faults(below=None):
-    """What is wrong, a line each, with what each crate depends on; as crates.txt says if that is not passed."""
+    """Returns what is wrong, a line each, with what each crate depends on; by crates.txt if that is not passed."""
     below = lines_of_crates() if below is None else below
     placed = {*BOTH, *MEANING, *READING, *ABOVE}
     found = [f"{it} is in no wing of tools/gate/check_wings.py" for it in below if it not in placed and "_test" not in it]

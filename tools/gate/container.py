@@ -12,7 +12,7 @@ SHELL, PYTHON = "/bin/sh", "/usr/bin/python3"
 
 
 def can_be_made():
-    """Whether the files are there, and this process may enter it."""
+    """Returns whether the files exist, and this process may enter the container."""
     if os.geteuid() != 0 or not all(os.path.exists(it) for it in (SHELL, PYTHON, "/usr/bin/ldd")):
         return False
     try:
@@ -66,6 +66,6 @@ class Container:
 
 
 def libraries_of(programs):
-    """The shared libraries that programs are linked with, and the loader."""
+    """Returns the shared libraries with which programs are linked, and the loader."""
     told = subprocess.run(["ldd", *programs], capture_output=True, text=True, check=False).stdout
     return sorted(set(re.findall(r"(/\S+\.so\S*) \(", told)))

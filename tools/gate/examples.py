@@ -1,4 +1,4 @@
-"""What the checks of tools share: the files of the repository, its examples, and what a command of tools/ prints."""
+"""Helpers of the checks of tools: the files of the repository, its examples, and what a command of tools/ prints."""
 import glob
 import os
 import subprocess
@@ -15,12 +15,12 @@ def read(path):
 
 
 def examples():
-    """The names and the texts of all examples."""
+    """Returns the names and the texts of all examples."""
     paths = sorted(glob.glob(f"{HOME}/examples/*.litmus"))
     return [(os.path.basename(path)[: -len(".litmus")], read(path)) for path in paths]
 
 
 def run(words, text=""):
-    """What a command of tools/ prints on both streams, and its exit status."""
+    """Returns what a command of tools/ prints on both streams, and its exit status."""
     ran = subprocess.run([sys.executable, os.path.join(TOOLS, words[0]), *words[1:]], input=text.encode(), capture_output=True, cwd=HOME)
     return ran.stdout.decode(), ran.stderr.decode(), ran.returncode

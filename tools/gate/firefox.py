@@ -16,7 +16,7 @@ import time
 BINARY = os.environ.get("FIREFOX") or shutil.which("firefox-esr") or shutil.which("firefox")
 SECONDS = 60
 ELEMENT = "element-6066-11e4-a52e-4f735466cecf"
-# The port that Firefox is given, so that it takes one that is free, and says in its profile which; and what it need not do.
+# The port that Firefox is given, so that it takes a free one, and writes it into its profile; and what it need not do.
 SETTINGS = {
     "marionette.port": 0,
     "browser.shell.checkDefaultBrowser": False,
@@ -69,7 +69,7 @@ class Element:
         return self._ask("GetElementText")
 
     def get_attribute(self, name):
-        """The property of that name, or else the attribute, as selenium has it."""
+        """Returns the property of that name, or otherwise the attribute, as selenium does."""
         script = "const [it, name] = arguments; const value = it[name]; return typeof value === 'string' ? value : it.getAttribute(name);"
         return self.firefox.execute_script(script, self, name)
 
@@ -96,7 +96,7 @@ class Firefox:
     # Its protocol.
 
     def connect(self):
-        """The connection, once Firefox has written its port down."""
+        """Returns the connection, once Firefox has written its port."""
         until = time.monotonic() + SECONDS
         while time.monotonic() < until and self.process.poll() is None:
             try:
@@ -112,7 +112,7 @@ class Firefox:
 
     @staticmethod
     def take(lines):
-        """The next value that Firefox sends, behind its length."""
+        """Returns the next value that Firefox sends, after its length."""
         length = b""
         while not length.endswith(b":"):
             byte = lines.read(1)
@@ -122,7 +122,7 @@ class Firefox:
         return json.loads(lines.read(int(length[:-1])))
 
     def ask(self, name, **given):
-        """What Firefox answers to a command."""
+        """Returns what Firefox answers to a command."""
         self.number += 1
         command = json.dumps([0, self.number, name, given]).encode()
         self.connection.sendall(b"%d:%s" % (len(command), command))
@@ -133,7 +133,7 @@ class Firefox:
             raise WebDriverError(f"the answer of command {number} came to command {self.number}")
         return value["value"] if isinstance(value, dict) and set(value) == {"value"} else value
 
-    # What selenium's driver has.
+    # The interface of selenium's driver.
 
     def get(self, address):
         self.ask("WebDriver:Navigate", url=address)
@@ -173,12 +173,12 @@ class Firefox:
         return Element(self, self.ask("WebDriver:GetActiveElement")[ELEMENT])
 
     def execute_script(self, script, *given):
-        """What a script returns; elements go in, and none comes out."""
+        """Returns what a script returns; elements may be passed, and none is returned."""
         given = [{ELEMENT: it.number} if isinstance(it, Element) else it for it in given]
         return self.ask("WebDriver:ExecuteScript", script=script, args=given, newSandbox=True, sandbox=None)
 
     def press(self, key):
-        """Presses a key down and lets it go."""
+        """Presses a key and releases it."""
         actions = [{"type": "keyDown", "value": key}, {"type": "keyUp", "value": key}]
         self.ask("WebDriver:PerformActions", actions=[{"type": "key", "id": "keys", "actions": actions}])
 
@@ -187,7 +187,7 @@ class Firefox:
             it.write(base64.b64decode(self.ask("WebDriver:TakeScreenshot", full=False)))
 
     def get_log(self, _):
-        """Firefox does not tell what it complains of."""
+        """Returns nothing: Firefox does not report its complaints."""
         return []
 
     def quit(self):
@@ -204,7 +204,7 @@ class Firefox:
 
 @functools.lru_cache(maxsize=None)
 def is_there():
-    """Whether there is a Firefox, and it starts and can be driven on this system."""
+    """Returns whether there is a Firefox, and it starts and can be driven on this system."""
     if BINARY is None:
         return False
     try:

@@ -26,14 +26,14 @@ PAUSE = 0.25
 
 
 def stat_of(process):
-    """A process's parent, its ticks of processor time, and when it was started."""
+    """Returns a process's parent, its ticks of processor time, and when it was started."""
     with open(f"/proc/{process}/stat", encoding="utf-8", errors="replace") as it:
         fields = it.read().rpartition(") ")[2].split()
     return int(fields[1]), int(fields[11]) + int(fields[12]), fields[19]
 
 
 def work_of(process):
-    """The crate that a process of the prover works for, and the part of the gate; None for any other process."""
+    """Returns the crate for which a process of the prover works, and the part of the gate; `None` for any other process."""
     with open(f"/proc/{process}/cmdline", "rb") as it:
         words = it.read().decode(errors="replace").split("\0")
     if "--crate-name" not in words or not words[0].endswith("/rattle"):
@@ -44,7 +44,7 @@ def work_of(process):
 
 
 def below(top, parents):
-    """The processes that `top` has started, and those that they have, each behind its parent."""
+    """Returns the processes that `top` has started, and their descendants, each after its parent."""
     children = {}
     for process, parent in parents.items():
         children.setdefault(parent, []).append(process)
@@ -55,7 +55,7 @@ def below(top, parents):
 
 
 class Watch:
-    """What the processes below one have taken, as last seen. A process without words of its own works for its parent's crate."""
+    """What the processes below one have taken, as last seen. A process without a command line of its own works for its parent's crate."""
 
     def __init__(self, top):
         self.top, self.works, self.ticks = top, {}, {}
@@ -83,12 +83,12 @@ class Watch:
                 work = None
             if work is None and parent in stats:
                 work = self.works.get((parent, stats[parent][2]))
-            # (One that has ended and is not yet fetched has no words any more.)
+            # (One that has ended and is not yet waited for has no command line any more.)
             self.works[process, start] = work or self.works.get((process, start))
             self.ticks[process, start] = ticks
 
     def minutes(self):
-        """Minutes of processor time by crate and part."""
+        """Returns minutes of processor time by crate and part."""
         self.is_over.set()
         self.thread.join()
         found = {}
@@ -105,7 +105,7 @@ def edits_of(crate):
 
 
 def lines_of(minutes, whole):
-    """A line for each crate: its minutes by part, where there are any, and the number of its wrong bodies; and one for the rest."""
+    """Returns a line for each crate: its minutes by part, if there are any, and the number of its wrong bodies; and one for the rest."""
     shown = lambda taken: "-" if taken is None else f"{taken:.1f}"
     for crate in crates():
         proof, wrong, tests = (shown(minutes.get((crate, part))) for part in PARTS)
@@ -114,7 +114,7 @@ def lines_of(minutes, whole):
 
 
 def commit():
-    """The commit that is looked at, and whether files differ from it."""
+    """Returns the commit that is checked, and whether files differ from it."""
     how = {"cwd": HOME, "capture_output": True, "text": True, "check": False}
     name = subprocess.run(["git", "rev-parse", "--short", "HEAD"], **how).stdout.strip() or "no commit"
     changed = subprocess.run(["git", "status", "--porcelain", "--untracked-files=no"], **how).stdout
@@ -122,8 +122,9 @@ def commit():
 
 
 def run(command):
-    """Runs a command and hands its lines on. Returns its status, its minutes of processor time by crate and part and in all, and its
-    minutes by the clock."""
+    """Runs a command and prints its lines. Returns its status, its minutes of processor time by crate and part and in all, and its minutes
+    by the clock.
+    """
     before, began = os.times(), time.monotonic()
     with subprocess.Popen(command, stdout=subprocess.PIPE, errors="replace", text=True) as ran:
         watch = Watch(ran.pid)

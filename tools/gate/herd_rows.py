@@ -11,7 +11,7 @@ INITIAL = (None, None, None, 0, 1, 2, 5, 2**31 - 1, 2**31, 2**32 - 1, -1)
 
 
 class WideRow:
-    """A random row of instructions of 32 and of 64 bits in AT&T's order."""
+    """A random sequence of instructions of 32 and of 64 bits in AT&T's order."""
 
     def __init__(self, seed):
         self.random = Random(f"wide row {seed}")
@@ -24,7 +24,7 @@ class WideRow:
         self.cells = [self.instruction() for _ in range(self.random.randint(1, 6))]
 
     def begin(self, name):
-        """A register's first word, by one of its names."""
+        """Sets a register's first word, by one of its names."""
         word, bits = self.random.choice(INITIAL), self.random.choice((64, 64, 32))
         if word is not None:
             self.entries.append(f"0:{self.spelled(name, bits)[1:]}={word};")
@@ -32,24 +32,24 @@ class WideRow:
 
     @staticmethod
     def spelled(name, bits):
-        """A register as an operand."""
+        """Returns a register as an operand."""
         return f"%{name}" if bits == 64 else f"%e{name[1:]}"
 
     def flag(self, word):
-        """A word of the instruction's bits, of which the flag says whether it is 0."""
+        """Sets the flag by whether a word of the instruction's bits is 0."""
         self.zero = word % WORDS[self.bits] == 0
         return word
 
     def put(self, name, word):
-        """A register gets a word; that of 32 bits clears the upper half."""
+        """Sets a register; a word of 32 bits clears the upper half."""
         self.words[name] = word % WORDS[self.bits]
 
     def store(self, word):
-        """The location gets a word; that of 32 bits leaves the upper half."""
+        """Stores a word to the location; one of 32 bits preserves the upper half."""
         self.x = word % 2**64 if self.bits == 64 else self.x // 2**32 * 2**32 + word % 2**32
 
     def instruction(self):
-        """An instruction, which is done."""
+        """Executes an instruction, and returns it."""
         self.bits = self.random.choice((64, 64, 32))
         a, b = (self.random.choice(list(self.words)) for _ in range(2))
         draw = self.random.choice((self.with_number, self.with_number, self.of_registers, self.of_memory, self.others))
@@ -58,7 +58,7 @@ class WideRow:
         return f"{mnemonic.replace('_', ' ')}{'q' if self.bits == 64 else 'l'} {operands}"
 
     def with_number(self, a, register, word, _):
-        """An instruction with a number. Only MOV to a register has one of 64 bits."""
+        """Returns an instruction with a number. Only MOV to a register has one of 64 bits."""
         number, kind = self.random.choice(NUMBERS), self.random.randint(0, 5)
         if kind == 0 or self.bits == 64 and number >= 2**31:
             self.put(a, number)
@@ -76,7 +76,7 @@ class WideRow:
         return f"add ${number},{register}"
 
     def of_registers(self, a, register, word, b):
-        """An instruction with two registers."""
+        """Returns an instruction with two registers."""
         other, spelled, kind = self.words[b] % WORDS[self.bits], self.spelled(b, self.bits), self.random.randint(0, 5)
         if kind == 0:
             self.put(a, self.flag(word + other))
@@ -97,13 +97,13 @@ class WideRow:
         return f"mov {spelled},{register}"
 
     def lea(self, a, register, b):
-        """LEA with an address of 32 or of 64 bits."""
+        """Returns LEA with an address of 32 or of 64 bits."""
         bits, number = self.random.choice((64, 64, 32)), self.random.choice((-3, -1, 0, 1, 2))
         self.put(a, (self.words[b] + number) % WORDS[bits])
         return f"lea {number}({self.spelled(b, bits)}),{register}"
 
     def of_memory(self, a, register, word, _):
-        """An instruction with the location."""
+        """Returns an instruction with the location."""
         old, kind = self.x % WORDS[self.bits], self.random.randint(0, 5)
         if kind == 0:
             self.put(a, old)
@@ -126,7 +126,7 @@ class WideRow:
         return f"xchg {register},(x)"
 
     def others(self, a, register, word, _):
-        """An instruction with one register."""
+        """Returns an instruction with one register."""
         kind = self.random.randint(0, 3)
         if kind == 0:
             self.put(a, self.flag(word - 1))
@@ -141,19 +141,19 @@ class WideRow:
         return f"test {register},{register}"
 
     def text(self):
-        """The test: a branch at its end shows the flag."""
+        """Returns the test: a branch at its end shows the flag."""
         body = "".join(f" {cell} ;\n" for cell in [*self.cells, "je END", "movl $1,(zero)", "END:"])
         names = "locations [0:rax; 0:rbx; 0:rcx; x; zero;]"
         return f"X86_64 Wide\n{{ {' '.join(self.entries)} }}\n P0 ;\n{body}{names}\nforall (true)\n"
 
     def state(self):
-        """The line of the state that x86 ends in."""
+        """Returns the line of the final state on x86."""
         a, b, c = self.words.values()
         return f"0:EAX={a}; 0:EBX={b}; 0:ECX={c}; x={self.x}; zero={1 - self.zero};"
 
 
 def wide_threads(seed):
-    """A random test of two threads with instructions of 64 bits, whose words may grow from thread to thread."""
+    """Returns a random test of two threads with instructions of 64 bits, whose words may grow from thread to thread."""
     random = Random(f"wide threads {seed}")
     has_differences = random.random() < 0.5
 
@@ -172,7 +172,8 @@ def wide_threads(seed):
 
 
 class SpelledRow:
-    """A random row of instructions of 32 bits, in one order of operands, in the spellings of that order and now and then of the other."""
+    """A random sequence of instructions of 32 bits, in one order of operands, in the spellings of that order and now and then of the other.
+    """
 
     def __init__(self, seed):
         self.random = Random(f"spelled row {seed}")
@@ -183,28 +184,28 @@ class SpelledRow:
         self.cells = [self.instruction() for _ in range(self.random.randint(1, 5))]
 
     def register(self, name):
-        """A register as an operand."""
+        """Returns a register as an operand."""
         return f"%{name}" if self.is_att else self.random.choice((name, name.upper()))
 
     def memory(self, name):
-        """A location as an operand."""
+        """Returns a location as an operand."""
         if self.is_att:
             return self.random.choice([f"({name})", f"{name}(%rip)", name] + [f"[{name}]"] * self.is_mixed)
         own = [f"[{name}]", f"DWORD PTR [{name}]", f"dword ptr {name}[rip]", f"[rip+{name}]"]
         return self.random.choice(own + [f"({name})"] * self.is_mixed)
 
     def number(self, number):
-        """A number as an operand."""
+        """Returns a number as an operand."""
         return f"${number}" if self.is_att or self.random.random() < 0.3 else str(number)
 
     def spelled(self, mnemonic, to, what=None):
-        """An instruction with its operands, in the order of the row, and with the letter of a size now and then."""
+        """Returns an instruction with its operands, in the order of the sequence, and with the letter of a size now and then."""
         letter = "l" * (self.random.random() < 0.4 and (self.is_att or self.is_mixed))
         operands = [to] if what is None else [what, to] if self.is_att else [to, what]
         return f"{mnemonic}{letter} {','.join(operands)}"
 
     def instruction(self):
-        """An instruction, which is done."""
+        """Executes an instruction, and returns it."""
         words, number = self.words, self.random.randint(0, 9)
         place = self.random.choice("xy")
         a, b = (self.random.choice(("eax", "ebx", "ecx")) for _ in range(2))
@@ -227,12 +228,12 @@ class SpelledRow:
         return self.spelled(*text)
 
     def text(self):
-        """The test."""
+        """Returns the test."""
         body = "".join(f" {cell} ;\n" for cell in self.cells)
         initial = "{ 0:eax=1; 0:ebx=2; 0:ecx=3; x=5; y=6; }"
         return f"{self.language} Spelled\n{initial}\n P0 ;\n{body}locations [0:eax; 0:ebx; 0:ecx; x; y;]\nforall (true)\n"
 
     def state(self):
-        """The line of the state that x86 ends in."""
+        """Returns the line of the final state on x86."""
         names = {"eax": "0:EAX", "ebx": "0:EBX", "ecx": "0:ECX"}
         return " ".join(f"{names.get(name, name)}={word % 2**32};" for name, word in self.words.items())

@@ -112,24 +112,24 @@ int main(int count, char **words) {
 
 
 class Native(NamedTuple):
-    """What was seen of a program: states as lines, each with how often."""
+    """What was seen of a program: states as lines, each with its count."""
 
     counts: Dict[str, int]
 
     @property
     def runs(self) -> int:
-        """The number of all runs."""
+        """Returns the number of all runs."""
         return sum(self.counts.values())
 
 
 def with_stores(assembly: str) -> str:
-    """Assembly in which each comment of `lw_see` is a store to a variable of the thread, and no name is the file's own."""
+    """Returns assembly in which each comment of `lw_see` is a store to a variable of the thread, and no name is the file's own."""
     assembly = re.sub(r"^\s*\.local\s+\S+$", "", assembly, flags=re.M)
     return re.sub(r"^\s*#lw see (\S+) %?(\w+)", r"\tmovl %\2, %fs:lw_seen_\1@tpoff", assembly, flags=re.M)
 
 
 def objects_of(made: Converter) -> List[tuple]:
-    """The objects that have names, each with its length, and whether some thread stores to it."""
+    """Returns the named objects, each with its length, and whether some thread stores to it."""
     layout, writers = made.program.layout, made.program.locations.writers
     stored = {found[0] for at in writers if (found := layout.object_at(at))}
     objects = made.program.assembly.objects.items()
@@ -137,7 +137,7 @@ def objects_of(made: Converter) -> List[tuple]:
 
 
 def declarations(made: Converter, sites: list) -> str:
-    """What the harness knows of a program: its functions, objects and values."""
+    """Returns what the harness knows of a program: its functions, objects and values."""
     objects = objects_of(made)
     names = sorted({site.name for site in sites if isinstance(site, Seen) and site.name != "return"})
     count = len(made.program.threads)
@@ -160,7 +160,7 @@ def declarations(made: Converter, sites: list) -> str:
 
 
 def looked(made: Converter, site, names: List[str], objects: list) -> str:
-    """The expression for a site's value after a run."""
+    """Returns the expression for a site's value after a run."""
     if isinstance(site, Seen):
         return f"results[{site.thread}][{len(names) if site.name == 'return' else names.index(site.name)}]"
     base, _, offset = site.name.partition("+")
@@ -189,7 +189,7 @@ def native(made: Converter, assembly: str, compiler: str, seconds: float) -> Nat
 
 
 def read_native(printed: str, sites: list) -> Native:
-    """What the harness printed."""
+    """Reads what the harness printed."""
     objects = {int(at) % 2**32: name for name, at in re.findall(r"^object (\S+) (\d+)$", printed, re.M)}
     counts: Dict[str, int] = {}
     for line in re.findall(r"^state (.*)$", printed, re.M):
@@ -202,7 +202,7 @@ def read_native(printed: str, sites: list) -> Native:
 
 
 def compare(path: str, compiler: str, seconds: float, tries: int) -> tuple:
-    """What is seen and not listed of a program, how many of the listed states were seen, and the number of runs."""
+    """Returns what is seen and not listed of a program, how many of the listed states were seen, and the number of runs."""
     with open(path, encoding="utf-8") as file:
         source = read_source(path, file.read())
     raw = assembly_of(source, compiler, 0, os.path.dirname(os.path.abspath(path)))

@@ -32,13 +32,15 @@ LIMIT = 130
 # Operators whose terms fill lines.
 FILLED = {"∷", "++", "+", "-", "*", "/", "%", "^"}
 MARKS = {"pattern", "unfoldable", "abbrev", "pub", "axiom"}
-# What begins a sentence that is no signature and no clause.
+# What starts a sentence that is no signature and no clause.
 KEPT = {"use", "mod", "open", "infix", "infixl", "infixr", "unfolding", "ruleset", "mutual", "deriving", "where"}
 BLOCKS = {"module", "record", "data"}
 
 
 class Page:
-    """The lines of a sentence as they are written, indented as rt fmt does: lines go on four columns behind what they belong to."""
+    """The lines of a sentence as they are written, indented as rt fmt does: a line continues four columns to the right of what it belongs
+    to.
+    """
 
     def __init__(self, base):
         self.base, self.lines, self.line = base, [], " " * base
@@ -49,7 +51,7 @@ class Page:
 
     @property
     def fresh(self):
-        """The room of a line that goes on."""
+        """Returns the room of a continued line."""
         return LIMIT - self.base - 4
 
     @property
@@ -64,14 +66,14 @@ class Page:
         self.line = " " * indent
 
     def turn(self, term):
-        """Goes on on a new line, for a term. A tuple that has a line for each item begins on the line before."""
+        """Continues on a new line, for a term. A tuple that has a line for each item starts on the line before."""
         if is_apart(term, self):
             self.put(" ")
         elif not self.is_empty:
             self.begin(self.base + 4)
 
     def put_rows(self, rows, put_item):
-        """Writes items on lines of their own, between brackets that stand open on this line."""
+        """Writes items on lines of their own, between brackets that are open on this line."""
         base, outer = self.base, antt.indent_of(self.line)
         for item in rows:
             self.begin(outer + 2)
@@ -82,20 +84,20 @@ class Page:
 
 
 def fits(term, room, tail=0):
-    """Whether a term, and so many columns behind it, stand on a line in some room."""
+    """Returns whether a term, and this number of columns after it, fit on a line."""
     return not term.chained and len(term.flat) + tail <= room
 
 
 def is_apart(term, page):
-    """Whether a term is a tuple that has a line for each item, if it begins a line."""
+    """Returns whether a term is a tuple that has a line for each item, if it starts a line."""
     return isinstance(term, Rows) and not term.head and not fits(term, page.fresh)
 
 
-# How a term can begin behind other words, though it does not fit there: up to a bracket whose items have lines of their own.
+# How a term can start after other words, though it does not fit there: up to a bracket whose items have lines of their own.
 
 
 def opening_of(term):
-    """What stands before the first line break of a term that ends in items on lines of their own, or None."""
+    """Returns what precedes the first line break of a term that ends in items on lines of their own, or `None`."""
     if isinstance(term, Rows):
         return opening_of_rows(term)
     if isinstance(term, Bracket):
@@ -121,26 +123,27 @@ def before(words, opening):
 
 
 def last_of(term):
-    """The last part of a term: that whose items have lines of their own, with the brackets round it."""
+    """Returns the last part of a term: that whose items have lines of their own, with the brackets around it."""
     if isinstance(term, Application):
         return last_of(term.parts[-1])
     return last_of(term.others[-1][1]) if isinstance(term, Chain) else term
 
 
 def hangs(term, room, fresh, tail):
-    """Whether a term that does not fit on a line of its own can begin in some room and end in lines of its own, where no bracket that
-    fits on a line is broken."""
+    """Returns whether a term that does not fit on a line of its own can start in some room and end in lines of its own, where no bracket
+    that fits on a line is broken.
+    """
     opening, last = opening_of(term), last_of(term)
     if opening is None or len(opening) > room or fits(term, fresh, tail):
         return False
     return isinstance(last, Rows) and last.opening == "[" or not fits(last, fresh, tail)
 
 
-# Writing terms. `tail` columns have to stand behind a term on its last line.
+# Writing terms. `tail` columns must fit after a term on its last line.
 
 
 def put_term(page, term, tail):
-    """Writes a term from where the page is."""
+    """Writes a term from the page's position."""
     if fits(term, page.room, tail):
         page.put(term.flat)
     elif isinstance(term, Bracket):
@@ -154,7 +157,7 @@ def put_term(page, term, tail):
 
 
 def put_behind(page, term, tail):
-    """Writes a term behind other words: on their line if it fits there or can begin there, else on the next."""
+    """Writes a term after other words: on their line if it fits there or can start there, otherwise on the next."""
     if fits(term, page.room - 1, tail) or hangs(term, page.room - 1, page.fresh, tail):
         page.put(" ")
     else:
@@ -182,7 +185,7 @@ def put_item(page, rows, words, term):
 
 
 def put_application(page, term, tail):
-    """A function and arguments: each argument whole, in as few lines as they fill."""
+    """Writes a function and its arguments: each argument whole, in as few lines as they fill."""
     *parts, last = term.parts
     if hangs(term, page.room, page.fresh, tail):
         page.put("".join(f"{it.flat} " for it in parts))
@@ -194,13 +197,13 @@ def put_application(page, term, tail):
     if parts[1:] or fits(last, page.room - 1, tail):
         put_behind(page, last, tail)
     else:
-        # (a function's only argument does not leave it)
+        # (A function's only argument stays with it.)
         page.put(" ")
         put_term(page, last, tail)
 
 
 def put_chain(page, term, tail):
-    """Terms with operators between them."""
+    """Writes terms with operators between them."""
     *others, (operator, last) = term.others
     if operator in LEVELS and operator != "→" and hangs(term, page.room, page.fresh, tail):
         page.put(" ".join([term.first.flat, *(f"{mark} {it.flat}" for mark, it in others), operator, ""]))
@@ -244,7 +247,7 @@ WRITERS = {Rows: put_rows, Application: put_application, Chain: put_chain, Lambd
 
 
 def put_block(page, nodes):
-    """The head of a module, a record or a type: its words and binders fill lines."""
+    """Writes the head of a module, a record or a type: its words and binders fill lines."""
     raise_if(nodes[-1] != "where", "a head")
     at = index_of(nodes, ":")
     *parts, last = [read_word(it) for it in nodes[: len(nodes) - 1 if at is None else at]]
@@ -274,7 +277,7 @@ def put_clause(page, nodes, equals):
 
 
 def laid_out(sentence):
-    """The lines of a sentence in this layout, or as they are."""
+    """Returns the lines of a sentence in this layout, or unchanged."""
     raise_if(antt.has_comment(sentence.text) or "" in sentence.lines, "a comment")
     nodes = grouped(antt.tokens_of(sentence.text))
     words = [it for it in nodes if it not in MARKS]
@@ -291,19 +294,19 @@ def laid_out(sentence):
 
 
 def written(sentence):
-    """The lines of a sentence, where they have the same words."""
+    """Returns the lines of a sentence, if they have the same words."""
     try:
         lines = laid_out(sentence)
     except Unread:
         return sentence.lines
     is_same = words_of("\n".join(lines)) == words_of(sentence.text)
-    # (a line that is not broken, and fits, shows how words stand beside one another)
+    # (A line that is not broken, and fits, shows how words are spaced.)
     is_spaced = len(sentence.lines) > 1 or len(lines) > 1 or lines == sentence.lines
     return lines if is_same and is_spaced else sentence.lines
 
 
 def words_of(text):
-    """The tokens of a text, without those that only items on lines of their own have."""
+    """Returns the tokens of a text, without those that only items on lines of their own have."""
     tokens, found = antt.tokens_of(text), []
     for at, token in enumerate(tokens):
         is_end = token in (",", ";") and tokens[at + 1 : at + 2] and tokens[at + 1] in antt.CLOSING
@@ -314,7 +317,7 @@ def words_of(text):
 
 
 def layout(text):
-    """A file's text in this layout."""
+    """Returns a file's text in this layout."""
     if "{-" in text or " \n" in text:
         return text
     lines = [line for it in antt.sentences_of(text) for line in (it.lines if it.is_between else written(it))]
@@ -322,7 +325,7 @@ def layout(text):
 
 
 def check_texts():
-    """Whether the texts of layout_texts.py are laid out as they say, and stay so. Tells what differs; returns how many pass."""
+    """Checks that the texts of layout_texts.py are laid out as they say, and stay so. Prints what differs, and returns how many pass."""
     passed = 0
     for text, wanted in TEXTS:
         told = layout(text), layout(wanted)
@@ -333,7 +336,7 @@ def check_texts():
 
 
 def check_file(path, is_writing):
-    """Whether a file is in this layout. Tells of it where it is not, and lays it out if that is asked."""
+    """Checks that a file is in this layout. Reports it if it is not, and lays it out if that is requested."""
     text = read(path)
     new = layout(text)
     if new == text:
@@ -348,7 +351,7 @@ def check_file(path, is_writing):
 
 
 def comparisons():
-    """Of each text of layout_texts.py how it is laid out; and the proofs that are not in this layout: for tools/check_documents.py."""
+    """Returns how each text of layout_texts.py is laid out, and the proofs that are not in this layout: for tools/check_documents.py."""
     for text, wanted in TEXTS:
         yield "a proof's layout (tools/gate/proof_layout.py)", (wanted, wanted), (layout(text), layout(wanted))
     paths = antt.files("proofs/**/*.antt")

@@ -28,7 +28,7 @@ from shared import answers, start
 
 
 class Kind(NamedTuple):
-    """A type of C: how an atomic object of it and a plain value are written, its bytes (0 of bool), and whether it has a sign."""
+    """A type of C: how an atomic object of it and a plain value are written, its bytes (0 for bool), and whether it is signed."""
 
     atomic: str
     plain: str
@@ -44,7 +44,7 @@ INT = KINDS[0]
 
 
 def wrapped(word: int, kind: Kind) -> int:
-    """A number as a value of a type."""
+    """Returns a number as a value of a type."""
     if kind.size == 0:
         return int(word != 0)
     word &= (1 << 8 * kind.size) - 1
@@ -52,7 +52,7 @@ def wrapped(word: int, kind: Kind) -> int:
 
 
 def int_of(word: int) -> int:
-    """A number as an int."""
+    """Returns a number as an int."""
     return wrapped(word, INT)
 
 
@@ -82,18 +82,18 @@ HEAD = (
 
 
 def a_helper(a: int) -> int:
-    """What `helper` of HEAD returns."""
+    """Returns what `helper` of HEAD returns."""
     return 2 if a == 1 else a & 6
 
 
-# The places of a thread's variables: r0 and r1, the fields of its own structure, and the address that it follows.
+# The indices of a thread's variables: r0 and r1, the fields of its own structure, and the address that it follows.
 OWN_A, OWN_B, ADDRESS = 2, 3, 4
 SHORT = Kind("", "", 2, True)
 
 
 @dataclass(frozen=True)
 class Statement:
-    """A statement: its kind, its location, the variable that it sets, its expressions, and where it jumps."""
+    """A statement: its kind, its location, the variable that it sets, its expressions, and its jump's target."""
 
     kind: str
     location: int = 0
@@ -145,24 +145,24 @@ class Program:
         return "atomic_int arr[2] = {2, 0};\n"
 
     def add(self, name: str, word: int) -> int:
-        """Adds a location. Returns its number."""
+        """Adds a location. Returns its index."""
         self.names.append(name)
         self.kinds.append(INT)
         self.first.append(word)
         return len(self.names) - 1
 
     def expression(self) -> str:
-        """A random expression."""
+        """Returns a random expression."""
         return self.random.choice(list(EXPRESSIONS))
 
     def simple(self, thread: int) -> Written:
-        """A statement that is no branch: its text, and what it does."""
+        """Returns a statement that is no branch: its text, and its effect."""
         random = self.random
         choices = [self.plain] * 8 + [self.own] * 2 + [self.through] * (3 * self.has_pointer) + [self.element] * (3 * self.has_array)
         return random.choice(choices)(thread)
 
     def plain(self, _thread: int) -> Written:
-        """A statement on one of the first locations."""
+        """Returns a statement on one of the first locations."""
         random = self.random
         at, register = random.randrange(sum(name in "xyz" for name in self.names)), random.randrange(2)
         kind, name = self.kinds[at], self.names[at]
@@ -183,7 +183,7 @@ class Program:
         return texts[what], [Statement(what, at, sets, first, second, operation)]
 
     def own(self, thread: int) -> Written:
-        """A statement on the thread's own structure."""
+        """Returns a statement on the thread's own structure."""
         field, register, first = self.random.choice((OWN_A, OWN_B)), self.random.randrange(2), self.expression()
         name = f"own{thread}.{'ab'[field - OWN_A]}"
         if self.random.random() < 0.6:
@@ -191,7 +191,7 @@ class Program:
         return f"r{register} = {name};", [Statement("copy", 0, register, target=field)]
 
     def through(self, _thread: int) -> Written:
-        """A statement on the pointer, or through it."""
+        """Returns a statement on the pointer, or through it."""
         register, first, target = self.random.randrange(2), self.expression(), self.random.randrange(2)
         follow = Statement("load", self.pointer, ADDRESS)
         return self.random.choice([
@@ -201,7 +201,7 @@ class Program:
         ])
 
     def element(self, _thread: int) -> Written:
-        """A statement on an element of the array."""
+        """Returns a statement on an element of the array."""
         register, first = self.random.randrange(2), self.expression()
         return self.random.choice([
             (f"r{register} = arr[r{register} & 1];", [Statement("load in", self.array, register)]),
@@ -209,7 +209,7 @@ class Program:
         ])
 
     def body(self, thread: int, lengths: Tuple[int, ...]) -> Written:
-        """The statements of a thread, and their text."""
+        """Returns the statements of a thread, and their text."""
         texts: List[str] = []
         code: List[Statement] = []
         for _ in range(self.random.choice(lengths)):
@@ -226,7 +226,7 @@ class Program:
         return " ".join(texts), code
 
     def branch(self, thread: int, text: str, them: List[Statement], code: List[Statement]) -> str:
-        """An `if`, whose statements are added. Returns its text."""
+        """Adds the statements of an `if`. Returns its text."""
         condition, at = self.random.choice(list(CONDITIONS)), len(code)
         code += [Statement("unless", first=condition), *them]
         text, end = f"if ({condition}) {{ {text} }}", len(code)
@@ -238,12 +238,12 @@ class Program:
         return text
 
 
-# What is done while stores wait in the buffer.
+# Statements that are executed while stores wait in the buffer.
 WITH_BUFFER = ("relaxed", "load", "load through", "load in", "set", "copy", "unless", "jump")
 
 
 class Place(NamedTuple):
-    """Where a run is: of each thread its next statement, its variables and its buffer, and the memory."""
+    """The state of a run: each thread's next statement, its variables and its buffer, and memory."""
 
     next: Tuple[int, ...]
     registers: Tuple[Tuple[int, ...], ...]
@@ -252,7 +252,7 @@ class Place(NamedTuple):
 
 
 def replaced(row: tuple, at: int, value) -> tuple:
-    """A row with another value at a place."""
+    """Returns a tuple with another value at an index."""
     return (*row[:at], value, *row[at + 1 :])
 
 
@@ -263,7 +263,7 @@ class Interpreter:
         self.program = program
 
     def outcomes(self) -> Set[tuple]:
-        """The values of variables and locations at the ends of all runs."""
+        """Returns the values of variables and locations at the ends of all runs."""
         count = len(self.program.threads)
         first = Place((0,) * count, ((0,) * (ADDRESS + 1),) * count, ((),) * count, tuple(self.program.first))
         seen, waiting, ends = {first}, [first], set()
@@ -279,7 +279,7 @@ class Interpreter:
         return ends
 
     def moves(self, place: Place, thread: int) -> List[Place]:
-        """What a thread can do next: its oldest store goes to memory, or its next statement is done."""
+        """Returns what a thread can do next: drain its oldest store, or execute its next statement."""
         made, buffer = [], place.buffers[thread]
         if buffer:
             (at, word), *rest = buffer
@@ -291,13 +291,13 @@ class Interpreter:
         return made
 
     def location(self, it: Statement, registers: Tuple[int, ...]) -> int:
-        """The location that a statement accesses."""
+        """Returns the location that a statement accesses."""
         if it.kind.endswith("through"):
             return registers[ADDRESS]
         return it.location + (registers[it.register or 0] & 1 if it.kind.endswith("in") else 0)
 
     def done(self, place: Place, thread: int, it: Statement) -> Place:
-        """The place after a statement."""
+        """Returns the state after a statement."""
         registers, to = place.registers[thread], place.next[thread] + 1
         if it.kind in ("unless", "jump"):
             to = it.target if it.kind == "jump" or not CONDITIONS[it.first](*registers[:2]) else to
@@ -315,7 +315,7 @@ class Interpreter:
         return place._replace(next=replaced(place.next, thread, to))
 
     def effect(self, it: Statement, at: int, found: int, registers: Tuple[int, ...]) -> Tuple[Optional[int], Optional[int]]:
-        """What a statement stores to its location, and what it sets its variable to, if it does."""
+        """Returns what a statement stores to its location, and to what it sets its variable, if it does."""
         kind, value = self.program.kinds[at], lambda text: EXPRESSIONS[text](*registers[:2])
         if it.kind in ("set", "copy"):
             return None, value(it.first) if it.kind == "set" else registers[it.target]
@@ -329,7 +329,7 @@ class Interpreter:
 
 
 def expected(program: Program, shown: Set[str]) -> Set[str]:
-    """The outcomes of a program as lines of states that show some names."""
+    """Returns the outcomes of a program as lines of states that show some names."""
     lines = set()
     for registers, memory in Interpreter(program).outcomes():
         words = {f"{thread}:r{number}": word % 2**32 for thread, them in enumerate(registers) for number, word in enumerate(them[:2])}
@@ -342,13 +342,13 @@ def expected(program: Program, shown: Set[str]) -> Set[str]:
 
 
 def listed(program: Program, compiler: str) -> Set[str]:
-    """The states that tools/from_c.py lists."""
+    """Returns the states that tools/from_c.py lists."""
     source = read_source("random.c", program.text)
     return {" ".join(sorted(it.split())) for it in answers.states_in(converted(source, compiler, 3)[0].report)}
 
 
 def compared(program: Program, compiler: str) -> str:
-    """`same`, `differs` with examples, or why a program is refused by a compiler."""
+    """Returns `same`, `differs` with examples, or why a program is refused by a compiler."""
     try:
         found = listed(program, compiler)
     except (Refused, given.Fault) as why:
@@ -361,7 +361,7 @@ def compared(program: Program, compiler: str) -> str:
 
 
 def results(seed: int, compilers: List[str], count: int) -> List[Tuple[str, str, str]]:
-    """What a random program gives by some compilers: each compiler, the result, and the program's text."""
+    """Returns what a random program gives by some compilers: each compiler, the result, and the program's text."""
     sys.setrecursionlimit(RECURSION)
     random = Random(f"c {seed}")
     program = Program(random)

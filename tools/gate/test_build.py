@@ -15,7 +15,7 @@ from gate import cases
 from program.estimate import Bounds, Estimate, MOST_JOBS, Plan, Running, speed
 
 PROCESSORS = 4
-# A build of all crates: of each those below it, its minutes by tools/program/minutes.txt, and the seconds at which it started and ended.
+# A build of all crates: those below each, its minutes by tools/program/minutes.txt, and the seconds at which it started and ended.
 RECORD = {
     "lw_base": ([], 2.7, 0, 68),
     "lw_orders": ([], 1.5, 0, 72),
@@ -38,18 +38,19 @@ RECORD = {
     "lw": (["lw_bench"], 2.0, 730, 881),
 }
 PACES = (0.6, 0.8, 1, 1.3)
-# So many crates are proved when the bounds have to hold on a machine of any pace.
+# How many crates are proved when the bounds must hold on a machine of any pace.
 FIRST_CRATES = 6
 
 
 def plan_of(record, processors=PROCESSORS):
-    """The plan of a build."""
+    """Returns the plan of a build."""
     return Plan({name: row[0] for name, row in record.items()}, {name: row[1] for name, row in record.items()}, processors)
 
 
 def moments(pace):
-    """A build of the record's times, so many times as long: at its start, and at the end of each crate except the last, the bounds of the
-    minutes to go, and those that there are."""
+    """Returns a build with the record's times, multiplied by a pace: at its start, and at the end of each crate except the last, the bounds
+    of the minutes to go, and the actual ones.
+    """
     plan, jobs = plan_of(RECORD), {}
     estimate, end = Estimate(plan, list(RECORD)), max(row[3] for row in RECORD.values())
     for now in sorted({0, *(row[3] for row in RECORD.values())} - {end}):
@@ -62,7 +63,7 @@ def moments(pace):
 
 
 def are_within(bounds, minutes):
-    """Whether minutes are within the bounds, as far as whole minutes say."""
+    """Returns whether minutes are within the bounds, rounded to whole minutes."""
     return bounds.least - 1 <= minutes <= bounds.most + 1
 
 

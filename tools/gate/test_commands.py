@@ -19,7 +19,7 @@ from gate.examples import TOOLS, read, run
 from shared import start
 from shared.home import HOME
 
-# Words for those commands that print quickly, so that something is written to each pipe.
+# Arguments for those commands that print quickly, so that something is written to each pipe.
 QUICK = (
     ["assume.py", "tools/herd/tests/Mcs.litmus"],
     ["beyond.py", "examples/SB.litmus"],
@@ -34,13 +34,13 @@ QUICK = (
 
 
 def commands():
-    """The names of the files that can be run."""
+    """Returns the names of the files that can be run."""
     paths = sorted(glob.glob(os.path.join(TOOLS, "*.py")))
     return [os.path.basename(it) for it in paths if '__name__ == "__main__"' in read(it)]
 
 
 def without_reader(words, text="", both=False):
-    """What a command prints on standard error, and its exit status, when nobody reads its standard output; or neither stream."""
+    """Returns what a command prints on standard error, and its exit status, when nobody reads its standard output; or neither stream."""
     reading, writing = os.pipe()
     os.close(reading)
     errors = writing if both else subprocess.PIPE
@@ -51,7 +51,7 @@ def without_reader(words, text="", both=False):
 
 
 def given_to(words):
-    """The words of a command without `FILE`, and what standard input is."""
+    """Returns the arguments of a command without `FILE`, and its standard input."""
     if words[-1] != "FILE":
         return words, ""
     return words[:-1], run(["plain.py", "replay", "P0", "examples/SB.litmus"])[0]

@@ -43,7 +43,7 @@ BROUGHT_IN = (
 
 
 def written(room, text):
-    """A file of proofs with this text."""
+    """Returns a file of proofs with this text."""
     path = os.path.join(room, "Trial.antt")
     with open(path, "w", encoding="utf-8") as it:
         it.write(f"-- A trial.\n{text}\n")
@@ -80,7 +80,7 @@ class Places(cases.Case):
 
     @classmethod
     def setUpClass(cls):
-        # (no Common passes anything on)
+        # (No Common exports anything.)
         cls.missing = Missing(SimpleNamespace(passed=dict.fromkeys(("lw_memory", "lw_tso"), {})), "STD", {"◌∷◌"})
 
     def setUp(self):
@@ -89,7 +89,7 @@ class Places(cases.Case):
         patch.start()
 
     def found(self, crate, word):
-        """The modules in which a file of a crate finds a word."""
+        """Returns the modules in which a file of a crate finds a word."""
         file = next(it for it in self.missing.files.all if it.crate == crate and "/proofs/" in it.path)
         return sorted(module for module, _ in self.missing.found(file, word))
 

@@ -47,13 +47,13 @@ SPELLED_ROWS = 300
 
 
 def written_tests():
-    """The rows of the index: a name, options, and what is told of the test."""
+    """Returns the rows of the index: a name, options, and what is expected of the test."""
     rows = [re.split(r" *\| *", line, maxsplit=2) for line in read("tools/herd/tests/INDEX.txt").splitlines()]
     return [(name, options, told) for name, options, told in rows]
 
 
 def told_of(name, options):
-    """The observation of a test in herd's form, or the place and the cause of its refusal."""
+    """Returns the observation of a test in herd's form, or the position and the cause of its refusal."""
     text = read(f"tools/herd/tests/{name}.litmus")
     tries = int(options.split()[1]) if options else 0
     try:
@@ -80,7 +80,7 @@ class WrittenTests(cases.Case):
 
 
 def random_x86_tests():
-    """Names and texts of random x86 tests."""
+    """Returns names and texts of random x86 tests."""
     for seed in range(1, RANDOM_TESTS + 1):
         yield f"random x86 test {seed}", random_tests.Writer("X86", seed).test()
 
@@ -111,7 +111,7 @@ class BothForms(cases.Case):
 
 
 class Row:
-    """A random row of instructions of one thread, with the words that x86 leaves in two registers, a location and the zero flag."""
+    """A random sequence of instructions of one thread, with the final words of two registers, a location and the zero flag on x86."""
 
     def __init__(self, seed):
         self.random = Random(f"row {seed}")
@@ -121,12 +121,12 @@ class Row:
         self.cells = [self.instruction() for _ in range(self.random.randint(1, 6))]
 
     def flag(self, word):
-        """A word, of which the flag says whether it is 0."""
+        """Sets the flag by whether a word is 0."""
         self.zero = word % 2**32 == 0
         return word % 2**32
 
     def instruction(self):
-        """An instruction, and what it does."""
+        """Executes an instruction, and returns it."""
         number = self.random.randint(0, 3)
         choices = (
             (f"ADD EAX,${number}", lambda: self.put(a=self.flag(self.a + number))),
@@ -170,12 +170,12 @@ class Row:
             setattr(self, name, word % 2**32)
 
     def text(self):
-        """The test: a branch at its end tells the flag."""
+        """Returns the test: a branch at its end shows the flag."""
         body = "".join(f" {cell} ;\n" for cell in [*self.cells, "JE END", "MOV [zero],$1", "END:"])
         return f"X86 Row\n{{ {self.initial} }}\n P0 ;\n{body}locations [0:EAX; 0:EBX; x; zero;]\nforall (true)\n"
 
     def state(self):
-        """The line of the state that x86 ends in."""
+        """Returns the line of the final state on x86."""
         return f"0:EAX={self.a}; 0:EBX={self.b}; x={self.x}; zero={1 - self.zero};"
 
 
@@ -196,7 +196,7 @@ class Rows(cases.Case):
 
 
 def state_of(made):
-    """The only state of a converted test of one thread without loads of others."""
+    """Returns the only state of a converted test of one thread without loads of others."""
     return plain.report(made.conversions[0].test).splitlines()[1:3]
 
 
@@ -204,7 +204,7 @@ class OtherRows(cases.Case):
     """Random rows that may be refused: none is taken for something else."""
 
     def check_rows(self, rows, least):
-        """Each row that is taken leaves the words that x86 leaves, and at least so many are taken."""
+        """Checks that each sequence that is accepted has the final words of x86, and that at least this number are accepted."""
         taken = 0
         for row in rows:
             try:
@@ -231,13 +231,13 @@ class OtherRows(cases.Case):
 
 
 def test_of(*cells, language="X86_64", initial="", condition="exists (x=1)"):
-    """A test of one thread."""
+    """Returns a test of one thread."""
     body = "".join(f" {cell} ;\n" for cell in cells)
     return f"{language} Cells\n{{ {initial} }}\n P0 ;\n{body}{condition}\n"
 
 
 def refusal_of(text, tries=0, is_att=None):
-    """The place and the cause for which a text is refused, or None."""
+    """Returns the position and the cause for which a text is refused, or `None`."""
     try:
         converted(text, tries, is_att)
     except given.Fault as fault:
@@ -246,13 +246,13 @@ def refusal_of(text, tries=0, is_att=None):
 
 
 def cells_of(text, is_att=None):
-    """The instructions of the first thread that a text is converted to."""
+    """Returns the instructions of the first thread of a converted text."""
     made = converted(text, is_att=is_att).conversions[0].test
     return [plain.instruction_text(made, it) for it in made.threads[0]]
 
 
 def notes_on_order(text):
-    """The places and the first words of the notes on the order of operands."""
+    """Returns the positions and the first words of the notes on the order of operands."""
     notes = [(given.place(text, at), says) for at, says in converted(text).notes if "operands" in says]
     return [f"{place} {says.partition(' order')[0]}" if says.startswith("operands") else f"{place} {says}" for place, says in notes]
 
@@ -326,7 +326,7 @@ class Orders(cases.Case):
 
 
 def with_64_bits(it):
-    """An instruction whose small negative number has 64 bits."""
+    """Returns an instruction whose small negative number has 64 bits."""
     is_negative = it.value is not None and it.value[0] == "number" and it.value[1] >= 2**32 - 16
     return replace(it, value=("number", it.value[1] + 2**64 - 2**32)) if is_negative else it
 
@@ -545,7 +545,7 @@ class Files(cases.Case):
     """Files that tests are written into, and what tools/run_all.py says of tests in herd's form."""
 
     def write(self, room, name, text):
-        """A file of a folder."""
+        """Writes a file into a folder, and returns its path."""
         path = os.path.join(room, name)
         with open(path, "w", encoding="utf-8") as it:
             it.write(text)
@@ -610,7 +610,7 @@ class Logs(cases.Case):
     NAMES = ("SB-addresses", "MP+filter", "Cas", "Spin")
 
     def told(self, option, log, names=NAMES, left_out=()):
-        """The lines of run_all.py on converted tests, and its status; some of the files are left out."""
+        """Returns the lines of run_all.py on converted tests, and its status; some of the files are left out."""
         with tempfile.TemporaryDirectory(prefix="lw-herd-") as room:
             files = [f"tools/herd/tests/{name}.litmus" for name in names]
             self.assertEqual(0, run(["from_herd.py", "--tries", "2", "--into", room, *files])[2])
@@ -623,7 +623,7 @@ class Logs(cases.Case):
             return [line.replace(path, "LOG") for line in err.splitlines() if not line.startswith("run_all:")], status
 
     def log(self, *names):
-        """The part of the log with some tests."""
+        """Returns the part of the log with some tests."""
         parts = re.split(r"(?m)^(?=Test )", LOG)
         return "".join(part for part in parts if part.split(" ")[1:2] and part.split(" ")[1] in names)
 

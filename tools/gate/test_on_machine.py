@@ -36,7 +36,7 @@ from shared.home import HOME, close
 
 # The seconds that the tries of a control last: it fails after the last one.
 TRIES = (1, 2, 4, 8)
-# A library to be loaded before the C library: signals of traps are not passed to whoever asks for them, as in some sandboxes.
+# A library to be loaded before the C library: signals of traps are not passed to their handlers, as in some sandboxes.
 CATCHES_TRAPS = r"""
 #define _GNU_SOURCE
 #include <dlfcn.h>
@@ -52,7 +52,7 @@ int sigaction(int number, const struct sigaction *new, struct sigaction *old)
 
 
 def missing():
-    """What the controls need and this machine lacks."""
+    """Returns what the controls need and this machine lacks."""
     lacking = [f"{it} is missing" for it in ("cc", "objdump") if not shutil.which(it)]
     try:
         build.look_at_system()
@@ -62,18 +62,18 @@ def missing():
 
 
 def lacks_processors(count=2):
-    """Whether this process may use fewer processors than so many."""
+    """Returns whether this process may use fewer processors than this number."""
     return len(os.sched_getaffinity(0)) < count
 
 
 def skipped():
-    """The line that says which controls are left out, if any are."""
+    """Returns the line that says which controls are left out, if any are."""
     lacking = missing() or (["there are fewer than two processors"] if lacks_processors() else [])
     return f"the controls of on_machine.py were left out: {', '.join(lacking)}" if lacking else None
 
 
 def changed(text, old, new):
-    """A text with one part exchanged, which it has once or more."""
+    """Returns a text with one part replaced, which it must contain."""
     assert old in text
     return text.replace(old, new)
 
@@ -111,7 +111,7 @@ class Compiled(cases.Case):
         cls.builder = build.Builder(["cc"], cls.room.name)
 
     def fault_of(self, test, change=lambda text: text):
-        """What is said of the compiled code of a test whose assembly is changed."""
+        """Returns what is said of the compiled code of a test whose assembly is changed."""
         text_of = assembly.text_of
         with mock.patch.object(assembly, "text_of", lambda *words: change(text_of(*words))):
             return refusal(self.builder.program_of, codes_of(test), test.registers)
@@ -213,11 +213,11 @@ class Controls(cases.Case):
         cls.laboratory = Laboratory(["cc"], cls.room.name)
 
     def result_of(self, text, **settings):
-        """What a run shows."""
+        """Returns what a run shows."""
         return self.laboratory.result_of("F", text, Settings(**settings))
 
     def tried(self, is_shown, text, **settings):
-        """Whether one of some runs, each longer than the one before, shows what it should."""
+        """Returns whether one of several runs, each longer than the one before, shows what it should."""
         return any(is_shown(self.result_of(text, limits=Limits(seconds), **settings)) for seconds in TRIES)
 
     def test_against(self):
@@ -309,7 +309,7 @@ class Surroundings(cases.Case):
         cls.laboratory = Laboratory(["cc"], cls.room.name)
 
     def program_of(self, name):
-        """The program and the plan of an example, for a fifth of a second."""
+        """Returns the program and the plan of an example, for a fifth of a second."""
         subject = subject_of(f"examples/{name}.litmus")
         settings = Settings(Limits(0.2))
         plan = self.laboratory.plan_of(subject, settings, subjects.listed_of(subject).states, processors.processors_here())

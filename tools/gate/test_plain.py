@@ -38,7 +38,7 @@ FENCED = """X86 F
 exists (0:EAX=0 /\\ 1:EAX=0)
 """
 REPLAY = "Test A\nSteps 1\nEnd NotFinal\nP0 at 1 r0=7 r1=0 r2=0 r3=0 r4=0 r5=0\nMemory x=1\n"
-# What the tools are run on: the words, and a text that they take.
+# The commands that are tested: the arguments, and a text that they accept.
 COMMANDS = (
     (["plain.py", "states"], TEST),
     (["plain.py", "schedules"], TEST),
@@ -51,7 +51,7 @@ COMMANDS = (
     (["fences.py", "--everything"], FENCED),
     (["replay_state.py"], REPLAY),
 )
-# What they refuse, whatever the program has to say: the words, a text, and what is told of it.
+# What they refuse, whatever the program says: the arguments, a text, and the message.
 REFUSING = (
     (["plain.py", "orders"], "SRC A\n{}\n P1 ;\n", "3:2: 'P1' stands where 'P0' should"),
     (["plain.py", "replay", "Q"], "SRC A\n{}\n P1 ;\n", "3:2: 'P1' stands where 'P0' should"),
@@ -59,7 +59,7 @@ REFUSING = (
     (["replay_state.py"], "Test A\nStops 1\n", "2:1: a replay prints no such line here"),
     (["picture.py", "P0", "--strip"], b"SRC A\n\xff", "2:1: the text is not UTF-8"),
 )
-# Words that are no command. A name of a file begins with no `-`.
+# Arguments that are no command. A name of a file does not start with `-`.
 NO_COMMANDS = (
     ["plain.py"],
     ["plain.py", "state", "FILE"],
@@ -74,7 +74,7 @@ NO_COMMANDS = (
     ["picture.py", "P0", "FILE", "FILE"],
     ["replay_state.py", "FILE", "FILE"],
 )
-# Texts that are no tests, and what is told of them.
+# Texts that are no tests, and the message.
 TEXTS = (
     ("", "1:1: the end of the text stands where 'SRC' or 'X86' should"),
     ("(* a comment\nSRC A\n", "3:1: the comment that begins at 1:1 is left open"),
@@ -130,7 +130,7 @@ TEXTS = (
     ("SRC A\n{a=0;b=0;c=0;d=0;e=0;f=0;g=0}\n P0 ;\n h := 1 ;\n r0 := i ;\nexists (true)\n", "5:8: there are more than 8 locations"),
     ("SRC A\n{}\n P0 | P1 ;\n x := 1 | goto L ;\n L: | ;\nexists (true)\n", "4:16: the thread has no label 'L'"),
 )
-# The first cell of a test that is none, and what is told of it.
+# The first cell of a text that is no test, and the message.
 CELLS = (
     ("X86", "MOV [x],10h", "4:10: '10h' is no token"),
     ("SRC", "r0 := 0x", "4:8: '0x' is no token"),
@@ -168,7 +168,7 @@ CELLS = (
     ("SRC", "L: x := 1 ;\n if r0 = 1 goto L", "5:17: the jump to 'L' does not go forward"),
     ("X86", "L: JMP L", "4:9: the jump to 'L' does not go forward"),
 )
-# Cells of which a test has more than it may have, how many, and what is told.
+# Cells of which a test has more than it may have, their number, and the message.
 MANY = (
     ("SRC", "", 65, "68:3: there are more than 64 rows"),
     ("SRC", "x := 1", 17, "20:2: the thread has more than 16 statements"),
@@ -198,7 +198,7 @@ REPLAYS = (
 
 
 def told_of(text, read):
-    """The line that tells what is wrong in a text."""
+    """Returns the line that says what is wrong in a text."""
     try:
         read(given.decoded(text))
     except given.Fault as fault:
@@ -212,7 +212,7 @@ def of_one_thread(language, cells):
 
 
 def no_tests():
-    """All texts that are no tests: bytes, and what is told of them."""
+    """Returns all texts that are no tests: bytes, and the message."""
     yield from ((text.encode(), told) for text, told in TEXTS)
     yield from ((of_one_thread(language, [cell]), told) for language, cell, told in CELLS)
     yield from ((of_one_thread(language, [cell] * number), told) for language, cell, number, told in MANY)
@@ -258,7 +258,7 @@ class Numbers(cases.Case):
 
 
 def run(words, text=b""):
-    """What a tool prints on both streams, and its exit status, where the console has another encoding."""
+    """Returns what a tool prints on both streams, and its exit status, if the console has another encoding."""
     ran = subprocess.run(
         [sys.executable, os.path.join(TOOLS, words[0]), *words[1:]],
         input=text,
@@ -271,7 +271,7 @@ def run(words, text=b""):
 
 
 def written(room, name, text):
-    """The path of a new file."""
+    """Writes a new file, and returns its path."""
     path = os.path.join(room, name)
     with open(path, "wb") as it:
         it.write(text)
@@ -283,7 +283,7 @@ def spelled(words):
 
 
 def line(text):
-    """What a tool prints that tells one line, and has no answer."""
+    """Returns what a tool prints that reports one line, and has no answer."""
     return b"", f"{text}\n".encode(), 1
 
 

@@ -26,7 +26,7 @@ from shared.home import HOME
 
 SCHEDULES = ("", "P0", "P0 P0 P1 D0", "P0 P0 P0 P0 P1 P1 P1 D0 D1", "P0 D0 E0:x P1")
 X86 = "P0 P0 P1 P1 D0"
-# Changes of a page that no replay has, each of what is in the page of SB or of SB-x86 by the schedule above.
+# Changes of a page that no replay has, each of a part of the page of SB or of SB-x86 by the schedule above.
 CHANGES = (
     ("Test SB", "Test"),
     ("Test SB", "Test S B"),
@@ -77,7 +77,7 @@ process.stdout.write(JSON.stringify(JSON.parse(readFileSync(0, "utf-8")).map(sta
 
 
 def pages():
-    """Pages of replays: of all examples by some schedules."""
+    """Returns the pages of replays: of all examples by some schedules."""
     for _, text in examples():
         test = plain.read_test(text)
         for schedule in SCHEDULES:
@@ -88,12 +88,12 @@ def pages():
 
 
 def two_pages():
-    """A page of a source test, and one of an x86 test."""
+    """Returns a page of a source test, and one of an x86 test."""
     return [plain.replay(plain.read_test(read(f"examples/{name}.litmus")), X86)[0] for name in ("SB", "SB-x86")]
 
 
 def wrong_pages():
-    """Pages that no replay prints."""
+    """Returns pages that no replay prints."""
     for page in two_pages():
         lines = page.splitlines(keepends=True)
         for at, line in enumerate(lines):
@@ -116,7 +116,7 @@ def wrong_pages():
 
 
 def read_by_python(page):
-    """The state of a page by tools/replay_state.py; None if it refuses the page."""
+    """Returns the state of a page by tools/replay_state.py; `None` if it refuses the page."""
     try:
         return replay_state.read_state(page)
     except replay_state.NoReplay:
@@ -124,9 +124,9 @@ def read_by_python(page):
 
 
 def read_by_node(texts):
-    """The states of pages by web/replays.js."""
+    """Returns the states of pages by web/replays.js."""
     with tempfile.TemporaryDirectory(prefix="lw-") as room:
-        # Node takes a file for a module by its name, or by the folder that it is in.
+        # Node takes a file for a module by its name, or by its folder.
         module = os.path.join(room, "replays.mjs")
         shutil.copy(os.path.join(HOME, "web", "replays.js"), module)
         words = ["node", "--input-type=module", "--eval", BY_NODE % json.dumps(Path(module).as_uri())]

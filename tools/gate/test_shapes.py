@@ -39,13 +39,13 @@ NO_CYCLES = (
 
 
 def rows():
-    """The rows of docs/FAMILIES.md: a name, threads, a cycle, and the words of interleaving and of x86-TSO."""
+    """Returns the rows of docs/FAMILIES.md: a name, threads, a cycle, and the words of interleaving and of x86-TSO."""
     found = re.findall(r"^\| (\S+) \| ([WR][^|]*) \| ([^|]+) \| (\w+) \| (\w+) \| \d+ \|", read("docs/FAMILIES.md"), re.M)
     return [(name, threads, spelled_out(cycle), *words) for name, threads, cycle, *words in found]
 
 
 def spelled_out(cycle):
-    """A cycle without `three times` and the like."""
+    """Returns a cycle without `three times` and the like."""
     edges, _, times = cycle.partition(", ")
     return " ".join([edges] * TIMES.get(times, 1))
 
@@ -55,7 +55,7 @@ def shape(cycle):
 
 
 def observation(text):
-    """What the last line of a test's report says behind its name."""
+    """Returns what the last line of a test's report says after its name."""
     return plain.report(plain.read_test(text)).splitlines()[-1].split(" ", 2)[2]
 
 
@@ -127,7 +127,7 @@ LETTERS = ("PodWW", "PodWR", "PodRW", "PodRR", "Rfe", "Rfi", "Fre", "Coe")
 
 
 def rows_of_letters(count):
-    """The rows of so many letters of docs/FAMILIES.md in which each leads from what the one before leads to."""
+    """Returns the rows of this number of letters of docs/FAMILIES.md in which the target of each is the source of the next."""
     rows = [(it,) for it in LETTERS]
     for _ in range(count - 1):
         rows = [(*row, it) for row in rows for it in LETTERS if edge_of(row[-1]).target == edge_of(it).source]
@@ -135,7 +135,7 @@ def rows_of_letters(count):
 
 
 def orders_of_threads(edges):
-    """How many edges to another location each thread of a cycle has."""
+    """Returns how many edges to another location each thread of a cycle has."""
     orders = [0]
     for it in edges:
         orders[-1] += it.is_order
@@ -144,7 +144,9 @@ def orders_of_threads(edges):
 
 
 def cycles_of_letters(most):
-    """The cycles of at most so many letters that are made to a test, each once, if no thread has two edges to another location."""
+    """Returns the cycles of at most this number of letters that can be made a test, without duplicates, if no thread has two edges to
+    another location.
+    """
     found = {}
     for row in (row for count in range(2, most + 1) for row in rows_of_letters(count)):
         try:

@@ -13,7 +13,7 @@ while (performance.now() < until);
 location.hash = "#example=MP";
 """
 STATE = "state=0%3AEAX%3D0%3B+1%3AEAX%3D0%3B"
-# Links that nobody made by the page: what they name is not there, or is the name of what every object has.
+# Links that the page did not make: what they name does not exist, or is the name of a property of every object.
 HOSTILE = (
     "example=constructor", "example=__proto__", "view=constructor", "view=__proto__", "run=constructor&" + STATE, "run=__proto__&view=hand",
     "protocol=toString&" + STATE, "protocol=__proto__&view=hand", "step=NaN&" + STATE, "step=-7&" + STATE, "step=1e99&" + STATE,
@@ -22,7 +22,7 @@ HOSTILE = (
 )
 
 
-# A script of elsewhere.
+# A script of another site.
 FOREIGN_SCRIPT = """
 const it = document.createElement("script");
 it.src = "http://192.0.2.1/x.js";
@@ -31,10 +31,10 @@ document.head.append(it);
 
 
 class Links(PageCase):
-    """A link says all that is shown."""
+    """A link has all that is shown."""
 
     def test_state_and_step(self):
-        """A link leads to its state and step."""
+        """A link restores its state and step."""
         user = self.user
         user.open_listed(f"#example=SB-x86&view=states&{STATE}&step=3")
         self.assertStep("Step 3 of 6:")

@@ -11,7 +11,7 @@ from gate.browser.user import WINDOW, User
 
 
 class PageCase(cases.Case):
-    """A subject. `user` uses the page; its browser may be one that tells nothing of printing and of what is loaded (Firefox)."""
+    """A subject. `user` uses the page; its browser may be one that reports nothing about printing and about what is loaded (Firefox)."""
 
     user = None
 
@@ -20,19 +20,19 @@ class PageCase(cases.Case):
         self.addCleanup(self.keep_picture)
 
     def keep_picture(self):
-        """Keeps a picture at the end of a test, if that is wanted."""
+        """Saves a picture at the end of a test, if that is requested."""
         self.user.stage(self._testMethodName)
 
     def assertSays(self, words, css):
-        """A text comes to hold some words."""
+        """Waits until a text contains some words."""
         self.assertIn(words, self.user.soon(css, words))
 
     def assertStep(self, words):
-        """What is said of the step comes to hold some words."""
+        """Waits until the text about the step contains some words."""
         self.assertIn(words, self.user.says(words))
 
     def assertSoon(self, wanted, tell):
-        """What is told comes to be what is wanted."""
+        """Waits until a function returns the expected value."""
         told = [None]
 
         def is_wanted():
@@ -43,12 +43,12 @@ class PageCase(cases.Case):
         self.assertEqual(wanted, told[0])
 
     def has_devtools(self):
-        """Whether the browser can be asked for more than what a user sees."""
+        """Returns whether the browser reports more than what a user sees."""
         return hasattr(self.user.driver, "execute_cdp_cmd")
 
 
 def tests_of(subjects, user):
-    """The tests of some subjects with a user. (The class is made anew, since two pages may be tried side by side.)"""
+    """Returns the tests of some subjects with a user. (The class is made anew, since two pages may be tested in parallel.)"""
     suite = unittest.TestSuite()
     for it in subjects:
         made = type(it.__name__, (it,), {"user": user, "__module__": it.__module__, "__doc__": it.__doc__})
@@ -57,12 +57,14 @@ def tests_of(subjects, user):
 
 
 def number_of(subjects):
-    """The number of tests of some subjects."""
+    """Returns the number of tests of some subjects."""
     return tests_of(subjects, None).countTestCases()
 
 
 def comparisons(address, subjects, where="in a browser", start=None):
-    """All assertions on the page at an address, as tools/check_documents.py has it: what is compared, what is wanted, and what is told."""
+    """Returns all comparisons on the page at an address, for tools/check_documents.py: what is compared, what is expected, and what was
+    found.
+    """
     with tempfile.TemporaryDirectory(prefix="lw-browser-") as room:
         user = User(address, room, start)
         try:
@@ -74,7 +76,7 @@ def comparisons(address, subjects, where="in a browser", start=None):
 
 
 def tried_twice(suite, where):
-    """The assertions of tests. What fails is printed and tried once more."""
+    """Returns the comparisons of tests. A test that fails is printed and run once more."""
     tests = list(suite)
     for test in tests:
         yield from tried_again_if_failed(test, where)
