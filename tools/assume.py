@@ -7,7 +7,8 @@ reads a test in herd's form, of X86 or of X86_64 (an x86 test of lw with LOCK CM
 one test for each guess of which LOCK CMPXCHG succeed, asks for the states of each, leaves out the runs that contradict their guess or go
 through a loop more than N times, and prints one report. docs/FENCES.md has the argument why it is exact. Its last line says how many
 tests it is put together from, and by which the lists are: by lw if it is built and does not refuse the tests for their size, otherwise by
-beyond if that is built, otherwise by the search of tools/beyond.py. Then it says `not proved`.
+beyond if that is built, otherwise by the search of tools/beyond.py. Then it says `not proved`, and so it does if the program is not that of the
+sources.
 
 If no run is left, since none goes through every loop within N tries, there is no verdict: the line `None` says so, and the status is 6.
 

@@ -46,7 +46,7 @@ def state_on(page: str, test: plain.Test) -> Words:
 def replayed(test: plain.Test, text: str, found: Found) -> str:
     """Replays all schedules, each of which has to lead to its state. Returns by which they are replayed."""
     schedules = list(found.schedules.values())
-    pages, by = batch.replays(text, schedules), answers.Maker.PROGRAM.value
+    pages, by = batch.replays(text, schedules), answers.maker_of("lw").value
     if pages is None:
         pages, by = [plain.replay(test, schedule)[0] for schedule in schedules], answers.Maker.PLAIN.value
     for (words, schedule), page in zip(found.schedules.items(), pages):

@@ -53,7 +53,8 @@ in this list on.
 - What tools/make_lab.py makes for a class of docs/LAB.md (tools/gate/check_lab.py), the slides of tools/make_slides.py
   (tools/gate/check_slides.py), and the quiz of tools/make_quiz.py with its codes (tools/gate/check_quiz.py).
 - Many tests side by side, and tests beyond the limits (tools/gate/check_many.py); folders of mixed files by one command
-  (tools/gate/test_run_all.py); the smallest sets of fences (tools/gate/test_fences.py).
+  (tools/gate/test_run_all.py); the smallest sets of fences (tools/gate/test_fences.py), and what is said of answers of a program of other sources
+  (tools/gate/test_answers.py).
 - Tests on this processor, with controls that have to show what is not listed (tools/gate/test_machine_parts.py, test_on_machine.py).
 - The wheel of tools/make_wheel.py, installed by pip, and the package of tools/make_deb.py, unpacked by dpkg-deb (tools/gate/test_packages.py).
 - The web page, by a plain client, and where there is a browser in that too (tools/gate/check_page.py); what its code answers, and the page in
@@ -79,7 +80,7 @@ import random_tests
 from documents import believe, make_map, make_pages, make_times, measure_lists, semantic_core
 from gate import (
     cases, check_beyond, check_build, check_card, check_edits, check_graph, check_lab, check_lemmas, check_library, check_many, check_names,
-    check_pack, check_page, check_quiz, check_site, check_slides, check_tables, check_wings, proof_layout, test_assume, test_build,
+    check_pack, check_page, check_quiz, check_site, check_slides, check_tables, check_wings, proof_layout, test_answers, test_assume, test_build,
     test_commands, test_fences, test_free_names, test_from_c, test_herd, test_machine_parts, test_names, test_on_machine, test_packages,
     test_plain, test_python, test_replay_state, test_run_all, test_shapes, test_wings,
 )
@@ -680,6 +681,7 @@ def last_checks():
     yield check_quiz.comparisons()
     yield check_many.comparisons()
     yield cases.comparisons(test_run_all)
+    yield cases.comparisons(test_answers)
     yield cases.comparisons(test_fences)
     yield cases.comparisons(test_machine_parts)
     yield cases.comparisons(test_on_machine)

@@ -15,9 +15,9 @@ locked: a plain store, or a load and a store if the old word is used; both by th
 
 A fence only takes states away; that is used, so that not all sets are tried.
 
-The states come from the library if it is beside python/lw.py, otherwise from the program if it is built; those of a test that they refuse for
-its size come from the program beyond if that is built. These are proved. Other lists are made by the search of tools/beyond.py, which is not
-proved. Then the first line says `(not proved)`, and the last line says of how many lists. Files and faults are reported as by tools/plain.py; Python 3.8 is
+The states come from the program if it is built, in a pack from the library; those of a test that these refuse for its size come from the
+program beyond if that is built. These are proved if they are those of the sources. Other lists are made by the search of tools/beyond.py,
+which is not proved. If a list is not proved, the first line says `(not proved)`, and the last line says of how many lists. Files and faults are reported as by tools/plain.py; Python 3.8 is
 enough, on any system.
 """
 import re
@@ -197,8 +197,9 @@ def lines_of_makers() -> List[str]:
     """That lists are not proved, if some are not."""
     number = sum(not it.by.is_proved for it in lists.values())
     by = answers.names_of(it for it in makers() if not it.is_proved)
-    why = "since lw is not built here, or refuses these tests for their size and beyond is not built"
-    return [f"Not proved: of {len(lists)} lists {number} are made by {by}, {why}"] if number else []
+    is_searched = answers.Maker.SEARCH in makers()
+    why = ", since lw is not built here, or refuses these tests for their size and beyond is not built" if is_searched else ""
+    return [f"Not proved: of {len(lists)} lists {number} are made by {by}{why}"] if number else []
 
 
 def is_command(words):

@@ -312,7 +312,8 @@ class Makers(cases.Case):
         refused, memory = lw.Fault("lw: limit 2 TooManyOrders", 3), lw.Fault("lw: memory", 4)
         for reach, maker in (({"return_value": b"a report"}, answers.Maker.BEYOND), ({"side_effect": memory}, answers.Maker.SEARCH)):
             bench = mock.Mock(run=mock.Mock(side_effect=refused), reach=mock.Mock(**reach))
-            with self.subTest(maker), mock.patch.multiple(answers, BEYOND="/no/program", library=lambda bench=bench: bench):
+            names = {"BEYOND": "/no/program", "library": lambda bench=bench: bench, "has_sources": lambda: False}
+            with self.subTest(maker), mock.patch.multiple(answers, **names):
                 told = answers.answer(["states"], plain.read_test(TICKETS))
                 self.assertEqual(maker, told.by)
                 self.assertTrue(maker is answers.Maker.SEARCH or told.text == "a report")

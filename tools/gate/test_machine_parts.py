@@ -443,7 +443,7 @@ class Logs(cases.Case):
     def test_makers(self):
         """An answer says proved only of the programs, and of a source test only if its compiler is one."""
         told = [subjects.Listed([], it).by_whom() for it in answers.Maker]
-        not_proved = ["tools/beyond.py, not proved", "tools/plain.py, not proved"]
+        not_proved = [f"{it.value}, not proved" for it in answers.Maker if it not in (answers.Maker.PROGRAM, answers.Maker.BEYOND)]
         self.assertEqual(["lw, proved complete", "beyond, proved complete", *not_proved], told)
         told = [subjects.Listed([], answers.Maker.PROGRAM, it).by_whom() for it in (answers.Maker.PROGRAM, answers.Maker.PLAIN)]
         self.assertEqual(["lw, of the test that lw compiled, proved complete", "lw, of the test that tools/plain.py compiled, not proved"], told)

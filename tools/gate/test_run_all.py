@@ -369,13 +369,6 @@ class Answers(cases.Case):
         self.assertEqual([rows.PLAIN_UNPROVED], [it.row.method for it in done])
         self.assertIn("answered by tools/plain.py, not proved", told.getvalue())
 
-    def test_stale(self):
-        """Nor is a list of a program that is not of the sources, of a file that is converted."""
-        row = rows.refused_row("a", "why")
-        for method, wanted in ((rows.ENUMERATED, rows.ENUMERATED + rows.NOT_PROVED), (rows.SEARCHED, rows.SEARCHED), (None, None)):
-            it = rows.Answered(row._replace(method=method), "", [], 0)
-            self.assertEqual(wanted, lists.marked(it, {rows.ENUMERATED}).row.method)
-
     def test_faulty_conversion(self):
         """A conversion that fails, or whose process ends, makes a row that says so, and the other files are answered."""
         for conversion, why in ((fail, "KeyError: 'register'"), (end, "BrokenProcessPool: ")):

@@ -26,6 +26,8 @@ NAME = re.compile(r"(?:\d+:)?[A-Za-z_]\w*")
 METHODS = {
     answers.Maker.PROGRAM: rows.ENUMERATED,
     answers.Maker.BEYOND: rows.SEARCHED,
+    answers.Maker.STALE_PROGRAM: rows.ENUMERATED_UNPROVED,
+    answers.Maker.STALE_BEYOND: rows.SEARCHED_UNPROVED,
     answers.Maker.SEARCH: rows.SEARCHED_UNPROVED,
     answers.Maker.PLAIN: rows.PLAIN_UNPROVED,
 }

@@ -55,21 +55,15 @@ def answers_by_conversion(jobs: list, choices: Choices, tell) -> list:
 
     from many import conversions
 
-    stale = {method for program, method in (("lw", rows.ENUMERATED), ("beyond", rows.SEARCHED)) if not spawn.is_current(program)}
     done = []
     with ProcessPoolExecutor(min(len(jobs), os.cpu_count() or 1)) as pool:
         for job, answer in zip(jobs, [pool.submit(conversions.answer_of, choices, job) for job in jobs]):
             try:
-                done.append(marked(answer.result(), stale))
+                done.append(answer.result())
             except Exception as why:  # A fault of a tool, or a process that ended: the other files have their rows.
                 done.append(rows.refused(job[0], f"{job[0]}: the conversion failed, which is a fault of it: {type(why).__name__}: {why}"))
             tell(job[0])
     return done
-
-
-def marked(it: rows.Answered, stale: set) -> rows.Answered:
-    """Returns an answer whose method says `not proved` if it is one of a program that is not of the sources as they are."""
-    return it._replace(row=it.row._replace(method=it.row.method + rows.NOT_PROVED)) if it.row.method in stale else it
 
 
 def all_answers(files: list, choices: Choices, tell) -> list:

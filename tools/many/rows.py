@@ -9,7 +9,7 @@ from shared import spawn
 # How a list was made.
 ENUMERATED, SEARCHED = "enumerated", "searched"
 NOT_PROVED = ", not proved"
-SEARCHED_UNPROVED, PLAIN_UNPROVED = SEARCHED + NOT_PROVED, "plain" + NOT_PROVED
+ENUMERATED_UNPROVED, SEARCHED_UNPROVED, PLAIN_UNPROVED = ENUMERATED + NOT_PROVED, SEARCHED + NOT_PROVED, "plain" + NOT_PROVED
 # The verdict of a file that has no answer, and of one of which no run is left.
 REFUSED, NO_VERDICT, AS_ASKED = "Refused", "None", "Ok"
 # What each row has, and what only some tables have: the listed states seen on this machine, how a file was converted, why it is refused.

@@ -1,9 +1,10 @@
 """Lists of states and other answers of the program: by whom each is made, and how that is chosen.
 
-The program lw makes it if it is built, or if the library is beside python/lw.py, and does not refuse the test for its size. Otherwise the
+The program lw makes it if it is built, or the library in a pack, which has no sources, unless the test is refused for its size. Otherwise the
 program beyond makes a list of states if it is built, and if that is not whole either, the search of tools/beyond.py; every other answer is
-made by tools/plain.py. The two programs are proved, the search and the interpreter are not. So each answer carries its maker, and whoever
-prints it says which answers are not proved. A further maker is added to `Maker` and to `answer`.
+made by tools/plain.py. The two programs are proved if they are those of the sources, which is asked once; the search and the interpreter are
+not. So each answer carries its maker, and whoever prints it says which answers are not proved. A further maker is added to `Maker` and to
+`answer`.
 """
 import functools
 import os
@@ -16,6 +17,7 @@ import given
 import plain
 from search.explore import Search
 from search.reports import report_of
+from shared import spawn
 from shared.home import BEYOND, HOME, PROGRAM
 
 # The states of the machine at which a search for a list ends.
@@ -29,6 +31,8 @@ class Maker(Enum):
 
     PROGRAM = "lw"
     BEYOND = "beyond"
+    STALE_PROGRAM = "an lw of other sources (./lw builds that of these)"
+    STALE_BEYOND = "a beyond of other sources (./beyond builds that of these)"
     SEARCH = "tools/beyond.py"
     PLAIN = "tools/plain.py"
 
@@ -36,6 +40,10 @@ class Maker(Enum):
     def is_proved(self) -> bool:
         """Whether what it makes is proved to be the answer."""
         return self in (Maker.PROGRAM, Maker.BEYOND)
+
+
+# Of each program its maker if it is that of the sources, and if it is not.
+PROGRAMS = {"lw": (Maker.PROGRAM, Maker.STALE_PROGRAM), "beyond": (Maker.BEYOND, Maker.STALE_BEYOND)}
 
 
 class NoList(given.Fault):
@@ -49,11 +57,29 @@ class Answer(NamedTuple):
     by: Maker
 
 
+def has_sources() -> bool:
+    """Whether the sources of the programs are here. A pack has none: its programs and its library are what was handed on."""
+    return os.path.exists(os.path.join(HOME, "crates.txt"))
+
+
+@functools.lru_cache(maxsize=None)
+def is_current(program: str) -> bool:
+    """Whether a program is that of the sources as they are. It is asked once."""
+    return spawn.is_current(program)
+
+
+def maker_of(program: str) -> Maker:
+    """The maker of what the program of this name answers, or the library in its place."""
+    current, stale = PROGRAMS[program]
+    return current if not has_sources() or is_current(program) else stale
+
+
 @functools.lru_cache(maxsize=None)
 def library():
-    """The proved library, if it is a shared object beside python/lw.py, as in a pack."""
+    """The proved library, if it is a shared object beside python/lw.py, as in a pack. Beside sources nothing says of which it is made, so it is
+    not asked."""
     folder = os.path.join(HOME, "python")
-    if not os.path.exists(os.path.join(folder, "liblw.so")):
+    if has_sources() or not os.path.exists(os.path.join(folder, "liblw.so")):
         return None
     sys.path.append(folder)
     import lw
@@ -121,10 +147,10 @@ def answer(words: List[str], test: plain.Test, text: Optional[str] = None) -> An
     text = plain.canonical_text(test) if text is None else text
     made = made_by_program(words, text)
     if made is not None:
-        return Answer(made, Maker.PROGRAM)
+        return Answer(made, maker_of("lw"))
     if words == ["states"]:
         made = made_by_beyond(text)
-        return Answer(made_by_search(test), Maker.SEARCH) if made is None else Answer(made, Maker.BEYOND)
+        return Answer(made_by_search(test), Maker.SEARCH) if made is None else Answer(made, maker_of("beyond"))
     return Answer(plain.answer(words, text)[0], Maker.PLAIN)
 
 
