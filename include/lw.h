@@ -1,5 +1,5 @@
-/* The proved workbench as a C library: the four commands and lists of any size, each a call. crates/lw_library/src/exports.rt and reached.rt
-   say what is proved of them, if C passes what this file says. That it does is up to the caller.
+/* The proved workbench as a C library: the four commands and lists of any size, each a call. crates/lw_library/src/exports.rt, reached.rt and
+   version.rt say what is proved of them, if C passes what this file says. That it does is up to the caller.
 
    A call takes memory to allocate from and room for its answer, and keeps nothing. Two calls may use the same memory in sequence. At the
    same time they may not: threads that call at once need memory and room of their own, each thread for itself. A call calls nothing except
@@ -20,6 +20,13 @@
 #ifdef __cplusplus
 extern "C" {
 #endif
+
+/* The version that this file declares: 100 times its first number, plus its second. The first number changes if callers have to change, the
+   second if there is more to call. */
+#define LW_VERSION 100
+
+/* The version of the library that is linked, as LW_VERSION has it. */
+uint32_t lw_version(void);
 
 /* Memory that a call may use while it runs: `at` is aligned to 16 bytes, and nobody else reads or writes the `size` bytes there.
    What they hold before does not matter, and after the call they are the caller's again. Where `size` is below 16, `at` may be

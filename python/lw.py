@@ -15,6 +15,8 @@ another form than the program's is refused. A fault is an exception, which tells
 A test is bytes, as a file opened in mode "rb" gives them, and no `str`: faults count its bytes. A schedule is bytes, or a `str`, which is
 taken as UTF-8. Other arguments raise TypeError or ValueError, and nothing is called.
 
+`version()` is the version of the library, as include/lw.h has it: its first number changes if callers have to change.
+
 Threads may share a workbench: its calls wait for each other, since they use the same memory. For calls side by side, make one for each
 thread.
 """
@@ -173,13 +175,26 @@ def _schedule_of(command, schedule, protocol):
     return (schedule.encode() if isinstance(schedule, str) else schedule, PROTOCOLS[protocol or "mesi"])
 
 
+def _version_of(calls):
+    """The version of a library that is loaded."""
+    calls.lw_version.argtypes, calls.lw_version.restype = [], ctypes.c_uint32
+    return "{}.{}".format(*divmod(calls.lw_version(), 100))
+
+
+def version(library=LIBRARY):
+    """Returns the version of the shared object at a path, such as `1.0`."""
+    return _version_of(ctypes.CDLL(library))
+
+
 class Workbench:
-    """The four commands and lists of any size, over `memory` bytes that each call may use. `library` is the path of the shared object."""
+    """The four commands and lists of any size, over `memory` bytes that each call may use. `library` is the path of the shared object, and
+    `version` is its version."""
 
     def __init__(self, library=LIBRARY, memory=64 << 20):
         if not isinstance(memory, int) or memory < 0:
             raise ValueError(f"memory has to be a number of bytes, and not {memory!r}")
         self._calls = ctypes.CDLL(library)
+        self.version = _version_of(self._calls)
         self._block = ctypes.create_string_buffer(memory + 16)
         self._memory = _Memory((ctypes.addressof(self._block) + 15) & ~15, memory)
         self._room = ctypes.create_string_buffer(LEAST_ROOM)

@@ -55,6 +55,12 @@ export class Workbench {
     }
   }
 
+  /** The version of the library that the module is, such as `1.0`. */
+  version() {
+    const number = this.instanceFor(LITTLE[0]).lw_version();
+    return `${Math.floor(number / 100)}.${number % 100}`;
+  }
+
   /** What an instance exports; that for the least memory is kept from one call to the next. */
   instanceFor(size) {
     if (size !== LITTLE[0]) return instanceOf(this.module);

@@ -21,10 +21,13 @@ from concurrent.futures import ThreadPoolExecutor
 sys.dont_write_bytecode = True
 sys.path.insert(0, os.path.dirname(os.path.dirname(os.path.abspath(__file__))))
 from gate import check_page
+from packing import tree
 from shared.home import HOME, PROGRAM, close
 
 LIBRARY = f"{HOME}/crates/lw_library/out/liblw_library.a"
 BEYOND = f"{HOME}/crates/beyond/out/beyond"
+# Prints how much the version of the library that is linked is above that of the header.
+VERSION_IN_C = '#include "lw.h"\n#include <stdio.h>\nint main(void) { printf("%d\\n", (int)(lw_version() - LW_VERSION)); }\n'
 PAST_LIMITS = f"{HOME}/bench/beyond/TryLock3-x86.litmus"
 
 
@@ -126,6 +129,18 @@ def words_in_c(room):
         yield f"the library from C: states {redirection}", *told
 
 
+def versions(room):
+    """The version of the library, from C and from Python: that of include/lw.h, which packages have in theirs."""
+    import lw
+
+    source, program = f"{room}/version.c", f"{room}/version"
+    with open(source, "w", encoding="utf-8") as it:
+        it.write(VERSION_IN_C)
+    subprocess.run(["cc", "-I", f"{HOME}/include", source, LIBRARY, "-o", program], check=True)
+    yield "the library from C: its version is that of lw.h", (0, b"0\n", b""), run([program], b"")
+    yield "the library from Python: its version is that of packages", tree.library_version(), lw.version(f"{room}/liblw.so")
+
+
 def stack(room):
     """The test that takes the most stack of those that were found, with as much as docs/LIBRARY.md says is ample."""
     cells = " | ".join(f"XCHG [{name}],EAX" for name in "abcd")
@@ -219,6 +234,7 @@ def all_comparisons():
         for what, want, got in limits(lambda text, **settings: run([f"{room}/lw-in-c", "states"], text, **settings)):
             yield f"the library: {what}", want, got
         yield from words_in_c(room)
+        yield from versions(room)
         yield from stack(room)
         yield from threads_in_python(room)
         yield from lists_of_any_size(room)

@@ -560,6 +560,9 @@ async function workbenchOf(page, tally, { module, server }) {
   const compiled = await page.module.compiled(fs.readFileSync(module));
   if (compiled === null) throw new Error(`${module} is no module that this node takes (--experimental-wasm-memory64)`);
   compareTrapped(page, tally, new page.module.Workbench(compiled));
+  const number = Number(fs.readFileSync(`${HOME}/include/lw.h`, "utf8").match(/^#define LW_VERSION (\d+)$/m)[1]);
+  const version = `${Math.floor(number / 100)}.${number % 100}`;
+  tally.compare("the version of the module is that of lw.h", version, new page.module.Workbench(compiled).version());
   return new Both(new page.module.Workbench(compiled), tally);
 }
 

@@ -47,6 +47,7 @@ TEST = f"{HOME}/examples/SB-x86.litmus"
 PAST_LIMITS = f"{HOME}/examples/beyond/3.TryLock.litmus"
 FENCED = f"{HOME}/examples/SB+mfences-x86.litmus"
 ORIGIN = tree.Origin("0123456789abcdef0123456789abcdef01234567", 1795826399, "kit logic 0", "1 passed, 0 failed")
+VERSION_BY_LIBRARY = "import lw; print(lw.version())"
 BY_LIBRARY = "import sys, lw; sys.stdout.write(lw.Workbench().states(open(sys.argv[1], 'rb').read()).text.decode())"
 WARNING = "note: the gate (./test.sh) has not passed for these sources, nor is the library compared with them; what is made says so"
 # Commands of tools/ that are no commands of those who install: for lists if beyond is not built, and for other tools.
@@ -149,8 +150,8 @@ class Origins(cases.Case):
 
     def test_versions(self):
         """A version is the commit's time (UTC) and its digits; later commits have greater versions."""
-        for seconds, version in ((0, "1970.1.1.0"), (1795826399, "2026.11.28.39"), (1795826399 + 3600, "2026.11.28.139")):
-            self.assertEqual(f"{version}+g01234567", ORIGIN._replace(seconds=seconds).version)
+        for seconds, version in ((0, "19700101.0"), (1795826399, "20261128.39"), (1795826399 + 3600, "20261128.139")):
+            self.assertEqual(f"{tree.library_version()}.{version}+g01234567", ORIGIN._replace(seconds=seconds).version)
 
     def test_gate(self):
         """A gate that has not passed is named in the description and on standard error; so is a program that is left out."""
@@ -217,7 +218,7 @@ class Wheel(Packed):
 
     def test_name(self):
         """Its name has the version, and the glibc that its programs need."""
-        name = r"lw-2026\.11\.28\.39\+g01234567-py3-none-manylinux_2_\d+_x86_64\.whl"
+        name = r"lw-\d+\.\d+\.20261128\.39\+g01234567-py3-none-manylinux_2_\d+_x86_64\.whl"
         self.assertTrue(re.fullmatch(name, os.path.basename(self.path)))
 
     def test_description(self):
@@ -261,6 +262,7 @@ class Wheel(Packed):
             (["python", "-m", "lw", "stat"], by_program("stat")),
             (["python", "-m", "lw", "states", "no-such-file"], ("lw: no-such-file can't be opened\n", 4)),
             (["python", "-c", BY_LIBRARY, TEST], by_program("states")),
+            (["python", "-c", VERSION_BY_LIBRARY], (f"{tree.library_version()}\n", 0)),
             (["lw-plain", "states", TEST], by_program("states")),
             (["lw-fences", FENCED], run([sys.executable, f"{HOME}/tools/fences.py", FENCED])),
             (["python", "-m", "lw", "fences", FENCED], run([sys.executable, f"{HOME}/tools/fences.py", FENCED])),
@@ -349,6 +351,10 @@ class Debian(Packed):
         with open(f"{self.at}/{make_deb.LIB}/pkgconfig/lw.pc", encoding="utf-8") as it:
             flags = dict(re.findall(r"^(Cflags|Libs): (.*)$", it.read(), re.M))
         self.assertEqual({"Cflags": "-I${includedir}", "Libs": "-L${libdir} -llw"}, flags)
+        if shutil.which("pkg-config"):
+            where = {"PKG_CONFIG_LIBDIR": f"{self.at}/{make_deb.LIB}/pkgconfig", "PATH": os.environ["PATH"]}
+            self.assertEqual((f"{ORIGIN.version}\n", 0), run(["pkg-config", "--modversion", "lw"], env=where))
+            self.assertEqual(("", 0), run(["pkg-config", f"--atleast-version={tree.library_version()}", "lw"], env=where))
         lib, program = f"{self.at}/{make_deb.LIB}", os.path.join(self.room, "lw-in-c")
         words = ["cc", "-I", f"{self.at}/usr/include", f"{HOME}/examples/c/use.c", "-L", lib, "-llw", "-o", program]
         subprocess.run(words, check=True)

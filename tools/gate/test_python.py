@@ -44,6 +44,11 @@ static void copy(struct lw_memory memory, const uint8_t *text, size_t length, ui
         memcpy(room, kept, length);
 }
 
+uint32_t lw_version(void)
+{
+    return 307;
+}
+
 void lw_states(struct lw_memory memory, const uint8_t *text, size_t length, uint8_t *room, size_t size, struct lw_told *told)
 {
     copy(memory, text, length, room, size, told);
@@ -168,6 +173,10 @@ class Calls(cases.Case):
         with open(source, "w", encoding="utf-8") as it:
             it.write(STAND_IN)
         subprocess.run(["cc", "-shared", "-fPIC", "-I", f"{HOME}/include", source, "-o", cls.library], check=True)
+
+    def test_version(self):
+        """The version is that of the library that is loaded."""
+        self.assertEqual(("3.7", "3.7"), (lw.version(self.library), lw.Workbench(self.library, memory=1 << 16).version))
 
     def refusal(self, call, *words):
         """What a call raises: the exception's type and message."""

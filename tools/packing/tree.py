@@ -1,8 +1,8 @@
 """What the wheel and the package for Debian carry, and where it comes from.
 
 Both have the programs, the library, and a tree of files in which each tool finds them as in the archive of tools/pack.py: what that has,
-without its shell scripts and its site. The repository has no numbers of versions. So a version is the time of the commit, which sorts, and
-the commit.
+without its shell scripts and its site. A version is that of the library, as include/lw.h has it and the library says of itself, then the time of
+the commit, which sorts, and the commit.
 """
 import os
 import re
@@ -14,6 +14,7 @@ from typing import Callable, Dict, List, NamedTuple, Tuple
 import pack
 from page import web_files
 from program import build
+from shared.home import HOME
 
 SUMMARY = "An x86-TSO litmus workbench that is proved correct"
 LICENCE = "No licence has been chosen yet: that is for the owner to do, and until then nobody else has the right to change lw or to hand it on"
@@ -37,14 +38,21 @@ class Origin(NamedTuple):
 
     @property
     def version(self) -> str:
-        """The version: year, month, day, and hour and minute of the commit (UTC), and its first eight digits."""
+        """The version: that of the library, the day, and hour and minute of the commit (UTC), and its first eight digits."""
         at = time.gmtime(self.seconds)
-        return f"{at.tm_year}.{at.tm_mon}.{at.tm_mday}.{100 * at.tm_hour + at.tm_min}+g{self.commit[:8]}"
+        return f"{library_version()}.{time.strftime('%Y%m%d', at)}.{100 * at.tm_hour + at.tm_min}+g{self.commit[:8]}"
 
     @property
     def is_proved_here(self) -> bool:
         """Whether the gate has passed for these sources."""
         return self.gate != NO_GATE
+
+
+def library_version() -> str:
+    """Returns the version of the library, by include/lw.h."""
+    with open(os.path.join(HOME, "include", "lw.h"), encoding="utf-8") as it:
+        number = int(re.search(r"^#define LW_VERSION (\d+)$", it.read(), re.M)[1])
+    return "{}.{}".format(*divmod(number, 100))
 
 
 def origin() -> Origin:

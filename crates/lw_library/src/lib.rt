@@ -8,3 +8,4 @@
 mod call_result;
 mod exports;
 mod reached;
+mod version;
