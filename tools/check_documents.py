@@ -52,6 +52,7 @@ in this list on.
   tools/gate/random_programs.py).
 - What tools/make_lab.py makes for a class of docs/LAB.md (tools/gate/check_lab.py), the slides of tools/make_slides.py
   (tools/gate/check_slides.py), and the quiz of tools/make_quiz.py with its codes (tools/gate/check_quiz.py).
+- The words that editors and the page show in colours (tools/gate/test_editor.py).
 - Many tests side by side, and tests beyond the limits (tools/gate/check_many.py); folders of mixed files by one command
   (tools/gate/test_run_all.py); the smallest sets of fences (tools/gate/test_fences.py), and what is said of answers of a program of other sources
   (tools/gate/test_answers.py).
@@ -80,9 +81,9 @@ import random_tests
 from documents import believe, make_map, make_pages, make_times, measure_lists, semantic_core
 from gate import (
     cases, check_beyond, check_build, check_card, check_edits, check_graph, check_lab, check_lemmas, check_library, check_many, check_names,
-    check_pack, check_page, check_quiz, check_site, check_slides, check_tables, check_wings, proof_layout, test_answers, test_assume, test_build,
-    test_commands, test_fences, test_free_names, test_from_c, test_herd, test_machine_parts, test_names, test_on_machine, test_packages,
-    test_plain, test_python, test_replay_state, test_run_all, test_shapes, test_wings,
+    check_pack, check_page, check_quiz, check_site, check_slides, check_tables, check_wings, proof_layout, test_answers, test_assume,
+    test_build, test_commands, test_editor, test_fences, test_free_names, test_from_c, test_herd, test_machine_parts, test_names,
+    test_on_machine, test_packages, test_plain, test_python, test_replay_state, test_run_all, test_shapes, test_wings,
 )
 from program import build
 from shared import start
@@ -668,6 +669,7 @@ def last_checks():
     """Those for which it matters how long things take: one after another, when all others are through."""
     yield cases.comparisons(test_plain)
     yield cases.comparisons(test_commands)
+    yield cases.comparisons(test_editor)
     yield cases.comparisons(test_replay_state)
     yield cases.comparisons(test_build)
     yield cases.comparisons(test_python)

@@ -3,14 +3,12 @@
 
 import { el } from "./dom.js";
 import { readTest } from "./tests.js";
+import { FENCES, KEYWORDS, REGISTER } from "./words.js";
 
 // How many colours there are, and which locations have the same in every test.
 const COLOURS = 8;
 const FIXED = ["x", "y", "z", "w"];
 const MOST_COLOURED = 20000;
-const KEYWORDS = /^(?:exists|forall|locations|filter|if|goto|swap|fetchadd|MOV|MFENCE|XCHG|LOCK|XADD|ADD|CMP|JE|JNE|JMP|not|true|false)$/i;
-const FENCES = /^(?:MFENCE|XCHG|LOCK|XADD|swap|fetchadd)$/i;
-const REGISTER = /^(?:EAX|EBX|ECX|EDX|ESI|EDI|r[0-5])$/i;
 const TOKEN = /\(\*|\*\)|\d+:[A-Za-z]\w*|0x[\da-fA-F]+|\$?\d+|[A-Za-z_]\w*|\s+|:=|[^\sA-Za-z_0-9]/g;
 
 /** The colours of the locations of a test: those of the four usual names are the same in all tests. */

@@ -1,0 +1,196 @@
+#!/usr/bin/env python3
+"""Whether editors and the page show tests in colours by the words that are read.
+
+    python3 tools/gate/test_editor.py, or python3 -m unittest tools.gate.test_editor
+
+- The table of tools/editor/words.py has the words of docs/FORMAT.md's tables and of its reserved names, and the reader of tools/plain.py takes them.
+- The files that are made of the table are as they would be written.
+- The grammar gives each token of each example the scope of its kind, as the reader has the tokens, by a small reader of such grammars
+  (`Colours`).
+
+The programs are not needed. tools/check_documents.py calls all this (tools/gate/cases.py).
+"""
+import json
+import os
+import re
+import sys
+
+sys.dont_write_bytecode = True
+sys.path.insert(0, os.path.dirname(os.path.dirname(os.path.abspath(__file__))))
+import plain
+from editor import grammar, words
+from gate import cases
+from gate.examples import examples, read
+from interpreter.reading import RESERVED, heading_of
+from interpreter.tokens import skip_notes, tokens_of
+from shared.home import HOME
+
+# Of a kind of token the scopes that it may have.
+NUMBERS = ("constant.numeric", "entity.name.section")
+NAMES = ("variable.other", "entity.name.function", "entity.name.section")
+# What the reader takes and a list of words does not tell apart: a text, and of some of its words the scopes.
+TYPED = (
+    ("X86 MOV\n{}\n P0 ;\n MOV: MOV [MOV],1 ;\nexists (MOV=1)\n", "MOV", ("entity.name.type", "entity.name.function", "keyword.control", "variable.other", "variable.other")),
+    ("X86 A\n{}\n P0 ;\n mov eax,[x] ;\nexists (0:EaX=0x1F)\n", "eax", ("variable.language", "variable.language")),
+    ("SRC A\n{}\n P0 ;\n eax := 1 ;\n mov := 1 ;\nexists (r7=1)\n", "mov", ("variable.other",)),
+    ("SRC A\n(* x (* SRC x *) x *)\nx=x{x\n\"x=x\" {x=1;}\n P0 ;\n x := 1 ;\nexists (x=1)\n", "x", (
+        "comment.block", "comment.block", "comment.block", "variable.parameter", "string.unquoted", "string.unquoted",
+        "string.quoted.double", "string.quoted.double", "variable.other", "variable.other", "variable.other")),
+    ("(* SRC *) X86 A\n{}\n P0 ;\n lock xchg [x],eax ;\nexists (x=1)\n", "lock", ("keyword.other.fence",)),
+    ("SRC A\n{}\n P0 ;\n r0 := fetchadd x r1 ;\n if r0 != 0 goto L ;\n L: ;\n~exists (not true)\n", "fetchadd|if|goto|L|exists|not|true", (
+        "keyword.other.fence", "keyword.control", "keyword.control", "variable.other", "entity.name.function", "keyword.control.question",
+        "keyword.operator.logical", "constant.language")),
+)
+
+
+class Colours:
+    """The scopes that a grammar gives the letters of a text. A rule matches within a line; of the first matches the rule that is first has it, and the
+    end of what is open comes before all."""
+
+    def __init__(self, made):
+        self.rules, self.repository, self.compiled = made["patterns"], made["repository"], {}
+
+    def scopes(self, text):
+        """Of each letter its innermost scope, or None."""
+        found, self.open = [], []
+        for line in text.splitlines(keepends=True):
+            found += self.scopes_of_line(line)
+        return found
+
+    def matched(self, pattern, line, at):
+        if pattern not in self.compiled:
+            self.compiled[pattern] = re.compile(pattern)
+        return self.compiled[pattern].search(line, at)
+
+    def expanded(self, rules):
+        """Rules, with those that are included in their places."""
+        for it in rules:
+            if "include" in it:
+                yield from self.expanded([self.repository[it["include"][1:]]])
+            elif set(it) == {"patterns"}:
+                yield from self.expanded(it["patterns"])
+            else:
+                yield it
+
+    def next(self, line, at):
+        """The rule that matches first from a place on, whether it ends what is open, and the match; None if none does."""
+        inner = self.open[-1] if self.open else {"patterns": self.rules}
+        tried = [(inner, True, inner["end"])] if self.open else []
+        tried += [(it, False, it.get("match") or it["begin"]) for it in self.expanded(inner.get("patterns", []))]
+        found = [(rule, is_end, self.matched(pattern, line, at)) for rule, is_end, pattern in tried]
+        return min((it for it in found if it[2]), key=lambda it: it[2].start(), default=None)
+
+    def scopes_of_line(self, line):
+        made, at = [], 0
+        while True:
+            scope = next((it["name"] for it in reversed(self.open) if not it["name"].startswith("meta.")), None)
+            found = self.next(line, at)
+            if found is None:
+                return made + [scope] * (len(line) - at)
+            rule, is_end, match = found
+            made += [scope] * (match.start() - at)
+            made += self.scopes_of_match(rule, match, rule.get("captures") or (not is_end and rule.get("beginCaptures")) or {})
+            at = match.end()
+            if is_end:
+                self.open.pop()
+            elif "begin" in rule:
+                self.open.append(rule)
+
+    @staticmethod
+    def scopes_of_match(rule, match, captures):
+        scopes = [None if rule.get("name", "meta.").startswith("meta.") else rule["name"]] * len(match[0])
+        for number, it in captures.items():
+            begin, end = (place - match.start() for place in match.span(int(number)))
+            scopes[begin:end] = [it["name"]] * (end - begin)
+        return scopes
+
+
+def wanted(language, kind, token, is_address):
+    """The scopes that a token of a test may have. A name in brackets is a location, whatever it is."""
+    if kind == "number":
+        return NUMBERS
+    if is_address and token.upper() not in plain.REGISTERS[language]:
+        return NAMES
+    upper = token.upper() if language == "X86" else token
+    named = {
+        "keyword.control.question": words.QUESTIONS,
+        "constant.language": words.CONSTANTS,
+        "keyword.operator.logical": words.NEGATION,
+        "variable.language": plain.REGISTERS[language],
+        "keyword.control": words.X86 if language == "X86" else words.SOURCE,
+        "keyword.other.fence": words.X86_WAITING if language == "X86" else words.SOURCE_WHOLE,
+    }
+    return tuple(scope for scope, these in named.items() if upper in these or token in these) or NAMES
+
+
+def table(heading):
+    """The texts of a table of docs/FORMAT.md, without the names of registers, numbers, locations and labels."""
+    rows = re.findall(r"^\| (`[^|]*) \| [^|]+ \|$", read("docs/FORMAT.md").partition(heading)[2].partition("\n\n**")[0].split("\n\n")[1], re.M)
+    texts = " ".join(it for row in rows for it in re.findall(r"`([^`]+)`", row))
+    return {it for it in re.findall(r"\b[A-Za-z]{2,}\b", texts)}
+
+
+class Words(cases.Case):
+    """The table of words."""
+
+    def test_format(self):
+        """It has the words of docs/FORMAT.md's tables, and its reserved names."""
+        self.assertEqual({*words.SOURCE, *words.SOURCE_WHOLE}, table("**Statements of a source test:**"))
+        self.assertEqual({*words.X86, *words.X86_WAITING}, table("**Instructions of an x86 test.**"))
+        text = " ".join(read("docs/FORMAT.md").partition("**Reserved names**")[2].partition("in any case of the letters")[0].split())
+        reserved = {it for it in re.findall(r"`(\w+)`", text) if it != "r"}
+        here = {*words.QUESTIONS, *words.CONSTANTS, *words.NEGATION, *words.SOURCE, *words.SOURCE_WHOLE}
+        self.assertEqual(reserved, here | {*plain.REGISTERS["X86"], *words.OTHER_REGISTERS})
+
+    def test_reader(self):
+        """The reader reserves its words of both languages and of source tests, and takes its words of instructions."""
+        for it in (*words.QUESTIONS, *words.CONSTANTS, *words.NEGATION, *words.SOURCE, *words.SOURCE_WHOLE, *words.OTHER_REGISTERS):
+            self.assertTrue(RESERVED.fullmatch(it))
+        for it in (*words.X86, *words.X86_WAITING, "NOP"):
+            text = f"X86 A\n{{}}\n P0 ;\n {'LOCK ' * (it == 'XADD')}{it.lower()} ;\nexists (true)\n"
+            try:
+                why = plain.read_test(text) and ""
+            except plain.NoTest as fault:
+                why = fault.args[0]
+            self.assertEqual(it == "NOP", "is no instruction that is read" in why)
+
+    def test_files(self):
+        """What is made of the table is as it would be written, and is JSON where it should be (tools/documents/make_grammar.py writes it)."""
+        for name, text in grammar.files().items():
+            with self.subTest(name):
+                self.assertEqual(text, read(name))
+                self.assertTrue(not name.endswith(".json") or json.loads(text))
+        paths = [it["path"] for it in grammar.extension()["contributes"]["grammars"]] + [grammar.extension()["contributes"]["languages"][0]["configuration"]]
+        self.assertEqual([], [it for it in paths if not os.path.exists(os.path.join(HOME, grammar.FOLDER, it))])
+
+
+class Grammar(cases.Case):
+    """The scopes that the grammar gives."""
+
+    def test_examples(self):
+        """Each token of each example has the scope of its kind."""
+        colours = Colours(grammar.grammar())
+        for name, text in examples():
+            language, _, end = heading_of(text)
+            begin = skip_notes(text, end)
+            scopes, wrong = colours.scopes(text), []
+            tokens, places = tokens_of(text, begin)
+            for before, (kind, token), at in zip([("symbol", "")] + tokens, tokens, places):
+                told = {it and it[: -len(".lw")] for it in scopes[at : at + len(token)]}
+                if kind != "symbol" and not (len(told) == 1 and told <= {*wanted(language, kind, token, before[1] == "[")}):
+                    wrong.append((token, told))
+            with self.subTest(name):
+                self.assertEqual([], wrong)
+
+    def test_typed(self):
+        """Names that are like words, letters of either case, comments in one another, notes, and the heading after a comment."""
+        colours = Colours(grammar.grammar())
+        for text, looked_for, scopes in TYPED:
+            made = colours.scopes(text)
+            told = tuple(made[it.start()][: -len(".lw")] for it in re.finditer(rf"(?i)\b(?:{looked_for})\b", text) if made[it.start()])
+            with self.subTest(text):
+                self.assertEqual(scopes, told)
+
+
+if __name__ == "__main__":
+    sys.exit(cases.main())
