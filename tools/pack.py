@@ -8,8 +8,9 @@ programs; the library with its header and its Python module; the WebAssembly mod
 examples and documents; the licence texts of the crates of others that are linked in; checksums; and PACK.txt, which says of which commit
 it was made, by which toolchain, and how the gate ended that proved it.
 
-It is made of a built tree alone: the sources are those of the commit, the gate (./test.sh) has passed for them, and the modules are there
-(tools/build_wasm.py). Else it says what is missing, with status 1, and writes nothing.
+It is made of a built tree alone: the sources are those of the commit, and the programs of these sources, the library and its modules
+(tools/build_wasm.py) are there. Otherwise it says what is missing, with status 1, and writes nothing. If the gate (./test.sh) has not passed
+for these sources in this checkout, PACK.txt and a line on standard error say so: it may have passed elsewhere, which nothing here shows.
 """
 import glob
 import gzip
@@ -40,6 +41,10 @@ FILES = """lw beyond page README.md docs/*.md docs/pictures/* examples/* example
     tools/machine/*.py tools/machine/harness/* tools/many/*.py tools/search/*.py tools/search/tests/* tools/shapes/*.py tools/shared/*.py
     tools/editor/vscode/* tools/build_wasm.py tools/make_lab.py tools/make_quiz.py tools/make_site.py tools/make_slides.py tools/page/*.py
     crates/lw/out/lw crates/beyond/out/beyond crates/lw_library/out/*.a crates/lw_library/out/*.wasm""".split()
+# How the gate ended, if nothing here says that it has passed.
+NO_GATE = "has not passed for these sources in this checkout; whether it has elsewhere, nothing here says"
+# What the gate would have compared.
+NO_LIBRARY = "that the library is that of these sources was not checked"
 SHARED = ["cc", "-shared", "-Wl,--whole-archive", f"{HOME}/{LIBRARY}", "-Wl,--no-whole-archive", "-o"]
 TOLD = """lw, packed
 
@@ -89,10 +94,10 @@ def commit():
 
 
 def ending_of_gate():
-    """How the gate ended that proved the program: the last line of ./test.sh for these sources."""
+    """How the gate ended that proved the program: the last line of ./test.sh for these sources, or that it has not passed here."""
     made_of, told = read_lines(f"{OUT}/made-of"), read_lines(f"{OUT}/gate")
     if len(made_of) < 4 or len(told) != 2 or told[0] != made_of[3]:
-        raise NoPack("the gate has not passed for these sources: run ./test.sh")
+        return NO_GATE
     return told[1]
 
 
@@ -165,8 +170,9 @@ def contents(made_by, gate):
     """Of each name in the pack its bytes, by the commit and by how the gate ended."""
     for program in (build.LW, build.BEYOND):
         if not is_built(program):
-            raise NoPack(f"there is no program {program.name} of these sources: run ./test.sh")
-    told = TOLD.format(commit=made_by, toolchain=" ".join(ask("rt", "version")), gate=gate)
+            raise NoPack(f"there is no program {program.name} of these sources: run ./{program.name}")
+    ended = f"{gate}\n           ({NO_LIBRARY})" if gate == NO_GATE else gate
+    told = TOLD.format(commit=made_by, toolchain=" ".join(ask("rt", "version")), gate=ended)
     files = {**taken(), **made(), **licences(), "PACK.txt": told.encode()}
     sums = "".join(f"{hashlib.sha256(files[name]).hexdigest()}  {name}\n" for name in sorted(files))
     return {**files, "SHA256SUMS": sums.encode()}
@@ -184,19 +190,27 @@ def write(path, top, files):
     os.replace(f"{path}.new", path)
 
 
+def warning(gate):
+    """The lines on standard error that say that the gate has not passed here."""
+    return [f"note: the gate (./test.sh) {gate}; {NO_LIBRARY}; what is made says so"] if gate == NO_GATE else []
+
+
 def main():
     if len(sys.argv) != 2 or sys.argv[1].startswith("-"):
         print(__doc__.split("\n\n")[1].strip(), file=sys.stderr)
         return 2
     try:
         made_by = commit()
-        files = contents(made_by, ending_of_gate())
+        gate = ending_of_gate()
+        files = contents(made_by, gate)
         top = f"lw-{made_by[:8]}-linux-x86_64"
         os.makedirs(sys.argv[1], exist_ok=True)
         write(f"{sys.argv[1]}/{top}.tar.gz", top, files)
     except (NoPack, make_site.NoSite, OSError, subprocess.CalledProcessError) as why:
         print(f"no pack: {why}", file=sys.stderr)
         return 1
+    for line in warning(gate):
+        print(line, file=sys.stderr)
     print(f"{sys.argv[1]}/{top}.tar.gz")
     return 0
 

@@ -15,6 +15,7 @@ import sys
 import tarfile
 import tempfile
 import urllib.request
+from unittest import mock
 
 sys.dont_write_bytecode = True
 sys.path.insert(0, os.path.dirname(os.path.dirname(os.path.abspath(__file__))))
@@ -89,6 +90,9 @@ def check_contents(home, files, room):
     told = files["PACK.txt"].decode()
     yield "its commit, its toolchain and its gate", True, all(it in told for it in ("0" * 40, "rattle-kit", GATE))
     yield "no sources", [], [it for it in files if it.endswith((".rt", ".antt")) or it == "crates.txt"]
+    with mock.patch.multiple(pack, taken=lambda: {}, made=lambda: {}):
+        told = pack.contents("0" * 40, pack.NO_GATE)["PACK.txt"].decode()
+    yield "without a gate it says so, and of the library", True, pack.NO_GATE in told and pack.NO_LIBRARY in told
     licences = {it.split("/")[1] for it in files if it.startswith("licences/")}
     yield "licences of the crates that are linked in", {"circular_buffer", "indexmap"}, licences
     summed = subprocess.run(["sha256sum", "--quiet", "-c", "SHA256SUMS"], cwd=home, capture_output=True, text=True, check=False)
@@ -130,16 +134,11 @@ def check_refusals():
     """What is told where no pack can be made."""
     tool = [sys.executable, f"{HOME}/tools/pack.py"]
     yield "no folder", 2, subprocess.run(tool, capture_output=True, check=False).returncode
-    kept = pack.OUT
-    try:
-        pack.OUT = "/nowhere"
-        pack.ending_of_gate()
-        told = ""
-    except pack.NoPack as why:
-        told = str(why)
-    finally:
-        pack.OUT = kept
-    yield "no gate", "the gate has not passed for these sources: run ./test.sh", told
+    with mock.patch.object(pack, "OUT", "/nowhere"):
+        gate = pack.ending_of_gate()
+    yield "no gate", pack.NO_GATE, gate
+    yield "no gate is told", True, "in this checkout" in "".join(pack.warning(gate))
+    yield "a gate that has passed is not told", [], pack.warning(GATE)
 
 
 def skipped():

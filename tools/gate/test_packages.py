@@ -49,7 +49,10 @@ FENCED = f"{HOME}/examples/SB+mfences-x86.litmus"
 ORIGIN = tree.Origin("0123456789abcdef0123456789abcdef01234567", 1795826399, "kit logic 0", "1 passed, 0 failed")
 VERSION_BY_LIBRARY = "import lw; print(lw.version())"
 BY_LIBRARY = "import sys, lw; sys.stdout.write(lw.Workbench().states(open(sys.argv[1], 'rb').read()).text.decode())"
-WARNING = "note: the gate (./test.sh) has not passed for these sources, nor is the library compared with them; what is made says so"
+WARNING = (
+    "note: the gate (./test.sh) has not passed for these sources in this checkout; whether it has elsewhere, nothing here says; "
+    "that the library is that of these sources was not checked; what is made says so"
+)
 # Commands of tools/ that are no commands of those who install: for lists if beyond is not built, and for other tools.
 HELPERS = ("beyond", "build_wasm", "random_tests", "replay_state")
 # Of each command that pip makes its name, the file that it runs, and whether that is there.
@@ -155,12 +158,12 @@ class Origins(cases.Case):
 
     def test_gate(self):
         """A gate that has not passed is named in the description and on standard error; so is a program that is left out."""
-        unproved = ORIGIN._replace(gate=tree.NO_GATE)
+        unproved = ORIGIN._replace(gate=pack.NO_GATE)
         self.assertIn("The gate (./test.sh): 1 passed, 0 failed\n", tree.told(ORIGIN, True))
         self.assertEqual([], tree.warning(ORIGIN, True))
         self.assertIn("and that the gate\nended as it says above", tree.told(ORIGIN, True))
-        self.assertIn("The gate (./test.sh): has not passed for these sources\n", tree.told(unproved, True))
-        self.assertIn("the\nlibrary is that of these sources was not checked", tree.told(unproved, True).lower())
+        self.assertIn(f"The gate (./test.sh): {pack.NO_GATE}\n", tree.told(unproved, True))
+        self.assertIn("\nThat the library is that of these sources was not checked", tree.told(unproved, True))
         self.assertEqual([WARNING], tree.warning(unproved, True))
         self.assertIn("The program beyond is not in it", tree.told(ORIGIN, False))
         self.assertEqual(["note: the program beyond is not built, and left out"], tree.warning(ORIGIN, False))
@@ -173,9 +176,11 @@ class Origins(cases.Case):
 
     def test_gate_of_sources(self):
         """What the gate said of other sources is not said of these."""
-        for ended, gate in ((pack.NoPack("no gate"), tree.NO_GATE), ("5 passed, 0 failed", "5 passed, 0 failed")):
-            how = {"side_effect": ended} if isinstance(ended, Exception) else {"return_value": ended}
-            with mock.patch.multiple(pack, commit=lambda: ORIGIN.commit, ask=lambda *_: ["5"], ending_of_gate=mock.Mock(**how)):
+        made_of = ["crates.txt", "kit", "version", "the sum of these"]
+        for sum_of_gate, gate in (("the sum of others", pack.NO_GATE), (None, pack.NO_GATE), ("the sum of these", "5 passed, 0 failed")):
+            ended = [sum_of_gate, "5 passed, 0 failed"] if sum_of_gate else []
+            read_lines = lambda path, ended=ended: ended if path.endswith("/gate") else made_of
+            with mock.patch.multiple(pack, commit=lambda: ORIGIN.commit, ask=lambda *_: ["5"], read_lines=read_lines):
                 self.assertEqual((ORIGIN.commit, 5, "5", gate), tuple(tree.origin()))
 
     def test_refusals(self):

@@ -18,7 +18,6 @@ from shared.home import HOME
 
 SUMMARY = "An x86-TSO litmus workbench that is proved correct"
 LICENCE = "No licence has been chosen yet: that is for the owner to do, and until then nobody else has the right to change lw or to hand it on"
-NO_GATE = "has not passed for these sources"
 LW, BEYOND, LIBRARY = "crates/lw/out/lw", "crates/beyond/out/beyond", "python/liblw.so"
 # What tools/pack.py has, and the tree has not: the scripts that build the programs, which are installed as commands themselves, and the library
 # for C.
@@ -45,7 +44,7 @@ class Origin(NamedTuple):
     @property
     def is_proved_here(self) -> bool:
         """Whether the gate has passed for these sources."""
-        return self.gate != NO_GATE
+        return self.gate != pack.NO_GATE
 
 
 def library_version() -> str:
@@ -58,11 +57,8 @@ def library_version() -> str:
 def origin() -> Origin:
     """Returns where the sources come from. They have to be as the commit has them."""
     commit = pack.commit()
-    try:
-        gate = pack.ending_of_gate()
-    except pack.NoPack:
-        gate = NO_GATE
-    return Origin(commit, int(pack.ask("git", "show", "-s", "--format=%ct", commit)[0]), " ".join(pack.ask("rt", "version")), gate)
+    seconds = int(pack.ask("git", "show", "-s", "--format=%ct", commit)[0])
+    return Origin(commit, seconds, " ".join(pack.ask("rt", "version")), pack.ending_of_gate())
 
 
 def command_of(tool: str) -> str:
@@ -101,7 +97,7 @@ def told(it: Origin, has_beyond: bool) -> str:
     """Returns the sentences that say where something comes from, and on what its reader relies."""
     beyond = "" if has_beyond else "The program beyond is not in it, since it was not built.\n"
     gate = ", and that the gate\nended as it says above" if it.is_proved_here else ""
-    library = "" if it.is_proved_here else " That the\nlibrary is that of these sources was not checked: the gate builds it anew."
+    library = "" if it.is_proved_here else f"\n{pack.NO_LIBRARY.capitalize()}: the gate builds it anew."
     return (
         f"Commit: {it.commit}\nToolchain: {it.toolchain}\nThe gate (./test.sh): {it.gate}\n\n{beyond}"
         f"Whoever takes it trusts that its maker built the programs and the library of this commit{gate}; or proves the commit.{library}\n\n"
@@ -111,8 +107,7 @@ def told(it: Origin, has_beyond: bool) -> str:
 
 def warning(it: Origin, has_beyond: bool) -> List[str]:
     """Returns the lines on standard error that say what is lacking."""
-    gate = [] if it.is_proved_here else [f"note: the gate (./test.sh) {NO_GATE}, nor is the library compared with them; what is made says so"]
-    return gate + ([] if has_beyond else ["note: the program beyond is not built, and left out"])
+    return pack.warning(it.gate) + ([] if has_beyond else ["note: the program beyond is not built, and left out"])
 
 
 def put(folder: str, name: str, content: bytes) -> str:
