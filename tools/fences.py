@@ -1,7 +1,7 @@
 #!/usr/bin/env python3
 """Which fences of a test matter: leaves out each MFENCE alone, and lists the smallest sets of them that are enough.
 
-    python3 tools/fences.py [--everything] [--exchanges] FILE
+    python3 tools/fences.py [--everything] [--exchanges] [--tries N] [--order intel|att] FILE
 
 Of an x86 test its own fences are taken, of a source test those of its compiled program. For each fence it prints which states are present
 without it that are not present with all fences; and then all smallest sets of fences that add no state. The states are those that
@@ -13,12 +13,17 @@ If what the question asks about is present with all fences, or of `forall` not a
 change that: all smallest sets of places. With `--exchanges` it prints of each XCHG and LOCK XADD which states are added if it is not
 locked: a plain store, or a load and a store if the old word is used; both by the question and by all registers and locations.
 
+A test in herd's form that lw does not read, as with LOCK CMPXCHG or loops, is converted and put together as by tools/assume.py, and its own
+instructions are spoken of, each with its line: a fence is left out in all tests and copies in which it is. A loop is gone through N times at
+most (1 if no number is named); `--order` is that of tools/from_herd.py. With `--everything` it is asked about all registers of the text.
+If no run goes through every loop within N tries, nothing is said of fences: the line `None` says so, and the status is 6.
+
 A fence only takes states away; that is used, so that not all sets are tried.
 
 The states come from the program if it is built, in a pack from the library; those of a test that these refuse for its size come from the
 program beyond if that is built. These are proved if they are those of the sources. Other lists are made by the search of tools/beyond.py,
-which is not proved. If a list is not proved, the first line says `(not proved)`, and the last line says of how many lists. Files and faults are reported as by tools/plain.py; Python 3.8 is
-enough, on any system.
+which is not proved. If a list is not proved, the first line says `(not proved)`, and the last line says of how many lists. Files and faults are
+reported as by tools/plain.py; Python 3.8 is enough, on any system.
 """
 import re
 import sys
@@ -29,12 +34,17 @@ sys.dont_write_bytecode = True
 import given
 import plain
 from fencing.exchanges import exchanges_of, named, with_instructions, without_lock
-from fencing.places import places_of, with_fences
+from fencing.places import places_of, with_fences, without
 from fencing.sets import smallest_sets
 from fencing.spare import is_spare
-from shared import answers, start
+from fencing.together import Original, Part, Together, line_of_makers, lines_of, lines_of_added
+from herd.convert import converted
+from herd.lines import Text, origins_of
+from herd.order import ORDERS
+from herd.together import in_original_names
+from shared import answers, command, start
 
-MOST_SHOWN = 4
+TRIES = 1
 # The lists that were asked for since this was cleared, by the texts of their tests.
 lists: Dict[str, answers.Answer] = {}
 
@@ -42,17 +52,6 @@ lists: Dict[str, answers.Answer] = {}
 def fences_of(test):
     """The places of all fences: a thread, and the number of the instruction."""
     return [(thread, at) for thread, code in enumerate(test.threads) for at, it in enumerate(code) if it.kind == "mfence"]
-
-
-def without(test, left_out):
-    """A test without some of its fences. A jump to one of them leads to what stands behind it."""
-    threads = []
-    for thread, code in enumerate(test.threads):
-        gone = [at for of, at in left_out if of == thread]
-        moved = lambda target: target - sum(at < target for at in gone)
-        kept = [it for at, it in enumerate(code) if at not in gone]
-        threads.append(tuple(it if it.target is None else replace(it, target=moved(it.target)) for it in kept))
-    return replace(test, threads=threads)
 
 
 def showing_everything(test):
@@ -99,12 +98,6 @@ def place(test, fence):
     thread, at = fence
     behind = [plain.instruction_text(test, it) for it in test.threads[thread][at + 1 : at + 2]]
     return f"P{thread} at {at}" + (f", before {behind[0]}" if behind else "")
-
-
-def lines_of_added(added, indent):
-    """Some of the states that are added, and the number of the others."""
-    others = [f"and {len(added) - MOST_SHOWN} others"] if len(added) > MOST_SHOWN else []
-    return [indent + line for line in [*added[:MOST_SHOWN], *others]]
 
 
 def lines_of_fence(row, spare):
@@ -202,14 +195,67 @@ def lines_of_makers() -> List[str]:
     return [f"Not proved: of {len(lists)} lists {number} are made by {by}{why}"] if number else []
 
 
+def options_in(words):
+    """The words that are switches, and the values of those that have one: `--tries` and `--order`. None if they are no words of the command."""
+    switches, values, rest = set(), {}, list(words)
+    while rest:
+        word = rest.pop(0)
+        if word in switches or word in values:
+            return None
+        if word in ("--everything", "--exchanges"):
+            switches.add(word)
+        elif word == "--tries" and rest and rest[0].isdecimal() or word == "--order" and rest and rest[0] in ORDERS:
+            values[word] = rest.pop(0)
+        else:
+            return None
+    return switches, values
+
+
 def is_command(words):
-    return len(set(words)) == len(words) and set(words) <= {"--everything", "--exchanges"}
+    return options_in(words) is not None
 
 
-def show(words, text):
+# Tests in herd's form.
+
+
+def converted_in_place(text, fault, values):
+    """What a text is converted to that lw does not read. If it is not converted either, the fault is that of the one that reads further."""
+    try:
+        return converted(text, int(values.get("--tries", TRIES)), ORDERS[values.get("--order")])
+    except given.Fault as other:
+        raise (fault if fault.args[1] >= other.args[1] else other) from None
+
+
+def show_converted(switches, text, name, made):
+    """Prints which fences of a test in herd's form matter. Returns the exit status."""
+    for at, says in made.notes:
+        print(command.note(name, text, at, says), file=sys.stderr)
+    parts = [Part(it, origins_of(it), it.begins) for it in made.conversions]
+    in_names = in_original_names(made)
+    condition = in_names(plain.condition_text(made.conversions[0].question))
+    tests, its = Together(parts, in_names), Text(text, made)
+    if not tests.states():
+        tries = f"{made.tries} tr{'ies' if made.tries != 1 else 'y'}"
+        print(answers.without_verdict(tests.question, f"no run goes through every loop within {tries}"), end="")
+        print(line_of_makers(tests, tests.makers, made.tries))
+        return answers.NO_VERDICT
+    original = Original(made.frame.name, condition, its.named, its.short, {*made.sites}, made.tries)
+    print("\n".join(lines_of(tests, original, "--everything" in switches, "--exchanges" in switches)))
+    return 0
+
+
+# The command.
+
+
+def show(words, text, name=given.STANDARD_INPUT):
     """Prints which fences of a test matter. Returns the exit status."""
-    test = plain.compiled(plain.read_test(text))
-    by_everything = "--everything" in words
+    switches, values = options_in(words)
+    try:
+        read = plain.read_test(text)
+    except plain.NoTest as fault:
+        return show_converted(switches, text, name, converted_in_place(text, fault, values))
+    test = plain.compiled(read)
+    by_everything = "--everything" in switches
     asked = "all registers and locations" if by_everything else f"its question, {plain.condition_text(test)}"
     shown = showing_everything(test) if by_everything else test
     table = table_of(shown)
@@ -219,7 +265,7 @@ def show(words, text):
     number = 0 if by_everything else unwanted(test)
     if number:
         lines += lines_of_places(test, number, table["states"])
-    if "--exchanges" in words:
+    if "--exchanges" in switches:
         lines += lines_of_exchanges(test, by_everything)
     mark = "" if answers.are_proved(makers()) else " (not proved)"
     head = f"{test.name}, by {asked}: fences {len(table['rows'])}, states {table['states']}{mark}"
@@ -228,7 +274,7 @@ def show(words, text):
 
 
 def main():
-    return given.run("fences", __doc__, is_command, show)
+    return given.run("fences", __doc__, is_command, show, is_named=True)
 
 
 if __name__ == "__main__":

@@ -27,11 +27,11 @@ sys.dont_write_bytecode = True
 import given
 import plain
 from herd.convert import Conversion, Converted, converted
+from herd.order import ORDERS
 from herd.origin import comment_of
 from herd.text import heading_of
 from shared import command, start
 
-ORDERS = {None: None, "intel": False, "att": True}
 
 
 def text_of(made: Converted, it: Conversion) -> str:

@@ -61,8 +61,9 @@ def print_as_lw():
         stream.reconfigure(encoding="utf-8", errors="backslashreplace", newline="\n")
 
 
-def run(tool, usage, is_command, answer):
-    """Runs a tool, of which `answer` prints what it says of a command's words and a text. Returns the exit status."""
+def run(tool, usage, is_command, answer, is_named=False):
+    """Runs a tool, of which `answer` prints what it says of a command's words and a text, and of the file's name if it asks for that. Returns the
+    exit status."""
     print_as_lw()
     words, name = parted(sys.argv[1:], is_command)
     if words is None:
@@ -73,7 +74,7 @@ def run(tool, usage, is_command, answer):
     except OSError as why:
         return refuse(f"{tool}: {name}: {why.strerror or why}")
     try:
-        return answer(words, decoded(given))
+        return answer(words, decoded(given), *([name] if is_named else []))
     except Fault as fault:
         return refuse(line_of(name, given, fault))
     except RecursionError:

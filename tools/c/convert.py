@@ -23,10 +23,11 @@ MOST_LOCATIONS, MOST_TESTS = 8, 256
 
 @dataclass
 class Written:
-    """A test of lw with its marks, and of each thread's instructions the lines of the source."""
+    """A test of lw with its marks, of each thread's instructions the lines of the source, and which begin what comes from one node of its ways."""
 
     conversion: Conversion
     lines: List[List[Set[int]]]
+    begins: List[List[int]]
 
 
 class Converter:
@@ -162,7 +163,7 @@ class Converter:
 
     def test(self, threads: List[Thread], numbers: Tuple[int, ...]) -> Written:
         """The test of some guesses."""
-        columns, lines, marks = [], [], []
+        columns, lines, begins, marks = [], [], [], []
         for number, it in enumerate(threads):
             seen = self.registers_seen(number)
             mark = self.mark_of(number, seen) if it.ways.has(GiveUp) else None
@@ -170,6 +171,7 @@ class Converter:
             writer = Writer(it.ways, seen, mark, self.locations, number)
             columns.append(writer.statements())
             lines.append([it.ways.lines[at] for at in writer.origins])
+            begins.append([at for at, (before, node) in enumerate(zip([None, *writer.origins], writer.origins)) if before != node])
         sizes = self.program.locations.sizes
         words = tuple(self.program.layout.first_word(at, sizes[at]) % 2**32 for at in self.locations)
         question = plain.Test("X86", self.name, list(self.names.values()), [(0,) * SIX] * len(columns), words, columns)
@@ -178,7 +180,7 @@ class Converter:
         listed = question.listed | set(marks)
         name = self.name + ("+" + "-".join(map(str, numbers)) if len(numbers) and self.has_guesses() else "")
         test = plain.Test("X86", name, question.locations, question.registers, words, columns, listed, "forall", ("true",))
-        return Written(Conversion(test, question, marks, numbers), lines)
+        return Written(Conversion(test, question, marks, numbers), lines, begins)
 
     def has_guesses(self) -> bool:
         """Returns whether the program is more than one test."""

@@ -3,13 +3,13 @@ import io
 import re
 from contextlib import redirect_stdout
 from dataclasses import replace
-from typing import Dict, Iterator, List, Set
+from typing import Dict, Iterable, Iterator, List
 
 import fences
 import plain
 from c.convert import Converter, Written
-from c.refused import Refused
 from c.report import Answer, Names
+from fencing.together import Original, Part, Together, lines_of
 from herd.propositions import under
 from herd.together import words_in
 from shared import answers
@@ -25,7 +25,7 @@ def with_question(it: Written) -> plain.Test:
     return replace(question, name=it.conversion.test.name, proposition=proposition)
 
 
-def line_of(lines: Set[int]) -> str:
+def line_of(lines: Iterable[int]) -> str:
     """The lines of the source that an instruction comes from."""
     return f"line {', '.join(map(str, sorted(lines)))}" if lines else "no line"
 
@@ -48,9 +48,9 @@ def test_text(it: Written, made: Converter) -> str:
 
 
 def fences_of(answer: Answer, made: Converter) -> str:
-    """What tools/fences.py says of the fences and exchanges of a program that is one test, with the lines of the source."""
+    """What tools/fences.py says of the fences and exchanges of a program, with the lines of the source."""
     if len(answer.tests) != 1:
-        raise Refused(f"--fences takes a program that is one test: the locked instructions of this one make {len(answer.tests)}")
+        return fences_of_tests(answer, made)
     it, printed = answer.tests[0], io.StringIO()
     test = with_question(it)
     with redirect_stdout(printed):
@@ -59,6 +59,18 @@ def fences_of(answer: Answer, made: Converter) -> str:
     names = [f"{name} is {site}" for name, site in Names(made, test).sites.items() if name != site]
     text = re.sub(r"\bP(\d) at (\d+)\b", with_line, printed.getvalue())
     return text + (f"There {', '.join(names)}.\n" if names else "")
+
+
+def fences_of_tests(answer: Answer, made: Converter) -> str:
+    """The same of a program that is several tests. What is of one line is one place."""
+    origin = lambda lines: tuple(sorted(lines))
+    parts = [Part(it.conversion, [list(map(origin, lines)) for lines in it.lines], it.begins) for it in answer.tests]
+    named = lambda place: f"P{place[0]} {line_of(place[1])}"
+    everything = {("location", number) for number in made.locations.values()}
+    names = Names(made, answer.tests[0].conversion.question)
+    original = Original(made.name, made.condition.text, named, named, everything, all_shown="its question and all locations")
+    # (Who lists the tests, and how often loops are gone through, is said of the whole answer.)
+    return plain.text_of(lines_of(Together(parts, names.line), original, False, True)[:-1])
 
 
 def schedules_of(answer: Answer, made: Converter) -> str:

@@ -45,6 +45,17 @@ def places_of(test: Test) -> List[Place]:
     return places
 
 
+def without(test: Test, left_out: List[Place]) -> Test:
+    """A test without some of its fences. A jump to one of them leads to what stands behind it."""
+    threads = []
+    for thread, code in enumerate(test.threads):
+        gone = [at for of, at in left_out if of == thread]
+        moved = lambda target, gone=gone: target - sum(at < target for at in gone)
+        kept = [it for at, it in enumerate(code) if at not in gone]
+        threads.append(tuple(it if it.target is None else replace(it, target=moved(it.target)) for it in kept))
+    return replace(test, threads=threads)
+
+
 def with_fences(test: Test, places: List[Place]) -> Test:
     """A test with a fence before each of some instructions. A jump to one of them leads to its fence."""
     threads = []

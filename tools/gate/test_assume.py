@@ -88,11 +88,17 @@ def random_cmpxchg(seed):
     return f"X86 Cas{seed}\n{initial}\n P0 | P1 ;\n{body}locations [0:EAX; 1:EAX; 0:ECX; x; y;]\nexists (x=1)\n"
 
 
-def report_by_machine(text):
-    """The report of a test by a machine that has the instruction."""
+def machine_of(text):
+    """A test as the machine that has the instruction reads it."""
     test = plain.read_test(text.replace("LOCK CMPXCHG", "LOCK XADD"))
     as_cmpxchg = lambda it: replace(it, kind="cmpxchg") if it.kind == "xadd" else it
     test.threads = [tuple(as_cmpxchg(it) for it in code) for code in test.threads]
+    return test
+
+
+def report_by_machine(text):
+    """The report of a test by a machine that has the instruction."""
+    test = machine_of(text)
     with mock.patch.object(machines, "instruction_step", with_cmpxchg(machines.instruction_step)):
         return plain.report(test)
 
@@ -368,7 +374,7 @@ class Command(cases.Case):
     def test_not_proved(self):
         """Lists that the program does not make are said to be not proved."""
         out = io.StringIO()
-        words = argparse.Namespace(tries=0, order=None)
+        words = argparse.Namespace(tries=0, order=None, schedules=False)
         with mock.patch.multiple(answers, PROGRAM="/no/program", BEYOND="/no/program", library=lambda: None):
             with mock.patch.object(sys, "stdout", out):
                 self.assertEqual(0, assume.show(words, "-", read("tools/herd/tests/Mcs.litmus")))

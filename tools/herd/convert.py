@@ -36,17 +36,23 @@ class Conversion:
     guesses: tuple
     filter: Optional[tuple] = None
     shown_here_only: List[tuple] = field(default_factory=list)
+    # Of each thread's instructions the places in the text from which they come, and which of them begin what comes from one instruction. Those that
+    # set marks come from none.
+    places: List[List[int]] = field(default_factory=list)
+    begins: List[List[int]] = field(default_factory=list)
 
 
 @dataclass
 class Converted:
-    """What a text is converted to, what is to be said of it, and how often each loop is written down, if there is one."""
+    """What a text is converted to, what is to be said of it, how often each loop is written down, if there is one, and all registers and locations
+    of the text, as sites of its tests."""
 
     frame: Frame
     conversions: List[Conversion]
     notes: List[Tuple[int, str]]
     renamed: List[Tuple[str, str]]
     tries: int = 0
+    sites: List[tuple] = field(default_factory=list)
 
 
 @dataclass
@@ -204,7 +210,13 @@ class Converter:
         kept = self.proposition(frame.filter) if frame.filter else None
         further = {*marks, *plain.sites_in(kept or ("true",))} - question.listed - plain.sites_in(self.proposition(frame.proposition))
         test = replace(question, name=name, proposition=marked)
-        return Conversion(test, question, marks, guesses, kept, sorted(further, key=plain.site_order))
+        places, begins = [it.places for it in made], [it.begins[:-1] for it in made]
+        return Conversion(test, question, marks, guesses, kept, sorted(further, key=plain.site_order), places, begins)
+
+    def sites_of_text(self) -> List[tuple]:
+        """All registers and locations of the text, as sites of its tests."""
+        registers = [("register", t, number) for t, names in enumerate(self.registers) for name, number in names.items() if name[0] != "("]
+        return registers + [("location", number) for name, number in self.locations.of.items() if name[0] != "("]
 
 
 def notes_on_width(frame: Frame) -> List[Tuple[int, str]]:
@@ -242,7 +254,7 @@ def converted(text: str, tries: int = 0, is_att: Optional[bool] = None) -> Conve
         notes.append((0, "the filter is a part of the condition: states that it leaves out are listed too"))
     renamed = [*converter.locations.renamed(), *(pair for t, it in enumerate(converter.registers) for pair in renamed_registers(t, it))]
     has_loop = any(code and next(loops_of(graph_of(code)), None) for code, _ in read)
-    return Converted(frame, conversions, sorted(set(notes)), renamed, tries if has_loop else 0)
+    return Converted(frame, conversions, sorted(set(notes)), renamed, tries if has_loop else 0, converter.sites_of_text())
 
 
 def renamed_registers(thread: int, registers: Dict[str, int]) -> List[Tuple[str, str]]:

@@ -22,6 +22,8 @@ from herd.cells import OPERANDS, PREFIXES, mnemonic_of
 from herd.registers import register_of
 from herd.text import Refused, Token
 
+# The words of `--order`, and whether each is AT&T's. Without one the order is concluded from marks.
+ORDERS = {None: None, "intel": False, "att": True}
 NAMES = {True: "AT&T's", False: "Intel's"}
 ENDS = {True: "last", False: "first"}
 TAKES_NUMBER = ("MOV", "ADD", "SUB", "XOR", "AND", "OR", "CMP", "TEST")

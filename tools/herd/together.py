@@ -1,12 +1,13 @@
 """The reports of tests that stand for guesses, put together into one: the states whose marks are all set."""
 import re
-from typing import Dict, Iterable, List, Set, Tuple
+from typing import Callable, Dict, Iterable, List, Set, Tuple
 
 import plain
-from herd.convert import Conversion
+from herd.convert import Conversion, Converted
 from shared import answers
 
 WORD = re.compile(r"(\S+?)=(\d+);")
+NAME = re.compile(r"(?:\d+:)?[A-Za-z_]\w*")
 
 
 def words_in(line: str) -> Dict[str, int]:
@@ -52,3 +53,18 @@ def put_together(conversions: List[Conversion]) -> Tuple[str, Set[answers.Maker]
     """The report of the question, and by which the lists are answered."""
     told = answers_of(conversions)
     return together(conversions, told), {it.by for it in told}
+
+
+def in_original_names(made: Converted) -> Callable[[str], str]:
+    """How a line is said in the names of the original test."""
+    names = {new: old for old, new in made.renamed}
+    return lambda line: NAME.sub(lambda it: names.get(it[0], it[0]), line)
+
+
+def in_names(report: str, made: Converted) -> str:
+    """Returns a report in the names of the original test."""
+    named, lines = in_original_names(made), report.splitlines()
+    end = 2 + len(answers.states_in(report))
+    lines[2:end] = map(named, lines[2:end])
+    lines[-2] = named(lines[-2])
+    return "".join(f"{line}\n" for line in lines)

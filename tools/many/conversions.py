@@ -6,7 +6,6 @@ answer says how it was converted, in the names of the original.
 from __future__ import annotations
 
 import os
-import re
 import sys
 import time
 from typing import Iterable
@@ -14,14 +13,14 @@ from typing import Iterable
 import from_herd
 import given
 from c.source import HERD, HERD_COMMENT, without_comments
-from herd.convert import Converted, converted
+from herd.convert import converted
+from herd.order import ORDERS
 from herd.text import heading_of
-from herd.together import answers_of, together
+from herd.together import answers_of, in_names, together
 from many import rows
 from many.files import is_program
 from shared import answers, batch, command, spawn
 
-NAME = re.compile(r"(?:\d+:)?[A-Za-z_]\w*")
 # A maker's method, the strongest first.
 METHODS = {
     answers.Maker.PROGRAM: rows.ENUMERATED,
@@ -106,7 +105,7 @@ def answer_of_test(file: str, text: str, choices, run: spawn.Run) -> rows.Answer
         return rows.refused(file, batch.fault_of(run))
     try:
         language = heading_of(text)[0]
-        made = converted(text, choices.tries, from_herd.ORDERS[choices.order])
+        made = converted(text, choices.tries, ORDERS[choices.order])
     except given.Fault as fault:
         return rows.refused(file, first_fault(file, text, run, at, fault))
     notes = tuple(command.note(file, text, at, says) for at, says in made.notes)
@@ -140,17 +139,6 @@ def first_fault(file: str, text: str, run: spawn.Run, at: int, fault: given.Faul
         return given.line_of(file, text.encode(), fault)
     line = batch.fault_of(run)
     return line if line_of_lw > line_of_herd or line.endswith(cause) else f"{line}; in herd's form: {cause}"
-
-
-def in_names(report: str, made: Converted) -> str:
-    """Returns a report in the names of the original test."""
-    names = {new: old for old, new in made.renamed}
-    named = lambda line: NAME.sub(lambda it: names.get(it[0], it[0]), line)
-    lines = report.splitlines()
-    end = 2 + len(answers.states_in(report))
-    lines[2:end] = map(named, lines[2:end])
-    lines[-2] = named(lines[-2])
-    return "".join(f"{line}\n" for line in lines)
 
 
 # Programs.
