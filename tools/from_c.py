@@ -1,7 +1,7 @@
 #!/usr/bin/env python3
 """The states in which a small program in C, C++ or Rust can end, as a compiler makes it for x86.
 
-    python3 tools/from_c.py [--cc 'gcc -O2'] [--tries N] [--show | --schedules | --fences] FILE
+    python3 tools/from_c.py [--cc 'gcc -O2'] [--tries N] [--show | --schedules | --fences | --film N] FILE
     python3 tools/from_c.py --matrix [--cc 'gcc -O2']... [--tries N] FILE
 
 FILE (.c, .cc, .rs, or C in herd's form) has the functions P0, P1, .. of at most four threads, whose globals are shared, and a comment with a
@@ -20,8 +20,10 @@ through it; what other threads can see of it becomes instructions of lw, which l
   take them.
 - `--schedules` prints after the report a run to each state: its events, with the lines of FILE.
 - `--fences` prints after the report what tools/fences.py says of each fence and exchange, with the lines of FILE: which of them the answer needs.
+- `--film N` prints, and nothing else, the film of a run to the N-th state of the report as an SVG, as tools/picture.py draws it: the machine at
+  each event, with the line of FILE. It needs the program lw.
 - `--matrix` compiles by all compilers that are there (or by those of `--cc`) at all levels, and prints each list once with those that have
-  it. Of C it says too whether the verdict changes with weaker memory orders.
+  it; and whether the verdict changes with weaker memory orders.
 
 The last line but one says by whom the lists are made, and `not proved` if not by lw or beyond. Notes and refusals are lines `FILE:LINE: ..` on standard
 error. The status is 1 if FILE is refused, 2 if the command is none, and 6 if no run is left, so that there is no verdict.
@@ -40,8 +42,9 @@ from c.convert import Converter
 from c.matrix import show_matrix
 from c.refused import NoRun, Refused
 from c.report import Answer, answer_of, sentence_on
-from c.shown import fences_of, schedules_of, tests_of
+from c.shown import fences_of, film_of, schedules_of, tests_of
 from c.source import Source, read_source
+from films import NoFilm
 from shared import answers, command, start
 
 LIMITS = "That is what this compiler's code does on x86-TSO; the language may allow more."
@@ -75,16 +78,19 @@ def show(words, name: str, text: str) -> int:
     compiler = words.cc[0] if words.cc else default_compiler(source.ending)
     try:
         answer, made = by(compiler)
+        film = film_of(answer, made, words.film, text.splitlines()) if words.film else ""
         more = schedules_of(answer, made) if words.schedules else fences_of(answer, made) if words.fences else ""
     except NoRun as why:
         print(without_verdict(source, why.cause), end="")
         return answers.NO_VERDICT
     except Refused as why:
         return given.refuse(why.text(name))
+    except NoFilm as why:
+        return given.refuse(f"from_c: {why}")
     for note in answer.notes:
         print(f"{name}: note: {note}", file=sys.stderr)
-    if words.show:
-        print(tests_of(answer, made), end="")
+    if words.show or film:
+        print(film or tests_of(answer, made), end="")
         return 0
     no_run = f"no run goes through every loop within {words.tries} tr{'ies' if words.tries != 1 else 'y'}"
     print(answer.report if answer.has_run else without_verdict(source, no_run), end="")
@@ -105,6 +111,7 @@ def main() -> int:
     what.add_argument("--show", action="store_true")
     what.add_argument("--schedules", action="store_true")
     what.add_argument("--fences", action="store_true")
+    what.add_argument("--film", type=command.number_from(1), metavar="N")
     what.add_argument("--matrix", action="store_true")
     words = reader.parse_args()
     if words.cc and len(words.cc) > 1 and not words.matrix:

@@ -9,11 +9,13 @@ from typing import Dict, List, Optional
 
 from c.refused import Refused
 from c.source import Source
+from c.weaker import weaker_rust
 from shared.home import HOME
 
 HEADER = os.path.join(HOME, "include", "lw_see.h")
 RUST_HEADER = os.path.join(HOME, "include", "lw_see.rs")
-WEAKER = os.path.join(HOME, "tools", "c", "weaker.h")
+# Headers with weaker orders, of C and of C++.
+WEAKER = {True: os.path.join(HOME, "tools", "c", "weaker.h"), False: os.path.join(HOME, "tools", "c", "weaker_cc.h")}
 # The name of the file that is compiled.
 NAME = "program"
 # After the reader's words: no position-independent code, no guards around the program's own code, and the lines of the source.
@@ -48,10 +50,10 @@ def command_of(source: Source, words: List[str], weaker: int, folder: str) -> Li
     text = source.text
     if source.is_rust:
         with open(RUST_HEADER, encoding="utf-8") as file:
-            text = file.read() + text
+            text = file.read() + (weaker_rust(text, weaker) if weaker else text)
         command = [*words, *RUST_FLAGS, "-o", target, path]
     else:
-        orders = ["-include", WEAKER, f"-DLW_WEAKER={weaker}"] if weaker else []
+        orders = ["-include", WEAKER[source.ending == ".c"], f"-DLW_WEAKER={weaker}"] if weaker else []
         command = [*words, *FLAGS, "-I", os.path.dirname(HEADER), "-include", HEADER, *orders, "-o", target, path]
     with open(path, "w", encoding="utf-8") as file:
         file.write(text)
@@ -80,7 +82,7 @@ def words_of(compiler: str) -> List[str]:
 
 
 def assembly_of(source: Source, compiler: str, weaker: int = 0, include: Optional[str] = None) -> str:
-    """The assembly that a compiler makes of a source. `weaker` is a number of tools/c/weaker.h, `include` the folder of the reader's file."""
+    """The assembly that a compiler makes of a source. `weaker` is a number of tools/c/weaker.py, `include` the folder of the reader's file."""
     words = words_of(compiler)
     if include and not source.is_rust:
         words += ["-I", include]

@@ -7,9 +7,8 @@ from c.compiler import compilers_for
 from c.refused import Refused
 from c.report import Answer
 from c.source import Source
+from c.weaker import WEAKER
 
-# What the numbers of tools/c/weaker.h mean.
-WEAKER = {1: "release and acquire in place of seq_cst", 2: "relaxed in place of every order"}
 
 
 def answers_by(name: str, compilers: List[str], by: Callable[[str], Answer]) -> Dict[str, Optional[Answer]]:
@@ -42,8 +41,7 @@ def show_matrix(name: str, source: Source, compilers: Optional[List[str]], by: C
     for report, which in groups_of(as_written).items():
         print(f"By {', '.join(which)}:\n{report}", end="")
     refused = [it for it, answer in as_written.items() if not answer]
-    orders = WEAKER if source.ending == ".c" else {}
-    for weaker, says in orders.items():
+    for weaker, says in WEAKER.items():
         made = answers_by(f"{name} with {says}", compilers, lambda compiler, number=weaker: by(compiler, number))
         refused += [it for it, answer in made.items() if not answer]
         print_changes(says, as_written, made)

@@ -3,15 +3,18 @@ import io
 import re
 from contextlib import redirect_stdout
 from dataclasses import replace
-from typing import Dict, Iterable, Iterator, List
+from typing import Dict, Iterable, Iterator, List, Tuple
 
 import fences
+import films
 import plain
 from c.convert import Converter, Written
 from c.report import Answer, Names
 from fencing.together import Original, Part, Together, lines_of
 from herd.propositions import under
+from films import NoFilm
 from herd.together import words_in
+from picture import strip_of
 from shared import answers
 
 # The instructions that others can see, or that wait for the store buffer.
@@ -77,13 +80,35 @@ def schedules_of(answer: Answer, made: Converter) -> str:
     """A run to each state of a report: its events, by the lines of the source."""
     runs: Dict[str, List[str]] = {}
     for it in answer.tests:
-        for state, events in runs_of(it, made):
-            runs.setdefault(state, events)
+        for state, schedule in schedules_in(it, made):
+            if state not in runs:
+                runs[state] = list(events_of(it, schedule.split()))
     return "".join(f"{state}\n" + "".join(f"  {event}\n" for event in runs[state]) for state in answers.states_in(answer.report))
 
 
-def runs_of(it: Written, made: Converter) -> Iterator[tuple]:
-    """The states of a test that are not given up, each with the events of a run."""
+def film_of(answer: Answer, made: Converter, number: int, source: List[str]) -> str:
+    """The film of a run to the state of a number, counted from 1: a picture for each event, with its line of the source."""
+    states = answers.states_in(answer.report)
+    if not 1 <= number <= len(states):
+        raise NoFilm(f"the report has {len(states)} state{'s' * (len(states) != 1)}, and no state {number}")
+    films.check_program()
+    it, schedule = next((it, schedule) for it in answer.tests for state, schedule in schedules_in(it, made) if state == states[number - 1])
+    try:
+        film = films.film_of(plain.canonical_text(with_question(it)).encode(), schedule, "mesi")
+    except films.Refused as why:
+        raise NoFilm(why.args[0]) from None
+    for thread, cells in enumerate(film["cells"]):
+        for cell in cells:
+            cell["text"] += f"  ({line_of(it.lines[thread][cell['at']])})" if cell["at"] < len(it.lines[thread]) else ""
+    for event, before, effect in zip(film["events"], film["states"], film["effects"]):
+        if event[0] == "P":
+            lines = it.lines[int(event[1])][before["threads"][int(event[1])]["at"]]
+            effect["words"] = " ".join([*(f"line {line}: {source[line - 1].strip()}" for line in sorted(lines)), f"({effect['words']})"])
+    return strip_of(film)
+
+
+def schedules_in(it: Written, made: Converter) -> Iterator[Tuple[str, str]]:
+    """The states of a test that are not given up, by the names of the source, each with a schedule."""
     test, names = it.conversion.test, Names(made, it.conversion.question)
     shown = {plain.site_name(test, site) for site in plain.observed(it.conversion.question)}
     marks = [plain.site_name(test, site) for site in it.conversion.marks]
@@ -92,7 +117,7 @@ def runs_of(it: Written, made: Converter) -> Iterator[tuple]:
         words = words_in(state)
         if all(words[mark] == 1 for mark in marks):
             kept = " ".join(f"{site}={word};" for site, word in words.items() if site in shown)
-            yield names.line(kept), list(events_of(it, schedule.split()))
+            yield names.line(kept), schedule.strip()
 
 
 def events_of(it: Written, schedule: List[str]) -> Iterator[str]:

@@ -19,6 +19,7 @@ import shutil
 import subprocess
 import sys
 import tempfile
+import unittest
 
 sys.dont_write_bytecode = True
 sys.path.insert(0, os.path.dirname(os.path.dirname(os.path.abspath(__file__))))
@@ -33,16 +34,48 @@ from c.layout import Layout
 from c.operands import Memory, Number, Other, Register, operand_of, sum_of
 from c.refused import Refused
 from c.report import answer_of
-from c.shown import fences_of, schedules_of, tests_of
+from c.shown import fences_of, film_of, schedules_of, tests_of
 from c.source import read_source
+from c.weaker import weaker_rust
+from films import NoFilm
 from gate import cases, native_runs, random_programs
 from gate.examples import read, run
-from shared import answers
+from shared import answers, spawn
 from shared.home import HOME
 
 RANDOM_PROGRAMS, COMPILERS_OF_RANDOM = 20, 2
 DATA = ".bss\n.align 8\nx:\n.zero 8\n.align 8\ny:\n.zero 8\n.align 8\nz:\n.zero 8\n"
 STORES_X = "movl $1, x(%rip)"
+# Store buffering in C++, in which a thread stores and loads as it is said.
+OF_CC = """#include <atomic>
+std::atomic<int> x{{0}}, y{{0}};
+void P0() {{ {0}; int r0 = {1}; lw_see(r0, r0); }}
+void P1() {{ y.store(1); int r0 = x.load(); lw_see(r0, r0); }}
+// lw: exists (0:r0=0 /\\ 1:r0=0)
+"""
+# A program whose states are the same with any orders: one thread does what <atomic> has.
+ALL_OF_CC = """#include <atomic>
+std::atomic<unsigned> n{0};
+std::atomic_uint m{7};
+std::atomic<unsigned *> p{nullptr};
+std::atomic<bool> b;
+std::atomic_flag busy = ATOMIC_FLAG_INIT;
+unsigned word;
+void P0() {
+    unsigned expected = 2;
+    n += 2; ++n; n--; n |= 4; n &= 6; n ^= 2; n++; --n; n -= 2;
+    bool swapped = n.compare_exchange_strong(expected, 9, std::memory_order_acq_rel);
+    std::atomic_fetch_add(&n, 1u);
+    std::atomic_fetch_sub_explicit(&n, 2u, std::memory_order_release);
+    std::atomic_exchange(&m, n + m.exchange(1));
+    p.store(&word, std::memory_order_release);
+    b = !busy.test_and_set() && p.load() == &word;
+    busy.clear(std::memory_order_release);
+    std::atomic_thread_fence(std::memory_order_seq_cst);
+    lw_see(swapped, swapped); lw_see(r0, n.load()); lw_see(r1, std::atomic_load(&m)); lw_see(r2, b.load(std::memory_order_acquire));
+}
+// lw: exists (0:swapped=1 /\\ 0:r0=8 /\\ 0:r1=15 /\\ 0:r2=1)
+"""
 
 
 def program(*threads, data=DATA, after=""):
@@ -102,6 +135,23 @@ class Reading(cases.Case):
             text = program(seen("movl x(%rip), %eax"), data=f"{alias}\n{DATA}").replace(".zero 8", ".long 7\n.long 0", 1)
             with self.subTest(alias):
                 self.assertEqual(["0:r0=7 1:r0=7"], states(text, "exists (0:r0=0 /\\ 1:r0=0)"))
+
+    def test_weaker_rust(self):
+        """In Rust an order is weaker where an operation's call names it, by what the operation does; elsewhere, as in comments, it stays."""
+        for text, released, relaxed in (
+            ("X.load(SeqCst)", "X.load({}Acquire)", "X.load({}Relaxed)"),
+            ("X.store(f(1), Ordering::SeqCst)", "X.store(f(1), {}Release)", "X.store(f(1), {}Relaxed)"),
+            ("X.swap(1, atomic::Ordering :: SeqCst)", "X.swap(1, {}AcqRel)", "X.swap(1, {}Relaxed)"),
+            ("X.compare_exchange(0, 1, SeqCst, SeqCst)", "X.compare_exchange(0, 1, {}AcqRel, {}Acquire)",
+             "X.compare_exchange(0, 1, {}Relaxed, {}Relaxed)"),
+            ("X.store(Y.load(SeqCst), Release)", "X.store(Y.load({}Acquire), Release)", "X.store(Y.load({}Relaxed), {}Relaxed)"),
+            ("core::sync::atomic::fence(SeqCst);", "core::sync::atomic::fence({}AcqRel);", "();"),
+            ("use a::Ordering::{SeqCst, Relaxed}; f(SeqCst)", None, None),
+            ("// X.load(SeqCst)", None, None),
+        ):
+            for weaker, wanted in ((1, released), (2, relaxed)):
+                with self.subTest(text, weaker=weaker):
+                    self.assertEqual((wanted or text).replace("{}", "::core::sync::atomic::Ordering::"), weaker_rust(text, weaker))
 
     def test_lost_thread(self):
         """A thread that the assembly lacks is reported."""
@@ -588,6 +638,36 @@ class Compiled(cases.Case):
         asked = "~exists (0:got=0 \\/ 1:got=0 \\/ writers=2)"
         self.assertEqual([f"  by its question, {asked}: 1 state more", "    0:got=5; 1:got=5; writers=2;"], lines[at + 1 : at + 3])
         self.assertEqual("a, by its question, " + asked + ": fences 0, states 1", lines[0].replace(" (not proved)", ""))
+
+    @unittest.skipUnless(spawn.is_current(), "the program is not built")
+    def test_film(self):
+        """The film of a run has a picture for each event, with the lines of the source; a state that is not there is refused."""
+        text = read("examples/from_c/EventCount.c")
+        made = from_c.converted(read_source("a.c", text), compilers_for(".c")[0].split()[0] + " -O2", 1)
+        drawn = film_of(*made, 1, text.splitlines())
+        wanted = [it.strip() for it in schedules_of(*made).splitlines()[1:5]]
+        for line in {int(re.search(r"line (\d+)", it)[1]) for it in wanted}:
+            self.assertIn(f"line {line}: ", drawn)
+        self.assertIn("XCHG [work],EAX  (line 16)", drawn)
+        try:
+            why = film_of(*made, 4, text.splitlines())
+        except NoFilm as fault:
+            why = fault.args[0]
+        self.assertEqual("the report has 3 states, and no state 4", why)
+
+    def test_weaker_in_cc(self):
+        """In C++ orders are weaker in all operations of <atomic>, by each compiler."""
+        for compiler in sorted({it.split()[0] + " -O1" for it in compilers_for(".cc")}):
+            for store, load in (("x.store(1)", "y.load()"), ("x = 1", "y"), ("std::atomic_store(&x, 1)", "y")):
+                source = read_source("a.cc", OF_CC.format(store, load))
+                told = [len(answers.states_in(from_c.converted(source, compiler, 1, weaker)[0].report)) for weaker in (0, 1, 2)]
+                with self.subTest(compiler, store=store):
+                    self.assertEqual([3, 4, 4], told)
+            source = read_source("a.cc", ALL_OF_CC)
+            told = [from_c.converted(source, compiler, 1, weaker)[0].report for weaker in (0, 1, 2)]
+            with self.subTest(compiler):
+                self.assertEqual([told[0]] * 3, told)
+                self.assertIn("\nObservation a Always 1 0\n", told[0])
 
     def test_native(self):
         """No state is seen on this processor that is not listed, in some thousand runs of the same assembly."""
