@@ -56,7 +56,8 @@ in this list on.
 - Many tests side by side, and tests beyond the limits (tools/gate/check_many.py); folders of mixed files by one command
   (tools/gate/test_run_all.py); the smallest sets of fences (tools/gate/test_fences.py), and what is said of answers of a program of other sources
   (tools/gate/test_answers.py); fences and runs of tests that are converted (tools/gate/test_original.py).
-- Tests on this processor, with controls that have to show what is not listed (tools/gate/test_machine_parts.py, test_on_machine.py).
+- Tests on this processor, with controls that have to show what is not listed (tools/gate/test_machine_parts.py, test_on_machine.py),
+  and for the page (tools/gate/test_seen_here.py).
 - The wheel of tools/make_wheel.py, installed by pip, and the package of tools/make_deb.py, unpacked by dpkg-deb (tools/gate/test_packages.py).
 - The web page, by a plain client, and where there is a browser in that too (tools/gate/check_page.py); what its code answers, and the page in
   a browser alone (tools/gate/check_site.py).
@@ -83,7 +84,8 @@ from gate import (
     cases, check_beyond, check_build, check_card, check_edits, check_graph, check_lab, check_lemmas, check_library, check_many, check_names,
     check_pack, check_page, check_quiz, check_site, check_slides, check_tables, check_wings, proof_layout, test_answers, test_assume,
     test_build, test_commands, test_editor, test_fences, test_free_names, test_from_c, test_herd, test_machine_parts, test_names,
-    test_on_machine, test_original, test_packages, test_plain, test_python, test_replay_state, test_run_all, test_shapes, test_wings,
+    test_on_machine, test_original, test_packages, test_plain, test_python, test_replay_state, test_run_all, test_seen_here, test_shapes,
+    test_wings,
 )
 from program import build
 from shared import start
@@ -688,6 +690,7 @@ def last_checks():
     yield cases.comparisons(test_fences)
     yield cases.comparisons(test_machine_parts)
     yield cases.comparisons(test_on_machine)
+    yield cases.comparisons(test_seen_here)
     yield check_page.by_client()
     yield check_page.by_browser()
     yield check_site.comparisons()

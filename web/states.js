@@ -9,6 +9,7 @@ import { missingState } from "./missing.js";
 import { asPrinted, leftOut, propositionOf, saveReport } from "./reports.js";
 import { Run } from "./run.js";
 import { isTooLong, searchOffer } from "./search.js";
+import { seenHere } from "./seen_here.js";
 import { Strip } from "./strip.js";
 import { codeNodes, tintsOf } from "./tint.js";
 import { tell, tellNothing } from "./told.js";
@@ -114,6 +115,7 @@ export class States {
     Object.assign(this, { report, words });
     this.tellVerdict();
     this.list.replaceChildren(leftOut(report) ?? "", report.is_marked ? "" : el("p", { class: "small" }, unmarked()));
+    if (!this.isByHand) this.list.append(seenHere(this.editor.text));
     this.strip.show(report, tintsOf(this.editor.text), missingState(report));
     this.revealed();
     if (this.isByHand) return this.beginByHand(link?.view === "hand" ? link : {});

@@ -734,7 +734,7 @@ def by_browser():
 
 
 def check_browser():
-    yield from tried_on(Page(), subjects.ALL, "in a browser")
+    yield from tried_on(Page(), (*subjects.ALL, *subjects.OF_SERVER), "in a browser")
 
 
 def check_browser_by_server():

@@ -159,7 +159,7 @@ async function loadPage() {
     const names = fs.readdirSync(`${HOME}/web`).filter((it) => it.endsWith(".js"));
     for (const name of names) fs.copyFileSync(`${HOME}/web/${name}`, `${room}/${name}`);
     const load = (name) => import(pathToFileURL(`${room}/${name}.js`).href);
-    const parts = ["aligned", "differences", "module", "program", "questions", "replays", "served"];
+    const parts = ["aligned", "differences", "module", "program", "questions", "replays", "seen_here", "served"];
     const loaded = await Promise.all(parts.map(load));
     return Object.fromEntries(parts.map((name, at) => [name, loaded[at]]));
   } finally {
@@ -475,6 +475,16 @@ function compareDifferences(page, tally) {
   tally.compare("states of a list that is not whole are not compared", ["why"], Object.keys(page.differences.differenceOf(part, both)));
 }
 
+/** What is shown of a run on this machine: the states that are not listed come first, and then those that were seen most often. */
+function compareSeenHere(page, tally) {
+  const seen = [["a", 3, true], ["b", 1200, true], ["c", 1, false]].map(([state, count, listed]) => ({ state, count, listed }));
+  const answer = { runs: 1204, seconds: 2.04, processors: 1, listed: 3, seen, not_seen: ["d"], list: "lw, proved complete" };
+  const rows = [["c", "1, and it is not listed"], ["b", "1,200"], ["a", "3"], ["d", "not seen"]];
+  tally.compare("the rows of a run on this machine", rows, page.seen_here.rowsOf(answer));
+  const words = "1,204 runs in 2.0 seconds on 1 processor: seen here 2 of 3 listed states (the list by lw, proved complete).";
+  tally.compare("the sentence on a run on this machine", words, page.seen_here.sentenceOn(answer));
+}
+
 /** A text that is shown with its cells one below the other has all that it had, but for blanks. */
 function compareAligned(page, tally, texts) {
   const source = "SRC A\n{ x=1; }\n P0 | P1 ;\n x := 1 | y := 1 ;\n | L: ;\n(* a | b ; *)\nexists (x=1)\n";
@@ -578,6 +588,7 @@ async function main() {
   compareRefused(page, tally);
   compareArguments(page, tally);
   compareDifferences(page, tally);
+  compareSeenHere(page, tally);
   compareBudgets(page, tally);
   if (!values.server) compareSearches(page, program, tally, texts);
   compareAligned(page, tally, waiting);

@@ -1,22 +1,25 @@
-"""The runs of the proved program that the web page asks for, each a process group of its own, with limits.
+"""The runs of the proved program that the web page asks for, and of tests on this processor, each a process group of its own, with limits.
 
-At most four run at once; others wait for their turn. A run has 1 GiB of memory, and is ended after 20 seconds, when the client goes
+At most four run at once, and one on this processor; others wait for their turn. A run has 1 GiB of memory, and is ended after 20 seconds, when the client goes
 away, and when the server ends. A server that is killed ends nothing: then the system ends its runs at once where it can (by setpriv of
 util-linux), and else when they have had their processor time. A run that crashes is told of, and ends nothing else.
 """
 import contextlib
+import json
 import os
 import resource
 import selectors
 import shutil
 import signal
 import subprocess
+import sys
 import threading
 import time
 
 from shared.home import BEYOND, HOME, PROGRAM
 
 IS_CURRENT = ["sh", "-c", 'home=$1; . "$home/tools/program/program.sh"; use_program "$2"; is_current', "sh", HOME]
+ON_MACHINE = os.path.join(HOME, "tools", "on_machine.py")
 MOST_RUNS = 4
 MOST_SECONDS = 20
 MOST_MEMORY = 1 << 30
@@ -43,6 +46,8 @@ class Runs:
         self.places = threading.BoundedSemaphore(MOST_RUNS)
         # Whether the program is current is asked with each question, and waits for no run.
         self.place_of_current = threading.BoundedSemaphore(1)
+        # Runs on this processor disturb each other.
+        self.place_of_machine = threading.BoundedSemaphore(1)
         self.lock = threading.Lock()
         self.running = set()
         self.is_over = False
@@ -68,6 +73,16 @@ class Runs:
             raise NoRun(500, "The program failed, or needed more memory than it may have (1 GiB).")
         fault = complaint.decode("utf-8", "replace").rstrip("\n") or None
         return {"status": status, "printed": printed.decode("utf-8", "replace"), "fault": fault}
+
+    def on_machine(self, text, seconds, connection):
+        """What tools/on_machine.py says of a text's test after some seconds, or why it runs nothing."""
+        words = [sys.executable, ON_MACHINE, "--seconds", str(seconds), "--json", "-"]
+        status, printed, complaint = self.run(words, text, connection, self.place_of_machine)
+        try:
+            return json.loads(printed.decode("utf-8"))
+        except ValueError:
+            why = complaint.decode("utf-8", "replace").rstrip("\n").rpartition("\n")[2] or f"it ended with status {status}"
+            raise NoRun(500, f"The test was not run on this machine: {why}") from None
 
     def run(self, words, given, connection, places):
         """Runs a command: its status, and what it prints on both streams. Gone is raised where the connection is closed meanwhile."""

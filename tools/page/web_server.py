@@ -2,8 +2,9 @@
 
 It listens on 127.0.0.1 alone. Every request names this address as its Host, so that no other name can lead to it: not another site's,
 and not localhost, at which another user may listen by IPv6. GET gives the files of a fixed table, and runs nothing. POST /run hands the
-words of a command of lw, or of a list of beyond, and a text to the program, and what that prints back; POST /current says whether the program
-is that of the sources as they are. Both are for the page itself alone: Origin says so, which a browser sets and no other site can. There is one request
+words of a command of lw, or of a list of beyond, and a text to the program, and what that prints back; POST /machine runs the test of a text on
+this processor for some seconds, as tools/on_machine.py does; POST /current says whether the program is that of the sources as they are. All
+three are for the page itself alone: Origin says so, which a browser sets and no other site can. There is one request
 on a connection, of known size, in known time. Where there are too many connections, those that have been idle longest are cut, and some
 places are never taken by runs. Nothing that is asked or answered is read here, nothing is kept, and nothing is logged.
 """
@@ -63,6 +64,8 @@ MOST_BUDGET = 10_000_000
 PROTOCOLS = ("mesi", "moesi")
 # What a body has: of each key the type.
 SHAPE = {"words": list, "text": str}
+SHAPE_ON_MACHINE = {"text": str, "seconds": int}
+MOST_SECONDS_ON_MACHINE = 10
 
 
 class Refusal(Exception):
@@ -112,7 +115,7 @@ def check_post(head):
     """Refuses what the page itself has not asked for. Returns the length of its body."""
     if head.only("origin") != f"http://{head.only('host')}":
         raise Refusal(403, "Only the page itself may ask for runs.")
-    if head.path not in ("/run", "/current"):
+    if head.path not in ("/run", "/machine", "/current"):
         raise Refusal(404, "There is no such question.")
     if not re.fullmatch(r"application/json(; ?charset=utf-8)?", head.only("content-type") or "", re.I):
         raise Refusal(415, "The body has to be JSON.")
@@ -143,6 +146,14 @@ def read_run(body):
     if not are_words(said["words"]):
         raise Refusal(400, "The words are no command of lw, or the schedule is too long.")
     return said["words"], bytes_of(said["text"])
+
+
+def read_run_on_machine(body):
+    """The bytes of a text, and for how many seconds its test is run on this machine, that a body says."""
+    said = read_object(body, SHAPE_ON_MACHINE)
+    if not 1 <= said["seconds"] <= MOST_SECONDS_ON_MACHINE:
+        raise Refusal(400, f"A run on this machine takes from 1 to {MOST_SECONDS_ON_MACHINE} seconds.")
+    return bytes_of(said["text"]), said["seconds"]
 
 
 def are_words(words):
@@ -324,6 +335,8 @@ class Server:
         if path == "/current":
             read_object(body, {})
             return {"is_current": self.runs.is_current(connection)}
+        if path == "/machine":
+            return self.runs.on_machine(*read_run_on_machine(body), connection)
         return self.runs.answer(*read_run(body), connection)
 
     def file(self, path):

@@ -1,0 +1,56 @@
+// What this machine shows of a test. If ./page serves the page, its server runs the test on this processor for some seconds, as
+// tools/on_machine.py does, and a table says how often each listed state was seen. Nothing is concluded from that: a state that was not seen
+// was not seen, no more.
+
+import { button, el } from "./dom.js";
+import { NO_SERVER } from "./served.js";
+import { hasServer } from "./supplies.js";
+
+const SECONDS = 2;
+const ABOUT = "What a processor shows proves nothing, and a state that was not seen was not seen, no more (docs/ON-MACHINE.md).";
+
+/** The offer to run a test on this machine, and its place; nothing if no server stands behind the page. */
+export function seenHere(text) {
+  if (!hasServer) return "";
+  const place = el("div", { class: "seen-here" });
+  const offer = () => button(`Run it on this machine for ${SECONDS} seconds`, run, { class: "run-here" });
+  async function run() {
+    place.replaceChildren(el("p", { class: "row asking", role: "status" }, `Running on this machine for ${SECONDS} seconds …`));
+    const answer = await answerOf(text);
+    place.replaceChildren(...(answer.error ? [el("p", { class: "notice", role: "alert" }, answer.error)] : shown(answer)), offer());
+  }
+  place.append(offer());
+  return place;
+}
+
+/** What the server says. */
+async function answerOf(text) {
+  try {
+    const body = JSON.stringify({ text, seconds: SECONDS });
+    return await (await fetch("machine", { method: "POST", headers: { "Content-Type": "application/json" }, body })).json();
+  } catch {
+    return { error: NO_SERVER };
+  }
+}
+
+/** The rows of the table: of each state its line and what is said of it, those that are seen most often first. */
+export function rowsOf({ seen, not_seen: notSeen }) {
+  const often = [...seen].sort((one, other) => Number(one.listed) - Number(other.listed) || other.count - one.count);
+  const said = ({ count, listed }) => (listed ? count.toLocaleString("en") : `${count.toLocaleString("en")}, and it is not listed`);
+  return [...often.map((it) => [it.state, said(it)]), ...notSeen.map((state) => [state, "not seen"])];
+}
+
+/** A sentence on a run. */
+export function sentenceOn({ runs, seconds, processors, listed, seen, list }) {
+  const found = seen.filter((it) => it.listed).length;
+  const many = `${runs.toLocaleString("en")} runs in ${seconds.toFixed(1)} seconds on ${processors} processor${processors === 1 ? "" : "s"}`;
+  return `${many}: seen here ${found} of ${listed} listed states (the list by ${list}).`;
+}
+
+function shown(answer) {
+  const rows = rowsOf(answer).map(([state, said]) => el("tr", {}, el("th", { scope: "row" }, el("code", {}, state)), el("td", {}, said)));
+  const head = el("tr", {}, el("th", { scope: "col" }, "State"), el("th", { scope: "col" }, "Seen on this machine"));
+  const notes = answer.notes.map((it) => el("p", { class: "small" }, it));
+  const table = el("table", {}, el("thead", {}, head), el("tbody", {}, rows));
+  return [el("p", { role: "status" }, sentenceOn(answer)), table, ...notes, el("p", { class: "small" }, ABOUT)];
+}
