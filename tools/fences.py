@@ -191,7 +191,7 @@ def lines_of_makers() -> List[str]:
     number = sum(not it.by.is_proved for it in lists.values())
     by = answers.names_of(it for it in makers() if not it.is_proved)
     is_searched = answers.Maker.SEARCH in makers()
-    why = ", since lw is not built here, or refuses these tests for their size and beyond is not built" if is_searched else ""
+    why = ", since lw and beyond are not built here, or refuse these tests" if is_searched else ""
     return [f"Not proved: of {len(lists)} lists {number} are made by {by}{why}"] if number else []
 
 

@@ -277,7 +277,7 @@ class Makers(cases.Case):
             head, *_, last = self.lines_of(path, program="/no/program", beyond="/no/program")
             with self.subTest(path):
                 self.assertTrue(head.endswith(" (not proved)"))
-                why = "since lw is not built here, or refuses these tests for their size and beyond is not built"
+                why = "since lw and beyond are not built here, or refuse these tests"
                 self.assertEqual(f"Not proved: of {number} lists {number} are made by tools/beyond.py, {why}", last)
 
     def test_beyond_limits(self):
