@@ -28,7 +28,7 @@ import make_quiz
 import plain
 from gate.browser import user as users
 from gate.examples import run
-from lab import codes, quiz
+from lab import codes, quiz, reasons
 from shared.home import close
 
 SEEDS = ("1", "2", "autumn26")
@@ -76,11 +76,25 @@ def check_page(page, tests):
     yield "the same bytes for another seed", False, page == make_quiz.page(TESTS, "2", quiz.report_by_program)
     yield "the page loads nothing and names no other site", [], OUTWARD.findall(page)
     yield "nothing of the template is left", [], re.findall(r"@[A-Z]+@", page)
-    yield "the page holds the seed, a mark, the tests, and what is hidden", ["hidden", "mark", "seed", "tests"], sorted(data)
+    yield "the page holds the seed, a mark, the tests, and what is hidden", ["hidden", "mark", "reasons", "seed", "tests"], sorted(data)
+    yield from check_reasons(data, tests)
     yield "the page has the tests", [it.text for it in tests], data["tests"]
     yield "what is hidden is found again", [it.answer() for it in tests], quiz.answers_in(data)
     symbols = {(it.answer(), symbol) for it, symbol in zip(tests, data["hidden"])}
     yield "no answer has a symbol of its own", True, len(symbols) > len({it.answer() for it in tests})
+
+
+def check_reasons(data, tests):
+    """Why each test can end so or can't: a run where it can, which ends so, and a cycle where it can't; none is in plain sight."""
+    for at, (it, found) in enumerate(zip(tests, quiz.reasons_in(data)), 1):
+        kinds = ["run" if verdict else "cycle" for verdict in (it.by_turns, it.on_x86)]
+        yield f"the reasons on test {at}", kinds, [reason["kind"] for reason in found]
+        yield f"the reasons on test {at} have events", True, all(len(reason.get("steps") or reason["events"]) > 1 for reason in found)
+        test = plain.read_test(it.text)
+        ways = [reasons.asked_finals(test, plain.x86_start, moves) for moves in (plain.interleaved_moves, plain.x86_moves)]
+        yield f"runs by tools/plain.py that end as test {at} asks", [it.by_turns, it.on_x86], [bool(way) for way in ways]
+    words = ("store buffer", "steps", "events", "memory")
+    yield "no reason is in plain sight", [], [word for word in words if word in json.dumps(data)]
 
 
 def answered(rights, wrong):
@@ -125,6 +139,9 @@ def check_node(page, code, rights):
     if not NODE:
         return
     answers = answered(rights, WRONG)
+    told = subprocess.run([NODE, "-"], input=(SCRIPT.search(page)[1] + "console.log(JSON.stringify(quiz.tests.map((_, at) => reasonsOf(at))));").encode(),
+                          capture_output=True, timeout=60, check=False)
+    yield "the page's own JavaScript finds the reasons", quiz.reasons_in(data_in(page)), json.loads(told.stdout or b"0") or told.stderr.decode()
     asked = f"console.log(JSON.stringify([rightAnswers(), codeOf(studentOf('  Ana  17 '), {answers}), studentOf(' Ä  é '), studentOf('a<b'), studentOf('a'.repeat(17))]));"
     ran = subprocess.run([NODE, "-"], input=(SCRIPT.search(page)[1] + asked).encode(), capture_output=True, timeout=60, check=False)
     yield "the page's own JavaScript", [rights, code, "ä é", None, None], json.loads(ran.stdout or b"0") or ran.stderr.decode()
@@ -212,6 +229,8 @@ def check_browser(page, room):
         yield "the code is copied", True, user.is_soon(lambda: user.text("#said") in ("Copied.", "It is selected: copy it by hand."))
         marks = user.texts("fieldset .told")
         yield "what was right is told", (2 * TESTS - 4, 4), (marks.count("✓"), sum(it.startswith("✗") for it in marks))
+        whys = user.run("return [...document.querySelectorAll('fieldset .why')].map((it) => [it.open, it.querySelectorAll('li').length > 1])")
+        yield "each question shows why, unfolded where the answer was wrong", [[not it.startswith("✓"), True] for it in marks], whys
         yield "nothing can be changed any more", 0, user.run("return document.querySelectorAll('input:not([disabled])').length")
         yield "the page tells of no fault", [], [it for it in user.driver.get_log("browser") if it["level"] == "SEVERE"]
     finally:

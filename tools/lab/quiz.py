@@ -4,6 +4,7 @@ The tests are those of tools/shapes/quiz.py, which interleaving forbids all: in 
 is possible by turns. Verdicts are read off reports: that of the x86 test, and that of its source form, which is interleaved: the same loads
 and stores, without fences.
 """
+import base64
 import hashlib
 import json
 import re
@@ -12,6 +13,7 @@ from typing import Callable, Dict, List, NamedTuple
 
 import films
 import plain
+from lab import reasons
 from lab.codes import MARKS, MOST_TESTS, SYMBOLS
 from shapes.quiz import quiz_of
 
@@ -136,6 +138,30 @@ def mixed(text: str) -> int:
     return mixed_so_far >> 16 & 31
 
 
+def scrambled(content: bytes, text: str) -> bytes:
+    """Bytes that are hidden by those that a text gives, or found again."""
+    state = 2166136261
+    for it in text.encode():
+        state = (state ^ it) * 16777619 % 2**32
+    found = bytearray()
+    for it in content:
+        state = (state * 1664525 + 1013904223) % 2**32
+        found.append(it ^ state >> 24)
+    return bytes(found)
+
+
+def reason_of(seed: str, text: str) -> str:
+    """Why a test can end so by turns and on x86, or can't, hidden."""
+    told = json.dumps([reasons.by_turns(text, source_form(text)), reasons.on_x86(text)], separators=(",", ":"))
+    return base64.urlsafe_b64encode(scrambled(told.encode(), f"why {seed}{text}")).decode()
+
+
+def reasons_in(data) -> List[list]:
+    """The reasons of a page's tests: of each that by turns and that on x86."""
+    found = (scrambled(base64.urlsafe_b64decode(it), f"why {data['seed']}{text}") for text, it in zip(data["tests"], data["reasons"]))
+    return [json.loads(it) for it in found]
+
+
 def mark_of(texts: List[str], seed: str) -> int:
     """A number by which the code of another quiz with the same seed is told."""
     return int(hashlib.sha256(json.dumps([seed, texts]).encode()).hexdigest(), 16) % MARKS
@@ -145,7 +171,7 @@ def data_of(seed: str, tests: List[Asked]) -> Dict[str, object]:
     """What the page holds of a quiz. No answer stands in it in plain sight; who reads the page's code can read all."""
     texts = [it.text for it in tests]
     hidden = "".join(SYMBOLS[mixed(seed + it.text) ^ it.answer()] for it in tests)
-    return {"seed": seed, "mark": mark_of(texts, seed), "hidden": hidden, "tests": texts}
+    return {"seed": seed, "mark": mark_of(texts, seed), "hidden": hidden, "tests": texts, "reasons": [reason_of(seed, it) for it in texts]}
 
 
 def answers_in(data) -> List[int]:
