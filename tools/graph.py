@@ -8,8 +8,8 @@
     python3 tools/graph.py --documents
 
 The first prints a picture (SVG) of the run of an x86 test by a schedule, as `lw schedules` lists it; of a source test it is a run of
-its compiled program. Its events stand below each other by thread, with arrows for program order (po), reads-from (rf, a dashed one
-within a thread), coherence order (co) and from-reads (fr). Where the run is none of interleaving, a cycle of these is marked, and in
+its compiled program. Its events are in columns by thread, or in rows if that is narrower, with arrows for program order (po), reads-from (rf,
+within a thread rfi), coherence order (co, dashed) and from-reads (fr, dotted). Where the run is none of interleaving, a cycle of these is marked, and in
 it each store and later load that x86-TSO may turn round: there a fence is missing. --text prints the same in words, with what the
 axioms of x86-TSO say of it.
 
@@ -30,7 +30,8 @@ from shared.home import HOME
 import executions
 import given
 import plain
-from picture import EDGE, GAP, LETTER, LINE, Drawing
+from picture import EDGE, LETTER, LINE, Drawing
+from shared.graph_layout import GraphLayout
 
 # The pictures of the documents: the file, an example and a schedule.
 DOCUMENTS = (("docs/pictures/SB-graph.svg", "SB-x86", "P0 P0 P1 P1 D0 D1"),)
@@ -38,19 +39,15 @@ MOST = 400_000
 MOST_CYCLES = 6
 MOST_DRAWN = 3
 MOST_NAMED = 4  # so many reads of the initial word have a name at their arrow
-ROW = 62  # from one event to the next below it
-BOX = 26  # the height of an event's box
 LETTERS = "abcdefghijklmnopqrstuvwxyz"
 NAMES = {"po": "program order", "rf": "reads-from", "co": "coherence order", "fr": "from-reads"}
+# Relations are told apart by their names and by how their lines are broken: colours are those of threads and locations.
 STYLE = """
-path { fill: none; stroke-width: 1.4 } .po { stroke: #6b6b6b } .rf { stroke: #1b7a3a } .co { stroke: #7a4a00 } .fr { stroke: #a3195b }
-.inner { stroke-dasharray: 5 3 } .marked { stroke-width: 3.2 }
-text.rf { fill: #1b7a3a } text.co { fill: #7a4a00 } text.fr { fill: #a3195b } text.po { fill: #6b6b6b }
-text.rf, text.co, text.fr, text.po { paint-order: stroke; stroke: #fff; stroke-width: 4 }
+path { fill: none; stroke: #1b1b1b; stroke-width: 1.4 } path.po { stroke: #8a8a8a } path.co { stroke-dasharray: 8 4 } path.fr { stroke-dasharray: 3 3 }
+path.marked { stroke: #1b1b1b; stroke-width: 3.2; stroke-dasharray: none } marker path[class] { stroke-dasharray: none }
+text.relation { font-weight: bold; paint-order: stroke; stroke: #fff; stroke-width: 4 }
 @media (prefers-color-scheme: dark) {
-.po { stroke: #a8a8a8 } .rf { stroke: #6fdc93 } .co { stroke: #e0a95c } .fr { stroke: #ff8ac2 }
-text.rf { fill: #6fdc93 } text.co { fill: #e0a95c } text.fr { fill: #ff8ac2 } text.po { fill: #a8a8a8 }
-text.rf, text.co, text.fr, text.po { stroke: #16181c }
+path, path.marked { stroke: #ececec } path.po { stroke: #8d939c } text.relation { stroke: #16181c }
 }
 """
 
@@ -148,74 +145,42 @@ def verdict_of(execution, names):
 # The picture.
 
 
-class Layout:
-    """Where each event of an execution stands."""
-
-    def __init__(self, execution, names):
-        self.names = names
-        events = execution.events()
-        self.columns = [[it for it in events if it.thread == thread] for thread in range(len(execution.paths))]
-        self.width = max([len(names.letters[it]) + 2 + len(names.deed(it)) for it in events] + [4]) * LETTER + 16
-        self.apart = self.width + 100
-        self.places = {it: (thread, row) for thread, column in enumerate(self.columns) for row, it in enumerate(column)}
-        rows = max([len(column) for column in self.columns] + [1])
-        self.whole_width = len(self.columns) * self.apart - 100 + 2 * EDGE + 60
-        self.height = EDGE + LINE + rows * ROW + GAP
-
-    def corner(self, event):
-        thread, row = self.places[event]
-        return EDGE + 30 + thread * self.apart, EDGE + LINE + 12 + row * ROW
-
-    def middle(self, event):
-        x, y = self.corner(event)
-        return x + self.width / 2, y + BOX / 2
-
-
 def rounded(number):
     """A number to a tenth."""
     return math.floor(number * 10 + 0.5) / 10
 
 
-def spot(x, y):
+def spot(point):
     """A point, as a path has it."""
+    x, y = point
     return f"{rounded(x):g} {rounded(y):g}"
 
 
-def end_at(layout, event, toward):
-    """The point of an event's box from which an arrow to another point leaves."""
-    x, y = layout.middle(event)
-    dx, dy = toward[0] - x, toward[1] - y
-    half_width, half_height = layout.width / 2 + 2, BOX / 2 + 2
-    scale = min(half_width / abs(dx) if dx else 9e9, half_height / abs(dy) if dy else 9e9)
-    return x + dx * scale, y + dy * scale
+def place_of(event):
+    """The place of an event in its test, by which the page finds its instruction."""
+    return f"{event.thread}:{event.position}"
 
 
-def draw_edge(drawing, layout, edge, bend, is_marked):
-    """An arrow, bent to one side, with the name of its relation."""
-    (ax, ay), (bx, by) = layout.middle(edge.source), layout.middle(edge.target)
-    length = max(math.sqrt((bx - ax) * (bx - ax) + (by - ay) * (by - ay)), 1)
-    control = (ax + bx) / 2 - (by - ay) / length * bend, (ay + by) / 2 + (bx - ax) / length * bend
-    (sx, sy), (tx, ty) = end_at(layout, edge.source, control), end_at(layout, edge.target, control)
-    inner = " inner" if edge.kind == "rf" and edge.source.thread == edge.target.thread else ""
+def draw_edge(drawing, layout, route, is_marked):
+    """An arrow along the curves of a route."""
+    kind = route.edge.kind if route.edge else "rf"
+    curves = layout.curves_of(route)
+    path = f"M{spot(curves[0][0])} " + " ".join(f"C{' '.join(map(spot, points))}" for _, *points in curves)
+    start = "" if route.way == "start" else f'data-from="{place_of(route.source)}" '
+    ends = f'{start}data-to="{place_of(route.target)}"'
     marked = " marked" if is_marked else ""
-    path = f"M{spot(sx, sy)} Q{spot(*control)} {spot(tx, ty)}"
-    drawing.elements.append(f'<path class="{edge.kind}{inner}{marked}" marker-end="url(#to-{edge.kind})" d="{path}"/>')
-    x, y = (on_curve(*each) for each in zip((sx, sy), control, (tx, ty)))
-    drawing.text(rounded(x - LETTER), rounded(y + 4), edge.kind, edge.kind)
+    drawing.elements.append(f'<path class="{kind}{marked}" {ends} marker-end="url(#to-{kind})" d="{path}"/>')
 
 
-def on_curve(begin, control, end, part=0.25):
-    """A point of a curve, where the name of its relation stands: nearer to its begin, since arrows cross in the middle."""
-    return (1 - part) * (1 - part) * begin + 2 * part * (1 - part) * control + part * part * end
+def draw_label(drawing, layout, route, name):
+    """The name of a relation at its arrow."""
+    x, y = layout.place_label(route, len(name))
+    drawing.text(rounded(x - (len(name) * LETTER) / 2), rounded(y + 4), name, "relation")
 
 
-def draw_initial(drawing, layout, read, is_named):
-    """A read of the initial word: an arrow from nowhere."""
-    x, y = layout.corner(read)
-    path = f"M{spot(x - 28, y + BOX + 8)} L{spot(x - 2, y + BOX - 6)}"
-    drawing.elements.append(f'<path class="rf" marker-end="url(#to-rf)" d="{path}"/>')
-    if is_named:
-        drawing.text(rounded(x - 38), rounded(y + BOX + 20), "init", "rf")
+def label_of(edge):
+    """The name of a relation at its arrow: a thread that reads its own store is told apart."""
+    return "rfi" if edge.kind == "rf" and edge.source.thread == edge.target.thread else edge.kind
 
 
 def markers():
@@ -225,31 +190,17 @@ def markers():
     return "<defs>" + "".join(head.format(it) for it in NAMES) + "</defs>"
 
 
-def bends_of(edges, layout):
-    """How far each arrow is bent, so that those between the same two events stand apart, and none goes through a box of its thread."""
-    met = {}
-    for it in edges:
-        pair = frozenset((it.source, it.target))
-        met[pair] = met.get(pair, -1) + 1
-        if it.source.thread != it.target.thread:
-            bend = 12 + 34 * (abs(it.source.thread - it.target.thread) - 1) + 26 * met[pair]
-            yield it, bend if it.source < it.target else bend * (1 if met[pair] % 2 == 0 else -1)
-            continue
-        rows = abs(layout.places[it.source][1] - layout.places[it.target][1])
-        is_free = it.kind == "po" and rows == 1
-        aside = 0 if is_free else (layout.width + 24 * rows) * (0.5 if rows == 1 else 1) + 20 * met[pair]
-        yield it, -aside if it.kind == "po" else aside
-
-
-def draw_events(drawing, layout, execution, marked):
+def draw_events(drawing, layout, execution, texts, marked):
     """The events, thread by thread; those of a cycle are marked."""
-    for thread, column in enumerate(layout.columns):
-        drawing.text(EDGE + 30 + thread * layout.apart, EDGE + LINE - 4, f"P{thread}", "title")
-        for event in column:
+    for thread, events in enumerate(layout.threads):
+        drawing.text(*layout.title_at(thread), f"P{thread}", "title")
+        for event in events:
             x, y = layout.corner(event)
             kind = "entry" if execution.instruction(event).kind == "store" else "box"
-            drawing.box(x, y, layout.width, BOX, f"{kind} marked" if event in marked else kind)
-            drawing.text(x + 8, y + 17, f"{layout.names.letters[event]}: {layout.names.deed(event)}")
+            drawing.elements.append(f'<g data-at="{place_of(event)}">')
+            drawing.box(x, y, *layout.box, f"{kind} marked" if event in marked else kind)
+            drawing.text(x + 9, y + 18, texts[event])
+            drawing.elements.append("</g>")
 
 
 def lines_below(names, cycle, broken, missing):
@@ -264,20 +215,26 @@ def picture_of(execution, title, broken=None):
     """The picture of an execution; if x86-TSO forbids it, with the cycle of the axiom that it breaks, and otherwise with one of
     interleaving."""
     names, cycle = Names(execution), broken[1] if broken else execution.cycle() or []
-    drawing, layout = Drawing(), Layout(execution, names)
-    drawing.elements += [f"<style>{STYLE}</style>", markers()]
     missing = [] if broken else missing_fences(execution, cycle)
-    for edge, bend in bends_of(drawn_edges(execution, cycle if broken else missing), layout):
-        draw_edge(drawing, layout, edge, bend, edge in cycle)
+    texts = {it: f"{names.letters[it]}: {names.deed(it)}" for it in execution.events()}
     initial = [read for read, source in execution.rf.items() if source is None]
-    for read in initial:
-        draw_initial(drawing, layout, read, len(initial) <= MOST_NAMED)
-    draw_events(drawing, layout, execution, {it.source for it in cycle} if broken else ())
+    layout = GraphLayout(execution, texts, drawn_edges(execution, cycle if broken else missing), initial)
+    drawing = Drawing()
+    drawing.elements += [f"<style>{STYLE}</style>", markers()]
+    for it in [*layout.routes, *layout.starts]:
+        draw_edge(drawing, layout, it, it.edge in cycle)
+    draw_events(drawing, layout, execution, texts, {it.source for it in cycle} if broken else ())
+    for it in layout.starts if len(initial) <= MOST_NAMED else ():
+        draw_label(drawing, layout, it, "init")
+    for it in layout.routes:
+        if it.edge.kind != "po" or it.edge in cycle:
+            draw_label(drawing, layout, it, label_of(it.edge))
     lines = lines_below(names, cycle, broken, missing)
-    for at, line in enumerate(lines):
-        drawing.text(EDGE, layout.height + LINE * at, line, "faint")
-    width = max([layout.whole_width] + [len(it) * LETTER + 2 * EDGE for it in lines])
-    return drawing.svg(width, layout.height + LINE * len(lines), title)
+    wide, high = layout.size
+    for at, text in enumerate(lines):
+        drawing.text(EDGE, high + LINE * (at + 1) - 5, text, "faint")
+    width = max([wide] + [len(it) * LETTER + 2 * EDGE for it in lines])
+    return drawing.svg(width, high + LINE * len(lines) + EDGE, title)
 
 
 # Why not.

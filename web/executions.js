@@ -11,7 +11,7 @@ const READS = ["load", "xchg", "xadd"];
 const WRITES = ["store", "xchg", "xadd"];
 
 export const threadOf = (event) => Math.floor(event / EVENTS);
-const positionOf = (event) => event % EVENTS;
+export const positionOf = (event) => event % EVENTS;
 const eventOf = (thread, position) => thread * EVENTS + position;
 const edgeOf = (kind) => ([source, target]) => ({ kind, source, target });
 

@@ -1,22 +1,19 @@
 // Draws the execution of a run, and says it in words: as tools/graph.py does. Not proved.
 
-import { threadOf } from "./executions.js";
-import { Drawing, EDGE, GAP, LETTER, LINE, digits } from "./pictures.js";
+import { positionOf, threadOf } from "./executions.js";
+import { GraphLayout } from "./graph_layout.js";
+import { Drawing, EDGE, LETTER, LINE, digits } from "./pictures.js";
 
 const MOST_NAMED = 4; // so many reads of the initial word have a name at their arrow
-const ROW = 62; // from one event to the next below it
-const BOX = 26; // the height of an event's box
 const LETTERS = "abcdefghijklmnopqrstuvwxyz";
 const NAMES = { po: "program order", rf: "reads-from", co: "coherence order", fr: "from-reads" };
+// Relations are told apart by their names and by how their lines are broken: colours are those of threads and locations.
 const STYLE = `
-path { fill: none; stroke-width: 1.4 } .po { stroke: #6b6b6b } .rf { stroke: #1b7a3a } .co { stroke: #7a4a00 } .fr { stroke: #a3195b }
-.inner { stroke-dasharray: 5 3 } .marked { stroke-width: 3.2 }
-text.rf { fill: #1b7a3a } text.co { fill: #7a4a00 } text.fr { fill: #a3195b } text.po { fill: #6b6b6b }
-text.rf, text.co, text.fr, text.po { paint-order: stroke; stroke: #fff; stroke-width: 4 }
+path { fill: none; stroke: #1b1b1b; stroke-width: 1.4 } path.po { stroke: #8a8a8a } path.co { stroke-dasharray: 8 4 } path.fr { stroke-dasharray: 3 3 }
+path.marked { stroke: #1b1b1b; stroke-width: 3.2; stroke-dasharray: none } marker path[class] { stroke-dasharray: none }
+text.relation { font-weight: bold; paint-order: stroke; stroke: #fff; stroke-width: 4 }
 @media (prefers-color-scheme: dark) {
-.po { stroke: #a8a8a8 } .rf { stroke: #6fdc93 } .co { stroke: #e0a95c } .fr { stroke: #ff8ac2 }
-text.rf { fill: #6fdc93 } text.co { fill: #e0a95c } text.fr { fill: #ff8ac2 } text.po { fill: #a8a8a8 }
-text.rf, text.co, text.fr, text.po { stroke: #16181c }
+path, path.marked { stroke: #ececec } path.po { stroke: #8d939c } text.relation { stroke: #16181c }
 }
 `;
 
@@ -98,32 +95,6 @@ function verdictOf(execution, names) {
 
 // The picture.
 
-/** Where each event of an execution stands. */
-class Layout {
-  constructor(execution, names) {
-    this.names = names;
-    const events = execution.events();
-    this.columns = execution.paths.map((_, thread) => events.filter((it) => threadOf(it) === thread));
-    const lengths = events.map((it) => names.letters.get(it).length + 2 + names.deed(it).length);
-    this.width = Math.max(...lengths, 4) * LETTER + 16;
-    this.apart = this.width + 100;
-    this.places = new Map(this.columns.flatMap((column, thread) => column.map((it, row) => [it, { thread, row }])));
-    const rows = Math.max(...this.columns.map((column) => column.length), 1);
-    this.wholeWidth = this.columns.length * this.apart - 100 + 2 * EDGE + 60;
-    this.height = EDGE + LINE + rows * ROW + GAP;
-  }
-
-  corner(event) {
-    const { thread, row } = this.places.get(event);
-    return [EDGE + 30 + thread * this.apart, EDGE + LINE + 12 + row * ROW];
-  }
-
-  middle(event) {
-    const [x, y] = this.corner(event);
-    return [x + this.width / 2, y + BOX / 2];
-  }
-}
-
 /** A number to a tenth. */
 function rounded(number) {
   return Math.floor(number * 10 + 0.5) / 10;
@@ -134,41 +105,30 @@ function spot([x, y]) {
   return `${digits(rounded(x))} ${digits(rounded(y))}`;
 }
 
-/** The point of an event's box from which an arrow to another point leaves. */
-function endAt(layout, event, toward) {
-  const [x, y] = layout.middle(event);
-  const [dx, dy] = [toward[0] - x, toward[1] - y];
-  const [halfWidth, halfHeight] = [layout.width / 2 + 2, BOX / 2 + 2];
-  const scale = Math.min(dx ? halfWidth / Math.abs(dx) : 9e9, dy ? halfHeight / Math.abs(dy) : 9e9);
-  return [x + dx * scale, y + dy * scale];
+/** The place of an event in its test, by which a page finds its instruction. */
+function placeOf(event) {
+  return `${threadOf(event)}:${positionOf(event)}`;
 }
 
-/** An arrow, bent to one side, with the name of its relation. */
-function drawEdge(drawing, layout, edge, bend, isMarked) {
-  const { kind, source, target } = edge;
-  const [[ax, ay], [bx, by]] = [layout.middle(source), layout.middle(target)];
-  const length = Math.max(Math.sqrt((bx - ax) * (bx - ax) + (by - ay) * (by - ay)), 1);
-  const control = [(ax + bx) / 2 - ((by - ay) / length) * bend, (ay + by) / 2 + ((bx - ax) / length) * bend];
-  const [begin, end] = [endAt(layout, source, control), endAt(layout, target, control)];
-  const inner = kind === "rf" && threadOf(source) === threadOf(target) ? " inner" : "";
-  const path = `M${spot(begin)} Q${spot(control)} ${spot(end)}`;
-  const marked = isMarked ? " marked" : "";
-  drawing.elements.push(`<path class="${kind}${inner}${marked}" marker-end="url(#to-${kind})" d="${path}"/>`);
-  const [x, y] = [0, 1].map((it) => onCurve(begin[it], control[it], end[it]));
-  drawing.text(rounded(x - LETTER), rounded(y + 4), kind, kind);
+/** Whether an edge is of a thread that reads its own store. */
+function isInternal({ kind, source, target }) {
+  return kind === "rf" && threadOf(source) === threadOf(target);
 }
 
-/** A point of a curve, where the name of its relation stands: nearer to its begin, since arrows cross in the middle. */
-function onCurve(begin, control, end, part = 0.25) {
-  return (1 - part) * (1 - part) * begin + 2 * part * (1 - part) * control + part * part * end;
+/** An arrow along the curves of a route. */
+function drawEdge(drawing, layout, route, isMarked) {
+  const { kind, source, target } = route.edge;
+  const [first, ...others] = layout.curvesOf(route);
+  const curve = ([, ...points]) => `C${points.map(spot).join(" ")}`;
+  const path = `M${spot(first[0])} ${[first, ...others].map(curve).join(" ")}`;
+  const ends = route.way === "start" ? `data-to="${placeOf(target)}"` : `data-from="${placeOf(source)}" data-to="${placeOf(target)}"`;
+  drawing.elements.push(`<path class="${kind ?? "rf"}${isMarked ? " marked" : ""}" ${ends} marker-end="url(#to-${kind ?? "rf"})" d="${path}"/>`);
 }
 
-/** A read of the initial word: an arrow from nowhere. */
-function drawInitial(drawing, layout, read, isNamed) {
-  const [x, y] = layout.corner(read);
-  const path = `M${spot([x - 28, y + BOX + 8])} L${spot([x - 2, y + BOX - 6])}`;
-  drawing.elements.push(`<path class="rf" marker-end="url(#to-rf)" d="${path}"/>`);
-  if (isNamed) drawing.text(rounded(x - 38), rounded(y + BOX + 20), "init", "rf");
+/** The name of a relation at its arrow. */
+function drawLabel(drawing, layout, route, name) {
+  const [x, y] = layout.placeLabel(route, name.length);
+  drawing.text(rounded(x - (name.length * LETTER) / 2), rounded(y + 4), name, "relation");
 }
 
 /** The heads of the arrows, by relation. */
@@ -178,34 +138,17 @@ function markers() {
   return `<defs>${Object.keys(NAMES).map(head).join("")}</defs>`;
 }
 
-/** How far each arrow is bent, so that those between the same two events stand apart, and none goes through a box of its thread. */
-function bendsOf(edges, layout) {
-  const met = new Map();
-  return edges.map((edge) => {
-    const { kind, source, target } = edge;
-    const pair = `${Math.min(source, target)} ${Math.max(source, target)}`;
-    const times = (met.get(pair) ?? -1) + 1;
-    met.set(pair, times);
-    const apart = Math.abs(threadOf(source) - threadOf(target));
-    if (apart) {
-      const bend = 12 + 34 * (apart - 1) + 26 * times;
-      return { edge, bend: source < target || times % 2 === 0 ? bend : -bend };
-    }
-    const rows = Math.abs(layout.places.get(source).row - layout.places.get(target).row);
-    const aside = kind === "po" && rows === 1 ? 0 : (layout.width + 24 * rows) * (rows === 1 ? 0.5 : 1) + 20 * times;
-    return { edge, bend: kind === "po" ? -aside : aside };
-  });
-}
-
 /** The events, thread by thread. */
-function drawEvents(drawing, layout, execution, inCycle) {
-  for (const [thread, column] of layout.columns.entries()) {
-    drawing.text(EDGE + 30 + thread * layout.apart, EDGE + LINE - 4, `P${thread}`, "title");
-    for (const event of column) {
+function drawEvents(drawing, layout, execution, texts, inCycle) {
+  for (const [thread, events] of layout.threads.entries()) {
+    drawing.text(...layout.titleAt(thread), `P${thread}`, "title");
+    for (const event of events) {
       const [x, y] = layout.corner(event);
       const kind = execution.instruction(event).kind === "store" ? "entry" : "box";
-      drawing.box(x, y, layout.width, BOX, inCycle.has(event) ? `${kind} marked` : kind);
-      drawing.text(x + 8, y + 17, `${layout.names.letters.get(event)}: ${layout.names.deed(event)}`);
+      drawing.elements.push(`<g data-at="${placeOf(event)}">`);
+      drawing.box(x, y, ...layout.box, inCycle.has(event) ? `${kind} marked` : kind);
+      drawing.text(x + 9, y + 18, texts.get(event));
+      drawing.elements.push("</g>");
     }
   }
 }
@@ -227,16 +170,21 @@ function linesBelow(names, cycle, broken, missing) {
 /** The picture of an execution; if x86-TSO forbids it, with the cycle of the axiom that it breaks, and otherwise with one of interleaving. */
 export function graphOf(execution, title, broken = null) {
   const [names, cycle] = [new Names(execution), broken?.cycle ?? execution.cycle() ?? []];
-  const [drawing, layout] = [new Drawing(), new Layout(execution, names)];
-  drawing.elements.push(`<style>${STYLE}</style>`, markers());
   const missing = broken ? [] : missingFences(execution, cycle);
-  const edges = drawnEdges(execution, broken ? broken.cycle : missing);
-  for (const { edge, bend } of bendsOf(edges, layout)) drawEdge(drawing, layout, edge, bend, cycle.some(isSameEdge(edge)));
-  const initial = [...execution.rf].filter(([, source]) => source === null);
-  for (const [read] of initial) drawInitial(drawing, layout, read, initial.length <= MOST_NAMED);
-  drawEvents(drawing, layout, execution, new Set(broken ? cycle.map((it) => it.source) : []));
+  const texts = new Map(execution.events().map((it) => [it, `${names.letters.get(it)}: ${names.deed(it)}`]));
+  const initial = [...execution.rf].filter(([, source]) => source === null).map(([read]) => read);
+  const layout = new GraphLayout(execution, texts, drawnEdges(execution, broken ? broken.cycle : missing), initial);
+  const drawing = new Drawing();
+  drawing.elements.push(`<style>${STYLE}</style>`, markers());
+  const isMarked = ({ edge }) => cycle.some(isSameEdge(edge));
+  for (const it of [...layout.routes, ...layout.starts]) drawEdge(drawing, layout, it, it.way !== "start" && isMarked(it));
+  drawEvents(drawing, layout, execution, texts, new Set(broken ? cycle.map((it) => it.source) : []));
+  if (initial.length <= MOST_NAMED) for (const it of layout.starts) drawLabel(drawing, layout, it, "init");
+  const named = layout.routes.filter((it) => it.edge.kind !== "po" || isMarked(it));
+  for (const it of named) drawLabel(drawing, layout, it, isInternal(it.edge) ? "rfi" : it.edge.kind);
   const lines = linesBelow(names, cycle, broken, missing);
-  for (const [at, line] of lines.entries()) drawing.text(EDGE, layout.height + LINE * at, line, "faint");
-  const width = Math.max(layout.wholeWidth, ...lines.map((it) => it.length * LETTER + 2 * EDGE));
-  return drawing.svg(width, layout.height + LINE * lines.length, title);
+  const [wide, high] = layout.size;
+  for (const [at, line] of lines.entries()) drawing.text(EDGE, high + LINE * (at + 1) - 5, line, "faint");
+  const width = Math.max(wide, ...lines.map((it) => it.length * LETTER + 2 * EDGE));
+  return drawing.svg(width, high + LINE * lines.length + EDGE, title);
 }

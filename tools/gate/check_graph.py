@@ -11,6 +11,7 @@
   of the relations that the axiom is about; and no state that the machine has is called forbidden.
 - Each row of docs/FAMILIES.md: the execution that its test asks about has the row's cycle, and where x86-TSO forbids it that is a cycle
   of global happens-before.
+- In the picture of each of these executions no arrow crosses a box, and no label lies over a box, over another label or out of it.
 - What the tool prints and refuses.
 
 Where the program is built, it lists the states, else tools/plain.py. tools/check_documents.py calls this.
@@ -30,10 +31,12 @@ import executions
 import graph
 import plain
 import random_tests
+from shared.graph_layout import on_curve
 
 # The most candidate executions of a test whose outcomes are compared, and the number of random tests.
 MOST = 1500
 RANDOM = 150
+SVG = {"svg": "http://www.w3.org/2000/svg"}
 SB = f"{HOME}/examples/SB-x86.litmus"
 SOURCE = f"{HOME}/examples/SB.litmus"
 REFUSED = (
@@ -84,11 +87,43 @@ def check_schedules(path):
         found.append((f"{name}, {schedule}: the axioms", None, execution.broken()))
         found.append((f"{name}, {schedule}: what is read", read, {it: word for it, word in execution.read.items() if it in execution.rf}))
         found.append((f"{name}, {schedule}: its outcome", run.outcome(), execution.outcome()))
-        xml.etree.ElementTree.fromstring(graph.picture_of(execution, name))
+        found.append((f"{name}, {schedule}: what lies over something in its picture", [], picture_faults(graph.picture_of(execution, name))))
         words = graph.text_of(execution)
         is_weak = any(it.startswith("No run of interleaving") for it in words)
         found.append((f"{name}, {schedule}: a cycle is told where interleaving has no such run", bool(execution.cycle()), is_weak))
     return found
+
+
+def picture_faults(picture):
+    """What is covered in a picture of an execution: arrows that cross boxes, labels that lie over boxes or over each other, or out of it."""
+    root = xml.etree.ElementTree.fromstring(picture)
+    number = lambda it, key: float(it.get(key))
+    boxes = [tuple(number(it, key) for key in ("x", "y", "width", "height")) for it in root.iterfind("./svg:g/svg:rect", SVG)]
+    labels = [it for it in root.iterfind("./svg:text", SVG) if it.get("class") == "relation"]
+    at = [(number(it, "x"), number(it, "y") - 12, 7.9 * len(it.text), 14) for it in labels]
+    overlap = lambda a, b: a[0] < b[0] + b[2] and b[0] < a[0] + a[2] and a[1] < b[1] + b[3] and b[1] < a[1] + a[3]
+    faults = [f"{it.text} over a box" for it, place in zip(labels, at) if any(overlap(place, box) for box in boxes)]
+    faults += [f"{one.text} over {other.text}" for n, one in enumerate(labels) for m, other in enumerate(labels[:n]) if overlap(at[n], at[m])]
+    faults += [f"{it.text} out of the picture" for it, place in zip(labels, at) if place[0] < 0 or place[0] + place[2] > number(root, "width")]
+    for path in root.iterfind("./svg:path", SVG):
+        inside = [box for point in points_of(path.get("d")) for box in boxes if is_inside(point, box)]
+        faults += [f"an arrow {path.get('class')} over a box"] * bool(inside)
+    return faults
+
+
+def is_inside(point, box):
+    """Whether a point is well inside a box."""
+    (x, y), (left, top, width, height) = point, box
+    return left + 1 < x < left + width - 1 and top + 1 < y < top + height - 1
+
+
+def points_of(path):
+    """Points along the curves of a path."""
+    numbers = [float(it) for it in re.findall(r"-?[0-9.]+", path)]
+    ends = list(zip(numbers[::2], numbers[1::2]))
+    for at in range(0, len(ends) - 1, 3):
+        for part in range(21):
+            yield on_curve(ends[at : at + 4], part / 20)
 
 
 def compare_outcomes(name, test):

@@ -1,0 +1,257 @@
+// Where the parts of an execution's picture are: of each event its box, of each edge its way and its label. No edge crosses a box: between
+// neighbouring threads it goes through the gutter, past a thread in a lane behind a row of boxes, and within a thread around its side.
+// tools/shared/graph_layout.py does the same, number by number.
+//
+// Threads are columns; if that would be much wider they are rows, and the picture is turned. Places are found along two axes, `across` the
+// threads and `along` program order, and turned at last.
+
+import { threadOf } from "./executions.js";
+import { EDGE, LETTER, LINE } from "./pictures.js";
+
+const BOX = 28; // the height of an event's box
+const LANE = 11; // from one lane to the next, where there is room
+const STUB = 26; // the length of an arrow from the initial word
+const [OUTER, MORE] = [16, 12]; // at the edge, and for each end more
+const UPRIGHT = { side: 50, gutter: 84, gap: 38 }; // at a side with ends, between threads, and between events
+const TURNED = { side: 40, gutter: 40, gap: 46 };
+const FREE_ENDS = 4; // so many ends find room in a gutter
+const MOST_ENDS = 8;
+const LABEL = 15; // the height of a label
+const NARROWER = 0.85; // a picture is turned if it is so much narrower then
+// Where along its way the label of an edge may be, and how far above or below it: the first place that is free.
+const PLACES = [0.24, 0.34, 0.16, 0.46, 0.58, 0.7, 0.8, 0.88, 0.1, 0.94, 0.05];
+const OFFSETS = [0, -12, 12];
+
+/** A point of a cubic curve. */
+function onCurve([a, b, c, d], part) {
+  const rest = 1 - part;
+  const at = (axis) =>
+    rest * rest * rest * a[axis] + 3 * rest * rest * part * b[axis] + 3 * rest * part * part * c[axis] + part * part * part * d[axis];
+  return [at(0), at(1)];
+}
+
+export class GraphLayout {
+  /** `texts` are those of the events, `edges` what is drawn, `initial` the reads of the initial word. */
+  constructor(execution, texts, edges, initial) {
+    const events = execution.events();
+    this.threads = execution.paths.map((_, thread) => events.filter((it) => threadOf(it) === thread));
+    this.rows = new Map(this.threads.flatMap((of) => of.map((it, row) => [it, row])));
+    this.most = Math.max(...this.threads.map((it) => it.length), 1);
+    this.box = [Math.max(...events.map((it) => texts.get(it).length), 4) * LETTER + 18, BOX];
+    this.ends = new Map();
+    this.lanes = new Map();
+    this.pairs = new Map();
+    this.routes = edges.map((edge, number) => this.routeOf(edge, number));
+    this.starts = initial.map((event, number) => this.startOf(event, edges.length + number));
+    this.isTurned = false;
+    this.place();
+    const upright = this.size[0];
+    this.isTurned = this.threads.length > 2;
+    if (this.isTurned) this.place();
+    if (this.isTurned && this.size[0] > NARROWER * upright) {
+      this.isTurned = false;
+      this.place();
+    }
+    this.sortEnds();
+    this.taken = [...events.map((it) => [...this.corner(it), ...this.box]), ...this.threads.map((_, thread) => this.titleBox(thread))];
+  }
+
+  // Which way an edge goes.
+
+  routeOf(edge, number) {
+    const { kind, source, target } = edge;
+    const [from, to] = [threadOf(source), threadOf(target)];
+    const rows = this.rows.get(target) - this.rows.get(source);
+    const route = { edge, number, way: "across", gap: null };
+    if (from === to) {
+      const isNext = kind === "po" && rows === 1;
+      Object.assign(route, { way: isNext ? "next" : "around", rows: Math.abs(rows) });
+      route.beside = this.numberOfPair(source, target);
+      if (isNext) return route;
+      const side = kind === "po" ? 0 : 1;
+      return this.join(route, side, side);
+    }
+    if (Math.abs(from - to) > 1) {
+      route.way = "lane";
+      route.gap = Math.min(this.rows.get(source), this.rows.get(target)) + 1;
+      this.lanes.set(route.gap, [...(this.lanes.get(route.gap) ?? []), route]);
+    }
+    return from < to ? this.join(route, 1, 0) : this.join(route, 0, 1);
+  }
+
+  /** How many edges go around a side between the same two events already. */
+  numberOfPair(...events) {
+    const key = events.sort((a, b) => a - b).join(" ");
+    this.pairs.set(key, (this.pairs.get(key) ?? -1) + 1);
+    return this.pairs.get(key);
+  }
+
+  /** Notes at which sides of its events a route ends: 0 is that of the thread before, 1 that of the thread after. */
+  join(route, sourceSide, targetSide) {
+    Object.assign(route, { sides: [sourceSide, targetSide], ports: [0, 0] });
+    this.addEnd(route.edge.source, sourceSide, { route, end: 0 });
+    this.addEnd(route.edge.target, targetSide, { route, end: 1 });
+    return route;
+  }
+
+  addEnd(event, side, end) {
+    const key = `${event} ${side}`;
+    this.ends.set(key, [...(this.ends.get(key) ?? []), end]);
+  }
+
+  /** The arrow from the initial word to a read. */
+  startOf(event, number) {
+    const route = { edge: { source: event, target: event }, number, way: "start", ports: [0, 0] };
+    this.addEnd(event, 0, { route, end: 1 });
+    return route;
+  }
+
+  // Where the threads are.
+
+  place() {
+    const [wide, deep] = this.isTurned ? [this.box[1], this.box[0]] : this.box;
+    this.room = this.isTurned ? TURNED : UPRIGHT;
+    Object.assign(this, { wide, deep, pitch: deep + this.room.gap });
+    this.begin = this.isTurned ? EDGE + 3 * LETTER + OUTER : EDGE + LINE + 12;
+    const counts = this.threads.map(() => 0).concat(0);
+    for (const [key, ends] of this.ends) {
+      const [event, side] = key.split(" ").map(Number);
+      counts[threadOf(event) + side] += ends.length;
+    }
+    this.lefts = [];
+    let across = counts[0] ? this.room.side : OUTER;
+    for (const thread of this.threads.keys()) {
+      this.lefts.push(across);
+      const number = counts[thread + 1];
+      const isLast = thread === this.threads.length - 1;
+      const gutter = this.room.gutter + MORE * Math.max(0, Math.min(number, MOST_ENDS) - FREE_ENDS);
+      across += wide + (isLast ? (number ? this.room.side : OUTER) : gutter);
+    }
+    const behind = (this.lanes.get(this.most)?.length ?? 0) * LANE;
+    const along = this.begin + (this.most - 1) * this.pitch + deep + (behind ? behind + 14 : 16);
+    this.size = this.turned([across, along]);
+  }
+
+  turned([across, along]) {
+    return this.isTurned ? [along, across] : [across, along];
+  }
+
+  /** Where the box of an event begins, along the two axes. */
+  spot(event) {
+    return [this.lefts[threadOf(event)], this.begin + this.rows.get(event) * this.pitch];
+  }
+
+  corner(event) {
+    return this.turned(this.spot(event));
+  }
+
+  /** Where the name of a thread begins, at its base. */
+  titleAt(thread) {
+    return this.isTurned ? [EDGE, this.lefts[thread] + 18] : [this.lefts[thread], EDGE + LINE - 4];
+  }
+
+  titleBox(thread) {
+    const [x, y] = this.titleAt(thread);
+    return [x, y - LABEL, 3 * LETTER, LABEL + 4];
+  }
+
+  laneOf(route) {
+    const all = this.lanes.get(route.gap);
+    const middle = this.begin + route.gap * this.pitch - (this.pitch - this.deep) / 2;
+    return middle + (all.indexOf(route) - (all.length - 1) / 2) * Math.min(LANE, (this.room.gap - 10) / all.length);
+  }
+
+  // Where on the side of its box an edge ends.
+
+  /** Puts the ends at each side of a box apart, in the order of where they come from. */
+  sortEnds() {
+    const middle = (event) => this.spot(event)[1] + this.deep / 2;
+    const key = ({ route, end }) => {
+      if (route.way === "lane") return this.laneOf(route);
+      if (route.way === "start") return middle(route.edge.source);
+      return middle(end ? route.edge.source : route.edge.target);
+    };
+    for (const [name, ends] of this.ends) {
+      const first = this.spot(Number(name.split(" ")[0]))[1];
+      const sorted = [...ends].sort((a, b) => key(a) - key(b) || a.route.number - b.route.number);
+      for (const [at, { route, end }] of sorted.entries()) route.ports[end] = first + (this.deep * (at + 1)) / (sorted.length + 1);
+    }
+  }
+
+  endsOf({ edge, sides, ports }) {
+    const at = (event, side) => this.lefts[threadOf(event)] + (side ? this.wide + 2 : -2);
+    return [[at(edge.source, sides[0]), ports[0]], [at(edge.target, sides[1]), ports[1]]];
+  }
+
+  // The ways themselves: cubic curves, with straight lines between them.
+
+  curvesOf(route) {
+    return this.waysOf(route).map((curve) => curve.map((point) => this.turned(point)));
+  }
+
+  waysOf(route) {
+    const { edge, way } = route;
+    const [across, along] = this.spot(edge.source);
+    if (way === "next") {
+      const middle = across + this.wide / 2;
+      return [line([middle, along + this.deep + 2], [middle, this.spot(edge.target)[1] - 2])];
+    }
+    if (way === "start") return [line([across - STUB, route.ports[1]], [across - 2, route.ports[1]])];
+    const [begin, end] = this.endsOf(route);
+    if (way === "around") return [aroundSide(begin, end, route, this.room.side + 10)];
+    return way === "across" ? [swing(begin, end)] : this.alongLane(begin, end, this.laneOf(route));
+  }
+
+  alongLane(begin, end, lane) {
+    const reach = 0.8 * this.room.gutter * (begin[0] < end[0] ? 1 : -1);
+    const [enter, leave] = [[begin[0] + reach, lane], [end[0] - reach, lane]];
+    return [swing(begin, enter), line(enter, leave), swing(leave, end)];
+  }
+
+  // The labels.
+
+  /** Where the middle of a label of so many letters is, near an edge: inside the picture, over no box and no other label. */
+  placeLabel(route, letters) {
+    const width = letters * LETTER + 4;
+    const spots = this.spotsOf(route, width);
+    const isInside = ([x]) => x - width / 2 >= 0 && x + width / 2 <= this.size[0];
+    const isFree = ([x, y]) => !this.taken.some((it) => overlap([x - width / 2, y - LABEL / 2, width, LABEL], it));
+    const found = spots.find((it) => isInside(it) && isFree(it)) ?? spots[0];
+    this.taken.push([found[0] - width / 2, found[1] - LABEL / 2, width, LABEL]);
+    return found;
+  }
+
+  /** Where a label may be: at a part of its edge, or beside a straight arrow. */
+  spotsOf(route, width) {
+    const curves = this.curvesOf(route);
+    const [[x, y]] = curves[0];
+    if (route.way === "start") {
+      if (this.isTurned) return [[x + width / 2 + 4, y + 6], [x - width / 2 - 4, y + 6], [x, y - 8]];
+      return [[x + 4, y - 10], [x + 4, y + 11], [x - width / 2, y], [x - 8, y - 10], [x - 8, y + 11]];
+    }
+    const beside = route.way !== "next" ? [0, 0] : this.isTurned ? [0, -10] : [width / 2 + 4, 0];
+    const points = curves.flatMap((curve) => PLACES.map((part) => onCurve(curve, part)));
+    return OFFSETS.flatMap((offset) => points.map(([left, top]) => [left + beside[0], top + beside[1] + offset]));
+  }
+}
+
+function line(begin, end) {
+  const third = (part) => [begin[0] + (end[0] - begin[0]) * part, begin[1] + (end[1] - begin[1]) * part];
+  return [begin, third(1 / 3), third(2 / 3), end];
+}
+
+/** A curve that leaves and arrives across the threads. */
+function swing(begin, end) {
+  const half = (end[0] - begin[0]) / 2;
+  return [begin, [begin[0] + half, begin[1]], [end[0] - half, end[1]], end];
+}
+
+/** A curve out of a side and back to it, whose points are at most so far out. */
+function aroundSide(begin, end, { sides, rows, beside }, most) {
+  const out = Math.min(20 + 8 * rows + 12 * beside, most) * (sides[0] ? 1 : -1);
+  return [begin, [begin[0] + out, begin[1]], [end[0] + out, end[1]], end];
+}
+
+function overlap([x, y, width, height], [left, top, wide, high]) {
+  return x < left + wide && left < x + width && y < top + high && top < y + height;
+}
