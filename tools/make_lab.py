@@ -37,7 +37,7 @@ def students(lab, modules):
     texts = {"sheet.html": sheets.sheet(lab, tests, bool(modules)), "card.html": sheets.document("CARD"), "index.html": sheets.index(bool(modules))}
     texts.update((f"tests/{name}.litmus", text) for name, text in tests.items())
     if modules:
-        texts.update((f"site/{name}", text) for name, text in make_site.folder(modules, make_site.WEB).items())
+        texts.update((f"site/{name}", text) for name, text in make_site.folder(modules, make_site.WEB, {}).items())
     return {name: text.encode() for name, text in texts.items()}
 
 

@@ -4,7 +4,7 @@
     python3 tools/make_site.py FOLDER [--module FILE]...
     python3 tools/make_site.py FILE.html --one-file [--module FILE]...
 
-The page is that of web/, over the proved workbench as a WebAssembly module: those that tools/build_wasm.py has made, or each FILE. Of
+The page is that of web/, with the tutorial, the lab, the terms and the syntax beside it where the site is a folder, over the proved workbench as a WebAssembly module: those that tools/build_wasm.py has made, or each FILE. Of
 several a browser uses the first that it takes. There is no server: the module runs in a worker of the page. All examples are in it.
 Nothing is loaded from elsewhere.
 
@@ -21,6 +21,7 @@ import re
 import sys
 
 sys.dont_write_bytecode = True
+from lab import sheets
 from page import web_files
 from shared import start
 
@@ -28,7 +29,12 @@ WEB = f"{web_files.HOME}/web"
 IMPORT = re.compile(r'^import (?:\* as (\w+)|\{([^}]*)\}) from "\./(\w+)\.js";\n', re.M)
 # Comments on lines of their own, which the scripts are made without.
 COMMENT = re.compile(r"^[ \t]*(?://[^\n]*|/\*\*.*?\*/)\n", re.M | re.S)
+# What a site is made without, so that less has to be loaded: blanks at the start of lines, and comments of styles.
+INDENT = re.compile(r"^[ \t]+", re.M)
+STYLE_COMMENT = re.compile(r"/\*.*?\*/\n?", re.S)
 EXPORT = re.compile(r"^export ((?:async )?(?:function\*?|class|const) (\w+))", re.M)
+# The documents that a site of files has beside the page, by their names there.
+DOCUMENTS = {"card.html": "CARD", "lab.html": "LAB", "terms.html": "GLOSSARY", "tutorial.html": "TUTORIAL"}
 # What a page of files may not do: send anything by a network.
 POLICY = "connect-src 'none'; object-src 'none'; frame-src 'none'; base-uri 'none'; form-action 'none'"
 
@@ -49,7 +55,7 @@ def bundle(entry, web):
     """One classic script that does what a module and all that it imports do."""
     done = {}
     add_module(entry, web, done, ())
-    text = '"use strict";\n' + COMMENT.sub("", "".join(done.values()))
+    text = '"use strict";\n' + INDENT.sub("", COMMENT.sub("", "".join(done.values())))
     if re.search(r"</script|<!--|^\s*(?:import|export)\b", text, re.M | re.I):
         raise NoSite(f"web/{entry}.js, or what it imports, has what no script in place may have, or an import of another form")
     return text
@@ -88,13 +94,14 @@ def packed(content):
     return base64.b64encode(gzip.compress(content, mtime=0)).decode()
 
 
-def scripts(modules, is_kept, web):
+def scripts(modules, is_kept, web, documents=()):
     """The scripts of the page, in their order: what `site` is, which web/supplies.js takes, the page's own code, and the modules."""
     tables = {"examples": web_files.families(), "sentences": web_files.sentences(), "worker": bundle("worker", web)}
     names = [f"workbench{number}.js" for number, _ in enumerate(modules, 1)]
     site = {
         "tables": packed(json.dumps(tables).encode()),
         "isKept": is_kept,
+        "documents": sorted(documents),
         "modules": [],
         "numberOfModules": len(modules),
         # In a folder each module is a file that the page asks for itself; in one file they are after the page.
@@ -117,11 +124,16 @@ def page(web):
     return front + policy, back.replace(script, "", 1)
 
 
+def styles(web):
+    """The style sheet, without what only its writers need."""
+    return INDENT.sub("", STYLE_COMMENT.sub("", read("style.css", web)))
+
+
 def one_file(modules, web):
     """The site as one file."""
     front, back = page(web)
     icon = base64.b64encode(read("icon.svg", web).encode()).decode()
-    style = read("style.css", web)
+    style = styles(web)
     if "</style" in style:
         raise NoSite("web/style.css has what no style in place may have")
     head = f'<link rel="icon" href="data:image/svg+xml;base64,{icon}">\n<style>\n{style}</style>\n'
@@ -130,11 +142,12 @@ def one_file(modules, web):
     return front + head + body + inner + end + rest
 
 
-def folder(modules, web):
-    """The site as files: of each name its text."""
+def folder(modules, web, documents=DOCUMENTS):
+    """The site as files: of each name its text; with some documents."""
     front, back = page(web)
-    files = {name: read(name, web) for name in ("icon.svg", "style.css")}
-    files.update(scripts(modules, True, web))
+    files = {"icon.svg": read("icon.svg", web), "style.css": styles(web)}
+    files.update(scripts(modules, True, web, documents))
+    files.update({name: sheets.document(of) for name, of in documents.items()})
     head = '<link rel="icon" href="icon.svg">\n<link rel="stylesheet" href="style.css">\n'
     head += "".join(f'<script defer src="{name}"></script>\n' for name in ("tables.js", "page.js"))
     files["index.html"] = front + head + back

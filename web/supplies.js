@@ -6,6 +6,9 @@ const site = globalThis.site ?? null;
 /** Whether a server stands behind the page, which can be asked too. */
 export const hasServer = site === null;
 
+/** The documents that a made site carries, by the names of their files. */
+export const documents = site?.documents ?? [];
+
 const tables = site && unpacked(site.tables).then((bytes) => JSON.parse(new TextDecoder().decode(bytes)));
 
 /** The bytes that are packed: gzip in base64. */

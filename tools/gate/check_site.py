@@ -119,7 +119,8 @@ def check_files():
         make_site.make(f"{room}/site", [SMALLEST])
         make_site.make(f"{room}/one.html", [SMALLEST], True)
         names = sorted(os.listdir(f"{room}/site"))
-        wanted = ["icon.svg", "index.html", "offline.js", "page.js", "style.css", "tables.js", "workbench1.js"]
+        page = ["icon.svg", "index.html", "offline.js", "page.js", "style.css", "tables.js", "workbench1.js"]
+        wanted = sorted([*page, *make_site.DOCUMENTS])
         yield "the files of a site", wanted, names
         for name in ("one.html", *(f"site/{it}" for it in names)):
             with open(f"{room}/{name}", encoding="utf-8") as it:

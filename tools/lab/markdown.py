@@ -1,4 +1,4 @@
-"""The Markdown of docs/LAB.md and docs/SOLUTIONS.md as HTML: headings, paragraphs, items, tables, and fenced text.
+"""The Markdown of documents as HTML: headings, paragraphs, items, tables, pictures, and text that is fenced or indented.
 
 Of a link the words alone are taken, but for links to what is given out too. An item is a paragraph with its number: text in a fence may follow it.
 """
@@ -8,6 +8,8 @@ from typing import Callable, Dict, Iterator, List, Tuple
 
 Block = Tuple[str, List[str]]
 FENCE = "```"
+INDENTED = "    "
+IMAGE = re.compile(r"!\[([^]]*)\]\((pictures/[\w-]+\.svg)\)")
 ITEM = re.compile(r"(\d+\.|-) ")
 
 
@@ -25,6 +27,8 @@ def kind_of(line: str) -> str:
         return "heading"
     if line.startswith("|"):
         return "table"
+    if line.startswith(INDENTED):
+        return "code"
     return "item" if ITEM.match(line) else "paragraph"
 
 
@@ -74,8 +78,9 @@ def html_of_block(kind: str, lines: List[str], links: Dict[str, str] = {}) -> st
     """A block as HTML, with some of its links."""
     if kind == "table":
         return table(lines)
-    if kind == "fence":
-        return "<pre>" + escape("\n".join(lines), quote=False) + "</pre>\n"
+    if kind in ("fence", "code"):
+        shown = [it[len(INDENTED) :] for it in lines] if kind == "code" else lines
+        return "<pre>" + escape("\n".join(shown), quote=False) + "</pre>\n"
     words = " ".join(it.strip() for it in lines)
     if kind == "heading":
         level = len(words) - len(words.lstrip("#"))
@@ -83,6 +88,8 @@ def html_of_block(kind: str, lines: List[str], links: Dict[str, str] = {}) -> st
     if kind == "item":
         number, _, rest = words.partition(" ")
         return f'<p class="item"><b>{number.replace("-", "•")}</b> {inline(rest, links)}</p>\n'
+    if (image := IMAGE.fullmatch(words)):
+        return f'<figure data-picture="{image[2]}"><figcaption>{inline(image[1])}</figcaption></figure>\n'
     return f"<p>{inline(words, links)}</p>\n"
 
 

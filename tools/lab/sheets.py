@@ -43,6 +43,9 @@ WHY = "<th>why</th>"
 TESTS = re.compile(r"Tests( by hand)?: (.*)")
 # What a sheet has links to besides tests.
 GIVEN_OUT = {"CARD.md": "card.html"}
+# Where a picture of docs/ is shown, and how many letters a document has at most that is a card.
+PICTURE = re.compile(r'<figure data-picture="([^"]*)">')
+MOST_OF_CARD = 10000
 # What begins on a new page of paper: what is given out when the first task is done, and the hints.
 ON_NEW_PAGES = ("### 2. ", "### Hints")
 
@@ -113,9 +116,10 @@ def timetable(lab: str) -> str:
 
 
 def document(name: str) -> str:
-    """A document of one page, as it is."""
+    """A document of docs/ as a page: one that fits a sheet of paper as a card."""
     heading, _, text = read(f"docs/{name}.md").partition("\n")
-    return page(heading.lstrip("# "), markdown.html_of(text), "card")
+    shown = PICTURE.sub(lambda it: f"<figure>\n{read(f'docs/{it[1]}')}", markdown.html_of(text))
+    return page(heading.lstrip("# "), shown, "card" if len(text) < MOST_OF_CARD else "reading")
 
 
 def solutions() -> str:
