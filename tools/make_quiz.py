@@ -3,7 +3,7 @@
 
     python3 tools/make_quiz.py OUT.html [--tests N] [--seed S]
 
-Of each of N tests (10) it asks whether it can end so when threads take turns on one memory, and whether on x86-TSO. At the end it shows
+Of each of N tests (10) it asks whether it can end this way by interleaving, when threads take turns on one memory, and whether on x86-TSO. At the end it shows
 what was right, and a code to hand in; tools/read_codes.py reads the codes. The seed has up to eight small letters and digits; the same
 seed makes the same bytes.
 

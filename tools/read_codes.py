@@ -6,7 +6,7 @@
 
 The first word is the file with the quiz, or its seed. FILE, or standard input, has a code in each line. Capital and small letters are the
 same, blanks and hyphens between them are skipped, and an O is read as 0, an I or L as 1. The table has of each code its line, the student,
-how many answers are right, and which are wrong: `3 turns`, `5 x86`, or `7 both`.
+how many answers are right, and which are wrong: `3 interleaving`, `5 x86`, or `7 both`.
 
 A bad code is told as `FILE:LINE:COLUMN: cause`, in which FILE is `-` for standard input, and the status is 1; the others are read. A
 student who has handed in before is noted. Python 3.8 is enough, on any system.
@@ -23,7 +23,7 @@ from shapes.edges import NoCycle
 from shared import command, start
 
 DATA = re.compile(r"^const quiz = (\{.*\});$", re.M)
-WRONG = ("", "turns", "x86", "both")
+WRONG = ("", "interleaving", "x86", "both")
 
 
 class Quizzes:

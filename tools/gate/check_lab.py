@@ -59,7 +59,7 @@ SAID = (
     "A run ends when all threads are at their ends and all slips are handed over.",
     "On the page a row of slips is a store buffer, and a slip is its entry.",
     "Before anything is shown the page asks what you expect",
-    "Where the page says by interleaving, it means by turns too.",
+    "lists what is possible by interleaving.",
     "The last column is for task 3.",
     "P0 writes a message, x , and raises a flag, y",
     "At first all lines are in I.",

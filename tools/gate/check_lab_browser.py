@@ -110,13 +110,14 @@ class Student(User):
         self.wait(lambda: not self.run(stale), "an answer")
 
     def states(self, guess=None):
-        """In how many states the proposition is true, and of how many, once the guess is made."""
+        """In how many states the condition holds, and of how many, once the guess is made."""
         if guess:
             self.click(f"#{guess}")
         self.settle()
         self.click("#tab-states")
-        told = self.soon("#outcome .verdict strong", "final state")
-        return [int(it) for it in re.search(r"(\d+) of (\d+) final", told).groups()]
+        told = self.soon("#outcome .asked", "final state")
+        holding, number = re.search(r"holds in (\d+|all|none)(?: of)? (\d+) final", told).groups()
+        return [int({"all": number, "none": "0"}.get(holding, holding)), int(number)]
 
     def begin(self, guess):
         """Begins by hand, with a guess."""
@@ -241,7 +242,7 @@ def own_store(student, answers):
     student.open_test(4, "D3")
     yield "4.3", answers.true_of["n7-x86"], student.states("yes")
     student.type_behind(4, " MFENCE | MFENCE | ;")
-    yield "4.3: by turns, with fences", answers.true_of["n7"], student.states()
+    yield "4.3: by interleaving, with fences", answers.true_of["n7"], student.states()
 
 
 def repair_shop(student, answers):
@@ -277,7 +278,7 @@ def repair_shop(student, answers):
     student.open_test(5, "E4")
     yield "5.4, E4: what is asked", True, "by interleaving, in which the threads take turns," in student.text("#outcome .predict")
     yield "5.4, E4", answers.true_of["TestThenSet"], student.states("yes")
-    yield "5.4, E4: by turns", True, "Interleaving allows it: some run ends so." in student.text("#outcome .asked")
+    yield "5.4, E4: by interleaving", True, "There is a run by interleaving" in student.text("#outcome .verdict")
 
 
 def question_of(text):

@@ -5,7 +5,7 @@
 
 - The same seed gives the same bytes, by the program and by tools/plain.py. The page names no other site and loads nothing.
 - Each verdict is the program's: the x86 test's report, and that of its source form, which has the test's accesses and no fence. That the
-  end is possible by turns is asked anew of tools/plain.py, which interleaves the x86 test itself.
+  end is possible by interleaving is asked anew of tools/plain.py, which interleaves the x86 test itself.
 - No answer stands in the page in plain sight: what hides them has no symbol for each answer.
 - A code that the page's own JavaScript makes, in node where it is there, and in Chromium where it is there with its driver and
   python3-selenium, is that of tools/lab/codes.py, and the command reads it with the right score.
@@ -57,13 +57,13 @@ def check_verdicts(seed):
     tests = quiz.tests_of(TESTS, seed, quiz.report_by_program)
     yield f"the tests of {seed}, by the program and by tools/plain.py", tests, quiz.tests_of(TESTS, seed, quiz.report_by_plain)
     yield f"the tests of {seed} differ", TESTS, len({it.text.partition("\n")[2] for it in tests})
-    yield f"how many ends of {seed} are possible by turns", TESTS // 3, sum(it.by_turns for it in tests)
-    yield f"what is possible by turns is on x86, {seed}", [], [it.text for it in tests if it.by_turns and not it.on_x86]
+    yield f"how many ends of {seed} are possible by interleaving", TESTS // 3, sum(it.interleaved for it in tests)
+    yield f"what is possible by interleaving is on x86, {seed}", [], [it.text for it in tests if it.interleaved and not it.on_x86]
     for at, it in enumerate(tests, 1):
         source = quiz.source_form(it.text)
         by_program = [re.search(r"^Positive: (\d+)", quiz.report_by_program(text), re.M)[1] != "0" for text in (source, it.text)]
-        yield f"the verdicts of test {at} of {seed}", [it.by_turns, it.on_x86], by_program
-        words = ["allowed" if verdict else "forbidden" for verdict in (it.by_turns, it.on_x86)]
+        yield f"the verdicts of test {at} of {seed}", [it.interleaved, it.on_x86], by_program
+        words = ["allowed" if verdict else "forbidden" for verdict in (it.interleaved, it.on_x86)]
         yield f"the verdicts of test {at} of {seed}, by the x86 test alone", words, list(plain.words_on(plain.read_test(it.text)))
         yield f"the source form of test {at} of {seed}", accesses(it.text), accesses(source)
 
@@ -87,12 +87,12 @@ def check_page(page, tests):
 def check_reasons(data, tests):
     """Why each test can end so or can't: a run where it can, which ends so, and a cycle where it can't; none is in plain sight."""
     for at, (it, found) in enumerate(zip(tests, quiz.reasons_in(data)), 1):
-        kinds = ["run" if verdict else "cycle" for verdict in (it.by_turns, it.on_x86)]
+        kinds = ["run" if verdict else "cycle" for verdict in (it.interleaved, it.on_x86)]
         yield f"the reasons on test {at}", kinds, [reason["kind"] for reason in found]
         yield f"the reasons on test {at} have events", True, all(len(reason.get("steps") or reason["events"]) > 1 for reason in found)
         test = plain.read_test(it.text)
         ways = [reasons.asked_finals(test, plain.x86_start, moves) for moves in (plain.interleaved_moves, plain.x86_moves)]
-        yield f"runs by tools/plain.py that end as test {at} asks", [it.by_turns, it.on_x86], [bool(way) for way in ways]
+        yield f"runs by tools/plain.py that end as test {at} asks", [it.interleaved, it.on_x86], [bool(way) for way in ways]
     words = ("store buffer", "steps", "events", "memory")
     yield "no reason is in plain sight", [], [word for word in words if word in json.dumps(data)]
 
@@ -103,7 +103,7 @@ def answered(rights, wrong):
 
 
 WRONG = {2: 1, 5: 2, 9: 3}
-ROW = [STUDENT, f"{2 * TESTS - 4}/{2 * TESTS}", "2 turns, 5 x86, 9 both"]
+ROW = [STUDENT, f"{2 * TESTS - 4}/{2 * TESTS}", "2 interleaving, 5 x86, 9 both"]
 
 
 def table(text, *words):
@@ -208,11 +208,11 @@ def check_browser(page, room):
         yield "the page fits a phone", [360, 360], user.run("return [innerWidth, document.documentElement.scrollWidth]")
         user.click("#done")
         told = user.text("#fault"), user.focused().get_attribute("name")
-        yield "what is missing is told", ('Test 1 has no answer to "Can it end so by turns?"', "turns1"), told
+        yield "what is missing is told", ('Test 1 has no answer to "Can it end this way by interleaving?"', "interleaving1"), told
         seen = "const { top, bottom } = document.getElementById('fault').getBoundingClientRect(); return top >= 0 && bottom <= innerHeight"
         yield "what is missing is told where it is seen", True, user.run(seen)
         for at, answer in enumerate(answered(quiz.answers_in(data_in(page)), WRONG), 1):
-            for kind, bit in (("turns", 1), ("x86", 2)):
+            for kind, bit in (("interleaving", 1), ("x86", 2)):
                 user.click(f"input[name={kind}{at}][value={'yes' if answer & bit else 'no'}]")
         user.click("#done")
         yield "a student is asked for", (True, "student"), ("Your name or number" in user.text("#fault"), user.focused().get_attribute("id"))

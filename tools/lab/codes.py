@@ -26,7 +26,7 @@ class BadCode(Exception):
 
 
 class HandedIn(NamedTuple):
-    """What a code says: the mark of the tests, the seed, the student, and of each test the answers: 1 for turns, and 2 more for x86."""
+    """What a code says: the mark of the tests, the seed, the student, and of each test the answers: 1 for interleaving, and 2 more for x86."""
 
     mark: int
     seed: str

@@ -1,7 +1,7 @@
 """The quiz of tools/make_quiz.py: its tests, and what interleaving and x86-TSO say of each.
 
 The tests are those of tools/shapes/quiz.py, which interleaving forbids all: in a third of them another word is asked about, so that the end
-is possible by turns. Verdicts are read off reports: that of the x86 test, and that of its source form, which is interleaved: the same loads
+is possible by interleaving. Verdicts are read off reports: that of the x86 test, and that of its source form, which is interleaved: the same loads
 and stores, without fences.
 """
 import base64
@@ -29,15 +29,15 @@ class NoQuiz(Exception):
 
 
 class Asked(NamedTuple):
-    """A test of the quiz: its text, and whether it can end so by turns and on x86."""
+    """A test of the quiz: its text, and whether it can end this way by interleaving and on x86."""
 
     text: str
-    by_turns: bool
+    interleaved: bool
     on_x86: bool
 
     def answer(self) -> int:
         """The right answers, as a code has them."""
-        return self.by_turns + 2 * self.on_x86
+        return self.interleaved + 2 * self.on_x86
 
 
 def report_by_program(text: str) -> str:
@@ -106,11 +106,11 @@ def asked(text: str, report: Report) -> Asked:
     return Asked(text, is_possible(source_form(text), report), is_possible(text, report))
 
 
-def possible_by_turns(text: str, random: Random, report: Report) -> Asked:
-    """The test with another end, which is possible by turns; as it is, where there is none."""
+def possible_by_interleaving(text: str, random: Random, report: Report) -> Asked:
+    """The test with another end, which is possible by interleaving; as it is, where there is none."""
     others = other_ends(text)
     random.shuffle(others)
-    return next((it for it in (asked(other, report) for other in others) if it.by_turns), None) or asked(text, report)
+    return next((it for it in (asked(other, report) for other in others) if it.interleaved), None) or asked(text, report)
 
 
 def tests_of(count: int, seed: str, report: Report) -> List[Asked]:
@@ -123,7 +123,7 @@ def tests_of(count: int, seed: str, report: Report) -> List[Asked]:
     changed = set(random.sample(range(count), count // 3))
     made = []
     for at, it in enumerate(quiz_of(count, seed)):
-        made.append(possible_by_turns(it.text, random, report) if at in changed else asked(it.text, report))
+        made.append(possible_by_interleaving(it.text, random, report) if at in changed else asked(it.text, report))
     return made
 
 
@@ -151,13 +151,13 @@ def scrambled(content: bytes, text: str) -> bytes:
 
 
 def reason_of(seed: str, text: str) -> str:
-    """Why a test can end so by turns and on x86, or can't, hidden."""
-    told = json.dumps([reasons.by_turns(text, source_form(text)), reasons.on_x86(text)], separators=(",", ":"))
+    """Why a test can end this way by interleaving and on x86, or can't, hidden."""
+    told = json.dumps([reasons.by_interleaving(text, source_form(text)), reasons.on_x86(text)], separators=(",", ":"))
     return base64.urlsafe_b64encode(scrambled(told.encode(), f"why {seed}{text}")).decode()
 
 
 def reasons_in(data) -> List[list]:
-    """The reasons of a page's tests: of each that by turns and that on x86."""
+    """The reasons of a page's tests: of each that by interleaving and that on x86."""
     found = (scrambled(base64.urlsafe_b64decode(it), f"why {data['seed']}{text}") for text, it in zip(data["tests"], data["reasons"]))
     return [json.loads(it) for it in found]
 

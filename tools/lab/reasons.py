@@ -42,7 +42,7 @@ def cycle_of(test: plain.Test, find) -> List[str]:
 
 
 def on_x86(text: str) -> Reason:
-    """Why a test can end so on x86-TSO, or can't."""
+    """Why a test can end this way on x86-TSO, or can't."""
     test = plain.read_test(text)
     found = asked_finals(test, plain.x86_start, plain.x86_moves)
     if found:
@@ -50,8 +50,8 @@ def on_x86(text: str) -> Reason:
     return {"kind": "cycle", "events": cycle_of(test, lambda it: it.broken()[1])}
 
 
-def by_turns(text: str, source: str) -> Reason:
-    """Why a test can end so by turns, or can't; `source` is its source form."""
+def by_interleaving(text: str, source: str) -> Reason:
+    """Why a test can end this way by interleaving, or can't; `source` is its source form."""
     test = plain.read_test(source)
     found = asked_finals(test, plain.source_start, plain.source_moves)
     if found:

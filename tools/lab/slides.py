@@ -69,19 +69,19 @@ SLIDES: List[Slide] = [
         Words("MOV [x],$1 stores 1 to x. MOV EAX,[y] loads y into the register EAX. All begins with 0."),
         Note("Let somebody answer before the next slide. Most say no, and can say why."),
     ]),
-    ("Taking turns", [
+    ("Interleaving: the threads take turns", [
         Film("A1-turns", "P0 P0"),
         Words("One memory. In each turn one thread does its next statement: such a run is an interleaving. Here P0 misses P1's flag. P1 can't miss P0's any more."),
         Note("P0 has done both statements; P1 has done none. Ask what P1 will find."),
     ]),
-    ("All that taking turns can do", [
+    ("All that interleaving can do", [
         States("A1-turns"),
         Words("Some load is the last statement of all. By then both stores are done, so it finds a 1."),
-        Note("No is the verdict: no run ends so. That is a proof for all runs, since the list is complete."),
+        Note("No is the verdict: no run ends this way. That is a proof for all runs, since the list is complete."),
     ]),
     ("Predict", [
         Code("A2"),
-        Words("Task 1, alone, on paper: six tests. Is the end possible by turns? Is it possible on x86? Say why, whatever you answer."),
+        Words("Task 1, alone, on paper: six tests. Is the end possible by interleaving? Is it possible on x86? Say why, whatever you answer."),
         Note("Hand out the first page. Give the rest after it, since its questions show what is possible."),
     ]),
     ("A store waits", [
@@ -107,7 +107,7 @@ SLIDES: List[Slide] = [
     ]),
     ("The same program on x86", [
         States("A1"),
-        Words("One state more than by turns. The program lists all states and no others; that is proved."),
+        Words("One state more than by interleaving. The program lists all states and no others; that is proved."),
         Note("After the tasks. Compare with slide 3."),
     ]),
     ("Both loads before both drains", [
@@ -118,7 +118,7 @@ SLIDES: List[Slide] = [
     ("The same run, by relations", [
         Graph("A1", "P0 P0 P1 P1 D0 D1"),
         Words("Each load reads the initial 0, so it comes before the other's store (fr). With program order (po) that is a cycle."),
-        Note("Each arrow means: comes before. A run by turns has no cycle."),
+        Note("Each arrow means: comes before. A run by interleaving has no cycle."),
     ]),
     ("What to take with you", [
         Words("A load may be done before the others see a store in front of it."),

@@ -25,7 +25,7 @@ def examples_of(lab: str) -> Dict[str, str]:
 
 
 def neutral(name: str, example: str) -> str:
-    """The text of an example under a neutral name. It asks whether some run ends so, whatever the example says of the answer."""
+    """The text of an example under a neutral name. It asks whether a run can end this way, whatever the example says of the answer."""
     found = TEST.fullmatch(read(f"examples/{example}.litmus"))
     if found is None or found[4] == "forall" or "(*" in found[3]:
         raise NoLab(f"examples/{example}.litmus has another form than the tests of a lab")
