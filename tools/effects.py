@@ -9,6 +9,22 @@ to be in memory is in a cache, `cache` is the thread of that.
 import re
 
 WORD = 2**32
+# Why an event is refused, by the number of its cause: the sentences of docs/FORMAT.md.
+REFUSALS = {
+    1: "there is no such thread",
+    2: "there is no such location",
+    3: "the thread is at its end",
+    4: "`MFENCE` waits for the processor's store buffer to be empty",
+    5: "`XCHG` or `LOCK XADD` waits for the processor's store buffer to be empty",
+    6: "there is no entry to drain",
+    7: "the cache does not hold the line",
+    8: "there was no memory for a store buffer's entry",
+}
+
+
+def refusal(number):
+    """Why an event is refused, as a sentence without marks."""
+    return REFUSALS[number].replace("`", "")
 
 
 class Unknown(Exception):

@@ -24,7 +24,7 @@ from shared import start
 from shared.home import HOME
 import films
 import given
-from effects import cell_at
+from effects import cell_at, refusal
 
 LETTER = 7.9  # the width of a letter
 LINE = 19  # the height of a line
@@ -120,7 +120,7 @@ def effect_lines(film, step, letters):
 
 def refusal_of(film):
     """What is said of the event that a film ends before."""
-    return f"Here {film['refused']['event']} is refused: {film['refused']['cause']}" if film["refused"] else ""
+    return f"Here {film['refused']['event']} is refused: {refusal(film['refused']['number'])}" if film["refused"] else ""
 
 
 def held_lines(place):
@@ -289,7 +289,8 @@ def show(words, text):
     print(strip_of(film) if strip else picture_of(film, len(film["events"])), end="")
     if not film["refused"]:
         return 0
-    return given.refuse("picture: event {at}, {event}, is refused: {cause}".format(**film["refused"]))
+    why = refusal(film["refused"]["number"])
+    return given.refuse("picture: event {at}, {event}, is refused: {why}".format(why=why, **film["refused"]))
 
 
 def main():

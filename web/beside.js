@@ -6,6 +6,7 @@ import { ask } from "./ask.js";
 import { button, byId, el, plainMark } from "./dom.js";
 import { differenceOf } from "./differences.js";
 import * as guess from "./guess.js";
+import { Lockstep } from "./lockstep.js";
 import { Side } from "./side.js";
 import { tell } from "./told.js";
 import { nameOf } from "./tokens.js";
@@ -22,9 +23,11 @@ export class Beside {
     Object.assign(this, { editor, examples, own, isOpen: false, made: null });
     this.place = byId("beside");
     const revealed = () => this.compare();
-    this.first = new Side("first", "The first test", { chosen: choose, revealed, drawn });
-    this.second = new Side("second", "The second test", { chosen: (value) => this.choose(value), revealed, drawn });
+    const moved = () => this.lockstep?.follow();
+    this.first = new Side("first", "The first test", { chosen: choose, revealed, drawn, moved });
+    this.second = new Side("second", "The second test", { chosen: (value) => this.choose(value), revealed, drawn, moved });
     this.sides = [this.first, this.second];
+    this.lockstep = new Lockstep(this.sides.map((it) => it.states.run), () => this.giveKeys(null));
     this.told = el("div", {});
     this.compared = el("span", { class: "compared", role: "status" });
     this.layOut(copyLink);
@@ -39,22 +42,23 @@ export class Beside {
       button("Link to both", () => copyLink(said), { id: "link-both" }),
       said,
       this.compared,
+      this.lockstep.place,
     ];
     const title = el("h2", { class: "hidden", id: "beside-title" }, "Two tests side by side");
     const sides = el("div", { class: "sides" }, this.sides.map((it) => it.place));
     this.place.append(title, el("div", { class: "row both" }, controls), this.told, sides);
   }
 
-  /** Keys go to the side that was used last. */
+  /** Keys go to what was used last: one side, or both together. */
   listen() {
     byId("set-beside").addEventListener("click", () => this.open());
     for (const side of this.sides) {
       for (const used of ["focusin", "pointerdown"]) side.place.addEventListener(used, () => this.giveKeys(side));
     }
-    this.giveKeys(this.first);
+    this.giveKeys(null);
   }
 
-  /** From now on the keys that step through a film step through that of this side. */
+  /** From now on the keys that step through a run step through that of this side, or through both if there is none. */
   giveKeys(side) {
     for (const it of this.sides) {
       it.sheet.hasKeys = it === side;

@@ -2,9 +2,10 @@
 // with a film to each state.
 
 import { ask } from "./ask.js";
-import { button, el, plainMark } from "./dom.js";
+import { button, el, plainMark, sentence } from "./dom.js";
 import { Film } from "./film.js";
 import * as guess from "./guess.js";
+import { mappedNames } from "./register_names.js";
 import { leftOut } from "./reports.js";
 import { isTooLong, searchOffer } from "./search.js";
 import { Strip } from "./strip.js";
@@ -58,7 +59,7 @@ export class Compile {
     const source = "The source test, what it is compiled to, and that without its fences.";
     const shown = isSource ? source : "The test, and the same without its fences.";
     return [
-      el("p", { role: "status" }, shown, " ", said),
+      el("p", { role: "status" }, shown, " ", said, " ", isSource ? sentence(mappedNames(answer.compiled)) : ""),
       el("div", { class: "columns" }, isSource ? this.code("Source", answer.cells_of_source) : null,
         this.code(isSource ? "x86, with its fences" : "x86, as it is", answer.cells, answer.compiled),
         number ? this.code(["x86, without fences ", plainMark()], answer.bare_cells, answer.bare) : null),

@@ -23,7 +23,7 @@ export function sentence(text) {
 
 /** The mark of what is not proved. */
 export function plainMark() {
-  return el("span", { class: "plain", title: "found by the page's own code, which is not proved" }, "plain");
+  return el("span", { class: "plain", title: "found by the page's own code, which is not proved" }, "not proved");
 }
 
 export function byId(id) {

@@ -5,7 +5,7 @@ import { el } from "./dom.js";
 import { textNodes, tintsOf } from "./tint.js";
 
 // How many lines are in sight at least, and at most.
-const [LEAST_LINES, MOST_LINES] = [7, 40];
+const [LEAST_LINES, MOST_LINES] = [6, 40];
 // The lines that are to be seen whole, if that can be: rows of several threads, and the question.
 const WIDE = /^ .*\||^\s*(?:~?\s*exists|forall)\b/;
 

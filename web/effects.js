@@ -8,6 +8,23 @@
 
 import { WORD } from "./token_reader.js";
 
+// Why an event is refused, by the number of its cause: the sentences of docs/FORMAT.md.
+const REFUSALS = {
+  1: "there is no such thread",
+  2: "there is no such location",
+  3: "the thread is at its end",
+  4: "`MFENCE` waits for the processor's store buffer to be empty",
+  5: "`XCHG` or `LOCK XADD` waits for the processor's store buffer to be empty",
+  6: "there is no entry to drain",
+  7: "the cache does not hold the line",
+  8: "there was no memory for a store buffer's entry",
+};
+
+/** Why an event is refused, as a sentence without marks. */
+export function refusal(number) {
+  return REFUSALS[number].replaceAll("`", "");
+}
+
 /** The effect of an event, given the states before it and behind it. */
 export function effectOf(event, cells, before, after) {
   const thread = Number(event[1]);

@@ -7,10 +7,11 @@ import { tell } from "./told.js";
 
 // The height of a line of a picture, and what is empty below its events.
 const LINE = 19;
-const EMPTY = 6;
-const RELATIONS = [["po", "program order"], ["rf", "reads from"], ["co", "order of stores"], ["fr", "reads before"]];
-const WITH_CYCLE = "This run as a graph. The bold arrows are a cycle: no taking of turns ends so. ";
-const WITHOUT_CYCLE = "This run as a graph. It has no cycle: by turns a run can end so, too. ";
+const EMPTY = 10;
+const RELATIONS = [["po", "program order"], ["rf", "reads from"], ["co", "coherence order"], ["fr", "from-reads"]];
+const WITH_CYCLE = "This run as a graph. The bold arrows are a cycle: no interleaving ends this way. ";
+const WITHOUT_CYCLE = "This run as a graph. It has no cycle: a run by interleaving can end this way, too. ";
+const SVG = "http://www.w3.org/2000/svg";
 
 /**
  * A picture for the page, whose style sheet has its colours, since the page's policy takes no style from a picture; and the lines of text
@@ -25,11 +26,20 @@ export function shownGraph(text, tints) {
   const lines = [...svg.querySelectorAll("text.faint")];
   const said = lines.map((it) => it.textContent);
   for (const it of lines) it.remove();
-  const [width, height] = ["width", "height"].map((it) => Number(svg.getAttribute(it)));
-  const shown = height - LINE * lines.length - EMPTY;
-  svg.setAttribute("viewBox", `0 0 ${width} ${shown}`);
-  svg.setAttribute("height", String(shown));
-  return { graph: document.importNode(svg, true), said };
+  const height = Number(svg.getAttribute("height")) - LINE * lines.length - EMPTY;
+  const width = widthOf(svg);
+  for (const [name, value] of [["viewBox", `0 0 ${width} ${height}`], ["width", width], ["height", height]]) svg.setAttribute(name, value);
+  const shown = document.importNode(svg, true);
+  shown.style.setProperty("--graph-width", String(width / 16));
+  return { graph: el("div", { class: "graph-scroll" }, shown), said };
+}
+
+/** How wide a picture's events and arrows are: lines below them may be longer. */
+function widthOf(svg) {
+  const rights = [...svg.querySelectorAll("g rect")].map((it) => Number(it.getAttribute("x")) + Number(it.getAttribute("width")));
+  const points = (path) => [...path.getAttribute("d").matchAll(/([\d.]+) [\d.]+/g)].map(([, x]) => Number(x));
+  const reached = [...svg.querySelectorAll("path[d]")].flatMap(points);
+  return Math.ceil(Math.max(100, ...rights, ...reached)) + 14;
 }
 
 /** Gives a text of a picture the colour of its thread or location. */
@@ -40,9 +50,20 @@ function colour(text, tints) {
   if (kind) text.classList.add(...kind.split(" "));
 }
 
-/** What the arrows of a graph mean. */
+/** What the arrows of a graph mean: how each kind is drawn, its name, and that in words. */
 export function legend() {
-  return el("p", { class: "legend" }, RELATIONS.map(([kind, words]) => el("span", { class: `relation ${kind}` }, el("b", {}, kind), ` ${words}`)));
+  const shown = ([kind, words]) => el("span", { class: `relation ${kind}` }, arrow(), el("b", {}, kind), ` ${words}`);
+  return el("p", { class: "legend" }, RELATIONS.map(shown));
+}
+
+function arrow() {
+  const svg = document.createElementNS(SVG, "svg");
+  svg.setAttribute("viewBox", "0 0 28 8");
+  svg.setAttribute("aria-hidden", "true");
+  const path = document.createElementNS(SVG, "path");
+  path.setAttribute("d", "M0 4 H28");
+  svg.append(path);
+  return svg;
 }
 
 /** Draws the execution of a whole run into a place. */
@@ -53,6 +74,7 @@ export async function graphOf(editor, text, schedule, place, tints) {
   if (answer.isUnended) place.append(el("p", { class: "small" }, "The graph is drawn when the run has ended."));
   else if (answer.graph) place.append(...partsOf(answer, tints));
   else tell(answer, place, editor);
+  place.dispatchEvent(new Event("drawn"));
 }
 
 function partsOf(answer, tints) {

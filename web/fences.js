@@ -1,11 +1,12 @@
 // Which fences of a test matter: a table of them, with a film to each state that a fence takes away. A fence matters where states are added
-// without it; that says nothing of whether a test with all its fences is right, so it is told in how many states the proposition is true.
+// without it; that says nothing of whether a test with all its fences is right, so it says in how many states the condition holds.
 
 import { ask } from "./ask.js";
-import { el, plainMark } from "./dom.js";
+import { el, plainMark, sentence } from "./dom.js";
 import { Film, watchButton } from "./film.js";
 import * as guess from "./guess.js";
-import { propositionOf } from "./reports.js";
+import { mappedNames } from "./register_names.js";
+import { isTooLong, searchOffer } from "./search.js";
 import { tell, tellNothing } from "./told.js";
 
 const MOST_SHOWN = 4;
@@ -38,13 +39,25 @@ export class Fences {
     return guess.unlock("fences", this.editor, this.place, () => this.show(most));
   }
 
-  async show(most) {
-    const fields = { text: this.editor.text, everything: this.everything.checked };
+  /** Shows the table; with `search` its lists are made by a search. */
+  async show(most, search = false) {
+    const fields = { text: this.editor.text, everything: this.everything.checked, search };
     const answer = await ask(this.editor, "fences", fields, { place: this.place, most });
     if (!answer) return;
     this.place.replaceChildren();
-    if (!answer.table) return tell(answer, this.place, this.editor);
+    if (!answer.table) return this.fail(answer);
+    this.isSearched = search;
     this.place.append(...this.parts(answer));
+  }
+
+  /** Says why there is no table, and offers a search if it would take too long. */
+  fail(answer) {
+    tell(answer, this.place, this.editor);
+    if (isTooLong(answer)) this.place.append(this.offer());
+  }
+
+  offer() {
+    return searchOffer(() => this.show(null, true), this.editor.id("search-fences"));
   }
 
   parts(answer) {
@@ -54,13 +67,16 @@ export class Fences {
     const names = namesOf(table);
     const rows = table.rows.map((it, at) => this.rowOf(names[at], it, texts[at]));
     const shown = el("table", {}, el("thead", {}, head), el("tbody", {}, rows));
+    const isSource = answer.language === "SRC";
     const isPlain = table.answered_by.includes("plain");
-    const lists = isPlain ? ["Some lists come from a plain interpreter ", plainMark(), "."] : ["All lists come from lw."];
+    const refused = "lw refuses some lists by their count of orders; these come from the page's own interpreter ";
+    const lists = isPlain ? [refused, plainMark(), "."] : [`All lists come from lw${this.isSearched ? ", by a search" : ""}.`];
     return [
-      el("p", {}, "By ", by, answer.language === "SRC" ? ", of the compiled program." : "."),
+      el("p", {}, "By ", by, isSource ? [", of the compiled program. ", sentence(mappedNames(JSON.stringify([condition, table])))] : "."),
       table.rows.length ? el("div", { class: "wide" }, shown) : "",
       el("p", { class: "verdict", role: "status" }, el("strong", {}, verdictOf(answer, names))),
       el("p", { class: "small" }, "Texts without some fences are made by the page ", plainMark(), ". ", ...lists),
+      isPlain ? this.offer() : "",
     ];
   }
 
@@ -68,7 +84,7 @@ export class Fences {
   rowOf(name, { added }, text) {
     const alone = added.length ? `adds ${statesOf(added.length)}` : "changes nothing";
     const of = [`without the fence of ${name} `, plainMark(), " "];
-    const watch = (line) => watchButton(line, () => this.film.show(line, { text, of }));
+    const watch = (line) => watchButton(line, () => this.film.show(line, { text, of, search: this.isSearched }));
     return el("tr", {}, el("th", { scope: "row" }, name), el("td", {}, alone), el("td", {}, shownOf(added, watch)));
   }
 }
@@ -86,24 +102,23 @@ function namesOf({ rows }) {
   });
 }
 
-/** Which fences are enough for the states that there are with all of them; and in how many of these the proposition is true. */
-function verdictOf({ table, condition, language }, names) {
+/** Which fences are enough for the states that there are with all of them; and in how many of these the condition holds. */
+function verdictOf({ table, language }, names) {
   const { rows, enough, states, positive } = table;
   const what = language === "SRC" ? "the compiled program" : "the test";
-  const proposition = el("code", {}, propositionOf({ condition }));
-  const isTrue = [proposition, ` is true in ${positive || "none"} of `];
+  const holding = ` the condition holds in ${positive || "none"} of `;
   const isOne = rows.length === 1;
-  if (!rows.length) return [`The program has no MFENCE: `, ...isTrue, `${statesOf(states)}.`];
+  if (!rows.length) return [`The program has no MFENCE:${holding}${statesOf(states)}.`];
   if (!enough.length) {
     const [fences, all] = isOne ? ["The fence changes", "it and without it"] : ["The fences change", "all of them and with none"];
-    return [`${fences} nothing: with ${all} ${what} ends in the same ${statesOf(states)}, and `, ...isTrue, states === 1 ? "it." : "them."];
+    return [`${fences} nothing: with ${all} ${what} ends in the same ${statesOf(states)}, and${holding}${states === 1 ? "it." : "them."}`];
   }
   if (enough.length < rows.length) {
     const kept = names.filter((_, at) => enough.some((it) => `${rows[at].place},`.startsWith(`${it},`)));
-    return [`Enough for the same ${statesOf(states)}, with none to spare: ${kept.join("; ")}. With these `, ...isTrue, "them."];
+    return [`Enough for the same ${statesOf(states)}, with none to spare: ${kept.join("; ")}. With these${holding}them.`];
   }
   const needed = isOne ? "The fence is needed: without it" : "Each fence is needed: without any one of them";
-  return [`${needed} ${what} ends in more states. With ${isOne ? "it" : "all"} `, ...isTrue, `${statesOf(states)}.`];
+  return [`${needed} ${what} ends in more states. With ${isOne ? "it" : "all"}${holding}${statesOf(states)}.`];
 }
 
 function shownOf(lines, watch) {

@@ -225,13 +225,20 @@ export class GraphLayout {
   spotsOf(route, width) {
     const curves = this.curvesOf(route);
     const [[x, y]] = curves[0];
-    if (route.way === "start") {
-      if (this.isTurned) return [[x + width / 2 + 4, y + 6], [x - width / 2 - 4, y + 6], [x, y - 8]];
-      return [[x + 4, y - 10], [x + 4, y + 11], [x - width / 2, y], [x - 8, y - 10], [x - 8, y + 11]];
-    }
+    if (route.way === "start") return this.spotsOfStart(route, [x, y], width);
     const beside = route.way !== "next" ? [0, 0] : this.isTurned ? [0, -10] : [width / 2 + 4, 0];
     const points = curves.flatMap((curve) => PLACES.map((part) => onCurve(curve, part)));
     return OFFSETS.flatMap((offset) => points.map(([left, top]) => [left + beside[0], top + beside[1] + offset]));
+  }
+
+  /** Where the label of an arrow from an initial word may be: first on that side of it on which no other arrow ends. */
+  spotsOfStart({ edge, ports }, [x, y], width) {
+    const isLast = ports[1] > this.spot(edge.source)[1] + this.deep / 2;
+    const [sideways, downwards] = [width / 2 + 4, 11];
+    const spots = this.isTurned
+      ? [[x - sideways, y + 6], [x + sideways, y + 6], [x, y - 8]]
+      : [[x + 4, y - downwards], [x + 4, y + downwards], [x - width / 2, y], [x - 8, y - downwards], [x - 8, y + downwards]];
+    return isLast ? [spots[1], spots[0], ...spots.slice(2)] : spots;
   }
 }
 

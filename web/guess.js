@@ -2,9 +2,10 @@
 // asked for meanwhile waits, and comes when the guess is made, in whichever panel, or when the reader does not want to predict any more.
 
 import { ask } from "./ask.js";
+import { conditionWords } from "./condition_words.js";
 import { button, byId, el } from "./dom.js";
 import { propositionOf } from "./reports.js";
-import { codeNodes, tintsOf } from "./tint.js";
+import { codeNodes, tintedSentence, tintsOf } from "./tint.js";
 import { tell } from "./told.js";
 
 const KEY = "guesses";
@@ -77,10 +78,13 @@ export function question(text, place, { report, words }, id, show) {
   const choice = (title, said, name) => button(title, told(said), { id: id(name) });
   const yes = choice("Yes", true, "yes");
   const asked = el("p", { class: "verdict" }, el("span", { class: "sign", "aria-hidden": "true" }, "?"), el("strong", {}, words.question));
-  const proposition = el("p", { class: "asked" }, el("code", {}, codeNodes(propositionOf(report), tintsOf(text), null)));
+  const tints = tintsOf(text);
+  const inWords = conditionWords(text);
+  const formula = el("code", {}, codeNodes(propositionOf(report), tints, null));
+  const condition = el("p", { class: "asked" }, inWords ? [tintedSentence(`${inWords}. `, tints), formula] : formula);
   const choices = el("p", { class: "row" }, yes, choice("No", false, "no"), choice("Just show it", null, "just-show"));
   place.tabIndex = -1;
-  wait(text, place, el("div", { class: "predict" }, asked, proposition, choices), show);
+  wait(text, place, el("div", { class: "predict" }, asked, condition, choices), show);
   yes.focus();
 }
 

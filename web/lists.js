@@ -1,4 +1,4 @@
-// The report of a test in parts, with the marks of the states in which its proposition holds (these are not proved); the schedule that lw
+// The report of a test in parts, with the marks of the states in which its condition holds (these are not proved); the schedule that lw
 // lists to a state; and in which state a run has ended.
 
 import { Fault, NoAnswer } from "./program.js";
@@ -74,12 +74,12 @@ function partsOf(head, number, states, tail, holding) {
 }
 
 /**
- * The lines of the states of a text, and in how many of them its proposition is true; or null where it is refused, or needs more memory
- * than there is.
+ * The lines of the states of a text, and in how many of them its condition holds; or null where it is refused, or needs more memory than
+ * there is. `how` says by which way it is listed.
  */
-export function listOrNull(program, text) {
+export function listOrNull(program, text, how) {
   try {
-    const report = program.ask(["states"], text);
+    const report = program.list("states", text, how);
     const lines = report.split("\n");
     return { lines: lines.slice(2, 2 + Number(lines[1].split(" ")[1])), positive: Number(/^Positive: (\d+)/m.exec(report)[1]) };
   } catch (error) {

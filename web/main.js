@@ -16,7 +16,8 @@ import { lightNames } from "./lighting.js";
 import { isStill } from "./motion.js";
 import { copy, fileName, save } from "./output.js";
 import { Own } from "./own.js";
-import { caches, largeType } from "./preferences.js";
+import { fold, isFolded, placeParts } from "./placing.js";
+import { bindTheme, caches, largeType } from "./preferences.js";
 import { Present } from "./present.js";
 import { States } from "./states.js";
 import { hasServer, keep, table } from "./supplies.js";
@@ -32,8 +33,6 @@ const TYPING = 600;
 const MOST_BY_ITSELF = 10000;
 // What the address says of a test, and of where in it the reader is.
 const NOWHERE = { text: null, example: null, state: null, step: null, run: null, protocol: null, schedule: null, view: null };
-// In a window that is narrower the page has one column.
-const NARROW = "(max-width: 59.99rem)";
 
 const editor = new Editor(byId("editor"), changed);
 const own = new Own(editor, (text) => take(text, { text }, true));
@@ -128,7 +127,6 @@ function askWhy(line) {
 
 /** A tab was chosen: what it shows is asked. */
 function opened(view) {
-  byId("answers").dataset.view = view;
   address.put({ view: view === VIEWS[0] ? null : view });
   if (view === "hand") states.beginByHand();
   else if (view === "states") states.endByHand();
@@ -203,6 +201,7 @@ async function copyLink(said) {
 // What is listened to.
 
 function listenToTools() {
+  byId("unfold").addEventListener("click", () => fold(!isFolded()));
   byId("file").addEventListener("change", openFile);
   byId("save").addEventListener("click", () => save(fileName(nameOf(editor.text), "litmus"), "text/plain", editor.text));
   byId("link").addEventListener("click", () => copyLink(byId("said")));
@@ -223,6 +222,7 @@ function listenToChoices() {
     guess.follow();
     if (guess.isAwaited(editor.text)) list();
   });
+  bindTheme(byId("theme"));
   caches.bindTo(byId("caches"));
   largeType.bindTo(byId("large"));
   const scale = () => document.documentElement.classList.toggle("large", largeType.isOn);
@@ -238,14 +238,6 @@ function listenToSkip() {
   });
 }
 
-/** In one column the graph is below the machine. */
-function placeGraph() {
-  const narrow = matchMedia(NARROW);
-  const place = () => (narrow.matches ? byId("answers") : byId("test")).append(byId("graph-place"));
-  narrow.addEventListener("change", place);
-  place();
-}
-
 /** Says where the proved workbench runs. */
 async function tellWhere() {
   const isHere = await hasModule();
@@ -254,8 +246,8 @@ async function tellWhere() {
 
 async function begin() {
   byId("why").append(why.place);
-  placeGraph();
-  lightNames();
+  placeParts(present);
+  lightNames(editor);
   listenToTools();
   listenToChoices();
   listenToSkip();

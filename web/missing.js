@@ -2,26 +2,39 @@
 
 import { wordsOf } from "./replays.js";
 
-// Of how many states at most one that is missing is looked for.
+// Of how many states at most one that is missing is looked for, and how many combinations of words are tried.
 const MOST_LOOKED_AT = 2000;
+const MOST_TRIED = 20000;
 
-/** The words that each site has in the states of a report. */
-function columnsOf({ states }) {
+/** The words of each site, those that the question names first: these, and the words that it has in the states of a report. */
+function columnsOf({ states }, named) {
   const lines = states.map(({ line }) => wordsOf(line));
-  return (lines[0] ?? []).map(([name], at) => ({ name, words: [...new Set(lines.map((it) => it[at][1]))].sort((a, b) => a - b) }));
+  return (lines[0] ?? []).map(([name], at) => {
+    const asked = named.get(name) ?? [];
+    const others = [...new Set(lines.map((it) => it[at][1]))].sort((a, b) => b - a);
+    return { name, words: [...new Set([...asked, ...others])] };
+  });
 }
 
-/** A state that a report has not, of words that its states have; or null, if there is none, or not all states are known. */
-export function missingState(report) {
+/**
+ * A state that a report has not and that the question asks about, or, with no question, any of words that its states have; null if none is
+ * found, or not all states are known.
+ */
+export function missingState(report, { isAsked, words } = { isAsked: () => true, words: new Map() }) {
   if (report.left_out || !report.states.length || report.states.length > MOST_LOOKED_AT) return null;
   const known = new Set(report.states.map(({ line }) => line));
+  let tried = 0;
   const find = (begin, [column, ...others]) => {
-    if (!column) return known.has(begin.join(" ")) ? null : begin.join(" ");
-    for (const word of [...column.words].reverse()) {
-      const found = find([...begin, `${column.name}=${word};`], others);
+    if (!column) {
+      tried += 1;
+      const line = begin.join(" ");
+      return known.has(line) || !isAsked(line) ? null : line;
+    }
+    for (const word of column.words) {
+      const found = tried < MOST_TRIED ? find([...begin, `${column.name}=${word};`], others) : null;
       if (found !== null) return found;
     }
     return null;
   };
-  return find([], columnsOf(report));
+  return find([], columnsOf(report, words));
 }

@@ -4,6 +4,8 @@
 // nearest to memory, and its cache lines that are held, with their letters; below them the words that a load finds. What the last
 // event has changed or put is bold and underlined, and what it has read is bold and slanted.
 
+import { refusal } from "./effects.js";
+
 export const LETTER = 7.9; // the width of a letter
 export const LINE = 19; // the height of a line
 export const EDGE = 10;
@@ -96,7 +98,7 @@ function effectLines(film, step, letters) {
 
 /** What is said of the event that a film ends before. */
 function refusalOf({ refused }) {
-  return refused ? `Here ${refused.event} is refused: ${refused.cause}` : "";
+  return refused ? `Here ${refused.event} is refused: ${refusal(refused.number)}` : "";
 }
 
 function heldLines(place) {

@@ -21,9 +21,12 @@ export class Player {
     this.place = el("div", { class: "transport" }, first, this.back, this.forward, last, this.playing, this.schedule, this.count, more);
   }
 
-  /** Shows a schedule, and the step that the run is at. `isOpen` says that more events may follow. */
-  show(events, step, isOpen) {
-    Object.assign(this, { events, step });
+  /**
+   * Shows a schedule, and the step that the run is at. `isOpen` says that more events may follow, `places` has of each event the place of its
+   * instruction, if that is known.
+   */
+  show(events, step, { isOpen, places }) {
+    Object.assign(this, { events, step, places });
     this.back.disabled = step === 0;
     this.forward.disabled = step === events.length;
     this.count.textContent = isOpen && step === events.length ? `${step}` : `${step} / ${events.length}`;
@@ -45,6 +48,7 @@ export class Player {
     return button(event, () => this.jump(at + 1), {
       class: kinds.filter(Boolean).join(" "),
       "data-step": String(at + 1),
+      "data-at": this.places[at] ?? null,
       "aria-label": `Event ${at + 1} of ${this.events.length}: ${event}`,
       "aria-current": isNow ? "step" : null,
       tabindex: at === Math.max(this.step - 1, 0) ? "0" : "-1",

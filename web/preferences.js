@@ -3,13 +3,13 @@
 /** A switch that is kept under a name. */
 class Preference {
   constructor(name) {
-    Object.assign(this, { name, listeners: [], isOn: isStored(name) });
+    Object.assign(this, { name, listeners: [], isOn: stored(name) === "1" });
   }
 
   /** Switches it, and calls back all that depends on it. */
   set(isOn) {
     this.isOn = isOn;
-    store(this.name, isOn);
+    store(this.name, isOn ? "1" : "0");
     for (const listener of this.listeners) listener();
   }
 
@@ -24,20 +24,38 @@ class Preference {
   }
 }
 
-function isStored(name) {
+/** What the browser keeps under a name, or null. */
+function stored(name) {
   try {
-    return localStorage.getItem(name) === "1";
+    return localStorage.getItem(name);
   } catch {
-    return false;
+    return null;
   }
 }
 
-function store(name, isOn) {
+function store(name, value) {
   try {
-    localStorage.setItem(name, isOn ? "1" : "0");
+    localStorage.setItem(name, value);
   } catch {
     // Without a store it is kept till the page is loaded anew.
   }
+}
+
+const THEMES = ["system", "light", "dark"];
+
+/** Shows the page by light or by dark, as the reader has chosen in a list, or else as the system asks. */
+export function bindTheme(list) {
+  const show = (theme) => {
+    if (theme === THEMES[0]) delete document.documentElement.dataset.theme;
+    else document.documentElement.dataset.theme = theme;
+  };
+  const kept = stored("theme");
+  list.value = THEMES.includes(kept) ? kept : THEMES[0];
+  show(list.value);
+  list.addEventListener("change", () => {
+    store("theme", list.value);
+    show(list.value);
+  });
 }
 
 /** Whether cache lines are shown. */

@@ -1,16 +1,19 @@
-// The view for a projector: only the question, the verdict, the list and the machine, in the largest type in which all of it fits, and never
-// in less than a least size. If not all fits in that, long code is scrolled inside its box, and the next instruction stays in sight.
+// The view for a projector: only the question, the verdict, the list, the machine and the graph, in the largest type in which all of it fits,
+// and never in less than a least size; if it takes that, the graph goes. If not all fits in that, long code is scrolled inside its box, and
+// the next instruction stays in sight.
 
 import { byId } from "./dom.js";
 
 // The least size of type in pixels, the least of one test as a part of the height of the window, and the most.
 const LEAST = 18;
-const LEAST_OF_HEIGHT = 0.025;
+const LEAST_OF_HEIGHT = 0.024;
 const MOST = 44;
+// Where the graph may be, the best first: beside the machine, beside all, or nowhere.
+const GRAPH_PLACES = ["machine", "all", "none"];
 
 export class Present {
   constructor() {
-    this.isOpen = false;
+    Object.assign(this, { isOpen: false, changed: () => null });
     byId("present").addEventListener("click", () => this.open());
     byId("end-present").addEventListener("click", () => this.close());
     addEventListener("resize", () => this.fit());
@@ -18,10 +21,16 @@ export class Present {
     document.addEventListener("keydown", (event) => event.key === "Escape" && !document.querySelector("dialog[open]") && this.close());
   }
 
+  /** Calls back when the view is opened or closed. */
+  onChange(changed) {
+    this.changed = changed;
+  }
+
   async open() {
     this.isOpen = true;
     document.documentElement.classList.add("present");
     byId("end-present").hidden = false;
+    this.changed();
     this.fit();
     try {
       await document.documentElement.requestFullscreen();
@@ -39,6 +48,7 @@ export class Present {
     document.documentElement.classList.remove("present");
     document.documentElement.style.fontSize = "";
     byId("end-present").hidden = true;
+    this.changed();
     if (document.fullscreenElement) document.exitFullscreen().catch(() => null);
     byId("present").focus();
   }
@@ -49,6 +59,11 @@ export class Present {
     const isOne = !document.body.classList.contains("two");
     const least = isOne ? Math.max(LEAST, LEAST_OF_HEIGHT * innerHeight) : LEAST;
     let [small, large] = [least, Math.max(MOST, least * 2)];
+    const { dataset } = document.documentElement;
+    for (const place of GRAPH_PLACES) {
+      dataset.graph = place;
+      if (this.fits(small)) break;
+    }
     if (!this.fits(small)) return;
     while (large - small > 0.5) {
       const middle = (small + large) / 2;

@@ -6,7 +6,7 @@
 // the program itself may have one, and `refused` is the event of a schedule that is refused.
 
 import { canonicalText, sourceCells, x86Cells } from "./canonical.js";
-import { effectOf } from "./effects.js";
+import { effectOf, refusal } from "./effects.js";
 import { executionOf } from "./executions.js";
 import { cellsOf, filmOf, sourceFilm } from "./films.js";
 import { graphOf, wordsOf } from "./graphs.js";
@@ -62,7 +62,7 @@ function answerMoves(program, text, { schedule, protocol }) {
 /** That an event of a schedule is refused: which, and why. */
 function refusalOf({ at, number, cause }, events) {
   const refused = { event: events[at], at, number, cause };
-  return new NoAnswer(`Event ${at + 1} of the schedule, ${events[at]}, is refused: ${cause}.`, { refused });
+  return new NoAnswer(`Event ${at + 1} of the schedule, ${events[at]}, is refused: ${refusal(number)}.`, { refused });
 }
 
 /** The state before the last event of a schedule, and what that event does; of none the state itself, and null. */
@@ -90,10 +90,10 @@ function answerCompile(program, text) {
   return language === "SRC" ? { ...answer, cells_of_source: sourceCells(readTest(textOf(text))) } : answer;
 }
 
-/** The table of the fences that matter, where its lists come from, and of each row the text without its fence. */
-function answerFences(program, text, { everything }) {
+/** The table of the fences that matter, where its lists come from (with `search` by a search), and of each row the text without its fence. */
+function answerFences(program, text, { everything, search = false }, passed) {
   const test = readTest(program.ask(["compile"], text));
-  const listOf = (canonical) => listOrNull(program, bytesOf(canonical));
+  const listOf = (canonical) => listOrNull(program, bytesOf(canonical), { search, passed });
   const asked = everything ? showingEverything(test) : test;
   const texts = fencesOf(asked).map((fence) => canonicalText(without(asked, [fence])));
   return { table: tableOfFences(asked, listOf), condition: conditionText(test), texts, language: languageOf(text) };

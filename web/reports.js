@@ -9,7 +9,7 @@ export function namesOf({ states }) {
   return states.length ? wordsOf(states[0].line).map(([name]) => name) : [];
 }
 
-/** The proposition that a report's condition asks about. */
+/** The proposition of a report's condition, without its quantifier. */
 export function propositionOf({ condition }) {
   return condition.slice(condition.indexOf(" ") + 1);
 }
@@ -18,7 +18,7 @@ export function propositionOf({ condition }) {
 export function leftOut(report) {
   if (!report.left_out) return null;
   const [number, out, kept] = [report.number, report.left_out, report.most].map((it) => it.toLocaleString("en"));
-  const words = `Of ${number} states ${out} are left out here: shown are the first ${kept}, and up to ${kept} that make the proposition true.`;
+  const words = `Of ${number} states ${out} are left out here: shown are the first ${kept}, and up to ${kept} in which the condition holds.`;
   return el("p", { class: "notice" }, words);
 }
 

@@ -6,9 +6,9 @@ import { wordsOf } from "./replays.js";
 import { saveReport } from "./reports.js";
 import { siteNode } from "./tint.js";
 
-// The height of a row in letters of the page's size, how many rows are in sight, and how many if the window is low.
+// The height of a row in letters of the page's size, how many rows are in sight, and how many if the window is low or narrow.
 const HEIGHT = 1.6;
-const [ROWS_IN_SIGHT, FEW_ROWS, LOW] = [6, 3, 800];
+const [ROWS_IN_SIGHT, FEW_ROWS, LOW, NARROW] = [6, 3, 800, 700];
 // How many rows are made above those in sight, and below.
 const [ABOVE, BELOW] = [2, 6];
 // By how many states the widths of the columns are found.
@@ -43,7 +43,7 @@ export class Rows {
 
   headRow() {
     const { names, tints } = this.strip;
-    const mark = this.report.is_marked ? el("span", { title: "the proposition is true there" }, "✓") : null;
+    const mark = this.report.is_marked ? el("span", { title: "the condition holds there" }, "✓") : null;
     const cells = [el("span", { class: "index" }, "#"), names.map((name) => el("span", {}, siteNode(name, tints))), mark];
     const head = el("div", { class: "row-head", "aria-hidden": "true" }, cells);
     head.style.gridTemplateColumns = this.columns;
@@ -56,7 +56,7 @@ export class Rows {
     const shown = (number) => number.toLocaleString("en");
     const box = el("input", { type: "checkbox", change: (event) => this.filter(event.target.checked) });
     const hasChoice = report.is_marked && report.positive && report.positive < report.number;
-    const only = hasChoice ? el("label", {}, box, ` only the ${shown(report.positive)} where it is true`) : null;
+    const only = hasChoice ? el("label", {}, box, ` only the ${shown(report.positive)} where the condition holds`) : null;
     const file = button("Save the list as a file", () => saveReport(report), { class: "save-list" });
     return el("div", { class: "rows-tools" }, el("span", { class: "small" }, `${shown(report.number)} states`), only, file);
   }
@@ -64,7 +64,8 @@ export class Rows {
   /** Shows the rows, once the list has its place. */
   begin() {
     this.height = Math.round(HEIGHT * parseFloat(getComputedStyle(document.documentElement).fontSize));
-    const number = Math.min(innerHeight < LOW ? FEW_ROWS : ROWS_IN_SIGHT, this.shown.length);
+    const isSmall = innerHeight < LOW || innerWidth < NARROW;
+    const number = Math.min(isSmall ? FEW_ROWS : ROWS_IN_SIGHT, this.shown.length);
     this.body.style.height = `${this.height * number + 2}px`;
     this.follow();
   }

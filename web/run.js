@@ -32,9 +32,12 @@ function tellingStep(frames) {
 const protocolOf = (name) => (PROTOCOLS.includes(name) ? name : "mesi");
 
 export class Run {
-  /** `reached` is called with the line of a state in which a run by hand has ended, `drawn` when another run is shown. */
-  constructor(editor, { isLinked = true, reached = () => null, drawn = () => null, graphPlace = null } = {}) {
-    Object.assign(this, { editor, reached, drawn, isLinked: isLinked && editor.isAlone, isOpen: false, isLocked: false, protocol: "mesi" });
+  /**
+   * `reached` is called with the line of a state in which a run by hand has ended, `drawn` when another run is shown, `moved` when it is at
+   * another step.
+   */
+  constructor(editor, { isLinked = true, reached = () => null, drawn = () => null, moved = () => null, graphPlace = null } = {}) {
+    Object.assign(this, { editor, reached, drawn, moved, isLinked: isLinked && editor.isAlone, isOpen: false, isLocked: false, protocol: "mesi" });
     Object.assign(this, { kept: new Map(), queue: Promise.resolve(), ticket: 0 });
     this.view = new RunView(this, graphPlace);
     this.place = this.view.place;
@@ -45,8 +48,10 @@ export class Run {
   clear() {
     this.ticket += 1;
     this.isOpen = false;
+    this.step = null;
     this.kept.clear();
     this.view.clear();
+    this.moved();
   }
 
   // Which run it is.
@@ -180,6 +185,7 @@ export class Run {
     const direction = this.step === null || Math.abs(step - this.step) !== 1 ? 0 : step - this.step;
     Object.assign(this, { step, ending: null });
     this.view.draw(direction);
+    this.moved();
     this.putAddress();
     clearTimeout(this.learning);
     const isKnown = this.kept.has(this.keyOf(this.scheduleTo(step)));

@@ -37,7 +37,8 @@ export class RunMenu {
     const schedule = (isStrip ? events : events.slice(0, step)).join(" ");
     const answer = await ask(editor, "picture", { text, schedule, protocol, strip: isStrip });
     if (answer?.picture) save(isStrip ? "strip.svg" : "machine.svg", "image/svg+xml", answer.picture);
-    this.said.textContent = answer?.picture ? "Saved." : (answer?.error ?? "There is no picture.");
+    this.said.textContent = answer?.picture ? "Saved." : "";
+    if (answer && !answer.picture) tell(answer, this.wrong, editor);
   }
 
   /** Follows the schedule that is written, or says what is wrong with it. */

@@ -4,16 +4,17 @@ import { button, el, plainMark } from "./dom.js";
 import { graphOf } from "./execution_graph.js";
 import { Player } from "./player.js";
 import { caches } from "./preferences.js";
+import { registerNumber } from "./replays.js";
 import { RunMenu } from "./run_menu.js";
 import { hintOn, stepWords } from "./run_words.js";
 import { Stage, leastHeight, usedRegisters } from "./stage.js";
-import { tintedSentence } from "./tint.js";
+import { threadClass, tintedSentence } from "./tint.js";
 import { refusalOf } from "./told.js";
 
 export const PROTOCOLS = ["mesi", "moesi"];
 // What of a source test can be run by hand, and what of one is listed.
-const BY_HAND = [["test", "the source, by turns"], ["compiled", "the compiled program"], ["bare", "that without its fences"]];
-const LISTED = [["x86", "the compiled program, on x86-TSO"], ["source", "the source, by turns"]];
+const BY_HAND = [["test", "the source, by interleaving"], ["compiled", "the compiled program"], ["bare", "that without its fences"]];
+const LISTED = [["x86", "the compiled program, on x86-TSO"], ["source", "the source, by interleaving"]];
 const LOCKED = "First say what you expect: then the machine runs.";
 
 export class RunView {
@@ -49,8 +50,9 @@ export class RunView {
     this.choice.replaceChildren(...[this.programChoice(), this.protocolChoice()].filter(Boolean));
     this.choice.hidden = !this.choice.childElementCount;
     this.hint.textContent = hintOn(run);
+    const head = el("div", { class: "run-head" }, this.player.place, el("div", { class: "step-row" }, this.words, this.choice));
     const body = el("div", { class: "body" }, this.stage.place, this.isGraphAside ? null : this.graph);
-    this.place.replaceChildren(...title, this.player.place, el("div", { class: "step-row" }, this.words, this.choice), body, this.hint);
+    this.place.replaceChildren(...title, head, body, this.hint);
     this.place.classList.toggle("locked", run.isLocked);
     this.place.classList.toggle("with-graph", this.hasGraph && !this.isGraphAside);
     if (this.hasGraph && !run.isLocked) this.drawGraph();
@@ -80,16 +82,17 @@ export class RunView {
   draw(direction) {
     const { run } = this;
     const shown = { ...shownOf(run), direction };
-    this.place.style.setProperty("--least", String(leastHeight(shown)));
+    for (const it of [this.place, this.place.parentElement]) it?.style.setProperty("--least", String(leastHeight(shown)));
     this.stage.forgetMoves();
     this.stage.draw(shown);
-    this.player.show(run.events, run.step, run.isByHand);
+    this.player.show(run.events, run.step, { isOpen: run.isByHand, places: placesOf(run) });
     this.tellStep();
   }
 
   /** Says what the step has done. */
   tellStep() {
-    this.words.className = "step";
+    const { effect } = this.run.frame;
+    this.words.className = effect ? `step ${threadClass(effect.thread)}` : "step";
     this.words.replaceChildren(...stepWords(this.run));
   }
 
@@ -119,11 +122,27 @@ export class RunView {
   }
 }
 
+/** Of each event of a run the place of its instruction, as far as it is known; a drain has that of its store. */
+function placesOf({ events, frames, cells }) {
+  const stores = cells.map(() => []);
+  return events.map((event, at) => {
+    const thread = Number(event[1]);
+    if (event[0] === "D") return stores[thread].shift() ?? null;
+    const before = frames[at]?.state ?? frames[at + 1]?.before;
+    if (event[0] !== "P" || !before) return null;
+    const place = `${thread}:${before.threads[thread].at}`;
+    if ((frames[at + 1]?.state.threads[thread].buffer?.length ?? 0) > (before.threads[thread].buffer?.length ?? 0)) stores[thread].push(place);
+    return place;
+  });
+}
+
 /** What the machine is drawn by: the registers that are used in the whole run, and how many entries have left each buffer. */
 function shownOf(run) {
   const { cells, frame, frames, tints, slots, step, events, isByHand } = run;
   const known = isByHand ? [frame.state, frame.before] : frames.flatMap((it) => [it.state, it.before]);
   const used = cells.map((_, thread) => usedRegisters(cells, known, thread));
   const drained = cells.map((_, thread) => events.slice(0, step).filter((it) => it === `D${thread}`).length);
-  return { ...frame, cells, tints, slots, used, drained, event: step ? events[step - 1] : null };
+  // A compiled program's registers have the numbers of the source's.
+  const inSource = run.isSource && run.isX86 ? (name) => `r${registerNumber(name)}` : null;
+  return { ...frame, cells, tints, slots, used, drained, inSource, event: step ? events[step - 1] : null };
 }

@@ -2,7 +2,6 @@
 
 import { el, plainMark } from "./dom.js";
 import { caches } from "./preferences.js";
-import { propositionOf } from "./reports.js";
 import { tintedSentence } from "./tint.js";
 
 const LOCKED = "This is the machine before the run. What do you expect?";
@@ -10,8 +9,8 @@ const BEGIN = "Nothing has happened yet.";
 const BEGIN_OF_X86 = "Click an instruction to carry it out; then an entry of a store buffer, to let it go to memory.";
 const BEGIN_OF_SOURCE = "Click a statement to carry it out: the threads take turns.";
 const HINT_OF_X86 =
-  "Click a lit instruction to carry it out, or the lowest entry of a store buffer to let it go to memory: from any step, in any order.";
-const HINT_OF_SOURCE = "Click a lit statement to carry it out: from any step, in any order.";
+  "Click a framed instruction to carry it out, or the lowest entry of a store buffer to let it go to memory: from any step, in any order.";
+const HINT_OF_SOURCE = "Click a framed statement to carry it out: from any step, in any order.";
 
 /** What can be clicked, in a sentence. */
 export function hintOn({ slots }) {
@@ -21,7 +20,7 @@ export function hintOn({ slots }) {
 /** The sentence on the step that a run is at. */
 export function stepWords(run) {
   const { effect } = run.frame;
-  const step = el("span", { class: "hidden" }, `Step ${run.step} of ${run.events.length}: `);
+  const step = run.isLocked ? "" : el("span", { class: "number-of-step" }, `Step ${run.step} of ${run.events.length}:`, " ");
   const done = effect ? tintedSentence(`${run.names(doneWords(effect), effect.thread)}.`, run.tints) : [beginWords(run)];
   return [step, ...done, ...endWords(run)];
 }
@@ -39,13 +38,13 @@ function doneWords({ thread, words, cache }) {
   return words.replace(/ (from|for) memory/, (_, way) => ` ${way} ${owner} cache`);
 }
 
-/** That the run has ended, in which state, and whether the proposition is true there. Where the list shows the state, it is not named. */
-function endWords({ frame, isByHand, ending, goal, isLinked }) {
+/** That the run has ended, in which state, and whether the condition holds there. Where the list shows the state, it is not named. */
+function endWords({ frame, isByHand, ending, goal, isLinked, editor }) {
   if (frame.state.end.kind !== "Final") return [];
   const line = isByHand ? ending?.line : goal;
-  const state = line && !isLinked ? [" in ", el("code", {}, line)] : [];
+  const state = line && !isLinked && editor.isAlone ? [" in ", el("code", {}, line)] : [];
   const holds = ending?.holds;
   const isKnown = holds === true || holds === false;
-  const told = isKnown ? [": ", el("code", {}, propositionOf(ending)), holds ? " is true. " : " is false. ", plainMark()] : ["."];
+  const told = isKnown ? [holds ? ". The condition holds. " : ". The condition does not hold. ", plainMark()] : ["."];
   return [" ", el("strong", {}, "The run has ended"), ...state, ...told];
 }

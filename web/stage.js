@@ -2,6 +2,7 @@
 // memory, below all. The next instruction and the oldest entry are buttons: what is clicked happens. One state is drawn at a time; from one
 // to the next a word moves from where it was to where it is.
 
+import { showNext, watchCodes } from "./code_window.js";
 import { el } from "./dom.js";
 import { flightsOf } from "./flights.js";
 import { fly, glow, isStill, placesIn, settle } from "./motion.js";
@@ -36,6 +37,12 @@ function isTight({ cells, slots }) {
   return cells.length > ROOMY.threads || slots.some((it) => it > ROOMY.slots);
 }
 
+/** Whether so many threads have so many registers that only a dense machine has room. */
+function isDense({ cells, state, used }) {
+  const registers = state.threads.map((it, thread) => it.registers.filter(([name]) => used[thread].has(name)).length);
+  return cells.length > 3 ? Math.max(...registers) > 2 : cells.length > 2 && Math.max(...registers) > 4;
+}
+
 function isRoomy(shown) {
   return !isTight(shown) && shown.cells.every((it) => it.length <= ROOMY.lines);
 }
@@ -43,15 +50,15 @@ function isRoomy(shown) {
 /** How high the threads' boxes are at least, in letters of the page's size. If there is less room, the page is scrolled. */
 export function leastHeight(shown) {
   const { cells, slots, used, state } = shown;
-  const threads = cells.length;
+  const [threads, dense] = [cells.length, isDense(shown)];
   const heights = cells.map((lines, thread) => {
     const registers = state.threads[thread].registers.filter(([name]) => used[thread].has(name)).length;
     const stacked = isStacked(shown, registers);
-    const inRow = stacked ? 3 : threads > 3 ? 1 : threads > 2 ? 2 : 4;
-    const rows = Math.ceil(registers / inRow) * (threads > 2 ? 1.9 : 2.2);
-    const entry = threads > 2 || slots[thread] > ROOMY.slots ? 2.05 : 2.4;
+    const inRow = stacked ? 3 : threads > 3 && !dense ? 1 : threads > 2 ? 2 : 4;
+    const rows = Math.ceil(registers / inRow) * (dense ? 1.4 : threads > 2 ? 1.9 : 2.2);
+    const entry = dense ? 1.75 : threads > 2 || slots[thread] > ROOMY.slots ? 2.05 : 2.4;
     const buffer = 1.4 + Math.max(1, Math.min(slots[thread], MOST_SLOTS)) * entry;
-    return 2.8 + Math.min(lines.length + 1, 3) * 1.6 + (stacked ? rows + buffer : Math.max(rows, buffer));
+    return 2.8 + Math.min(lines.length + 1, 3) * (dense ? 1.4 : 1.6) + (stacked ? rows + buffer : Math.max(rows, buffer));
   });
   return Math.max(...heights);
 }
@@ -61,6 +68,7 @@ export class Stage {
   constructor(act, refuse) {
     Object.assign(this, { act, refuse, moves: new Map() });
     this.place = el("div", { class: "machine" });
+    watchCodes(this.place);
   }
 
   /**
@@ -76,9 +84,10 @@ export class Stage {
     this.place.style.setProperty("--threads", String(threads.length));
     this.place.classList.toggle("tight", isTight(shown));
     this.place.classList.toggle("roomy", isRoomy(shown));
+    this.place.classList.toggle("dense", isDense(shown));
     this.place.replaceChildren(el("div", { class: "threads" }, threads), this.memory());
     this.mark();
-    for (const it of this.place.querySelectorAll(".code .next")) showInside(it);
+    showNext(this.place);
     if (focused) (this.find(`[data-event="${CSS.escape(focused)}"]`) ?? this.find("[data-event]"))?.focus();
     if (shown.direction && before && !isStill()) this.move(was, shown.direction > 0 ? shown : before, shown.direction);
   }
@@ -131,7 +140,7 @@ export class Stage {
     return el(
       "section",
       { class: `thread ${threadClass(thread)}`, "aria-label": `Thread ${thread}` },
-      el("h3", {}, el("span", { class: "badge-thread" }, `P${thread}`)),
+      el("h3", {}, el("span", { class: "badge-thread" }, `P${thread}`), " ", el("span", { class: "lines-in-sight" })),
       this.code(place, thread),
       el("p", { class: "waits" }),
       el("div", { class: `below${stacked}` }, below),
@@ -153,7 +162,8 @@ export class Stage {
     const isNext = cell.at === place.at && !isLabel;
     const isDone = event?.[0] === "P" && effect?.thread === thread && cell.at === before.threads[thread].at && !isLabel;
     const kinds = [isNext ? "next" : cell.at < place.at && "behind", isDone && "done"];
-    const attributes = { class: "line", "data-key": `c:${thread}:${cell.at}${isLabel ? "l" : ""}` };
+    const at = `${thread}:${cell.at}`;
+    const attributes = { class: "line", "data-key": `c:${at}${isLabel ? "l" : ""}`, "data-at": isLabel ? null : at };
     const text = codeNodes(cell.text, tints, thread);
     const label = `P${thread}: carry out ${cell.text}`;
     const line = isNext ? this.buttonOf(`P${thread}`, label, attributes, text) : el("span", attributes, text);
@@ -170,7 +180,9 @@ export class Stage {
     const rows = registers.map(([name, word]) => {
       const isPut = word !== old.get(name) || (effect?.thread === thread && effect.register === name);
       const attributes = { class: `register${isPut ? " changed" : ""}`, "data-key": `r:${thread}:${name}` };
-      return el("li", attributes, el("span", { class: "name" }, name), " ", valueOf(word), said(isPut && "put"));
+      const source = this.shown.inSource?.(name);
+      const inSource = source && el("span", { class: "in-source", title: "its name in the source" }, ` ${source}`);
+      return el("li", attributes, el("span", { class: "name" }, name), inSource, " ", valueOf(word), said(isPut && "put"));
     });
     return el("ul", { class: "registers", "aria-label": "registers" }, rows);
   }
@@ -257,12 +269,4 @@ function valueOf(word) {
 /** What a reader is told who does not see colours. */
 function said(words) {
   return words ? el("span", { class: "hidden" }, ` ${words}`) : null;
-}
-
-/** Scrolls a line into sight inside its box, and nothing else. */
-function showInside(item) {
-  const box = item.parentElement;
-  const top = item.offsetTop - box.offsetTop;
-  if (top < box.scrollTop + 4) box.scrollTop = Math.max(0, top - item.offsetHeight);
-  else if (top + 2 * item.offsetHeight > box.scrollTop + box.clientHeight) box.scrollTop = top - box.clientHeight + 2 * item.offsetHeight;
 }

@@ -2,52 +2,45 @@
 // is refused by count can be made by a search instead.
 
 import { ask } from "./ask.js";
+import { conditionWords, questionOf } from "./condition_words.js";
 import { keyOf } from "./differences.js";
 import { button, el, plainMark, sentence } from "./dom.js";
 import * as guess from "./guess.js";
 import { missingState } from "./missing.js";
-import { asPrinted, leftOut, propositionOf, saveReport } from "./reports.js";
+import { asPrinted, leftOut, saveReport } from "./reports.js";
 import { Run } from "./run.js";
 import { isTooLong, searchOffer } from "./search.js";
 import { seenHere } from "./seen_here.js";
 import { Strip } from "./strip.js";
-import { codeNodes, tintsOf } from "./tint.js";
+import { codeNodes, tintedSentence, tintsOf } from "./tint.js";
 import { tell, tellNothing } from "./told.js";
+import { headingOf } from "./tokens.js";
+import { countWords, headlineOf } from "./verdicts.js";
 
 // Of how many states at most the list is shown as lw prints it.
 const MOST_PRINTED = 500;
 // The two ways in which a list is made, in words.
 const BY = {
-  enumerated: "The orders of what conflicts were enumerated. Both ways are proved to list all states, and no others.",
-  searched: "The states of the machine were searched. Both ways are proved to list all states, and no others.",
+  enumerated: ["complete (proved)", "The orders of what conflicts were enumerated. That lists all final states and no others, which is proved."],
+  searched: ["complete (proved), by a search", "The machine's states were searched. That lists all final states and no others, which is proved."],
 };
 const SIGNS = { yes: "✓", no: "⊘", wrong: "!" };
 const VEILED = "Your guess is kept. Watch shows the answer, and so does a list that you have found by hand.";
 const unmarked = () => [
-  "States are not marked, since the page's own reader ", plainMark(), " does not find as many that make the proposition true as lw counts.",
+  "States are not marked, since the page's own reader ", plainMark(), " does not find as many in which the condition holds as lw counts.",
 ];
-
-/** The verdict in a line, by what the test asks and what lw says; and its kind. */
-function headline({ asked, verdict, positive, number }) {
-  const states = `${number.toLocaleString("en")} final state${number === 1 ? "" : "s"}`;
-  const some = `${positive.toLocaleString("en")} of ${states}`;
-  const isOk = verdict === "Ok";
-  if (asked === "Required") return isOk ? ["yes", `Always: in all ${states}`] : ["no", `Not always: in ${some}`];
-  if (asked === "Forbidden") return isOk ? ["no", `Forbidden: 0 of ${states}`] : ["wrong", `Allowed: ${some}`];
-  return isOk ? ["yes", `Allowed: ${some}`] : ["no", `Forbidden: 0 of ${states}`];
-}
 
 export class States {
   /**
    * `revealed` is called when a list is shown, and when it is gone: `report` is that list, or null. `why` is called with a missing state,
-   * `drawn` when another run is shown. Runs are shown in `runPanel`, and their graph in `graphPlace`.
+   * `drawn` when another run is shown, `moved` when it is at another step. Runs are shown in `runPanel`, and their graph in `graphPlace`.
    */
-  constructor(panel, editor, revealed = () => null, { why = null, runPanel = panel, drawn = () => null, graphPlace = null } = {}) {
+  constructor(panel, editor, revealed = () => null, { why = null, runPanel = panel, graphPlace = null, ...called } = {}) {
     Object.assign(this, { editor, revealed, report: null, isByHand: false, isSearched: false, isVeiled: false, found: new Set() });
     this.verdict = el("div", { role: "status", tabindex: "-1", class: "verdicts" });
     this.list = el("div", { class: "list-place" });
     this.strip = new Strip(editor, { choose: (line) => this.choose(line), why });
-    this.run = new Run(editor, { reached: (line, program) => this.reach(line, program), drawn, graphPlace });
+    this.run = new Run(editor, { reached: (line, program) => this.reach(line, program), graphPlace, ...called });
     panel.append(this.verdict, this.list, this.strip.place);
     runPanel.append(this.run.place);
   }
@@ -99,7 +92,7 @@ export class States {
   question(answer, text, link) {
     this.clear();
     guess.question(text, this.list, answer, (name) => this.editor.id(name), () => this.revealGuessed(answer, link));
-    if (this.editor.isAlone) this.run.begin({}, { isLocked: true });
+    this.run.begin({}, { isLocked: true });
   }
 
   /** Shows the list once the guess is made. Who looks for the states by hand is not shown the verdict yet. */
@@ -116,7 +109,7 @@ export class States {
     this.tellVerdict();
     this.list.replaceChildren(leftOut(report) ?? "", report.is_marked ? "" : el("p", { class: "small" }, unmarked()));
     if (!this.isByHand) this.list.append(seenHere(this.editor.text));
-    this.strip.show(report, tintsOf(this.editor.text), missingState(report));
+    this.strip.show(report, tintsOf(this.editor.text), missingState(report, questionOf(this.editor.text)));
     this.revealed();
     if (this.isByHand) return this.beginByHand(link?.view === "hand" ? link : {});
     if (link?.view === "hand" && link.schedule !== undefined) return this.run.begin(link);
@@ -142,16 +135,18 @@ export class States {
 
   tellAnswer() {
     const { report, words } = this;
-    const said = guess.guessOn(this.editor.text);
-    const [kind, line] = headline(report);
-    const proposition = propositionOf(report);
-    const by = this.isSearched ? "searched" : "enumerated";
+    const { text } = this.editor;
+    const tints = tintsOf(text);
+    const said = guess.guessOn(text);
+    const [kind, word, sentence] = headlineOf(headingOf(text).language, report, conditionWords(text));
+    const [by, way] = BY[this.isSearched ? "searched" : "enumerated"];
     this.verdict.className = `verdicts ${kind}`;
     this.verdict.replaceChildren(
-      el("p", { class: "verdict" }, el("span", { class: "sign", "aria-hidden": "true" }, SIGNS[kind]), el("strong", {}, line)),
-      el("p", { class: "asked", title: proposition }, el("code", {}, codeNodes(proposition, tintsOf(this.editor.text), null)),
-        el("span", { class: "why-words", title: words.bounds }, ` ${words.verdict} The list is complete:`),
-        el("span", { class: "by", title: BY[by] }, ` ${by}, and proved.`),
+      el("p", { class: "verdict" }, el("span", { class: "sign", "aria-hidden": "true" }, SIGNS[kind]),
+        el("span", {}, el("strong", {}, word), " ", el("span", { class: "in-words", title: words.bounds }, tintedSentence(sentence, tints)))),
+      el("p", { class: "asked" }, el("code", {}, codeNodes(report.condition, tints, null)),
+        el("span", { class: "count-words" }, ` ${countWords(report)}`), " ",
+        el("span", { class: "by", title: way }, el("span", { class: "long-by" }, "The list is "), `${by}.`),
         said === null ? "" : el("b", { class: "said" }, said === words.is_so ? " ✓ As you said." : " ✗ Not as you said.")),
     );
   }

@@ -12,13 +12,14 @@ import { siteNode } from "./tint.js";
 const MOST_COLUMNS = 16;
 const MOST_NAMES = 5;
 const FEW_COLUMNS = 6;
-// Widths in letters of the page's size: what the verdict needs beside the list, a letter of a name, and what stands around.
+// Widths in letters of the page's size: what the verdict needs beside the list, a letter of a name, the titles of rows, and what is around.
 const VERDICT = 29;
 const LETTER = 0.57;
+const TITLES = 6.4;
 const [WIDE_COLUMN, NARROW_COLUMN, NEVER_COLUMN] = [3, 2.5, 4.2];
 const AROUND_ROWS = 18;
 
-const NOT_PROVED = "in which states the proposition is true: found by the page's own code, which is not proved";
+const NOT_PROVED = "in which states the condition holds: found by the page's own code, which is not proved";
 
 export class Strip {
   /**
@@ -72,7 +73,7 @@ export class Strip {
   /** How wide the list is as columns, and as rows. */
   widths() {
     const { length } = this.report.states;
-    const names = Math.max(4, ...this.names.map((it) => it.length)) * LETTER + 1;
+    const names = Math.max(TITLES, ...this.names.map((it) => it.length * LETTER)) + 1;
     const columns = names + length * (length > FEW_COLUMNS ? NARROW_COLUMN : WIDE_COLUMN) + (this.ghost ? NEVER_COLUMN : 0);
     const rows = AROUND_ROWS + this.names.reduce((sum, it) => sum + it.length + 2, 0) * LETTER;
     return { columns, rows };
@@ -130,7 +131,7 @@ export class Strip {
 
   headOf(state) {
     const isShown = this.isShown(state);
-    const truth = state.holds ? " The proposition is true there." : "";
+    const truth = state.holds ? " The condition holds there." : "";
     const label = isShown ? `Watch a run to ${state.line}${truth}` : `State ${state.index + 1}, not found yet`;
     const choose = button(String(state.index + 1), () => isShown && this.choose(state.line), {
       class: "watch",
@@ -145,7 +146,7 @@ export class Strip {
   headOfGhost() {
     const { ghost } = this;
     if (!ghost) return null;
-    const attributes = { class: "watch", "aria-label": `No run ends in ${ghost} Why not?`, title: "No run ends so. Why?" };
+    const attributes = { class: "watch", "aria-label": `No run ends in ${ghost} Why not?`, title: "No run ends this way. Why?" };
     return el("th", { scope: "col", class: "never" }, button("never", () => this.why(ghost), attributes));
   }
 
@@ -161,11 +162,11 @@ export class Strip {
     return el("tr", {}, el("th", { scope: "row" }, siteNode(name, this.tints)), cells, ghost ? el("td", { class: "never" }, word(ghost)) : null);
   }
 
-  /** The row that says in which states the proposition is true. */
+  /** The row that says in which states the condition holds. */
   marks() {
     const mark = (state) => (state.holds ? "✓" : el("span", { class: "hidden" }, "false"));
     const cells = this.cellsOf((state) => (this.isShown(state) ? mark(state) : ""), "mark");
-    const title = el("th", { scope: "row", class: "small", title: NOT_PROVED }, "true");
+    const title = el("th", { scope: "row", class: "small", title: NOT_PROVED }, "condition holds");
     return el("tr", { class: "marks-row" }, title, cells, this.ghost ? el("td", { class: "never" }) : null);
   }
 

@@ -1,6 +1,7 @@
 // Why a test does not end in a state that the reader names, with the cycle that forbids it drawn.
 
 import { ask } from "./ask.js";
+import { questionOf } from "./condition_words.js";
 import { button, el, plainMark } from "./dom.js";
 import { legend, shownGraph } from "./execution_graph.js";
 import { missingState } from "./missing.js";
@@ -12,7 +13,7 @@ import { headingOf } from "./tokens.js";
 
 const NONE_MISSING =
   "Of the words that the list shows no combination is missing, or the list is too long to look for one. Write others.";
-const CIRCLE = "Each arrow means “comes before”. The bold ones go round in a circle, so no run can end so.";
+const CIRCLE = "Each arrow means “comes before”. The bold ones go round in a circle, so no run can end this way.";
 
 export class Why {
   constructor(editor) {
@@ -32,7 +33,7 @@ export class Why {
     this.clear();
     if (!report?.states.length) return;
     this.tints = tintsOf(this.editor.text);
-    const missing = missingState(report);
+    const missing = missingState(report, questionOf(this.editor.text)) ?? missingState(report);
     const words = new Map(missing === null ? [] : wordsOf(missing));
     this.fields = namesOf(report).map((name) => ({ name, field: this.fieldOf(name, words.get(name)) }));
     const fields = this.fields.map(({ name, field }) => el("label", { class: "site-field" }, siteNode(name, this.tints), "=", field));
@@ -69,7 +70,8 @@ export class Why {
 
   partsOf({ lines, cycles }, isSource) {
     const drawn = cycles.map(({ graph, words }) => el("figure", {}, shownGraph(graph, this.tints).graph, el("figcaption", {}, words)));
-    const head = el("p", { class: "why-head" }, isSource ? "Of the compiled program: " : "", el("b", {}, lines[0]), " ", plainMark());
+    const of = isSource ? "Of the compiled program, with the source's names: " : "";
+    const head = el("p", { class: "why-head" }, of, el("b", {}, lines[0]), " ", plainMark());
     const told = el("details", { open: !drawn.length }, el("summary", {}, "In words"), el("pre", {}, lines.join("\n")));
     if (!drawn.length) return [head, told];
     return [head, el("p", { class: "small" }, CIRCLE), el("div", { class: "figures" }, drawn), legend(), told];

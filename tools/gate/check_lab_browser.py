@@ -257,14 +257,13 @@ def repair_shop(student, answers):
     for name, (example, *rows) in tests.items():
         student.open_test(5, name)
         yield f"5, {name} as it is", answers.true_of[example], student.states(None if name == "A4" else "yes")
-        text = student.run(TEXT)
         for line, row, wanted in rows:
             student.open_test(5, name)
             student.type_behind(line, row)
             positive, number = answers.true_of[wanted]
             yield f"5, {name} with {row} behind line {line}, and no second guess", [positive, number], student.states()
             fences, told = student.which_fences()
-            is_it = f"is true in none of {number} states." if not positive else f"in the same {number} states, and ({question_of(text)}) is true in 1 of them."
+            is_it = f"the condition holds in none of {number} states." if not positive else f"in the same {number} states, and the condition holds in 1 of them."
             yield f"5, {name} with {row} behind line {line}: Fences", True, told.endswith(is_it) or told
             if not positive:
                 yield f"5, {name}: the place", places[name], fences
@@ -273,16 +272,12 @@ def repair_shop(student, answers):
     for line in (8, 4, 3):
         student.type_behind(line, " MFENCE | MFENCE ;")
     yield "5.4, E3 with fences", answers.true_of["TestThenSet-x86"], student.states()
-    nothing = "The fences change nothing: with all of them and with none the test ends in the same 3 states, and (0:EBX=1 /\\ 1:EBX=1) is true in 1 of them."
+    nothing = "The fences change nothing: with all of them and with none the test ends in the same 3 states, and the condition holds in 1 of them."
     yield "5.4, E3: Fences", nothing, student.which_fences()[1]
     student.open_test(5, "E4")
     yield "5.4, E4: what is asked", True, "by interleaving, in which the threads take turns," in student.text("#outcome .predict")
     yield "5.4, E4", answers.true_of["TestThenSet"], student.states("yes")
     yield "5.4, E4: by interleaving", True, "There is a run by interleaving" in student.text("#outcome .verdict")
-
-
-def question_of(text):
-    return re.search(r"exists \((.*)\)", text)[1]
 
 
 def caches(student, answers):

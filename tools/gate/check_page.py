@@ -32,6 +32,7 @@ from concurrent.futures import ThreadPoolExecutor
 
 sys.dont_write_bytecode = True
 sys.path.insert(0, os.path.dirname(os.path.dirname(os.path.abspath(__file__))))
+import effects
 import picture
 from gate.browser import page_case, subjects, user
 from page import web_files, web_runs
@@ -375,12 +376,14 @@ def check_searches(page):
 
 
 def check_pictures(_page):
+    sentences = {int(kind.split()[1]): it for kind, it in web_files.sentences().items() if kind.startswith("end ")}
+    yield "refusals are told by the sentences of docs/FORMAT.md", sentences, effects.REFUSALS
     for path, *what in picture.DOCUMENTS:
         yield f"{path} is as tools/picture.py draws it", picture.document_picture(*what), read(path)
     for schedule, more, line, panels in (
-        ("P0 D1 P0", ["--strip"], "picture: event 1, D1, is refused: BufferEmpty", 2),
-        ("D0 P0", ["--strip"], "picture: event 0, D0, is refused: BufferEmpty", 1),
-        ("P0 E0:y", [], "picture: event 1, E0:y, is refused: NotHeld", 1),
+        ("P0 D1 P0", ["--strip"], "picture: event 1, D1, is refused: there is no entry to drain", 2),
+        ("D0 P0", ["--strip"], "picture: event 0, D0, is refused: there is no entry to drain", 1),
+        ("P0 E0:y", [], "picture: event 1, E0:y, is refused: the cache does not hold the line", 1),
     ):
         words = [sys.executable, f"{HOME}/tools/picture.py", schedule, *more, f"{HOME}/examples/SB-x86.litmus"]
         ran = subprocess.run(words, capture_output=True, text=True, check=False)
@@ -784,7 +787,7 @@ class Misbehaving(page_case.PageCase):
         self.assertSays("Cancelled.", "#outcome .notice")
         self.assertTrue(are_gone(started))
         user.run_text("SRC A")
-        self.assertSays("Allowed: 1 of 1 final state", "#outcome .verdict strong")
+        self.assertSays("The condition holds in 1 of 1 final state.", "#outcome .asked")
         copy.write(f"{copy.home}/crates/lw/src/main.rt", "// lw, changed\n")
         user.click("#run-it")
         self.assertSays("The sources have changed, or the program is gone: start ./page again.", "#outcome .notice")

@@ -159,7 +159,7 @@ async function loadPage() {
     const names = fs.readdirSync(`${HOME}/web`).filter((it) => it.endsWith(".js"));
     for (const name of names) fs.copyFileSync(`${HOME}/web/${name}`, `${room}/${name}`);
     const load = (name) => import(pathToFileURL(`${room}/${name}.js`).href);
-    const parts = ["aligned", "differences", "module", "program", "questions", "replays", "seen_here", "served"];
+    const parts = ["aligned", "condition_words", "differences", "module", "program", "questions", "replays", "seen_here", "served", "verdicts"];
     const loaded = await Promise.all(parts.map(load));
     return Object.fromEntries(parts.map((name, at) => [name, loaded[at]]));
   } finally {
@@ -298,6 +298,7 @@ async function compareText(page, program, plain, tally, name, text) {
     const told = page.questions.answerTo(program, question, fields);
     tally.compare(`${name}: ${question} ${JSON.stringify(more)}`, shown(await plain.ask(question, fields)), shown(told));
     for (const film of Object.values(told.films ?? {}).filter(Boolean)) compareEffects(tally, name, film);
+    if (told.films) compareCondition(page, tally, name, text, told);
     for (const kind of ["compiled", "bare"].filter((it) => told[it])) {
       const list = { text: told[kind] };
       const answer = page.questions.answerTo(program, "states", list);
@@ -305,6 +306,21 @@ async function compareText(page, program, plain, tally, name, text) {
     }
   }
   compareReplays(page, program, tally, name, text);
+}
+
+/** In a run to a state in which the condition holds, the threads read what the condition in words says, in its order. */
+function compareCondition(page, tally, name, text, { films, state }) {
+  const decoded = text.toString();
+  const words = page.condition_words.conditionWords(decoded);
+  const { isAsked } = page.condition_words.questionOf(decoded);
+  if (!words || !films.x86 || /^\s*\(?\*?.*forall/ms.test(decoded) || !isAsked(state)) return;
+  for (const [, thread, listed] of words.matchAll(/P(\d) reads ((?:`\w+=\d+`(?:, then )?)+)/g)) {
+    const wanted = [...listed.matchAll(/`(\w+=\d+)`/g)].map(([, it]) => it);
+    const read = films.x86.effects.filter((it) => it.thread === Number(thread)).flatMap((it) => /reads `(\w+=\d+)`/.exec(it.words)?.[1] ?? []);
+    let at = 0;
+    for (const it of read) if (it === wanted[at]) at += 1;
+    tally.compare(`${name}: P${thread} reads ${wanted.join(", ")} in the run to ${state}`, wanted.length, at);
+  }
 }
 
 /** Compares what is said of the steps of a film with the replays: of each it is known what it does, and what is read is what is there. */
@@ -502,11 +518,13 @@ function example(name) {
 function compareTyped(page, program, tally) {
   const ask = (question, text, more = {}) => page.questions.answerTo(program, question, { text, ...more });
   const compare = (what, wanted, told) => tally.compare(what, wanted, JSON.parse(JSON.stringify(told)));
-  for (const [name, question, isSo, verdict, telling] of VERDICTS) {
-    const { words } = ask("states", example(name));
-    const told = [words.question, words.is_so, words.verdict, words.telling];
-    compare(`the words on ${name}`, [question, isSo, verdict, telling], told);
+  for (const [name, question, isSo, telling, ...verdict] of VERDICTS) {
+    const { words, report, language } = ask("states", example(name));
+    const said = page.verdicts.headlineOf(language, report, page.condition_words.conditionWords(example(name)));
+    compare(`the words on ${name}`, [question, isSo, telling, ...verdict], [words.question, words.is_so, words.telling, ...said]);
   }
+  compare("in how many states a condition holds", COUNTS.map(([, , words]) => words),
+    COUNTS.map(([positive, number]) => page.verdicts.countWords({ positive, number })));
   const causes = (name, schedule) => {
     const { moves } = ask("moves", example(name), { schedule, protocol: "mesi" });
     return moves.map(({ event, refused }) => [event, refused && refused.cause]);
@@ -536,11 +554,18 @@ function compareTyped(page, program, tally) {
   compare("a picture holds a test's name as a text", [true, false], [picture.includes("&lt;b&gt;"), picture.includes("<b>")]);
 }
 
+const BY_TURNS = "by interleaving, in which the threads take turns,";
+// Of examples the question, whether the answer is yes, the state that shows it, and the verdict: its kind, its word and its sentence.
 const VERDICTS = [
-  ["SB", "Does some run by interleaving, in which the threads take turns, end so?", false, "Interleaving forbids it: no run ends so.", null],
-  ["SB-x86", "Does some run on x86-TSO end so?", true, "x86-TSO allows it: some run ends so.", 0],
-  ["MP-x86", "Does some run on x86-TSO end so?", false, "x86-TSO forbids it, as the test says: no run ends so.", null],
-  ["Counter", "Does every run by interleaving, in which the threads take turns, end so?", true, "Interleaving requires it, as the test says: every run ends so.", null],
+  ["SB", `Can a run ${BY_TURNS} end this way?`, false, null, "no", "Forbidden.",
+    "There is no run by interleaving in which P0 reads `y=0` and P1 reads `x=0`."],
+  ["SB-x86", "Can a run on x86-TSO end this way?", true, 0, "yes", "Allowed.", "There is a run in which P0 reads `y=0` and P1 reads `x=0`."],
+  ["MP-x86", "Can a run on x86-TSO end this way?", false, null, "no", "Forbidden.", "There is no run in which P1 reads `y=1`, then `x=0`."],
+  ["Counter", `Does every run ${BY_TURNS} end this way?`, true, null, "yes", "Always.", "In every run by interleaving memory ends with `x=2`."],
+];
+const COUNTS = [
+  [0, 3, "The condition holds in none of 3 final states."], [1, 4, "The condition holds in 1 of 4 final states."],
+  [4, 4, "The condition holds in all 4 final states."], [1, 1, "The condition holds in 1 of 1 final state."],
 ];
 const MOVES = [
   ["P0", "FenceWaits"], ["D0", null], ["E0:x", "NotHeld"], ["E0:y", "NotHeld"],

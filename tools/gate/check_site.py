@@ -41,6 +41,9 @@ NODE = shutil.which("node")
 SMALLEST = b"\0asm\1\0\0\0"
 # The most bytes of the site of one file.
 MOST_BYTES = 1_000_000
+# The most bytes that a browser loads of a site of files before its first answer: at 1.6 Mbit/s they take some 2.6 seconds.
+MOST_LOADED = 530_000
+LOADED = ("index.html", "style.css", "tables.js", "page.js", "workbench1.js")
 BUNDLED = {
     "main.js": 'import { two } from "./other.js";\nimport * as whole from "./other.js";\ntold.push(two(), whole.one, typeof site);\n',
     "other.js": "/** One. */\nexport const one = 1;\n\nexport function two() {\n  return one + 1;\n}\n",
@@ -288,6 +291,8 @@ def by_browser():
             comparing = make_comparing(f"{room}/comparing", modules)
             opened = sites(room)
             yield "the site: the one file is small", True, os.path.getsize(f"{room}/one.html") < MOST_BYTES
+            loaded = sum(os.path.getsize(f"{room}/site/{name}") for name in LOADED)
+            yield f"the site: few bytes come before the first answer: {loaded}", True, loaded < MOST_LOADED
             for name, start in browsers().items():
                 in_browser = lambda it: ((f"in {name}, {what}", wanted, told) for what, wanted, told in it)
                 yield from in_browser(check_page.guarded(compare_answers, comparing, modules, asked, start))

@@ -21,6 +21,7 @@ import given
 import graph
 import picture
 import plain
+from effects import refusal
 from films import Refused, film_of, language_of, replayed
 from replay_state import ends_in
 
@@ -202,7 +203,7 @@ def answer_moves(text, schedule, protocol):
     if state["end"]["kind"] == "Stopped":
         refused = {name: state["end"][name] for name in ("at", "number", "cause")}
         event = schedule.split()[refused["at"]]
-        why = f"Event {refused['at'] + 1} of the schedule, {event}, is refused: {refused['cause']}."
+        why = f"Event {refused['at'] + 1} of the schedule, {event}, is refused: {refusal(refused['number'])}."
         raise NoAnswer(why, refused={"event": event, **refused})
     is_x86 = language_of(text) == "X86"
     moves = []

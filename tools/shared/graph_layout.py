@@ -249,9 +249,16 @@ class GraphLayout:
         curves = self.curves_of(route)
         x, y = curves[0][0]
         if route.way == "start":
-            if self.is_turned:
-                return [(x + width / 2 + 4, y + 6), (x - width / 2 - 4, y + 6), (x, y - 8)]
-            return [(x + 4, y - 10), (x + 4, y + 11), (x - width / 2, y), (x - 8, y - 10), (x - 8, y + 11)]
+            return self.spots_of_start(route, x, y, width)
         right, down = (0, 0) if route.way != "next" else (0, -10) if self.is_turned else (width / 2 + 4, 0)
         points = [on_curve(curve, part) for curve in curves for part in PLACES]
         return [(left + right, top + down + offset) for offset in OFFSETS for left, top in points]
+
+    def spots_of_start(self, route, x, y, width):
+        """Where the label of an arrow from an initial word may be: first on that side of it on which no other arrow ends."""
+        is_last = route.ports[1] > self.spot(route.source)[1] + self.deep / 2
+        sideways, downwards = width / 2 + 4, 11
+        spots = [(x + 4, y - downwards), (x + 4, y + downwards), (x - width / 2, y), (x - 8, y - downwards), (x - 8, y + downwards)]
+        if self.is_turned:
+            spots = [(x - sideways, y + 6), (x + sideways, y + 6), (x, y - 8)]
+        return [spots[1], spots[0], *spots[2:]] if is_last else spots

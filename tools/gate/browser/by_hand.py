@@ -63,7 +63,7 @@ class Clicks(PageCase):
         begin(user, "#example=SB-x86&view=hand")
         self.assertSays("Found 0 of 4 states.", "#outcome .found")
         user.carry_out("P0", "P0", "P1", "P1", "D0", "D1")
-        self.assertStep("The run has ended: (0:EAX=0 /\\ 1:EAX=0) is true. plain")
+        self.assertStep("The run has ended. The condition holds. not proved")
         self.assertSays("Found 1 of 4 states.", "#outcome .found")
         self.assertEqual(["EAX 0", "EAX 0"], [it.replace(" put", "") for it in user.texts("#watching .register")])
         self.assertEqual(["0 · · ·", "0 · · ·"], [it.split(" ", 1)[1] for it in user.texts("table.strip tbody tr")[:2]])

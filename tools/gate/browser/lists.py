@@ -23,6 +23,11 @@ def columns(user):
     return user.texts("#outcome table.strip tbody tr")
 
 
+def verdict(user):
+    """The verdict: a word and a sentence."""
+    return user.text("#outcome .verdict > span:last-child")
+
+
 class FirstView(PageCase):
     """The page as it opens."""
 
@@ -33,7 +38,7 @@ class FirstView(PageCase):
         self.assertEqual("X86 SB-x86", user.value()[:10])
         self.assertEqual(1, len(user.all("h1")))
         self.assertEqual("1 2 3 4 5 6 7", " ".join(user.text(".numbers").split()[:7]))
-        self.assertEqual("Allowed: 1 of 4 final states", user.text("#outcome .verdict strong"))
+        self.assertSays("The condition holds in 1 of 4 final states.", "#outcome .asked")
         self.assertEqual(["x 1 ↓", "y 1 ↓"], user.texts("#watching .entry"))
 
     def test_in_sight_together(self):
@@ -83,17 +88,17 @@ class Verdicts(PageCase):
         user = self.user
         user.open_listed("#example=SB")
         self.assertEqual("SRC SB\n{}\n P0 ", user.value()[:14])
-        self.assertEqual("Forbidden: 0 of 3 final states", user.text("#outcome .verdict strong"))
-        self.assertSays("Interleaving forbids it: no run ends so.", "#outcome .asked")
-        self.assertEqual(["0:r0 0 1 1 0", "1:r0 1 0 1 0", "true false false false"], columns(user))
+        self.assertSays("The condition holds in none of 3 final states.", "#outcome .asked")
+        self.assertEqual("Forbidden. There is no run by interleaving in which P0 reads y=0 and P1 reads x=0.", verdict(user))
+        self.assertEqual(["0:r0 0 1 1 0", "1:r0 1 0 1 0", "condition holds false false false"], columns(user))
 
     def test_x86(self):
         """The state that interleaving lacks is marked."""
         user = self.user
         user.open_listed("#example=SB-x86")
-        self.assertSays("x86-TSO allows it: some run ends so.", "#outcome .asked")
-        self.assertSays("The list is complete: enumerated, and proved.", "#outcome .asked")
-        self.assertEqual(["0:EAX 0 0 1 1", "1:EAX 0 1 0 1", "true ✓ false false false"], columns(user))
+        self.assertEqual("Allowed. There is a run in which P0 reads y=0 and P1 reads x=0.", verdict(user))
+        self.assertSays("The list is complete (proved).", "#outcome .asked")
+        self.assertEqual(["0:EAX 0 0 1 1", "1:EAX 0 1 0 1", "condition holds ✓ false false false"], columns(user))
         self.assertEqual(3, len(user.all("table.strip td.holds")))
 
     def test_as_printed(self):
@@ -102,6 +107,7 @@ class Verdicts(PageCase):
         user.open_listed("#example=SB-x86")
         printed = lw("states", given=read("examples/SB-x86.litmus"))
         user.click("#printed-place summary")
+        user.find("#printed pre")
         self.assertEqual(printed, user.run("return document.querySelector('#printed pre').textContent") + "\n")
         user.click("#printed button")
         self.assertEqual(printed, user.saved("SB-x86.states.txt"))
@@ -112,6 +118,28 @@ class Verdicts(PageCase):
         user.open_listed("#example=MP-x86")
         user.click("table.strip .never .watch")
         self.assertSays("1:EAX=1; 1:EBX=0; 1 candidate execution, and x86-TSO allows none:", "#why .why-head")
+
+    def test_missing_is_asked_about(self):
+        """A state that is missing is shown only if the condition asks about it."""
+        user = self.user
+        user.open_listed("#example=ChaseLev-x86")
+        self.assertEqual([], user.all("table.strip .never"))
+        user.open_listed("#example=IRIW-x86")
+        words = [it.split()[-1] for it in user.texts("table.strip tbody tr:not(.marks-row)")]
+        self.assertEqual(["1", "0", "1", "0"], words)
+
+    def test_sentences(self):
+        """The verdict is a sentence: what threads read, what they end with, and what memory has; of what is no conjunction, the condition."""
+        user = self.user
+        for name, said in (
+            ("MP-x86", "Forbidden. There is no run in which P1 reads y=1, then x=0."),
+            ("ChaseLev-x86", "Allowed, against the test. There is a run in which P0 ends with ECX=1 and P1 ends with ECX=1."),
+            ("2%2B2W-x86", "Forbidden. There is no run in which memory ends with x=1 and y=1."),
+        ):
+            user.open_listed(f"#example={name}")
+            self.assertEqual(said, verdict(user))
+        user.run_text("SRC Or\n{}\n P0 | P1 ;\n x := 1 | r0 := x ;\nforall (1:r0=0 \\/ 1:r0=1)\n")
+        self.assertSoon("Always. In every run by interleaving the condition holds.", lambda: verdict(user))
 
     def test_choice_is_watched(self):
         """A column is chosen by a click anywhere in it, and its run is watched."""
@@ -133,7 +161,7 @@ class LongLists(PageCase):
         user = self.user
         user.open_listed()
         user.run_text(MANY)
-        self.assertEqual("Allowed: 1,024 of 4,096 final states", user.soon("#outcome .verdict strong", "4,096"))
+        self.assertSays("The condition holds in 1,024 of 4,096 final states.", "#outcome .asked")
         self.assertTrue(3 <= len(user.all("#outcome .row-line")) < 20)
         rows = user.find("#outcome .rows")
         rows.send_keys(user.keys.END)
@@ -144,11 +172,11 @@ class LongLists(PageCase):
         self.assertEqual(lw("states", given=MANY), user.saved("Many.states.txt"))
 
     def test_only_true(self):
-        """The rows in which the proposition is true are shown alone."""
+        """The rows in which the condition holds are shown alone."""
         user = self.user
         user.open_listed()
         user.run_text(MANY)
-        user.soon("#outcome .verdict strong", "4,096")
+        user.soon("#outcome .asked", "4,096")
         user.click("#outcome .rows-tools input")
         rows = lambda kind: len(user.all(f"#outcome .row-line{kind}"))
         self.assertSoon(True, lambda: 0 < rows("") == rows(".holds"))

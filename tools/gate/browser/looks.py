@@ -138,7 +138,9 @@ class Windows(PageCase):
             return
         user.driver.execute_cdp_cmd("Emulation.setEmulatedMedia", {"media": "print"})
         try:
-            self.assertEqual([], [it for it in user.texts("button, select, textarea, .button") if it and not it.isdigit() and it != "never"])
+            outside = ":is(button, select, textarea, .button):not(.machine *, .strip *)"
+            self.assertEqual([], [it for it in user.texts(outside) if it])
+            self.assertTrue(bool(user.all("#watching .code .next .line")))
             text = "const it = document.querySelector('.printed'); return [it.textContent, it.scrollHeight <= it.clientHeight]"
             self.assertEqual([user.value(), True], user.run(text))
         finally:
@@ -185,7 +187,7 @@ class Reading(PageCase):
         while len(seen) < 60 and len(seen) == len(set(seen)):
             user.press(user.keys.TAB)
             seen.append(user.focused().get_attribute("id") or f"without an id, {len(seen)}")
-        front = ["skip", "open-gallery", "open-about", "predict", "caches", "large", "set-beside", "present"]
+        front = ["skip", "open-gallery", "open-about", "predict", "caches", "large", "theme", "set-beside", "present"]
         wanted = [*front, "text", "run-it", "file", "save", "link"]
         self.assertEqual(wanted, [it for it in seen if it in wanted][: len(wanted)])
         for it in ("tab-states", "back", "forward", "play", "graph-switch"):
@@ -217,6 +219,25 @@ class Reading(PageCase):
         self.assertEqual("loc-0", user.run("return document.documentElement.dataset.lit"))
 
 
+class Theme(PageCase):
+    """Light and dark."""
+
+    GROUND = "return getComputedStyle(document.body).backgroundColor"
+
+    def test_chosen(self):
+        """Dark is chosen on the page, whatever the system asks, and is kept; then the system is asked again."""
+        user = self.user
+        user.open_listed()
+        by_system = user.run(self.GROUND)
+        for theme, ground in (("dark", "rgb(15, 18, 23)"), ("light", "rgb(244, 245, 248)")):
+            user.choose("#theme", theme)
+            self.assertEqual(ground, user.run(self.GROUND))
+            user.open_listed()
+            self.assertEqual((theme, ground), (user.value("#theme"), user.run(self.GROUND)))
+        user.choose("#theme", "system")
+        self.assertEqual(by_system, user.run(self.GROUND))
+
+
 class Projector(PageCase):
     """The view for a projector."""
 
@@ -242,6 +263,16 @@ class Projector(PageCase):
             user.press(user.keys.ESCAPE)
             self.assertSoon(False, lambda: "present" in user.run("return document.documentElement.className"))
 
+    def test_graph(self):
+        """The condition with its quantifier is shown, and the graph if it has room; it goes back to its place then."""
+        user = self.user
+        self.present("#example=SB-x86", 1280, 720)
+        self.assertEqual("exists (0:EAX=0 /\\ 1:EAX=0)", user.text("#outcome .asked code"))
+        user.find("#answers > #graph-place svg.graph")
+        self.assertSoon(True, lambda: user.run(IN_SIGHT, "svg.graph, #watching .machine, #watching .events"))
+        user.press(user.keys.ESCAPE)
+        user.find("#test > #graph-place svg.graph")
+
     def test_closed(self):
         """A button closes it, and the focus goes back."""
         user = self.user
@@ -250,4 +281,4 @@ class Projector(PageCase):
         self.assertSoon("present", lambda: user.focused().get_attribute("id"))
 
 
-SUBJECTS = (Windows, Reading, Projector)
+SUBJECTS = (Windows, Reading, Theme, Projector)

@@ -36,7 +36,7 @@ class WhyNot(PageCase):
             user.click("#tab-why")
             user.click(".why-not")
             self.assertSays("candidate execution", "#why .why-head")
-            self.assertIn("Of the compiled program: ", user.text("#why .why-head"))
+            self.assertIn("Of the compiled program, with the source's names: ", user.text("#why .why-head"))
             self.assertEqual([], user.all("#why .notice"))
 
     def test_none_missing(self):
@@ -61,7 +61,7 @@ class Compiling(PageCase):
         self.assertSoon(["MFENCE fence"] * 2, lambda: user.texts("#compile td.fence"))
         self.assertSoon(["new +"], lambda: user.texts("#compile .alone-row"))
         user.click("#compile .columns:last-of-type > div:last-child th.holds .watch")
-        self.assertSays(f"A run of the program without fences plain to {MISSED}", "#compile .of")
+        self.assertSays(f"A run of the program without fences not proved to {MISSED}", "#compile .of")
         self.assertEqual((2, []), threads_of_run(user, "#compile"))
         user.press(user.keys.END)
         self.assertSoon(["EAX 0", "EAX 0"], lambda: [it.replace(" put", "") for it in user.texts("#compile .register")])
@@ -99,7 +99,7 @@ class Compiling(PageCase):
         user.click("#play")
         user.click("#compile .transport [aria-label='To the start']")
         user.click("#compile [data-event=P1]")
-        self.assertSays("A run of the program without fences plain", "#compile .of")
+        self.assertSays("A run of the program without fences not proved", "#compile .of")
         if not user.run("return document.getElementById('caches').checked"):
             user.click("#caches")
         user.choose("#compile #protocol", "moesi")
@@ -125,11 +125,11 @@ class Fences(PageCase):
         user = self.user
         user.open_listed("#example=SB&view=fences")
         needed = "Each fence is needed: without any one of them the compiled program ends in more states. "
-        self.assertSays(f"{needed}With all (0:EAX=0 /\\ 1:EAX=0) is true in none of 3 states.", "#fences .verdict")
+        self.assertSays(f"{needed}With all the condition holds in none of 3 states.", "#fences .verdict")
         rows = [f"P{it}, before MOV EAX,[{'yx'[it]}] adds 1 state {MISSED} Watch" for it in (0, 1)]
         self.assertEqual(rows, user.texts("#fences tbody tr"))
         user.click("#fences tbody tr:first-child .watch")
-        self.assertSays(f"A run without the fence of P0, before MOV EAX,[y] plain to {MISSED}", "#fences .of")
+        self.assertSays(f"A run without the fence of P0, before MOV EAX,[y] not proved to {MISSED}", "#fences .of")
         self.assertEqual((2, ["P1"]), threads_of_run(user, "#fences"))
         self.assertEqual("#example=SB&view=fences", user.link())
 
@@ -137,17 +137,38 @@ class Fences(PageCase):
         """What is said of fences that are needed, that are not, and that do not make a test right."""
         user = self.user
         for example, verdict in (
-            ("SB-x86", "The program has no MFENCE: (0:EAX=0 /\\ 1:EAX=0) is true in 1 of 4 states."),
+            ("SB-x86", "The program has no MFENCE: the condition holds in 1 of 4 states."),
             ("SB+mfence-x86", "The fence changes nothing: with it and without it the test ends in the same 4 states, and "
-             "(0:EAX=0 /\\ 1:EAX=0) is true in 1 of them."),
-            ("R+mfence-x86", "The fence is needed: without it the test ends in more states. With it (y=2 /\\ 1:EAX=0) is true in none of 3 states."),
+             "the condition holds in 1 of them."),
+            ("R+mfence-x86", "The fence is needed: without it the test ends in more states. With it the condition holds in none of 3 states."),
             ("Bakery", "Enough for the same 3 states, with none to spare: P0, before MOV EAX,[n1]; P1, before MOV EBX,[c0]. "
-             "With these (0:ECX=1 /\\ 1:ECX=1) is true in none of them."),
+             "With these the condition holds in none of them."),
         ):
             user.open(f"#example={quote(example)}&view=fences")
             self.assertEqual(verdict, user.text("#fences .verdict"))
         names = user.texts("#fences tbody th")
         self.assertEqual(len(names), len(set(names)))
+
+    def test_search(self):
+        """Where lw refuses a list, a search is offered, and then all lists come from lw."""
+        user = self.user
+        user.open_listed()
+        user.paste(FIVE.replace("x := 2", "r0 := x", 1))
+        user.click("#tab-fences")
+        user.click("#search-fences")
+        self.assertSays("All lists come from lw, by a search.", "#fences .small")
+        self.assertEqual([], user.all("#search-fences"))
+
+    def test_names(self):
+        """Which register of the source each one is that the compiled program names is said."""
+        user = self.user
+        user.open_listed("#example=SB&view=fences")
+        self.assertSays("In the compiled program EAX is r0 of the source.", "#fences p")
+        user.click("#tab-compile")
+        self.assertSays("In the compiled program EAX is r0 of the source.", "#compile p")
+        user.click("#tab-states")
+        user.choose("#film-run", "x86")
+        self.assertSoon(["EAX r0 0"], lambda: sorted({it.replace(" put", "") for it in user.texts("#watching .register")}))
 
     def test_several_in_a_thread(self):
         """Two fences of one thread."""

@@ -2,7 +2,7 @@
 from gate.browser.page_case import PageCase
 from gate.browser.user import read
 
-QUESTION = "Does some run on x86-TSO end so? (0:EAX=0 /\\ 1:EAX=0)"
+QUESTION = "Can a run on x86-TSO end this way? P0 reads y=0 and P1 reads x=0. (0:EAX=0 /\\ 1:EAX=0)"
 
 
 def open_anew(user, link):
@@ -67,20 +67,20 @@ class Guess(PageCase):
         open_anew(user, "#example=SB-x86&predict=1")
         user.find("#yes")
         user.click("#predict")
-        self.assertSays("Allowed: 1 of 4 final states", "#outcome .verdict strong")
+        self.assertSays("The condition holds in 1 of 4 final states.", "#outcome .asked")
         self.assertEqual([], user.all("#yes"))
 
     def test_questions(self):
         """What must not be is asked about without a no; and the guess on what is, though it must not be."""
         user = self.user
         open_anew(user, "#example=MP-x86&predict=1&state=0%3AEAX%3D0%3B")
-        self.assertEqual("Does some run on x86-TSO end so? (1:EAX=1 /\\ 1:EBX=0)", asked(user, "#outcome"))
+        self.assertEqual("Can a run on x86-TSO end this way? P1 reads y=1, then x=0. (1:EAX=1 /\\ 1:EBX=0)", asked(user, "#outcome"))
         user.click("#no")
         self.assertSays("✓ As you said.", "#outcome .said")
         open_anew(user, "#example=Hyman&predict=1")
         user.click("#yes")
         self.assertSays("✓ As you said.", "#outcome .said")
-        self.assertSays("Allowed: 1 of 3 final states", "#outcome .verdict strong")
+        self.assertSays("The condition holds in 1 of 3 final states.", "#outcome .asked")
 
 
 class Kept(PageCase):
@@ -106,7 +106,7 @@ class Kept(PageCase):
         self.assertSays("Found 0 of 4 states.", "#outcome .found")
         self.assertEqual(([], []), (user.all("#outcome .verdict"), user.texts("table.strip .holds")))
         user.click("#tab-states")
-        self.assertSays("Allowed: 1 of 4 final states", "#outcome .verdict strong")
+        self.assertSays("The condition holds in 1 of 4 final states.", "#outcome .asked")
 
 
 class Edits(PageCase):
@@ -126,7 +126,7 @@ class Edits(PageCase):
         user.click("#yes")
         self.assertSays("✓ As you said.", "#outcome .said")
         user.run_text(with_row(" MFENCE | MFENCE ;"))
-        self.assertSays("Forbidden: 0 of 3 final states", "#outcome .verdict strong")
+        self.assertSays("The condition holds in none of 3 final states.", "#outcome .asked")
         self.assertEqual(([], []), (user.all("#yes"), user.texts(".said")))
         user.click("#open-gallery")
         user.click("#gallery .card:nth-child(3)")

@@ -65,8 +65,7 @@ class Steps(PageCase):
         user = self.user
         user.open_listed(LISTED)
         user.press(user.keys.END)
-        self.assertStep("The run has ended")
-        self.assertStep("(0:EAX=0 /\\ 1:EAX=0) is true. plain")
+        self.assertStep("The run has ended. The condition holds. not proved")
         self.assertEqual(["EAX 0", "EAX 0"], [it.replace(" put", "") for it in user.texts("#watching .register")])
 
     def test_buttons(self):

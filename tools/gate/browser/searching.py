@@ -24,8 +24,8 @@ class Search(PageCase):
         user.run_text(FIVE)
         self.assertSays("lw: limit 2 TooManyOrders", "#outcome .notice")
         user.click("#search-instead")
-        self.assertSays("Allowed: 1 of 2 final states", "#outcome .verdict strong")
-        self.assertSays("The list is complete: searched, and proved.", "#outcome .asked")
+        self.assertSays("The condition holds in 1 of 2 final states.", "#outcome .asked")
+        self.assertSays("The list is complete (proved), by a search.", "#outcome .asked")
         self.assertEqual([], user.all("#search-instead"))
 
     def test_same_panels(self):
@@ -35,12 +35,13 @@ class Search(PageCase):
         user.open_listed()
         user.run_text(read(f"examples/beyond/{name}.litmus"))
         user.click("#search-instead")
-        user.soon("#outcome .verdict strong", "final states")
+        user.soon("#outcome .asked", "final states")
         user.find("#watching .machine")
         user.press(user.keys.END)
         self.assertStep("The run has ended")
         user.find("#graph-place svg.graph")
         user.click("#printed-place summary")
+        user.find("#printed pre")
         self.assertEqual(report_of(name), user.run("return document.querySelector('#printed pre').textContent") + "\n")
         user.click("#tab-hand")
         self.assertSays("Found 0 of 7 states.", "#outcome .found")
@@ -58,9 +59,9 @@ class Search(PageCase):
         self.assertSays("Cancelled.", "#outcome .notice")
         user.run("Worker.prototype.postMessage = window.post")
         user.click("#search-instead")
-        self.assertSays("Forbidden: 0 of 7 final states", "#outcome .verdict strong")
+        self.assertSays("The condition holds in none of 7 final states.", "#outcome .asked")
         user.run_text(read("examples/SB-x86.litmus"))
-        self.assertSays("Allowed: 1 of 4 final states", "#outcome .verdict strong")
+        self.assertSays("The condition holds in 1 of 4 final states.", "#outcome .asked")
 
     def test_beside_and_compiled(self):
         """It is offered for a test beside another, and for what a test is compiled to."""
@@ -72,7 +73,7 @@ class Search(PageCase):
         self.assertSays(", by a search", "#compile h3")
         user.click("#set-beside")
         user.click("#first-search-instead")
-        self.assertSays("searched, and proved.", ".side:first-child .asked")
+        self.assertSays("complete (proved), by a search.", ".side:first-child .asked")
 
 
 SUBJECTS = (Search,)

@@ -1,7 +1,8 @@
 """The subjects of the page, and which of them are tried where."""
-from gate.browser import by_hand, links, lists, looks, panels, predicting, runs, searching, seen_here, texts, two_tests
+from gate.browser import by_hand, graphs, links, lists, looks, panels, predicting, runs, searching, seen_here, sizes, texts, two_tests
 
-ALL = tuple(subject for it in (lists, runs, by_hand, texts, panels, predicting, links, searching, two_tests, looks) for subject in it.SUBJECTS)
+PARTS = (lists, runs, graphs, by_hand, texts, panels, predicting, links, searching, two_tests, looks, sizes)
+ALL = tuple(subject for it in PARTS for subject in it.SUBJECTS)
 # What is tried if the browser has no module, so that the server is asked.
 BY_SERVER = (lists.Verdicts, runs.Steps, runs.Sources, by_hand.Clicks, by_hand.Schedules, by_hand.Sources, texts.Faults, panels.Compiling)
 # What only a page with a server has.

@@ -41,7 +41,7 @@ class Faults(PageCase):
         self.assertEqual([], user.all("#graph-place .asking"))
         self.assertTrue("stale" in user.run("return document.getElementById('answers').className"))
         self.assertSoon(False, lambda: "stale" in user.run("return document.getElementById('answers').className"))
-        self.assertEqual("Allowed: 1 of 4 final states", user.text("#outcome .verdict strong"))
+        self.assertSays("The condition holds in 1 of 4 final states.", "#outcome .asked")
 
     def test_reload(self):
         """A reload loses nothing, also at once after a letter."""
@@ -192,7 +192,7 @@ class Gallery(PageCase):
         user.open_listed()
         user.click("#open-gallery")
         user.click("#gallery .card:nth-child(3)")
-        self.assertSays("Forbidden: 0 of 3 final states", "#outcome .verdict strong")
+        self.assertSays("The condition holds in none of 3 final states.", "#outcome .asked")
         self.assertEqual("#example=MP-x86", user.link().split("&")[0])
 
 

@@ -29,8 +29,8 @@ class Compared(PageCase):
         user = self.user
         user.resize(1280, 720)
         user.open(BOTH)
-        self.assertSays("In both: 3. Only left: 1. Only right: 0. plain", ".compared")
-        self.assertEqual(["Allowed: 1 of 4 final states", "Forbidden: 0 of 3 final states"], user.texts(".side .verdict strong"))
+        self.assertSays("In both: 3. Only left: 1. Only right: 0. not proved", ".compared")
+        self.assertEqual(["Allowed.", "Forbidden."], user.texts(".side .verdict strong"))
         self.assertEqual(["only here +"], user.texts(".side:first-child .alone-row"))
         self.assertTrue(user.run(IN_SIGHT, ".side h2, .side .program, .side .verdict, .side table.strip"))
         text = user.run("return document.querySelector('.program').textContent").splitlines()
@@ -44,7 +44,7 @@ class Compared(PageCase):
         user.choose("#second-example", "=bare")
         self.assertSoon(["SB", "SB"], lambda: user.texts(".side h2"))
         self.assertEqual("=bare", user.value("#second-example"))
-        self.assertSays("In both: 3. Only left: 0. Only right: 1. plain", ".compared")
+        self.assertSays("In both: 3. Only left: 0. Only right: 1. not proved", ".compared")
         user.open(user.link())
         self.assertSoon(["SRC SB", "X86 SB"], lambda: [it[:6] for it in user.texts(".side .program")])
 
@@ -87,6 +87,41 @@ class Films(PageCase):
             self.assertTrue(user.run(IN_SIGHT, ".side, .side .verdict, .side .states-place, .side .machine"), link)
             user.press(user.keys.ESCAPE)
             self.assertSoon(False, lambda: "present" in user.run("return document.documentElement.className"))
+
+
+class Together(PageCase):
+    """Both runs step together."""
+
+    def test_steps(self):
+        """What both schedules have is carried out in both, and what one has alone in that one, to both ends; keys do so too."""
+        user = self.user
+        user.open(BOTH)
+        user.wait(lambda: len(user.all(".side .machine")) == 2, "both runs")
+        user.press(user.keys.HOME)
+        self.assertSoon(["Step 0 of 6", "Step 0 of 8"], lambda: user.run(STEPS))
+        user.press(user.keys.ARROW_RIGHT)
+        self.assertSoon(["Step 1 of 6", "Step 1 of 8"], lambda: user.run(STEPS))
+        seen = []
+        for _ in range(20):
+            if user.run("return document.getElementById('both-forward').disabled"):
+                break
+            before = user.text(".lockstep .count")
+            user.click("#both-forward")
+            user.wait(lambda: user.text(".lockstep .count") != before, "a step of both")
+            seen.append(tuple(int(it.split()[1]) for it in user.run(STEPS)))
+        self.assertEqual((6, 8), seen[-1])
+        self.assertTrue(all(0 <= second[at] - first[at] <= 1 for first, second in zip(seen, seen[1:]) for at in (0, 1)))
+        self.assertTrue(any(first[0] < second[0] and first[1] < second[1] for first, second in zip(seen, seen[1:])))
+
+    def test_one_alone(self):
+        """One side can still be stepped alone; the count of both follows."""
+        user = self.user
+        user.open(BOTH)
+        user.wait(lambda: len(user.all(".side .machine")) == 2, "both runs")
+        user.press(user.keys.HOME)
+        self.assertSoon("0 /", lambda: user.text(".lockstep .count")[:3])
+        user.click("#second-forward")
+        self.assertSoon(["Step 0 of 6", "Step 1 of 8"], lambda: user.run(STEPS))
 
 
 class OneAgain(PageCase):
@@ -151,6 +186,7 @@ class Predicted(PageCase):
         user.find("#first-yes")
         user.find("#second-yes")
         self.assertEqual([], user.all(".side table, .side .verdicts strong"))
+        self.assertSoon(2, lambda: len(user.all(".side .locked .machine")))
         user.choose("#second-example", "=compiled")
         self.assertSoon(["First say what you expect of the first test."], lambda: user.texts("#beside .notice"))
         user.click("#first-yes")
@@ -160,4 +196,4 @@ class Predicted(PageCase):
         self.assertSoon(["✓ As you said.", "✗ Not as you said."], lambda: user.texts(".side .said"))
 
 
-SUBJECTS = (Compared, Films, OneAgain, Predicted)
+SUBJECTS = (Compared, Films, Together, OneAgain, Predicted)

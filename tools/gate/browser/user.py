@@ -182,8 +182,12 @@ class User:
     def resize(self, width, height):
         """Makes the window so large that the page in it has this size."""
         self.driver.set_window_size(width, height)
-        inner = self.run("return [innerWidth, innerHeight]")
-        self.driver.set_window_size(2 * width - inner[0], 2 * height - inner[1])
+        frame = lambda: self.run("return [arguments[0] - innerWidth, arguments[1] - innerHeight]", width, height)
+        # The page may still have its old size for a moment; and Firefox has no window as narrow as a phone.
+        until = time.monotonic() + 1
+        while time.monotonic() < until and not all(0 <= it < 300 for it in frame()):
+            time.sleep(0.05)
+        self.driver.set_window_size(*(size + max(0, min(it, 300)) for size, it in zip((width, height), frame())))
 
     def type(self, text):
         """Replaces the text of the test, letter by letter."""

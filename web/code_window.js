@@ -1,0 +1,36 @@
+// The part of a thread's code that is in sight, if not all of it has room: the next instruction is always in it. There is no scroll bar: the
+// box says which lines are shown, and the lines at its edges are pale.
+
+/** Puts the next instruction of each thread's code into sight, and says which lines are there. */
+export function showNext(place) {
+  for (const code of place.querySelectorAll(".code")) {
+    const next = code.querySelector(".next, .reached");
+    if (next) scrollTo(code, next);
+    tellLines(code);
+  }
+}
+
+/** Watches the codes of a machine: what is in sight of them changes with the room and when the reader scrolls them. */
+export function watchCodes(place) {
+  place.addEventListener("scroll", ({ target }) => target.classList?.contains("code") && tellLines(target), { capture: true, passive: true });
+  new ResizeObserver(() => showNext(place)).observe(place);
+}
+
+/** Scrolls a line into sight inside its box, with one line around it, and nothing else. */
+function scrollTo(code, line) {
+  const top = line.offsetTop;
+  if (top < code.scrollTop + 4) code.scrollTop = Math.max(0, top - line.offsetHeight);
+  else if (top + 2 * line.offsetHeight > code.scrollTop + code.clientHeight) code.scrollTop = top - code.clientHeight + 2 * line.offsetHeight;
+}
+
+function tellLines(code) {
+  const isWhole = code.scrollHeight <= code.clientHeight + 1;
+  const [top, bottom] = [code.scrollTop, code.scrollTop + code.clientHeight];
+  code.classList.toggle("more-above", !isWhole && top > 2);
+  code.classList.toggle("more-below", !isWhole && bottom < code.scrollHeight - 2);
+  const lines = [...code.children].slice(0, -1);
+  const middle = (it) => it.offsetTop + it.offsetHeight / 2;
+  const seen = lines.flatMap((it, at) => (middle(it) > top && middle(it) < bottom ? [at + 1] : []));
+  const said = code.parentElement.querySelector(".lines-in-sight");
+  if (said) said.textContent = isWhole || !seen.length || seen.length === lines.length ? "" : `lines ${seen[0]} to ${seen.at(-1)} of ${lines.length}`;
+}

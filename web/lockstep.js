@@ -1,0 +1,87 @@
+// Two runs that step together, where they can: an event that both schedules have is carried out in both at once, and one that only one has in
+// that one. The pairs of steps follow a longest common subsequence of the two schedules.
+
+import { button, el } from "./dom.js";
+
+/** How many events two schedules have in common, at most, from each pair of places on. */
+function commonFrom(first, second) {
+  const table = Array.from({ length: first.length + 1 }, () => new Array(second.length + 1).fill(0));
+  for (let i = first.length - 1; i >= 0; i -= 1) {
+    for (let j = second.length - 1; j >= 0; j -= 1) {
+      table[i][j] = first[i] === second[j] ? table[i + 1][j + 1] + 1 : Math.max(table[i + 1][j], table[i][j + 1]);
+    }
+  }
+  return table;
+}
+
+/** The steps of two schedules together: pairs of a step of each, from the start to both ends. */
+export function stepsTogether(first, second) {
+  const common = commonFrom(first, second);
+  const pairs = [[0, 0]];
+  let [i, j] = [0, 0];
+  while (i < first.length || j < second.length) {
+    const isBoth = i < first.length && j < second.length && first[i] === second[j];
+    const isFirst = !isBoth && i < first.length && (j === second.length || common[i + 1][j] >= common[i][j + 1]);
+    if (isBoth || isFirst) i += 1;
+    if (isBoth || !isFirst) j += 1;
+    pairs.push([i, j]);
+  }
+  return pairs;
+}
+
+export class Lockstep {
+  /** `used` is called when the reader steps both. */
+  constructor(runs, used) {
+    Object.assign(this, { runs, used, pairs: [[0, 0]], at: 0 });
+    const to = (text, at, attributes) => button(text, () => this.jump(at()), attributes);
+    const first = to("|◀", () => 0, { "aria-label": "Both to the start", title: "Both to the start (Home)" });
+    const last = to("▶|", () => this.pairs.length - 1, { "aria-label": "Both to the end", title: "Both to the end (End)" });
+    this.back = to("◀", () => this.at - 1, { id: "both-back", "aria-label": "Both back", title: "Both back (←)" });
+    this.forward = to("Step both ▶", () => this.at + 1, { id: "both-forward", class: "main", title: "Both forward (→)" });
+    this.count = el("span", { class: "count" });
+    const named = { class: "lockstep", role: "group", "aria-label": "Both runs together" };
+    this.place = el("span", named, first, this.back, this.forward, last, this.count);
+    this.place.hidden = true;
+    document.addEventListener("keydown", (event) => this.key(event));
+  }
+
+  get isReady() {
+    return this.runs.every((it) => it.isOpen && it.step !== null);
+  }
+
+  /** A run is another one, or at another step. */
+  follow() {
+    this.place.hidden = !this.isReady;
+    if (!this.isReady) return;
+    const [first, second] = this.runs;
+    this.pairs = stepsTogether(first.events, second.events);
+    const isHere = ([i, j]) => i === first.step && j === second.step;
+    const isNear = ([i]) => i === first.step;
+    const here = this.pairs.findIndex(isHere);
+    this.at = here < 0 ? this.pairs.findIndex(isNear) : here;
+    this.back.disabled = this.at === 0;
+    this.forward.disabled = this.at === this.pairs.length - 1;
+    this.count.textContent = `${this.at} / ${this.pairs.length - 1}`;
+  }
+
+  async jump(wanted) {
+    if (!this.isReady) return;
+    this.used();
+    const [i, j] = this.pairs[Math.max(0, Math.min(wanted, this.pairs.length - 1))];
+    const [first, second] = this.runs;
+    for (const it of this.runs) it.view.player.stop();
+    await Promise.all([first.step === i ? null : first.go(i), second.step === j ? null : second.go(j)]);
+  }
+
+  /** Keys step both, unless one of the two has them. */
+  key(event) {
+    const { key, target } = event;
+    if (!this.isReady || this.runs.some((it) => it.editor.hasKeys) || event.altKey || event.ctrlKey || event.metaKey) return;
+    if (target.closest("textarea, select, input:not([type=checkbox]), [role=listbox], dialog") || !this.place.getClientRects().length) return;
+    const [forward, back, last] = [this.at + 1, this.at - 1, this.pairs.length - 1];
+    const steps = { ArrowRight: forward, PageDown: forward, ArrowLeft: back, PageUp: back, Home: 0, End: last };
+    if (!(key in steps)) return;
+    this.jump(steps[key]);
+    event.preventDefault();
+  }
+}

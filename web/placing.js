@@ -1,0 +1,54 @@
+// Where the parts of the page are: by the width of the window, by the size of the graph, and on a projector.
+
+import { byId } from "./dom.js";
+
+// In a window that is narrower the page has one column.
+const NARROW = "(max-width: 69.99rem)";
+
+/**
+ * In one column the verdict and the machine come first, and the text is folded. The graph is beside the machine if it has room there, and
+ * otherwise below it.
+ */
+export function placeParts(present) {
+  const narrow = matchMedia(NARROW);
+  const graph = byId("graph-place");
+  const placeGraph = () => {
+    const drawn = graph.querySelector(".graph");
+    const needed = drawn ? parseFloat(getComputedStyle(drawn).minWidth) : 0;
+    const isBelow = narrow.matches || present.isOpen || needed > byId("test").clientWidth - 4;
+    const place = isBelow ? byId("answers") : byId("test");
+    if (graph.parentElement !== place) place.append(graph);
+  };
+  const place = () => {
+    byId(narrow.matches ? "beside" : "answers").before(byId("test"));
+    fold(narrow.matches);
+    placeGraph();
+  };
+  narrow.addEventListener("change", place);
+  graph.addEventListener("drawn", () => {
+    placeGraph();
+    present.fit();
+  });
+  const measured = new ResizeObserver(tellRoom);
+  for (const name of ["answers", "outcome"]) measured.observe(byId(name));
+  present.onChange(placeGraph);
+  place();
+}
+
+/** Says how high the machine may be so that it is in sight, with the graph below it. */
+function tellRoom() {
+  const [answers, watching] = ["answers", "watching"].map((name) => byId(name));
+  if (watching.hidden) return;
+  const above = watching.getBoundingClientRect().top - answers.getBoundingClientRect().top + answers.scrollTop;
+  watching.style.setProperty("--room", `${Math.floor(answers.clientHeight - above)}px`);
+}
+
+/** Folds the text of the test, or unfolds it. */
+export function fold(isClosed) {
+  byId("test").classList.toggle("folded-up", isClosed);
+  byId("unfold").setAttribute("aria-expanded", String(!isClosed));
+}
+
+export function isFolded() {
+  return byId("test").classList.contains("folded-up");
+}

@@ -1,0 +1,11 @@
+// The registers of a compiled program have the numbers of the source's, and other names.
+
+import { REGISTERS } from "./token_reader.js";
+
+/** Which register of the source each one is that a compiled text names, in a sentence; nothing if it names none. */
+export function mappedNames(text) {
+  const used = REGISTERS.X86.map((name, at) => [name, REGISTERS.SRC[at]]).filter(([name]) => new RegExp(`\\b${name}\\b`).test(text));
+  if (!used.length) return "";
+  const pairs = used.map(([name, source]) => `\`${name}\` is \`${source}\``);
+  return `In the compiled program ${[pairs.slice(0, -1).join(", "), pairs.at(-1)].filter(Boolean).join(" and ")} of the source.`;
+}
