@@ -3,13 +3,11 @@
 //! schedule. Crates above rely on the contracts of `list_source` and `list_raw`.
 //! How a list is made, for either language:
 //! 1. lw_paths visits each path assignment, and computes its items with their preserved pairs and conflicts; it also
-//!    checks
-//!    the limits.
+//!    checks the limits.
 //! 2. lw_orders enumerates one order of the items for each orientation of the conflicts.
 //! 3. `runner`, `source_runner`, `x86_runner`, `collect`: each enumerated order is run once. An order that leaves its
-//!    paths is
-//!    dropped; the outcome of any other is looked up in the map of lw_outcome_map, and inserted with its schedule if
-//!    it is new.
+//!    paths is dropped; the outcome of any other is looked up in the map of lw_outcome_map, and inserted with its
+//!    schedule if it is new.
 //! Why the list is complete: `laws`. Every run of the test is a linear extension of the items of some path
 //! assignment; it is trace-equivalent to an enumerated order; and trace-equivalent orders have the same outcome. (So
 //! the list is made by partial-order reduction.)

@@ -6,20 +6,14 @@
 //! independent. Running only these orders is partial-order reduction.
 //! A caller covers all orders by a run of each returned order (`run_all` in the tests of orders is such a caller):
 //! 1. A loop over `Orders::new(alloc, &items)?` runs each order, unless there are too many. The orders that the
-//!    iterator
-//!    has yet to return are its value's list `to_come`. `next` takes the head of this list, so after the loop each
-//!    order of
-//!    the initial list has been run.
+//!    iterator has yet to return are its value's list `to_come`. `next` takes the head of this list, so after the
+//!    loop each order of the initial list has been run.
 //! 2. Take any linear extension of the preserved pairs. By the clause `exactly_one` of `Orders::new` it is
-//!    trace-equivalent
-//!    to one order in that list, which by the clause `each` is a linear extension too. (`orders_are_complete` states
-//!    this of
-//!    all well-formed items, without a call.)
+//!    trace-equivalent to one order in that list, which by the clause `each` is a linear extension too.
+//!    (`orders_are_complete` states this of all well-formed items, without a call.)
 //! 3. By the law `alike_orders_are_joined` the two orders are connected by swaps of adjacent items that neither
-//!    conflict nor
-//!    are preserved, through linear extensions only. If each such swap preserves the outcome of a run, the two runs
-//!    have the
-//!    same outcome. So the outcome of every order was found.
+//!    conflict nor are preserved, through linear extensions only. If each such swap preserves the outcome of a run,
+//!    the two runs have the same outcome. So the outcome of every order was found.
 //! A contract cannot speak of outcomes of any type. Lemmas for that are in `proofs/api/`: `SwapInvariance` has
 //! `kept_along` (what each swap preserves is preserved between connected orders), and `Indices` has the indices of
 //! items. The law `alike_orders_agree` states it for a test of orders.

@@ -3,13 +3,11 @@
 //! How the path assignments of a program are visited:
 //! 1. `visit`: each path assignment is visited once, without a list of them (`path`, `path_methods`).
 //! 2. `item`, `items`, `preserved_order`, `conflicts`: the statements on the paths, and the drains of their stores,
-//!    are the
-//!    items. The order of some pairs is preserved, and some pairs conflict. lw_orders enumerates one order for each
-//!    orientation of the conflicts.
+//!    are the items. The order of some pairs is preserved, and some pairs conflict. lw_orders enumerates one order
+//!    for each orientation of the conflicts.
 //! 3. `size`, `count`, `limits`: the maximum number of items is checked first. Then the orders of all path
-//!    assignments are
-//!    counted, up to the limit, unless `few_orders` shows without counting that they are within it. `fault` has the
-//!    causes.
+//!    assignments are counted, up to the limit, unless `few_orders` shows without counting that they are within it.
+//!    `fault` has the causes.
 //! This crate depends on lw_base, on the operations of lw_litmus, and on lw_orders. It executes nothing. Crates above
 //! rely on one promise: `visit_choices` visits exactly the path assignments of a program, each once; `laws` says so
 //! of their list.

@@ -1,12 +1,12 @@
 //! The complete list of a test of any size, found by a search of the states of the x86-TSO machine, within a budget of states.
 //!
 //! How a list is made:
-//! 1. `search`: breadth first, each state is visited once, and each step and drain that is enabled there is taken. After that
-//!    event all threads take invisible events until none is enabled.
+//! 1. `search`: breadth first, each state is visited once, and each step and drain that is enabled there is taken.
+//!    After that event all threads take invisible events until none is enabled.
 //! 2. `invisible`: an event is invisible if no other thread, now or later, conflicts with its access (partial-order
 //!    reduction). `accesses` is a quick test that most visible events fail.
-//! 3. `states`, `tables` and `run`: a state is a key of five numbers: that of its memory, and that of the state of each thread; and it
-//!    has the run that led there from the state before.
+//! 3. `states`, `tables` and `run`: a state is a key of five numbers: that of its memory, and that of the state of
+//!    each thread; and it has the run that led there from the state before.
 //! 4. `collect`: each final state's outcome is listed once, with the schedule along the states before it.
 //!
 //! Why nothing is missing: `laws`. An invisible event can be taken first in every run that ends, and the run gets no longer by it; so
