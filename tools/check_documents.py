@@ -15,7 +15,7 @@ in this list on.
   examples/INDEX.md, which tells what the report and the comment tell. The comment's words on interleaving and x86-TSO are those of tools/plain.py, and
   where x86-TSO allows the outcome, its schedule or that of its x86 form shows it. The x86 form of a source test is what that is
   compiled to, without fences. Shapes ask `exists` where x86-TSO allows the outcome, and `~exists` where it forbids it.
-  docs/MAP.md lists the files as they are.
+  Each crate has a README.md that lists its files as they are (tools/documents/make_readmes.py).
 - Each source test of examples/ beside what it is compiled to: random runs of the source, and the same runs of the compiled
   program, statement by statement, end in the same registers and memory. The compiled text is its own canonical text, and its
   report is that of the source in the registers of x86.
@@ -79,7 +79,7 @@ sys.dont_write_bytecode = True
 import fences
 import plain
 import random_tests
-from documents import believe, make_map, make_pages, make_times, measure_lists, semantic_core
+from documents import believe, make_pages, make_readmes, make_times, measure_lists, semantic_core
 from gate import (
     cases, check_beyond, check_build, check_card, check_edits, check_graph, check_lab, check_lemmas, check_library, check_many, check_names,
     check_pack, check_page, check_quiz, check_site, check_slides, check_tables, check_wings, proof_layout, test_answers, test_assume,
@@ -560,8 +560,9 @@ def tests():
     return sorted(os.path.basename(path).removesuffix(".litmus") for path in glob.glob(f"{HOME}/examples/*.litmus"))
 
 
-def check_map():
-    yield "the list of files in docs/MAP.md (tools/documents/make_map.py writes it)", True, make_map.is_whole()
+def check_readmes():
+    """Yields whether each crate has a README.md with the present list of files, and links to names that the files declare."""
+    yield from make_readmes.comparisons()
 
 
 def check_times():
@@ -644,7 +645,7 @@ def checks():
         yield check_tables.comparisons_in, PROGRAM, name
     yield (check_index,)
     yield (check_questions,)
-    yield (check_map,)
+    yield (check_readmes,)
     yield (check_bench,)
     for it in measure_lists.tests():
         yield check_measured, *it

@@ -1,12 +1,12 @@
 #!/usr/bin/env python3
-"""Lists the definitions on which the meaning of a test stands, and counts them. tools/check_documents.py calls it.
+"""Lists the definitions on which the meaning of a test depends, and counts them. tools/check_documents.py calls it.
 
     python3 tools/documents/semantic_core.py
 
-They are the files of definitions that `OutcomeOf` and `IsProgramOf` of lw_bench stand on, by what each file imports: what a
+They are the files of definitions on which `OutcomeOf` and `IsProgramOf` of lw_bench depend, by what each file imports: what a
 reader must believe of the outcomes that `lw states` lists. Texts, reports and laws are not among them. Types that the code
-declares stand in src/, and are not counted. It fails where there are more files or lines than MOST_FILES and MOST_LINES, or
-where docs/MAP.md says another number. The last line is 'N passed, M failed'.
+declares are in src/, and are not counted. Lines of comments are counted apart. It fails if there are more files or lines of definitions
+than MOST_FILES and MOST_LINES, or if docs/MAP.md says other numbers. The last line is 'N passed, M failed'.
 """
 import os
 import re
@@ -17,7 +17,7 @@ sys.path.insert(0, os.path.dirname(os.path.dirname(os.path.abspath(__file__))))
 from shared.home import HOME
 
 START = "lw_bench/specs/Outcomes.antt"
-MOST_FILES, MOST_LINES = 35, 1350
+MOST_FILES, MOST_LINES = 35, 1200
 
 
 def file_of(crate, names):
@@ -52,32 +52,38 @@ def closure(start):
 
 
 def lines_of(path):
+    """Returns the numbers of a file's lines of definitions and of its lines of comments."""
     with open(f"{HOME}/crates/{path}", encoding="utf-8") as it:
-        return len(it.readlines())
+        lines = it.read().splitlines()
+    comments = sum(line.lstrip().startswith("--") for line in lines)
+    return len(lines) - comments, comments
 
 
-def faults(files, lines):
-    """Returns what is wrong with these numbers of files and lines."""
-    found = []
-    if files > MOST_FILES or lines > MOST_LINES:
-        found.append(f"more than {MOST_FILES} files or {MOST_LINES:,} lines")
-    with open(f"{HOME}/docs/MAP.md", encoding="utf-8") as it:
-        if f"{files} files with {lines:,} lines" not in " ".join(it.read().split()):
-            found.append("docs/MAP.md tells another number")
-    return found
+def size_of(files):
+    """Returns the numbers of files, of their lines of definitions and of their lines of comments, in words."""
+    lines, comments = map(sum, zip(*map(lines_of, files)))
+    return f"{len(files)} files with {lines:,} lines of definitions and {comments:,} of comments"
 
 
 def told():
     """Returns what is wrong, a line each."""
     core = closure(START)
-    return faults(len(core), sum(map(lines_of, core)))
+    found = []
+    if len(core) > MOST_FILES or sum(lines_of(it)[0] for it in core) > MOST_LINES:
+        found.append(f"more than {MOST_FILES} files or {MOST_LINES:,} lines of definitions")
+    with open(f"{HOME}/docs/MAP.md", encoding="utf-8") as it:
+        if size_of(core) not in " ".join(it.read().split()):
+            found.append(f"docs/MAP.md does not say that these are {size_of(core)}")
+    return found
 
 
 def main():
+    """Prints the files, and what is wrong. Returns the exit status."""
     core = closure(START)
     for path in core:
-        print(f"{lines_of(path):5} crates/{path}")
-    print(f"{len(core)} files with {sum(map(lines_of, core)):,} lines")
+        lines, comments = lines_of(path)
+        print(f"{lines:5} {comments:5} crates/{path}")
+    print(size_of(core))
     found = told()
     for fault in found:
         print(fault)

@@ -175,7 +175,7 @@ def text_of(path):
 
 def crate_rows(text):
     """Returns the rows of docs/MAP.md's table of crates: each crate with those that it names, in words."""
-    return dict(re.findall(r"^\| [\w ]+ \| (?!Crate )(\w+) \| [^|]* \| ([^|]*?) \| [^|]*\|$", text, re.M))
+    return dict(re.findall(r"^\| [\w ]+ \| (?!Crate )(\w+) \| [^|]* \| ([^|]*?) \|$", text, re.M))
 
 
 def table_faults(rows, lines):
