@@ -9,5 +9,7 @@ pub mod Sources
 pub mod Programs
 pub mod WellFormedTests
 pub mod WellFormed
+pub mod WellScopedTests
+pub mod WellScoped
 pub mod Flow
 pub mod Conflicts
