@@ -6,8 +6,8 @@ pub use Rattle.std.proofs.Common.{inr, le-leb, le-ltb, leb-true, length, length-
 pub use Rattle.std.proofs.Common.{length-take, length-take-le, lt-ltb, ltb-true, map, nat_le, nat_lt, ne_eqb}
 pub use Rattle.std.proofs.Common.{not, option_copied, option_map, refl, set, set-set, slice_get, slice_index}
 pub use Rattle.std.proofs.Common.{slice_set, subst, suc, sym, take, take-suc, take_all, true, true≢false}
-pub use Rattle.std.proofs.Common.{unwrap_or, vec_len, zero, zip, ℕ, ⊎_elim, ◌&&◌, ◌++◌, ◌+◌, ◌-◌, ◌<◌, ◌==◌}
-pub use Rattle.std.proofs.Common.{◌^◌, ◌↔◌, ◌∙◌, ◌∷◌, ◌≡◌, ◌≢◌, ◌≤◌, ◌⊎◌}
+pub use Rattle.std.proofs.Common.{unwrap_or, vec_len, zero, zip, ℕ, ⊎_elim, ◌&&◌, ◌*◌, ◌++◌, ◌+◌, ◌-◌, ◌<◌}
+pub use Rattle.std.proofs.Common.{◌==◌, ◌^◌, ◌↔◌, ◌∙◌, ◌∷◌, ◌≡◌, ◌≢◌, ◌≤◌, ◌⊎◌}
 pub use Rattle.circular_buffer.proofs.Places.{slice_get-last, slice_get-push, slice_get-set_other}
 pub use Rattle.circular_buffer.proofs.Places.{slice_get-set_same, slice_get-some}
 pub use Rattle.std.proofs.lemmas.Bool.{and_from, and_parts, cases_eq, cases_lt, or_right}
@@ -36,11 +36,13 @@ pub use Rattle.lw_base.specs.declared.event.Event.TheVariants.{Drain, Evict, Ste
 pub use Rattle.lw_base.specs.declared.stop.Stop.{Stop}
 pub use Rattle.lw_base.specs.declared.stop.Stop.TheVariants.{Ended, FenceWaits, NoCpu, NoLocation, NotHeld}
 pub use Rattle.lw_base.specs.declared.stop.Stop.TheVariants.{SwapWaits}
-pub use Rattle.lw_litmus.proofs.Common.{IsSuccessor, IsWellFormedProgram, IsWellFormedStatement}
-pub use Rattle.lw_litmus.proofs.Common.{IsWellFormedThread, X86Test, branch_target, falls_through}
+pub use Rattle.lw_litmus.proofs.Common.{HasInitialWords, IsSuccessor, IsWellFormedProgram}
+pub use Rattle.lw_litmus.proofs.Common.{IsWellFormedStatement, IsWellFormedThread, IsWellScopedProgram}
+pub use Rattle.lw_litmus.proofs.Common.{IsWellScopedThread, X86Test, branch_target, falls_through}
 pub use Rattle.lw_litmus.proofs.Common.{guard_holds, is_fence, is_locked, is_store, location_of}
 pub use Rattle.lw_litmus.proofs.Common.{needs_empty_buffer, x86_language, x86_operation}
 pub use Rattle.lw_litmus.proofs.api.Kinds.{locked_no_store}
+pub use Rattle.lw_litmus.proofs.api.WellScoped.{IsWellScopedThread-well_formed}
 pub use Rattle.lw_litmus.specs.declared.instr.Instr.{Instr}
 pub use Rattle.lw_litmus.specs.declared.instr.Instr.TheVariants.{Je, Jmp, Jne, Mfence}
 pub use Rattle.lw_litmus.specs.declared.operation.Guard.{Guard}
@@ -51,12 +53,14 @@ pub use Rattle.lw_litmus.specs.declared.operation.Operation.TheVariants.{Load, S
 pub use Rattle.lw_memory.proofs.Common.{Invariant, IsEnabled, IsInRange, IsLawful, Memory, RequestEffect}
 pub use Rattle.lw_memory.proofs.Common.{content_after_request, flat_memory, invariant_of, is_held, is_write}
 pub use Rattle.lw_memory.proofs.Common.{memory_of, request_result, value_returned, words_after}
+pub use Rattle.lw_memory.proofs.Common.{words_invariant, words_lawful}
 pub use Rattle.lw_memory.specs.declared.request.Access.{Access}
 pub use Rattle.lw_memory.specs.declared.request.Request.{Request}
 pub use Rattle.lw_tso.specs.Endings.{CanTerminate, events_of}
 pub use Rattle.lw_tso.specs.EventEffects.{EventEffect, Eviction, LocalStep, MemoryAccess, Refused, cpu_of}
 pub use Rattle.lw_tso.specs.EventEffects.{drain_effect, event_effect, if_buffer_empty, load_effect}
 pub use Rattle.lw_tso.specs.EventEffects.{operation_effect, step_effect}
+pub use Rattle.lw_tso.specs.EventRanges.{IsEventInRange}
 pub use Rattle.lw_tso.specs.Evictions.{without_evictions}
 pub use Rattle.lw_tso.specs.Fencing.{EndsBlock, IsFencedCode, IsFencedTest, IsInserted, MarksAreFences}
 pub use Rattle.lw_tso.specs.Fencing.{code_without, kept, retarget_to_blocks, unmarked_count_before}

@@ -1,17 +1,17 @@
 -- Events of a machine in memory, seen as events of the machine.
-use Rattle.lw_tso.proofs.Common.{◌≡◌, ℕ, [], ◌∷◌, get_or, ◌+◌, ◌<◌, ◌≤◌, ◌^◌, true, false, List, length, map}
-use Rattle.lw_tso.proofs.Common.{Ok, Err, Some, None, refl, sym, ap, ◌∙◌, subst, arith, slice_get, slice_set}
-use Rattle.lw_tso.proofs.Common.{◌⊎◌, inl, inr, All, ◌&&◌, zip, option_map, length-set, lt-ltb, le-ltb}
-use Rattle.lw_tso.proofs.Common.{list_all, ForSome, map-map, map-set, length-map, get_or_past, slice_get-map}
-use Rattle.lw_tso.proofs.Common.{slice_get_within, slice_get-some, slice_get_read, cases_lt, FinalState}
-use Rattle.lw_tso.proofs.Common.{Event, Step, Evict, NoLocation, Ended, NotHeld, Memory, is_held, IsLawful}
-use Rattle.lw_tso.proofs.Common.{Invariant, each_after, set-get_same, IsWellFormedThread, Instr, Operation}
-use Rattle.lw_tso.proofs.Common.{location_of, is_store, x86_operation, x86_language, Processor, thread_code}
-use Rattle.lw_tso.proofs.Common.{cpu_of, operation_effect, step_effect, event_effect, MachineState}
-use Rattle.lw_tso.proofs.Common.{EventResult, buffer_of, EffectTransition, ProcessorTransition}
-use Rattle.lw_tso.proofs.Common.{MachineTransition, MachineRun, InitialWords, has_terminated, is_final}
-use Rattle.lw_tso.proofs.Common.{machine_outcome, stores_from, HasRoom, IsReachableMachine, processor_of, Vec}
-use Rattle.lw_tso.proofs.Common.{vec_len, slice_get_past, NoCpu}
+use Rattle.lw_tso.proofs.Common.{IsWellScopedThread-well_formed, ◌≡◌, ℕ, [], ◌∷◌, get_or, ◌+◌, ◌<◌, ◌≤◌, ◌^◌}
+use Rattle.lw_tso.proofs.Common.{true, false, List, length, map, Ok, Err, Some, None, refl, sym, ap, ◌∙◌}
+use Rattle.lw_tso.proofs.Common.{subst, arith, slice_get, slice_set, ◌⊎◌, inl, inr, All, ◌&&◌, zip}
+use Rattle.lw_tso.proofs.Common.{option_map, length-set, lt-ltb, le-ltb, list_all, ForSome, map-map, map-set}
+use Rattle.lw_tso.proofs.Common.{length-map, get_or_past, slice_get-map, slice_get_within, slice_get-some}
+use Rattle.lw_tso.proofs.Common.{slice_get_read, cases_lt, FinalState, Event, Step, Evict, NoLocation, Ended}
+use Rattle.lw_tso.proofs.Common.{NotHeld, Memory, is_held, IsLawful, Invariant, each_after, set-get_same}
+use Rattle.lw_tso.proofs.Common.{IsWellFormedThread, Instr, Operation, location_of, is_store, x86_operation}
+use Rattle.lw_tso.proofs.Common.{x86_language, Processor, thread_code, cpu_of, operation_effect, step_effect}
+use Rattle.lw_tso.proofs.Common.{event_effect, MachineState, EventResult, buffer_of, EffectTransition}
+use Rattle.lw_tso.proofs.Common.{ProcessorTransition, MachineTransition, MachineRun, InitialWords}
+use Rattle.lw_tso.proofs.Common.{has_terminated, is_final, machine_outcome, stores_from, HasRoom}
+use Rattle.lw_tso.proofs.Common.{IsReachableMachine, processor_of, Vec, vec_len, slice_get_past, NoCpu}
 use Rattle.lw_tso.specs.declared.processor.Processor.{Processor as ProcessorInMemory}
 use Rattle.lw_tso.proofs.Acts.{act_kept}
 use Rattle.lw_tso.proofs.EventActs.{event_becomes}
@@ -203,7 +203,10 @@ module _ {M A : Type 0} (mem : Memory M) (inv : Invariant M) (program : List (Li
         let here = stores_here (thread_code program t) p.position i next in
         subst (CanCarryOut locs t p m) (sym is) (record {
           cpu = omega (arith, slice_get_within processors t p at, ok.cpus);
-          loc = rw ok.locations ((statement_at locs (thread_code program t) thread p.position i next).0);
+          loc =
+              rw ok.locations
+              ((statement_at locs (thread_code program t) (IsWellScopedThread-well_formed x86_language thread) p.position i
+              next).0);
           position = omega (arith, (slice_get_within (thread_code program t) p.position i next), thread.short);
           room = λ store. omega (arith, (ok.rooms t p at).fits, here, counted i store);
         })
@@ -233,7 +236,7 @@ module _ {M A : Type 0} (mem : Memory M) (inv : Invariant M) (program : List (Li
         let becomes = event_becomes program (length (mem.content m)) mem (processor_of p) (processor_of q) m n answer e done in
         let room : HasRoom locs (thread_code program (cpu_of e)) (processor_of q) q.buffer.room =
         subst (HasRoom locs (thread_code program (cpu_of e)) (processor_of q)) (sym same)
-        (event_room thread becomes (ok.rooms (cpu_of e) p at)) in
+        (event_room (IsWellScopedThread-well_formed x86_language thread) becomes (ok.rooms (cpu_of e) p at)) in
         record {
           sound = kept.sound;
           locations = kept.locations ∙ ok.locations;

@@ -1,16 +1,16 @@
 -- A run with the phases of locked instructions is a run of the machine over flat memory: a locked instruction happens at the
 -- drain of its write. Until then the machine stands before the instruction, and what was read is still what it would read, since
 -- nobody else drains.
-use Rattle.lw_tso.proofs.Common.{◌≡◌, ◌≢◌, ℕ, ◌<◌, List, [], ◌∷◌, ◌++◌, length, Ok, Some, refl, sym, ap, ◌∙◌}
-use Rattle.lw_tso.proofs.Common.{subst, arith, slice_get, slice_set, slice_index, set-set, set_comm}
-use Rattle.lw_tso.proofs.Common.{same_Some, get-set_same, get-set_other, thread_code, Event, Step, Drain}
-use Rattle.lw_tso.proofs.Common.{flat_memory, Instr, All, IsWellFormedThread, x86_language, x86_operation}
-use Rattle.lw_tso.proofs.Common.{Processor, step_effect, event_effect, MachineState, buffer_of}
-use Rattle.lw_tso.proofs.Common.{MachineTransition, MachineRunsTo, RunsTo-append, Phase, Begun, HasRead}
-use Rattle.lw_tso.proofs.Common.{HasWritten, Lock, Free, HeldBy, PhasedState, PhasedEvent, Steps, Drains}
-use Rattle.lw_tso.proofs.Common.{Locks, Reads, Writes, Unlocks, IsNotBlocked, Locked, with_empty_buffer}
-use Rattle.lw_tso.proofs.Common.{read_value, having_written, locked_next, IsAtLocked, PhasedStep}
-use Rattle.lw_tso.proofs.Common.{PhasedTransition, PhasedRunsTo, unlocked}
+use Rattle.lw_tso.proofs.Common.{IsWellScopedThread, ◌≡◌, ◌≢◌, ℕ, ◌<◌, List, [], ◌∷◌, ◌++◌, length, Ok, Some}
+use Rattle.lw_tso.proofs.Common.{refl, sym, ap, ◌∙◌, subst, arith, slice_get, slice_set, slice_index, set-set}
+use Rattle.lw_tso.proofs.Common.{set_comm, same_Some, get-set_same, get-set_other, thread_code, Event, Step}
+use Rattle.lw_tso.proofs.Common.{Drain, flat_memory, Instr, All, x86_language, x86_operation, Processor}
+use Rattle.lw_tso.proofs.Common.{step_effect, event_effect, MachineState, buffer_of, MachineTransition}
+use Rattle.lw_tso.proofs.Common.{MachineRunsTo, RunsTo-append, Phase, Begun, HasRead, HasWritten, Lock, Free}
+use Rattle.lw_tso.proofs.Common.{HeldBy, PhasedState, PhasedEvent, Steps, Drains, Locks, Reads, Writes}
+use Rattle.lw_tso.proofs.Common.{Unlocks, IsNotBlocked, Locked, with_empty_buffer, read_value, having_written}
+use Rattle.lw_tso.proofs.Common.{locked_next, IsAtLocked, PhasedStep, PhasedTransition, PhasedRunsTo}
+use Rattle.lw_tso.proofs.Common.{unlocked}
 use Rattle.lw_tso.proofs.LockedSteps.{locked_does, locked_within, plain_memory, Drained, drained}
 use Rattle.lw_tso.proofs.LockedSteps.{seen_drained, does_sized, step_empty}
 use Rattle.lw_tso.proofs.IntoPhases.{buffer_at}
@@ -67,7 +67,7 @@ module _ (program : List (List Instr)) where
       ap (λ (z : MachineState (List ℕ)). length z.memory) d.is
       ∙ does_sized s.memory (event_effect program (length s.memory) e d.from) d.to d.words d.does
 
-  module _ (locs : ℕ) (threads : All (IsWellFormedThread x86_language locs) program) where
+  module _ (locs : ℕ) (threads : All (IsWellScopedThread x86_language locs) program) where
     -- the machine follows by some events
     record Followed (after : PhasedState) (m : MachineState (List ℕ)) : Type 0 where
       events : List Event

@@ -1,10 +1,10 @@
 -- For the law of locked instructions in phases: these instructions in one step, the others, and what a processor reads while
 -- its buffer is drained.
-use Rattle.lw_tso.proofs.Common.{◌≡◌, ℕ, ◌<◌, true, false, true≢false, if◌then◌else◌, List, [], ◌∷◌, length}
-use Rattle.lw_tso.proofs.Common.{Option, Some, None, refl, sym, ap, ◌∙◌, subst, ⊎_elim, ◌==◌, ne_eqb}
-use Rattle.lw_tso.proofs.Common.{slice_get, slice_set, slice_index, get_or-set_other, get_or_past, option_or}
-use Rattle.lw_tso.proofs.Common.{same_Some, cases_eq, cases_lt, All, IsWellFormedThread, x86_language, Instr}
-use Rattle.lw_tso.proofs.Common.{Operation, is_locked, location_of, Bool, x86_operation, thread_code}
+use Rattle.lw_tso.proofs.Common.{IsWellScopedThread, ◌≡◌, ℕ, ◌<◌, true, false, true≢false, if◌then◌else◌}
+use Rattle.lw_tso.proofs.Common.{List, [], ◌∷◌, length, Option, Some, None, refl, sym, ap, ◌∙◌, subst, ⊎_elim}
+use Rattle.lw_tso.proofs.Common.{◌==◌, ne_eqb, slice_get, slice_set, slice_index, get_or-set_other}
+use Rattle.lw_tso.proofs.Common.{get_or_past, option_or, same_Some, cases_eq, cases_lt, All, x86_language}
+use Rattle.lw_tso.proofs.Common.{Instr, Operation, is_locked, location_of, Bool, x86_operation, thread_code}
 use Rattle.lw_tso.proofs.Common.{Processor, newest_buffered, EventEffect, LocalStep, MemoryAccess}
 use Rattle.lw_tso.proofs.Common.{operation_effect, step_effect, drain_effect, eq-eqb, get_or-set_same}
 use Rattle.lw_tso.proofs.Common.{unwrap_or, Locked, locked_by, with_empty_buffer, read_value, locked_next}
@@ -83,7 +83,7 @@ pub step_empty : (o : Option Instr) (p : Processor) (l : Locked) (w : ℕ)
 step_empty None p l w e = no_act l e
 step_empty (Some i) p l w e = (operation_kept (x86_operation i) p l e).empty w
 
-module _ (program : List (List Instr)) (locs : ℕ) (threads : All (IsWellFormedThread x86_language locs) program) where
+module _ (program : List (List Instr)) (locs : ℕ) (threads : All (IsWellScopedThread x86_language locs) program) where
   no_code : {X : Type 0} (code : List Instr) (k : ℕ) (i : Instr) → code ≡ [] → slice_get code k ≡ Some i → X
   no_code code k i none at =
       absurd (let e : ◌≡◌ {A = Option Instr} None (Some i) = subst (λ c. slice_get c k ≡ Some i) none at in cc)

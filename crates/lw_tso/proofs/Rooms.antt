@@ -1,21 +1,21 @@
 -- A store buffer has room for all stores that are ahead in its code, through every event, so that a store takes no memory.
-use Rattle.lw_tso.proofs.Common.{◌≡◌, ℕ, zero, suc, ◌+◌, ◌<◌, ◌≤◌, true, cond, List, [], ◌∷◌, ◌++◌, length}
-use Rattle.lw_tso.proofs.Common.{length-append, get_or, Some, refl, sym, ap, ◌∙◌, subst, arith, slice_get}
-use Rattle.lw_tso.proofs.Common.{⊎_elim, All, All-append, sum_by-take-drop, sum_by-drop_more}
-use Rattle.lw_tso.proofs.Common.{slice_get_within, get_or_from_slice_get, IsWellFormedThread}
+use Rattle.lw_tso.proofs.Common.{IsWellScopedThread, ◌≡◌, ℕ, zero, suc, ◌+◌, ◌<◌, ◌≤◌, true, cond, List, []}
+use Rattle.lw_tso.proofs.Common.{◌∷◌, ◌++◌, length, length-append, get_or, Some, refl, sym, ap, ◌∙◌, subst}
+use Rattle.lw_tso.proofs.Common.{arith, slice_get, ⊎_elim, All, All-append, sum_by-take-drop}
+use Rattle.lw_tso.proofs.Common.{sum_by-drop_more, slice_get_within, get_or_from_slice_get}
 use Rattle.lw_tso.proofs.Common.{IsWellFormedStatement, Instr, IsSuccessor, x86_operation, x86_language}
 use Rattle.lw_tso.proofs.Common.{Processor, makes_entry, stores_from, HasRoom}
 use Rattle.lw_tso.proofs.api.Operations.{OperationTransition}
 use Rattle.lw_tso.proofs.EventActs.{Becomes, Stays, Steps, Drains}
 
-module _ (locs : ℕ) (code : List Instr) (thread : IsWellFormedThread x86_language locs code) where
-  -- what stands at a position of a well-formed code is a well-formed instruction
+module _ (locs : ℕ) (code : List Instr) (thread : IsWellScopedThread x86_language locs code) where
+  -- What stands at a position of a well-scoped code is a well-formed instruction.
   pub statement_at : (k : ℕ) (i : Instr) → slice_get code k ≡ Some i → IsWellFormedStatement x86_language locs i
   statement_at k i at =
       let got : get_or code k i ≡ i = get_or_from_slice_get code k i i at in
       subst (IsWellFormedStatement x86_language locs) got (thread.there k i (slice_get_within code k i at))
 
-  -- an instruction of a well-formed code leads to later positions alone
+  -- An instruction of a well-scoped code leads to later positions alone.
   pub forward : (k j : ℕ) (i : Instr) → slice_get code k ≡ Some i → IsSuccessor (x86_operation i) k j → k < j
   forward k j i at leads = ⊎_elim (λ on. (omega (arith, on.1))) (λ to. (thread.forward k i at j to).0) leads
 
@@ -92,7 +92,7 @@ module _ (locs : ℕ) (code : List Instr) (room : ℕ) where
   })
 
   -- what the instruction at its position makes of it
-  went : IsWellFormedThread x86_language locs code
+  went : IsWellScopedThread x86_language locs code
       → (p q : Processor) (i : Instr)
       → slice_get code p.position ≡ Some i
       → OperationTransition (x86_operation i) p q
@@ -106,7 +106,7 @@ module _ (locs : ℕ) (code : List Instr) (room : ℕ) where
 
 -- what an event makes of its processor leaves the buffer with room
 pub event_room : {locs room : ℕ} {code : List Instr} {p q : Processor}
-    → IsWellFormedThread x86_language locs code
+    → IsWellScopedThread x86_language locs code
     → Becomes code p q
     → HasRoom locs code p room
     → HasRoom locs code q room

@@ -1,10 +1,10 @@
 -- Runs that can be extended to an end.
-use Rattle.std.specs.Prelude.{◌≡◌, ℕ, ◌*◌, ◌≤◌, ◌==◌, List, IsTrue}
+use Rattle.std.specs.Prelude.{◌≡◌, ℕ, ◌*◌, ◌≤◌, ◌==◌, List, length, IsTrue}
 use Rattle.std.specs.List.{count_by}
+use Rattle.lw_base.specs.Threads.{thread_code}
 use Rattle.lw_base.specs.declared.event.Event.{Event}
 use Rattle.lw_memory.specs.Memory.{Memory}
 use Rattle.lw_litmus.specs.declared.instr.Instr.{Instr}
-use Rattle.lw_litmus.specs.Limits.{most_instructions}
 use Rattle.lw_tso.specs.EventEffects.{cpu_of}
 use Rattle.lw_tso.specs.Machines.{MachineState}
 use Rattle.lw_tso.specs.Runs.{MachineRunsTo, is_final}
@@ -15,11 +15,11 @@ abbrev pub events_of : ℕ → List Event → ℕ
 events_of t events = count_by (λ e. cpu_of e == t) events
 
 -- Further events lead from this state to a final one, each being enabled in its turn: for each thread at most a step and a drain for each
--- of its possible instructions, and no eviction.
+-- of its instructions, and no eviction.
 pub record CanTerminate {M : Type 0} (mem : Memory M) (program : List (List Instr)) (s : MachineState M) : Type 0 where
   pub more : List Event
   pub end : MachineState M
   pub ran : MachineRunsTo mem program more s end
   pub final : IsTrue (is_final program end)
-  pub few : (t : ℕ) → events_of t more ≤ 2 * most_instructions
+  pub few : (t : ℕ) → events_of t more ≤ 2 * length (thread_code program t)
   pub no_evictions : without_evictions more ≡ more

@@ -1,5 +1,6 @@
 pub mod Processors
 pub mod EventEffects
+pub mod EventRanges
 pub mod Machines
 pub mod Runs
 pub mod Evictions

@@ -4,15 +4,16 @@ ghost use Rattle.std.specs.Prelude.{◌≡◌, ◌↔◌, ℕ, Bool, List, [], �
 ghost use Rattle.std.specs.List.{AllByRecursion};
 ghost use Rattle.lw_base.specs.Names.{IsTestName};
 ghost use Rattle.lw_base.specs.Outcomes.{FinalState, HasOutcomeShape};
-ghost use Rattle.lw_base.specs.Schedules.{IsEvent};
 ghost use Rattle.lw_base.specs.declared.event.Event.{Event};
 ghost use Rattle.lw_memory.specs.Flat.{flat_memory};
 ghost use Rattle.lw_memory.specs.SystemLaws.{invariant_of};
 ghost use Rattle.lw_memory.specs.Memory.{memory_of};
 ghost use Rattle.lw_litmus.specs.declared.instr.Instr.{Instr};
 ghost use Rattle.lw_litmus.specs.WellFormedTests.{IsWellFormedProgram};
+ghost use Rattle.lw_litmus.specs.WellScopedTests.{IsWellScopedProgram};
 ghost use Rattle.lw_litmus.specs.Tests.{X86Test};
 ghost use Rattle.lw_tso.specs.Endings.{CanTerminate};
+ghost use Rattle.lw_tso.specs.EventRanges.{IsEventInRange};
 ghost use Rattle.lw_tso.specs.Evictions.{without_evictions};
 ghost use Rattle.lw_tso.specs.Independence.{AreIndependent, EventsCommute};
 ghost use Rattle.lw_tso.specs.Fencing.{IsFencedCode, IsFencedTest, MarksAreFences, code_without};
@@ -24,7 +25,7 @@ use lw_memory::MemorySystem;
 
 /// States, for readers, that a program has the same outcomes over every memory system: those over flat memory.
 pub fn outcomes_are_flat<M: MemorySystem>()
-    ensures { (test : X86Test) (m : M) (o : FinalState) → IsWellFormedProgram test
+    ensures { (test : X86Test) (m : M) (o : FinalState) → IsWellScopedProgram test
         → IsInitialMemory (memory_of M.content M.state M.serves) (invariant_of M.cpus M.sound) test m
         → IsMachineOutcome (memory_of M.content M.state M.serves) test m o ↔ IsMachineOutcome flat_memory test test.head.init_words o }
 {}
@@ -32,7 +33,7 @@ pub fn outcomes_are_flat<M: MemorySystem>()
 /// States, for readers, that a list of events without evictions replays over a memory system to an outcome if and
 /// only if it does over flat memory.
 pub fn replays_are_flat<M: MemorySystem>()
-    ensures { (test : X86Test) (m : M) (events : List Event) (o : FinalState) → IsWellFormedProgram test
+    ensures { (test : X86Test) (m : M) (events : List Event) (o : FinalState) → IsWellScopedProgram test
         → IsInitialMemory (memory_of M.content M.state M.serves) (invariant_of M.cpus M.sound) test m → without_evictions events ≡ events
         → ReplaysTo (memory_of M.content M.state M.serves) test m events o ↔ ReplaysTo flat_memory test test.head.init_words events o }
 {}
@@ -40,7 +41,7 @@ pub fn replays_are_flat<M: MemorySystem>()
 /// States, for readers, that every run of a program, over every memory system, can be extended to a final state by a
 /// few more events of each thread.
 pub fn every_run_ends<M: MemorySystem>()
-    ensures { (test : X86Test) (m : M) (events : List Event) (s : MachineState M) → IsWellFormedProgram test
+    ensures { (test : X86Test) (m : M) (events : List Event) (s : MachineState M) → IsWellScopedProgram test
         → IsInitialMemory (memory_of M.content M.state M.serves) (invariant_of M.cpus M.sound) test m
         → MachineRunsTo (memory_of M.content M.state M.serves) test.threads events (initial_machine_state test m) s
         → CanTerminate (memory_of M.content M.state M.serves) test.threads s }
@@ -49,17 +50,18 @@ pub fn every_run_ends<M: MemorySystem>()
 /// States, for readers, that the events of a replay name only the test's processors and locations, and that its
 /// outcome has as many threads and locations.
 pub fn replays_are_of_their_test<M: MemorySystem>()
-    ensures { (test : X86Test) (m : M) (events : List Event) (o : FinalState) → IsWellFormedProgram test
+    ensures { (test : X86Test) (m : M) (events : List Event) (o : FinalState) → IsWellScopedProgram test
         → IsInitialMemory (memory_of M.content M.state M.serves) (invariant_of M.cpus M.sound) test m
         → ReplaysTo (memory_of M.content M.state M.serves) test m events o
-        → HasOutcomeShape test.head.threads (length test.head.locs) o × AllByRecursion (IsEvent test.head.locs) events }
+        → HasOutcomeShape test.head.threads (length test.head.locs) o
+        × AllByRecursion (IsEventInRange test.head.threads (length test.head.locs)) events }
 {}
 
 /// States, of a reachable state and an event that is no eviction, that the event has the same result over a memory
 /// system as over flat memory, and leaves the same processors and the same content.
 pub fn events_are_flat<M: MemorySystem>()
     ensures over_flat { (test : X86Test) (m : M) (events : List Event) (s after : MachineState M) (e : Event) (answer : EventResult)
-        → IsWellFormedProgram test → IsInitialMemory (memory_of M.content M.state M.serves) (invariant_of M.cpus M.sound) test m
+        → IsWellScopedProgram test → IsInitialMemory (memory_of M.content M.state M.serves) (invariant_of M.cpus M.sound) test m
         → MachineRunsTo (memory_of M.content M.state M.serves) test.threads events (initial_machine_state test m) s
         → without_evictions (e ∷ []) ≡ e ∷ []
         → MachineTransition (memory_of M.content M.state M.serves) test.threads e s answer after
@@ -67,7 +69,7 @@ pub fn events_are_flat<M: MemorySystem>()
         (over_flat_memory (memory_of M.content M.state M.serves) after) }
     ensures over_memory { (test : X86Test) (m : M) (events : List Event) (s : MachineState M) (e : Event) (answer : EventResult)
         (end : MachineState (List ℕ))
-        → IsWellFormedProgram test → IsInitialMemory (memory_of M.content M.state M.serves) (invariant_of M.cpus M.sound) test m
+        → IsWellScopedProgram test → IsInitialMemory (memory_of M.content M.state M.serves) (invariant_of M.cpus M.sound) test m
         → MachineRunsTo (memory_of M.content M.state M.serves) test.threads events (initial_machine_state test m) s
         → without_evictions (e ∷ []) ≡ e ∷ []
         → MachineTransition flat_memory test.threads e (over_flat_memory (memory_of M.content M.state M.serves) s) answer end
@@ -97,8 +99,7 @@ pub fn fences_only_take_outcomes_away()
 
 /// States that fences only remove outcomes over every memory system too.
 pub fn fences_only_take_outcomes_away_over_every_memory<M: MemorySystem>()
-    ensures { (test fenced : X86Test) (m n : M) (o : FinalState) → IsTestName test.head.name → IsWellFormedProgram fenced
-        → IsFencedTest test fenced
+    ensures { (test fenced : X86Test) (m n : M) (o : FinalState) → IsWellScopedProgram fenced → IsFencedTest test fenced
         → IsInitialMemory (memory_of M.content M.state M.serves) (invariant_of M.cpus M.sound) test m
         → IsInitialMemory (memory_of M.content M.state M.serves) (invariant_of M.cpus M.sound) fenced n
         → IsMachineOutcome (memory_of M.content M.state M.serves) fenced n o
@@ -109,9 +110,11 @@ pub fn fences_only_take_outcomes_away_over_every_memory<M: MemorySystem>()
     tests_without_fences_are_well_formed();
 }
 
-/// States that a test is well-formed if it has a valid name and is well-formed with MFENCEs inserted.
+/// States that a test is well-scoped if it is so with MFENCEs inserted. It is well-formed if it has a valid name and is
+/// well-formed with MFENCEs inserted.
 pub fn tests_without_fences_are_well_formed()
-    ensures { (test fenced : X86Test) → IsTestName test.head.name → IsWellFormedProgram fenced → IsFencedTest test fenced
+    ensures well_scoped { (test fenced : X86Test) → IsWellScopedProgram fenced → IsFencedTest test fenced → IsWellScopedProgram test }
+    ensures well_formed { (test fenced : X86Test) → IsTestName test.head.name → IsWellFormedProgram fenced → IsFencedTest test fenced
         → IsWellFormedProgram test }
 {}
 

@@ -4,7 +4,7 @@
 ghost use Rattle.std.specs.Prelude.{◌↔◌};
 ghost use Rattle.lw_base.specs.Outcomes.{FinalState};
 ghost use Rattle.lw_memory.specs.Flat.{flat_memory};
-ghost use Rattle.lw_litmus.specs.WellFormedTests.{IsWellFormedProgram};
+ghost use Rattle.lw_litmus.specs.WellScopedTests.{IsWellScopedProgram};
 ghost use Rattle.lw_litmus.specs.Tests.{X86Test};
 ghost use Rattle.lw_tso.specs.LockPhases.{OutcomeInPhases};
 ghost use Rattle.lw_tso.specs.Runs.{IsMachineOutcome};
@@ -13,6 +13,6 @@ ghost use Rattle.lw_tso.specs.Runs.{IsMachineOutcome};
 /// locked instruction takes a lock, reads, writes into the store buffer and releases the lock once the buffer is
 /// empty, while other processors continue; here it is one step.
 pub fn lock_phases_change_no_outcome()
-    ensures { (test : X86Test) (o : FinalState) → IsWellFormedProgram test
+    ensures { (test : X86Test) (o : FinalState) → IsWellScopedProgram test
         → OutcomeInPhases test o ↔ IsMachineOutcome flat_memory test test.head.init_words o }
 {}

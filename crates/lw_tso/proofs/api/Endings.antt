@@ -1,19 +1,19 @@
 -- Every run of a program can be brought to its end: each processor is led to its own, one after another, by draining its
 -- buffer and stepping on once it is empty.
-use Rattle.lw_tso.proofs.Common.{inl, inr, ◌≡◌, ◌≢◌, ℕ, zero, suc, ◌+◌, ◌<◌, ◌≤◌, ◌==◌, ◌&&◌, Bool, true}
-use Rattle.lw_tso.proofs.Common.{cond, List, [], ◌∷◌, ◌++◌, length, get_or, Ok, Option, Some, None, refl, sym}
-use Rattle.lw_tso.proofs.Common.{ap, ap₂, ◌∙◌, subst, arith, ⊎_elim, slice_get, slice_set, ne_eqb, All}
-use Rattle.lw_tso.proofs.Common.{IsTrue, zip, le-leb, list_all, cases_eq, cases_lt, sum_by-append}
-use Rattle.lw_tso.proofs.Common.{sum_by-cons, count_by-le-length, slice_get_within, slice_get-get_or}
-use Rattle.lw_tso.proofs.Common.{same_Some, slice_get-set_same, slice_get-set_other, Event, Step, Drain}
-use Rattle.lw_tso.proofs.Common.{Evict, Invariant, IsLawful, Memory, IsWellFormedThread, Instr, Mfence}
-use Rattle.lw_tso.proofs.Common.{x86_operation, x86_language, IsWellFormedProgram, X86Test, Processor}
-use Rattle.lw_tso.proofs.Common.{thread_code, RunsTo-append, EventEffect, LocalStep, MemoryAccess}
-use Rattle.lw_tso.proofs.Common.{value_returned, cpu_of, event_effect, operation_effect, step_effect}
-use Rattle.lw_tso.proofs.Common.{drain_effect, MachineState, EffectTransition, ProcessorTransition}
-use Rattle.lw_tso.proofs.Common.{MachineTransition, HasRoom, makes_entry, stores_from, MachineRunsTo}
-use Rattle.lw_tso.proofs.Common.{initial_machine_state, has_terminated, is_final, without_evictions}
-use Rattle.lw_tso.proofs.Common.{events_of, CanTerminate, IsInitialMemory}
+use Rattle.lw_tso.proofs.Common.{IsWellScopedThread, ◌*◌, IsWellScopedProgram, inl, inr, ◌≡◌, ◌≢◌, ℕ, zero}
+use Rattle.lw_tso.proofs.Common.{suc, ◌+◌, ◌<◌, ◌≤◌, ◌==◌, ◌&&◌, Bool, true, cond, List, [], ◌∷◌, ◌++◌}
+use Rattle.lw_tso.proofs.Common.{length, get_or, Ok, Option, Some, None, refl, sym, ap, ap₂, ◌∙◌, subst}
+use Rattle.lw_tso.proofs.Common.{arith, ⊎_elim, slice_get, slice_set, ne_eqb, All, IsTrue, zip, le-leb}
+use Rattle.lw_tso.proofs.Common.{list_all, cases_eq, cases_lt, sum_by-append, sum_by-cons, count_by-le-length}
+use Rattle.lw_tso.proofs.Common.{slice_get_within, slice_get-get_or, same_Some, slice_get-set_same}
+use Rattle.lw_tso.proofs.Common.{slice_get-set_other, Event, Step, Drain, Evict, Invariant, IsLawful, Memory}
+use Rattle.lw_tso.proofs.Common.{Instr, Mfence, x86_operation, x86_language, X86Test, Processor, thread_code}
+use Rattle.lw_tso.proofs.Common.{RunsTo-append, EventEffect, LocalStep, MemoryAccess, value_returned, cpu_of}
+use Rattle.lw_tso.proofs.Common.{event_effect, operation_effect, step_effect, drain_effect, MachineState}
+use Rattle.lw_tso.proofs.Common.{EffectTransition, ProcessorTransition, MachineTransition, HasRoom}
+use Rattle.lw_tso.proofs.Common.{makes_entry, stores_from, MachineRunsTo, initial_machine_state}
+use Rattle.lw_tso.proofs.Common.{has_terminated, is_final, without_evictions, events_of, CanTerminate}
+use Rattle.lw_tso.proofs.Common.{IsInitialMemory}
 use Rattle.lw_tso.proofs.EventActs.{event_becomes}
 use Rattle.lw_tso.proofs.Rooms.{forward, event_room}
 use Rattle.lw_tso.proofs.api.FlatSimulation.{IsWithin, asks_within, thread_at, within_after, within_reached}
@@ -59,7 +59,7 @@ module _ {M : Type 0} (mem : Memory M) (inv : Invariant M) (laws : IsLawful mem 
       (next _, g.0, (value_returned (mem.content m) x access, refl, refl, g.1), comes.1 _)
   possible t _ p m Makes sound cpu comes = absurd comes
 
-  module _ (program : List (List Instr)) (locs : ℕ) (threads : All (IsWellFormedThread x86_language locs) program) where
+  module _ (program : List (List Instr)) (locs : ℕ) (threads : All (IsWellScopedThread x86_language locs) program) where
     abbrev Within : MachineState M → Type 0
     Within s = IsWithin mem inv laws program locs threads s
 
@@ -202,14 +202,16 @@ module _ {M : Type 0} (mem : Memory M) (inv : Invariant M) (laws : IsLawful mem 
           → t < k
           → slice_get end.processors t ≡ Some p
           → has_terminated (thread_code program t) p ≡ true
-      few : (t : ℕ) → events_of t events ≤ 64
+      few : (t : ℕ) → events_of t events ≤ 2 * length (thread_code program t)
       none : (t : ℕ) → k ≤ t → events_of t events ≡ 0
       kept : without_evictions events ≡ events
 
     count_append : (u : ℕ) (es fs : List Event) → events_of u (es ++ fs) ≡ events_of u es + events_of u fs
     count_append u es fs = sum_by-append (λ (d : Event). cond (cpu_of d == u) 1 0) es fs
 
-    one_more : (k : ℕ) (s : MachineState M) (a : Part k s) → Finished k 64 a.end → Part (suc k) s
+    one_more : (k : ℕ) (s : MachineState M) (a : Part k s)
+        → Finished k (2 * length (thread_code program k)) a.end
+        → Part (suc k) s
     one_more k s a f = record {
       events = a.events ++ f.events;
       end = f.end;
@@ -221,13 +223,14 @@ module _ {M : Type 0} (mem : Memory M) (inv : Invariant M) (laws : IsLawful mem 
           (f.done p (subst (λ (u : ℕ). slice_get f.end.processors u ≡ Some p) same got)))
           (λ ne. a.done t p (omega arith) (sym (f.others t ne) ∙ got)) (cases_eq t k);
       few = λ t.
-          ⊎_elim (λ same. subst (λ (u : ℕ). events_of u (a.events ++ f.events) ≤ 64) (sym same) here) (λ ne. there t ne)
-          (cases_eq t k);
+          ⊎_elim
+          (λ same. subst (λ (u : ℕ). events_of u (a.events ++ f.events) ≤ 2 * length (thread_code program u)) (sym same) here)
+          (λ ne. there t ne) (cases_eq t k);
       none = λ t le. absent t le;
       kept = without_append a.events f.events ∙ ap₂ (λ x y. x ++ y) a.kept f.kept;
     }
       where
-        here : events_of k (a.events ++ f.events) ≤ 64
+        here : events_of k (a.events ++ f.events) ≤ 2 * length (thread_code program k)
         here = omega (
           arith,
           count_append k a.events f.events,
@@ -236,14 +239,16 @@ module _ {M : Type 0} (mem : Memory M) (inv : Invariant M) (laws : IsLawful mem 
           f.few,
         )
 
-        there : (t : ℕ) → t ≢ k → events_of t (a.events ++ f.events) ≤ 64
+        there : (t : ℕ) → t ≢ k → events_of t (a.events ++ f.events) ≤ 2 * length (thread_code program t)
         there t ne = omega (arith, count_append t a.events f.events, a.few t, f.none t ne)
 
         absent : (t : ℕ) → suc k ≤ t → events_of t (a.events ++ f.events) ≡ 0
         absent t le =
             let ne : t ≢ k = omega arith in omega (arith, count_append t a.events f.events, a.none t (omega arith), f.none t ne)
 
-    idle : {k : ℕ} (s : MachineState M) (a : Part k s) → slice_get a.end.processors k ≡ None → Finished k 64 a.end
+    idle : {k : ℕ} (s : MachineState M) (a : Part k s)
+        → slice_get a.end.processors k ≡ None
+        → Finished k (2 * length (thread_code program k)) a.end
     idle s a at = record {
       events = [];
       end = a.end;
@@ -272,14 +277,13 @@ module _ {M : Type 0} (mem : Memory M) (inv : Invariant M) (laws : IsLawful mem 
         more : Part k s → Part (suc k) s
         more a = one_more k s a (go (slice_get a.end.processors k) refl)
           where
-            go : (o : Option Processor) → slice_get a.end.processors k ≡ o → Finished k 64 a.end
+            go : (o : Option Processor) → slice_get a.end.processors k ≡ o → Finished k (2 * length (thread_code program k)) a.end
             go None at = idle s a at
             go (Some p) at =
                 let code = thread_code program k in
-                let thread = thread_at mem inv laws program locs threads a.end k p a.within at in
                 let most : stores_from 0 code ≤ length code = count_by-le-length makes_entry code in
-                finish k 64 (length code) a.end p p.buffer a.within at refl (omega arith)
-                (omega (arith, thread.short, (a.within.rooms k p at).fits, most))
+                finish k (2 * length code) (length code) a.end p p.buffer a.within at refl (omega arith)
+                (omega (arith, (a.within.rooms k p at).fits, most))
 
     -- it ends from each state that runs lead to
     ends_from : (s : MachineState M) → Within s → CanTerminate mem program s
@@ -290,9 +294,9 @@ module _ {M : Type 0} (mem : Memory M) (inv : Invariant M) (laws : IsLawful mem 
         (λ t p got. a.done t p (omega (arith, slice_get_within a.end.processors t p got, a.within.as_many)) got) in
         record { more = a.events; end = a.end; ran = a.ran; final = all; few = a.few; no_evictions = a.kept }
 
-  -- every run of a well-formed test can be brought to a final state
+  -- Every run of a well-scoped test can be brought to a final state.
   pub can_end : (test : X86Test)
-      → IsWellFormedProgram test
+      → IsWellScopedProgram test
       → (m : M) (es : List Event) (s : MachineState M)
       → IsInitialMemory mem inv test m
       → MachineRunsTo mem test.threads es (initial_machine_state test m) s

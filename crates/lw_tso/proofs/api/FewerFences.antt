@@ -1,11 +1,13 @@
--- What is left of a well-formed test without some of its MFENCEs is well-formed.
-use Rattle.lw_tso.proofs.Common.{◌≡◌, ℕ, zero, suc, ◌+◌, ◌<◌, ◌≤◌, List, [], length, Some, ◌⊎◌, inl, inr}
-use Rattle.lw_tso.proofs.Common.{⊎_elim, refl, sym, ap, ◌∙◌, subst, arith, All, cases_lt, same_Some}
-use Rattle.lw_tso.proofs.Common.{slice_get, thread_code, slice_get_within, slice_get-get_or, ForSome, Instr}
-use Rattle.lw_tso.proofs.Common.{IsWellFormedStatement, IsWellFormedThread, IsWellFormedProgram, X86Test}
-use Rattle.lw_tso.proofs.Common.{x86_language, x86_operation, retarget_to_blocks, IsInserted, EndsBlock}
-use Rattle.lw_tso.proofs.Common.{IsFencedCode, IsFencedTest, get_some, TestHead, IsTestName, IsWellFormedHead}
-use Rattle.lw_tso.proofs.Common.{branch_target, Je, Jne, Jmp}
+-- What is left of a well-scoped test without some of its MFENCEs is well-scoped, and what is left of a well-formed one well-formed.
+use Rattle.lw_tso.proofs.Common.{IsWellScopedThread-well_formed, IsWellScopedThread, IsWellScopedProgram}
+use Rattle.lw_tso.proofs.Common.{HasInitialWords, ◌≡◌, ℕ, zero, suc, ◌+◌, ◌<◌, ◌≤◌, List, [], length, Some}
+use Rattle.lw_tso.proofs.Common.{◌⊎◌, inl, inr, ⊎_elim, refl, sym, ap, ◌∙◌, subst, arith, All, cases_lt}
+use Rattle.lw_tso.proofs.Common.{same_Some, slice_get, thread_code, slice_get_within, slice_get-get_or}
+use Rattle.lw_tso.proofs.Common.{ForSome, Instr, IsWellFormedStatement, IsWellFormedThread}
+use Rattle.lw_tso.proofs.Common.{IsWellFormedProgram, X86Test, x86_language, x86_operation}
+use Rattle.lw_tso.proofs.Common.{retarget_to_blocks, IsInserted, EndsBlock, IsFencedCode, IsFencedTest}
+use Rattle.lw_tso.proofs.Common.{get_some, TestHead, IsTestName, IsWellFormedHead, branch_target, Je, Jne}
+use Rattle.lw_tso.proofs.Common.{Jmp}
 
 module _ (code fenced : List Instr) (f : IsFencedCode code fenced) where
   -- from index to index the block is the same or the next
@@ -66,7 +68,11 @@ module _ (code fenced : List Instr) (f : IsFencedCode code fenced) where
   at_of : (k : ℕ) → k < length code → IsAt k
   at_of k within = is_at k (length fenced) (omega arith) (omega (arith, within, f.last (length fenced) (omega arith)))
 
-  module _ (locs : ℕ) (ok : IsWellFormedThread x86_language locs fenced) where
+  -- A code is no longer than with MFENCEs inserted.
+  no_longer : length code ≤ length fenced
+  no_longer = omega (arith, low (length fenced) (omega arith), f.last (length fenced) (omega arith))
+
+  module _ (locs : ℕ) (ok : IsWellScopedThread x86_language locs fenced) where
     same_statement : (i : Instr)
         → IsWellFormedStatement x86_language locs i
         → IsWellFormedStatement x86_language locs (retarget_to_blocks f.block i)
@@ -97,13 +103,9 @@ module _ (code fenced : List Instr) (f : IsFencedCode code fenced) where
     forward k here (Jmp to) goes u e = jump k here to u (goes to refl) e
     forward k here i goes u e = absurd cc
 
-    -- a thread is well formed if it is with MFENCEs inserted
-    pub thread_formed : IsWellFormedThread x86_language locs code
-    thread_formed = record {
-      short = omega (arith, ok.short, low (length fenced) (omega arith), f.last (length fenced) (omega arith));
-      there = there;
-      forward = onward;
-    }
+    -- A thread is well-scoped if it is so with MFENCEs inserted.
+    thread_scoped : IsWellScopedThread x86_language locs code
+    thread_scoped = record { there = there; forward = onward }
       where
         code_has : (k : ℕ) (here : IsAt k) → slice_get code k ≡ Some (retarget_to_blocks f.block here.i)
         code_has k here = ap (slice_get code) (sym here.block) ∙ here.ends.0
@@ -125,6 +127,43 @@ module _ (code fenced : List Instr) (f : IsFencedCode code fenced) where
             let same = same_Some _ _ (sym (code_has k here) ∙ at) in
             subst (λ (i : Instr). ForSome (branch_target (x86_operation i)) (λ to. (k < to) × (to ≤ length code))) same
             (forward k here here.i (ok.forward here.index here.i here.there))
+
+-- A thread is well-formed if it is so with MFENCEs inserted.
+thread_formed : (code fenced : List Instr)
+    → IsFencedCode code fenced
+    → (locs : ℕ)
+    → IsWellFormedThread x86_language locs fenced
+    → IsWellFormedThread x86_language locs code
+thread_formed code fenced f locs ok =
+    let scoped = thread_scoped code fenced f locs (IsWellScopedThread-well_formed x86_language ok) in
+    record { short = omega (arith, ok.short, no_longer code fenced f); there = scoped.there; forward = scoped.forward }
+
+-- If what holds of a code with MFENCEs inserted holds of the code, what holds of each code of a test with MFENCEs inserted holds of each
+-- of the test's.
+threads_left : (P : ℕ → List Instr → Type 0)
+    → ((code fenced : List Instr) → IsFencedCode code fenced → (locs : ℕ) → P locs fenced → P locs code)
+    → (test fenced : X86Test)
+    → IsFencedTest test fenced
+    → All (P (length fenced.head.locs)) fenced.threads
+    → All (P (length test.head.locs)) test.threads
+threads_left P left test fenced f all t d within =
+    let locs = ap (λ (h : TestHead). length h.locs) f.head in
+    let there = all t [] (omega (arith, within, f.as_many)) in
+    let here =
+    left (thread_code test.threads t) (thread_code fenced.threads t) (f.threads t within) (length fenced.head.locs) there in
+    let same = same_Some _ _ (sym (slice_get-get_or test.threads t [] within) ∙ slice_get-get_or test.threads t d within) in
+    subst (P (length test.head.locs)) same (subst (λ n. P n (thread_code test.threads t)) locs here)
+
+-- A test is well-scoped if it is so with MFENCEs inserted.
+pub test_scoped : (test fenced : X86Test) → IsWellScopedProgram fenced → IsFencedTest test fenced → IsWellScopedProgram test
+test_scoped test fenced ok f = record {
+  head = let words = subst HasInitialWords f.head ok.head in record { regs = words.regs; six = words.six; words = words.words };
+  arch = sym (ap (λ (h : TestHead). h.arch) f.head) ∙ ok.arch;
+  as_many = sym f.as_many ∙ ok.as_many ∙ ap (λ (h : TestHead). h.threads) f.head;
+  code =
+      threads_left (IsWellScopedThread x86_language) (λ code longer g locs. thread_scoped code longer g locs) test fenced f
+      ok.code;
+}
 
 -- a head is well-formed if it is so with another name, and if its own is one that a test may have
 head_formed : (h : TestHead) (name : List ℕ)
@@ -157,13 +196,5 @@ test_formed test fenced named ok f = record {
   head = head_formed test.head fenced.head.name named (subst IsWellFormedHead f.head ok.head);
   arch = sym (ap (λ (h : TestHead). h.arch) f.head) ∙ ok.arch;
   as_many = sym f.as_many ∙ ok.as_many ∙ ap (λ (h : TestHead). h.threads) f.head;
-  code = λ t d within.
-      let locs = ap (λ (h : TestHead). length h.locs) f.head in
-      let there = ok.code t [] (omega (arith, within, f.as_many)) in
-      let left =
-      thread_formed (thread_code test.threads t) (thread_code fenced.threads t) (f.threads t within) (length fenced.head.locs)
-      there in
-      let same = same_Some _ _ (sym (slice_get-get_or test.threads t [] within) ∙ slice_get-get_or test.threads t d within) in
-      subst (IsWellFormedThread x86_language (length test.head.locs)) same
-      (subst (λ n. IsWellFormedThread x86_language n (thread_code test.threads t)) locs left);
+  code = threads_left (IsWellFormedThread x86_language) thread_formed test fenced f ok.code;
 }

@@ -1,16 +1,16 @@
 -- A run over the flat memory is a run over every memory that keeps the laws.
-use Rattle.lw_tso.proofs.Common.{Bool, inl, inr, ◌≡◌, ◌↔◌, ℕ, ◌<◌, ◌≤◌, List, [], ◌∷◌, length, Ok, Option}
-use Rattle.lw_tso.proofs.Common.{Some, None, refl, sym, ap, ◌∙◌, subst, arith, slice_get, slice_set, All}
-use Rattle.lw_tso.proofs.Common.{IsTrue, option_map, length-set, length-map, All-nil, slice_get-map}
-use Rattle.lw_tso.proofs.Common.{slice_get_within, same_Some, FinalState, Event, Evict, Request}
-use Rattle.lw_tso.proofs.Common.{request_result, content_after_request, flat_memory, Memory, IsInRange}
-use Rattle.lw_tso.proofs.Common.{IsEnabled, IsLawful, Invariant, IsWellFormedThread, each_after, Instr}
-use Rattle.lw_tso.proofs.Common.{x86_language, IsWellFormedProgram, X86Test, Processor, initial_processor}
-use Rattle.lw_tso.proofs.Common.{thread_code, EventEffect, MemoryAccess, Eviction, cpu_of, event_effect}
-use Rattle.lw_tso.proofs.Common.{MachineState, EventResult, over_flat_memory, EffectTransition}
-use Rattle.lw_tso.proofs.Common.{ProcessorTransition, MachineTransition, HasRoom, stores_from, MachineRunsTo}
-use Rattle.lw_tso.proofs.Common.{ReplaysTo, IsMachineOutcome, initial_machine_state, machine_outcome}
-use Rattle.lw_tso.proofs.Common.{is_final, without_evictions, IsInitialMemory}
+use Rattle.lw_tso.proofs.Common.{IsWellScopedThread, IsWellScopedProgram, Bool, inl, inr, ◌≡◌, ◌↔◌, ℕ, ◌<◌}
+use Rattle.lw_tso.proofs.Common.{◌≤◌, List, [], ◌∷◌, length, Ok, Option, Some, None, refl, sym, ap, ◌∙◌}
+use Rattle.lw_tso.proofs.Common.{subst, arith, slice_get, slice_set, All, IsTrue, option_map, length-set}
+use Rattle.lw_tso.proofs.Common.{length-map, All-nil, slice_get-map, slice_get_within, same_Some, FinalState}
+use Rattle.lw_tso.proofs.Common.{Event, Evict, Request, request_result, content_after_request, flat_memory}
+use Rattle.lw_tso.proofs.Common.{Memory, IsInRange, IsEnabled, IsLawful, Invariant, each_after, Instr}
+use Rattle.lw_tso.proofs.Common.{x86_language, X86Test, Processor, initial_processor, thread_code}
+use Rattle.lw_tso.proofs.Common.{EventEffect, MemoryAccess, Eviction, cpu_of, event_effect, MachineState}
+use Rattle.lw_tso.proofs.Common.{EventResult, over_flat_memory, EffectTransition, ProcessorTransition}
+use Rattle.lw_tso.proofs.Common.{MachineTransition, HasRoom, stores_from, MachineRunsTo, ReplaysTo}
+use Rattle.lw_tso.proofs.Common.{IsMachineOutcome, initial_machine_state, machine_outcome, is_final}
+use Rattle.lw_tso.proofs.Common.{without_evictions, IsInitialMemory}
 use Rattle.lw_tso.proofs.Acts.{act_kept}
 use Rattle.lw_tso.proofs.Rooms.{statement_at, event_room}
 use Rattle.lw_tso.proofs.api.Effects.{no_eviction, effect_of_event}
@@ -56,7 +56,7 @@ module _ {M : Type 0} (mem : Memory M) (inv : Invariant M) (laws : IsLawful mem 
   act_lift R A K t (Eviction x) p q m words answer sound cpu within comes done = absurd comes
   act_lift R A K t _ p q m words answer sound cpu within comes done = (m, (done.0, done.1, refl), sym done.2)
 
-  module _ (program : List (List Instr)) (locs : ℕ) (threads : All (IsWellFormedThread x86_language locs) program) where
+  module _ (program : List (List Instr)) (locs : ℕ) (threads : All (IsWellScopedThread x86_language locs) program) where
     -- the room that a processor's buffer never needs more of
     abbrev HasRoomAt : ℕ → Processor → Type 0
     HasRoomAt t p = HasRoom locs (thread_code program t) p (stores_from 0 (thread_code program t))
@@ -73,7 +73,7 @@ module _ {M : Type 0} (mem : Memory M) (inv : Invariant M) (laws : IsLawful mem 
     pub thread_at : (s : MachineState M) (t : ℕ) (p : Processor)
         → IsWithin s
         → slice_get s.processors t ≡ Some p
-        → IsWellFormedThread x86_language locs (thread_code program t)
+        → IsWellScopedThread x86_language locs (thread_code program t)
     thread_at s t p within at = threads t _ (omega (arith, slice_get_within s.processors t p at, within.as_many))
 
     -- an event keeps what is true in all states that are reached
@@ -185,7 +185,7 @@ module _ {M : Type 0} (mem : Memory M) (inv : Invariant M) (laws : IsLawful mem 
         (subst (λ (x : MachineState (List ℕ)). MachineRunsTo flat_memory program es x last) (sym a.2) ran.2) in
         record { end = b.end; ran = (a.0, a.1, b.ran); is = b.is }
 
-  module _ (test : X86Test) (ok : IsWellFormedProgram test) where
+  module _ (test : X86Test) (ok : IsWellScopedProgram test) where
     abbrev locs : ℕ
     locs = length test.head.locs
 

@@ -1,13 +1,14 @@
--- A replay speaks of its test's processors and locations alone, and its outcome is of their numbers.
-use Rattle.lw_tso.proofs.Common.{◌≡◌, ℕ, zero, suc, ◌<◌, ◌≤◌, Bool, true, false, nat_lt, if◌then◌else◌, List}
-use Rattle.lw_tso.proofs.Common.{[], ◌∷◌, length, map, Ok, Err, Option, Some, None, refl, sym, ap, ◌∙◌, subst}
-use Rattle.lw_tso.proofs.Common.{slice_get, slice_set, arith, ltb-true, AllByRecursion, length-map}
-use Rattle.lw_tso.proofs.Common.{slice_get_within, FinalState, HasOutcomeShape, IsEvent, NameTable, Event}
-use Rattle.lw_tso.proofs.Common.{Evict, most_threads, registers, NoCpu, NoLocation, Invariant, IsLawful}
-use Rattle.lw_tso.proofs.Common.{Memory, Instr, IsWellFormedProgram, X86Test, Processor, initial_processor}
-use Rattle.lw_tso.proofs.Common.{Refused, Eviction, cpu_of, event_effect, MachineState, EventResult}
-use Rattle.lw_tso.proofs.Common.{EffectTransition, ProcessorTransition, MachineTransition, MachineRunsTo}
-use Rattle.lw_tso.proofs.Common.{ReplaysTo, initial_machine_state, IsInitialMemory}
+-- A replay speaks of its test's processors and locations only, and its outcome is of their numbers.
+use Rattle.lw_tso.proofs.Common.{IsEventInRange, IsWellScopedProgram, IsMachineOutcome, flat_memory}
+use Rattle.lw_tso.proofs.Common.{words_invariant, words_lawful, Step, Drain, ◌≡◌, ℕ, zero, suc, ◌<◌, ◌≤◌}
+use Rattle.lw_tso.proofs.Common.{Bool, true, false, nat_lt, if◌then◌else◌, List, [], ◌∷◌, length, map, Ok}
+use Rattle.lw_tso.proofs.Common.{Err, Option, Some, None, refl, sym, ap, ◌∙◌, subst, slice_get, slice_set}
+use Rattle.lw_tso.proofs.Common.{arith, ltb-true, AllByRecursion, length-map, slice_get_within, FinalState}
+use Rattle.lw_tso.proofs.Common.{HasOutcomeShape, IsEvent, NameTable, Event, Evict, most_threads, registers}
+use Rattle.lw_tso.proofs.Common.{NoCpu, NoLocation, Invariant, IsLawful, Memory, Instr, X86Test, Processor}
+use Rattle.lw_tso.proofs.Common.{initial_processor, Refused, Eviction, cpu_of, event_effect, MachineState}
+use Rattle.lw_tso.proofs.Common.{EventResult, EffectTransition, ProcessorTransition, MachineTransition}
+use Rattle.lw_tso.proofs.Common.{MachineRunsTo, ReplaysTo, initial_machine_state, IsInitialMemory}
 use Rattle.lw_tso.proofs.Acts.{IsSameSize, event_kept}
 use Rattle.lw_tso.proofs.EventActs.{Becomes, Stays, Steps, Drains, event_becomes}
 
@@ -50,14 +51,14 @@ module _ {M : Type 0} (mem : Memory M) (inv : Invariant M) where
   evicted_there false t x locs p q m n lt done = absurd (let e = done.0 in cc)
 
   -- an event that is carried out, of a processor that is there
-  there : (program : List (List Instr)) (names : NameTable) (e : Event) (p q : Processor) (m n : M)
-      → cpu_of e < most_threads
-      → length (mem.content m) ≡ length names
+  there : (program : List (List Instr)) (threads locs : ℕ) (e : Event) (p q : Processor) (m n : M)
+      → cpu_of e < threads
+      → length (mem.content m) ≡ locs
       → EffectTransition mem (cpu_of e) (event_effect program (length (mem.content m)) e p) p m (Ok tt) q n
-      → IsEvent names e
-  there program names (Evict t x) p q m n lt locs done =
-      (lt, subst (λ k. x < k) locs (evicted_there _ t x (length (mem.content m)) p q m n refl done))
-  there program names _ p q m n lt locs done = lt
+      → IsEventInRange threads locs e
+  there program threads locs (Evict t x) p q m n lt sized done =
+      (lt, subst (λ k. x < k) sized (evicted_there _ t x (length (mem.content m)) p q m n refl done))
+  there program threads locs _ p q m n lt sized done = lt
 
   -- ---- a machine of so many threads and locations
 
@@ -67,12 +68,11 @@ module _ {M : Type 0} (mem : Memory M) (inv : Invariant M) where
     words : length (mem.content s.memory) ≡ locs
     sound : inv.sound s.memory
 
-  module _ (laws : IsLawful mem inv) (program : List (List Instr)) (names : NameTable) (threads : ℕ)
-      (few : threads ≤ most_threads) where
+  module _ (laws : IsLawful mem inv) (program : List (List Instr)) (threads locs : ℕ) where
     event_of : (e : Event) (s after : MachineState M)
-        → IsMachineOf threads (length names) s
+        → IsMachineOf threads locs s
         → MachineTransition mem program e s (Ok tt) after
-        → IsEvent names e × IsMachineOf threads (length names) after
+        → IsEventInRange threads locs e × IsMachineOf threads locs after
     event_of e s after is done = go (slice_get s.processors (cpu_of e)) refl done
       where
         kept : IsSameSize mem inv s after
@@ -81,13 +81,13 @@ module _ {M : Type 0} (mem : Memory M) (inv : Invariant M) where
         go : (o : Option Processor)
             → slice_get s.processors (cpu_of e) ≡ o
             → ProcessorTransition mem o program e s (Ok tt) after
-            → IsEvent names e × IsMachineOf threads (length names) after
+            → IsEventInRange threads locs e × IsMachineOf threads locs after
         go None at by = absurd (let e : ◌≡◌ {A = EventResult} (Ok tt) (Err NoCpu) = by.0 in cc)
         go (Some p) at by =
             let lt = slice_get_within s.processors (cpu_of e) p at in
             let becomes = event_becomes _ (length (mem.content s.memory)) mem p by.0 _ by.1 (Ok tt) e by.2 in
             let next = still_has (all_at HasRegisters s.processors (cpu_of e) p is.have at) becomes in (
-              there program names e p _ s.memory by.1 (omega (arith, lt, is.processors, few)) is.words by.2,
+              there program threads locs e p _ s.memory by.1 (omega (arith, lt, is.processors)) is.words by.2,
               record {
                 processors = kept.processors ∙ is.processors;
                 have =
@@ -99,10 +99,10 @@ module _ {M : Type 0} (mem : Memory M) (inv : Invariant M) where
             )
 
     run_of : (es : List Event) {s : MachineState M} (end : MachineState M)
-        → IsMachineOf threads (length names) s
+        → IsMachineOf threads locs s
         → MachineRunsTo mem program es s end
-        → AllByRecursion (IsEvent names) es × IsMachineOf threads (length names) end
-    run_of [] end is ran = (tt, subst (IsMachineOf threads (length names)) (sym ran) is)
+        → AllByRecursion (IsEventInRange threads locs) es × IsMachineOf threads locs end
+    run_of [] end is ran = (tt, subst (IsMachineOf threads locs) (sym ran) is)
     run_of (e ∷ es) {s = s} end is ran =
         let first = event_of e s ran.0 is ran.1 in
         let rest = run_of es end first.1 ran.2 in
@@ -125,10 +125,11 @@ starts_have (row ∷ rows) all = (all.0, starts_have rows all.1)
 -- a run of a test to its end has an outcome of the test's threads and locations, and events of these
 pub replayed_of_test : {M : Type 0} {mem : Memory M} {inv : Invariant M} (laws : IsLawful mem inv) (test : X86Test) (m : M)
     (events : List Event) (o : FinalState)
-    → IsWellFormedProgram test
+    → IsWellScopedProgram test
     → IsInitialMemory mem inv test m
     → ReplaysTo mem test m events o
-    → HasOutcomeShape test.head.threads (length test.head.locs) o × AllByRecursion (IsEvent test.head.locs) events
+    → HasOutcomeShape test.head.threads (length test.head.locs) o
+    × AllByRecursion (IsEventInRange test.head.threads (length test.head.locs)) events
 replayed_of_test {mem = mem} {inv = inv} laws test m events o ok start r =
     let head = ok.head in
     let first : IsMachineOf mem inv test.head.threads (length test.head.locs) (initial_machine_state test m) = record {
@@ -137,7 +138,7 @@ replayed_of_test {mem = mem} {inv = inv} laws test m events o ok start r =
       words = ap length start.words ∙ head.words;
       sound = start.sound;
     } in
-    let ran = run_of mem inv laws test.threads test.head.locs test.head.threads head.few events r.end first r.ran in (
+    let ran = run_of mem inv laws test.threads test.head.threads (length test.head.locs) events r.end first r.ran in (
       subst (HasOutcomeShape test.head.threads (length test.head.locs)) (sym r.is) (record {
         regs_of = length-map r.end.processors (λ p. p.regs) ∙ ran.1.processors;
         six = rows_have r.end.processors ran.1.have;
@@ -145,3 +146,27 @@ replayed_of_test {mem = mem} {inv = inv} laws test m events o ok start r =
       }),
       ran.0,
     )
+
+-- Over flat memory such a run has an outcome of the test's threads and locations.
+pub outcome_of_test : (test : X86Test) (o : FinalState)
+    → IsWellScopedProgram test
+    → IsMachineOutcome flat_memory test test.head.init_words o
+    → HasOutcomeShape test.head.threads (length test.head.locs) o
+outcome_of_test test o ok (events, r) =
+    let n = length test.threads in
+    let start : IsInitialMemory flat_memory (words_invariant n) test test.head.init_words =
+    record { sound = tt; cpus = omega arith; words = refl } in
+    (replayed_of_test (words_lawful n) test test.head.init_words events o ok start r).0
+
+-- Events of at most as many processors as a schedule can name, and of the locations of a table, can be named in a schedule.
+pub IsEvent-in_range : (threads : ℕ) (names : NameTable) (events : List Event)
+    → threads ≤ most_threads
+    → AllByRecursion (IsEventInRange threads (length names)) events
+    → AllByRecursion (IsEvent names) events
+IsEvent-in_range threads names [] few all = tt
+IsEvent-in_range threads names (Step t ∷ events) few all =
+    (omega (arith, few, all.0), IsEvent-in_range threads names events few all.1)
+IsEvent-in_range threads names (Drain t ∷ events) few all =
+    (omega (arith, few, all.0), IsEvent-in_range threads names events few all.1)
+IsEvent-in_range threads names (Evict t x ∷ events) few all =
+    ((omega (arith, few, all.0.0), all.0.1), IsEvent-in_range threads names events few all.1)
