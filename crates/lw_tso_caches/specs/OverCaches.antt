@@ -1,5 +1,6 @@
 -- The runs and the outcomes of an x86 test on the whole machine: store buffers over caches on a bus.
-use Rattle.std.specs.Prelude.{List}
+use Rattle.std.specs.Prelude.{◌≤◌, List}
+use Rattle.lw_base.specs.Limits.{most_threads}
 use Rattle.lw_base.specs.Outcomes.{FinalState}
 use Rattle.lw_base.specs.declared.event.Event.{Event}
 use Rattle.lw_mesi.specs.CacheLines.{Caches, empty_caches}
@@ -12,6 +13,10 @@ use Rattle.lw_litmus.specs.Tests.{X86Test}
 -- The empty caches with which a test starts.
 abbrev pub initial_caches : X86Test → Caches
 initial_caches test = empty_caches test.head.threads test.head.init_words
+
+-- A test fits the caches: it has at most as many threads as they have processors, which are four.
+abbrev pub FitsCaches : X86Test → Type 0
+FitsCaches test = test.head.threads ≤ most_threads
 
 -- These steps, drains and evictions lead from the initial state to this one, each being enabled in its turn.
 abbrev pub RunsToOverCaches : Protocol → X86Test → List Event → MachineState Caches → Type 0

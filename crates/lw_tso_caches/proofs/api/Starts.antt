@@ -6,18 +6,19 @@ use Rattle.lw_mesi.specs.Protocols.{caches_by}
 use Rattle.lw_mesi.specs.Coherence.{SatisfiesProtocol, caches_invariant}
 use Rattle.lw_mesi.specs.declared.protocol.Protocol.{Protocol}
 use Rattle.lw_tso.specs.Starts.{IsInitialMemory}
-use Rattle.lw_litmus.specs.WellFormedTests.{IsWellFormedProgram}
+use Rattle.lw_litmus.specs.WellScopedTests.{IsWellScopedProgram}
 use Rattle.lw_litmus.specs.Tests.{X86Test}
-use Rattle.lw_tso_caches.specs.OverCaches.{initial_caches}
+use Rattle.lw_tso_caches.specs.OverCaches.{FitsCaches, initial_caches}
 
--- caches by each protocol that hold nothing are a memory on which a well-formed test can start
+-- Caches by each protocol that hold nothing are a memory on which a well-scoped test can start that fits them.
 pub starts : ((p : Protocol) (cpus : ℕ) (words : List ℕ) → cpus ≤ most_threads → SatisfiesProtocol p (empty_caches cpus words))
     → ((cpus : ℕ) (words : List ℕ) → coherent_words (empty_caches cpus words) ≡ words)
     → (p : Protocol) (test : X86Test)
-    → IsWellFormedProgram test
+    → IsWellScopedProgram test
+    → FitsCaches test
     → IsInitialMemory (caches_by p) (caches_invariant p) test (initial_caches test)
-starts kept content p test ok = record {
-  sound = kept p test.head.threads test.head.init_words (omega (arith, ok.head.few));
+starts kept content p test ok fits = record {
+  sound = kept p test.head.threads test.head.init_words fits;
   cpus = omega (arith, ok.as_many);
   words = content test.head.threads test.head.init_words;
 }
