@@ -1,9 +1,9 @@
 -- A state of the source and one of the machine, thread by thread with its processor.
-use Rattle.lw_fence.proofs.Common.{◌≡◌, ℕ, ◌<◌, List, length, map, Some, refl, sym, ap, ap₂, ◌∙◌, subst₂}
-use Rattle.lw_fence.proofs.Common.{arith, length-set, slice_get, slice_set, length-map, All-from_recursion}
-use Rattle.lw_fence.proofs.Common.{same_Some, slice_get_within, get_or_from_slice_get, TestHead, FinalState}
-use Rattle.lw_fence.proofs.Common.{X86, fellows_after, get_some, get-map, same_maps, flat_memory}
-use Rattle.lw_fence.proofs.Common.{IsWellFormedSource, SourceTest, X86Test, Thread, State, initial_state}
+use Rattle.lw_fence.proofs.Common.{IsWellScopedSource, ◌≡◌, ℕ, ◌<◌, List, length, map, Some, refl, sym, ap}
+use Rattle.lw_fence.proofs.Common.{ap₂, ◌∙◌, subst₂, arith, length-set, slice_get, slice_set, length-map}
+use Rattle.lw_fence.proofs.Common.{All-from_recursion, same_Some, slice_get_within, get_or_from_slice_get}
+use Rattle.lw_fence.proofs.Common.{TestHead, FinalState, X86, fellows_after, get_some, get-map, same_maps}
+use Rattle.lw_fence.proofs.Common.{flat_memory, SourceTest, X86Test, Thread, State, initial_state}
 use Rattle.lw_fence.proofs.Common.{source_outcome, state_of, MachineState, Processor, initial_processor}
 use Rattle.lw_fence.proofs.Common.{initial_machine_state, machine_outcome, state}
 use Rattle.lw_interleaving.specs.Runs.{initial_thread as thread_starting}
@@ -61,7 +61,7 @@ module _ (s : SourceTest) (At : ℕ → Thread → Processor → Type 0) where
         (same_maps _ _ ss.threads ms.processors (b.as_many ∙ sym b.as_many_processors) same) (sym b.words)
 
   -- the starts of the source and of the machine are `Beside`, if `At` holds of each thread at its start, with six registers
-  pub first : IsWellFormedSource s
+  pub first : IsWellScopedSource s
       → ((t : ℕ) (regs : List ℕ) → t < length s.threads → length regs ≡ 6 → At t (thread_starting regs) (initial_processor regs))
       → Beside (initial_state s) (compiled_start s)
   first ok each = record {

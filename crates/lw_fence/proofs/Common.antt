@@ -20,7 +20,7 @@ pub use Rattle.std.proofs.lemmas.Option.{slice_get_past, slice_get_read, slice_g
 pub use Rattle.std.specs.List.{AllByRecursion}
 pub use Rattle.std.specs.Option.{ForSome, option_map_or}
 pub use Rattle.lw_base.proofs.Common.{FinalState, IsRegisterIndex, IsWellFormedHead, IsWordNumber, TestHead}
-pub use Rattle.lw_base.proofs.Common.{most_threads, operand_value, thread_code, wrapping_sum}
+pub use Rattle.lw_base.proofs.Common.{operand_value, thread_code, wrapping_sum}
 pub use Rattle.lw_base.proofs.api.Lists.{at_index, fellows_after, get-set_same, get_append, get_some}
 pub use Rattle.lw_base.proofs.api.Lists.{length-set_word_if_some, set-get_same}
 pub use Rattle.lw_base.proofs.api.Replays.{RunsTo-append}
@@ -32,11 +32,14 @@ pub use Rattle.lw_base.specs.declared.operand.Operand.{Operand}
 pub use Rattle.lw_base.specs.declared.operand.Operand.TheVariants.{Number, Register}
 pub use Rattle.lw_base.specs.declared.stop.Stop.{Stop}
 pub use Rattle.lw_base.specs.declared.stop.Stop.TheVariants.{FenceWaits, SwapWaits}
-pub use Rattle.lw_litmus.proofs.Common.{IsFlowSuccessor, IsSuccessor, IsWellFormedProgram, IsWellFormedSource}
-pub use Rattle.lw_litmus.proofs.Common.{IsWellFormedStatement, IsWellFormedThread, SourceTest, X86Test}
-pub use Rattle.lw_litmus.proofs.Common.{branch_target, falls_through, is_load, is_store, location_of}
-pub use Rattle.lw_litmus.proofs.Common.{operand_numbers, operand_registers, program_of, registers_of}
-pub use Rattle.lw_litmus.proofs.Common.{source_language, source_of, source_operation, x86_language}
+pub use Rattle.lw_litmus.proofs.Common.{HasInitialWords, IsFlowSuccessor, IsSuccessor, IsWellFormedProgram}
+pub use Rattle.lw_litmus.proofs.Common.{IsWellFormedSource, IsWellFormedStatement, IsWellFormedThread}
+pub use Rattle.lw_litmus.proofs.Common.{IsWellScopedProgram, IsWellScopedSource, IsWellScopedThread}
+pub use Rattle.lw_litmus.proofs.Common.{SourceTest, X86Test, branch_target, falls_through, is_load, is_store}
+pub use Rattle.lw_litmus.proofs.Common.{location_of, operand_numbers, operand_registers, program_of}
+pub use Rattle.lw_litmus.proofs.Common.{registers_of, source_language, source_of, source_operation}
+pub use Rattle.lw_litmus.proofs.Common.{x86_language}
+pub use Rattle.lw_litmus.proofs.api.WellScoped.{IsWellScoped-well_formed, IsWellScopedThread-well_formed}
 pub use Rattle.lw_litmus.specs.declared.instr.Instr.{Instr}
 pub use Rattle.lw_litmus.specs.declared.operation.Operation.{Operation}
 pub use Rattle.lw_litmus.specs.declared.operation.Operation.TheVariants.{Branch, Compare, Fence}

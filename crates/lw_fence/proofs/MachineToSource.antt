@@ -1,14 +1,14 @@
 -- At the end of a run of the machine each thread of the source catches up, and is then at its end with the registers of
 -- its processor.
-use Rattle.lw_fence.proofs.Common.{◌≡◌, ℕ, zero, suc, ◌<◌, ◌≤◌, ◌==◌, nat_le, List, [], length, Some, true}
-use Rattle.lw_fence.proofs.Common.{refl, sym, ap, ◌∙◌, subst, ⊎_elim, arith, slice_get, slice_set}
-use Rattle.lw_fence.proofs.Common.{slice_index, eqb-true, IsTrue, leb-true, le-leb, cases_lt, and_parts}
-use Rattle.lw_fence.proofs.Common.{nil_from_length, slice_get_within, get_or_from_slice_get, thread_code}
-use Rattle.lw_fence.proofs.Common.{fellows_after, get_some, at_index, set-get_same, Stmt, Thread, SourceTest}
-use Rattle.lw_fence.proofs.Common.{X86Test, State, InterleavesTo, SourceOutcome, initial_state, state_of}
-use Rattle.lw_fence.proofs.Common.{Instr, Processor, MachineState, has_terminated, is_final, MachineRunsTo}
-use Rattle.lw_fence.proofs.Common.{IsMachineOutcome, Lowered, One, Two, lowered, instrs_of, IsCompiled}
-use Rattle.lw_fence.proofs.Common.{zip_passes, zip_pass, state, FinalState, flat_memory, IsWellFormedSource}
+use Rattle.lw_fence.proofs.Common.{IsWellScopedSource, ◌≡◌, ℕ, zero, suc, ◌<◌, ◌≤◌, ◌==◌, nat_le, List, []}
+use Rattle.lw_fence.proofs.Common.{length, Some, true, refl, sym, ap, ◌∙◌, subst, ⊎_elim, arith, slice_get}
+use Rattle.lw_fence.proofs.Common.{slice_set, slice_index, eqb-true, IsTrue, leb-true, le-leb, cases_lt}
+use Rattle.lw_fence.proofs.Common.{and_parts, nil_from_length, slice_get_within, get_or_from_slice_get}
+use Rattle.lw_fence.proofs.Common.{thread_code, fellows_after, get_some, at_index, set-get_same, Stmt, Thread}
+use Rattle.lw_fence.proofs.Common.{SourceTest, X86Test, State, InterleavesTo, SourceOutcome, initial_state}
+use Rattle.lw_fence.proofs.Common.{state_of, Instr, Processor, MachineState, has_terminated, is_final}
+use Rattle.lw_fence.proofs.Common.{MachineRunsTo, IsMachineOutcome, Lowered, One, Two, lowered, instrs_of}
+use Rattle.lw_fence.proofs.Common.{IsCompiled, zip_passes, zip_pass, state, FinalState, flat_memory}
 use Rattle.lw_interleaving.specs.Runs.{initial_thread as thread_starting, is_source_final as is_over}
 use Rattle.lw_fence.proofs.Simulation.{LagAt, SimulationRelation, SimulatedToEnd, caught, caught_on}
 use Rattle.lw_fence.proofs.Simulation.{not_moved, all_caught}
@@ -129,7 +129,7 @@ module _ (s : SourceTest) (p : X86Test) (starts : List (List ℕ)) (compiled : I
           let a = one_more n d.end th.0 c.0 d.caught.behind d.over le th.1 c.1 in
           record { end = a.end; caught = caught_on s p starts d.end a.end d.caught a.caught; over = a.over }
 
-module _ (s : SourceTest) (p : X86Test) (starts : List (List ℕ)) (ok : IsWellFormedSource s)
+module _ (s : SourceTest) (p : X86Test) (starts : List (List ℕ)) (ok : IsWellScopedSource s)
     (compiled : IsCompiled s p starts) where
   behind_first : SimulationRelation s p starts (initial_state s) (compiled_start s)
   behind_first = first s (LagAt s p starts) ok (λ t regs lt six. record {
@@ -158,7 +158,7 @@ module _ (s : SourceTest) (p : X86Test) (starts : List (List ℕ)) (ok : IsWellF
 
 -- An outcome of the compiled program is one of the source.
 pub machine_to_source : (s : SourceTest) (p : X86Test) (starts : List (List ℕ)) (o : FinalState)
-    → IsWellFormedSource s
+    → IsWellScopedSource s
     → IsCompiled s p starts
     → IsMachineOutcome flat_memory p p.head.init_words o
     → SourceOutcome s o

@@ -1,15 +1,17 @@
--- What is made of a well-formed source test is a well-formed program.
-use Rattle.lw_fence.proofs.Common.{◌≡◌, ℕ, zero, suc, ◌+◌, ◌-◌, ◌<◌, ◌≤◌, ◌==◌, List, [], ◌∷◌, length, Some}
-use Rattle.lw_fence.proofs.Common.{None, Bool, refl, sym, ap, ◌∙◌, subst, subst₂, ⊎_elim, arith, slice_get}
-use Rattle.lw_fence.proofs.Common.{slice_index, All, slice_index_or, ForSome, cases_eq, cases_lt, All-nil}
-use Rattle.lw_fence.proofs.Common.{All-cons, same_Some, none-some, slice_get_within, get_or_from_slice_get}
-use Rattle.lw_fence.proofs.Common.{TestHead, thread_code, IsWordNumber, IsRegisterIndex, IsWellFormedHead}
-use Rattle.lw_fence.proofs.Common.{X86, Operand, Register, Number, IsWellFormedStatement, IsWellFormedThread}
-use Rattle.lw_fence.proofs.Common.{get_some, at_index, Stmt, Store, Load, Swap, FetchAdd, Set, Sum, IfEq}
-use Rattle.lw_fence.proofs.Common.{IfNe, Goto, operand_registers, operand_numbers, branch_target}
-use Rattle.lw_fence.proofs.Common.{source_language, source_operation, IsWellFormedSource, IsWellFormedProgram}
-use Rattle.lw_fence.proofs.Common.{SourceTest, X86Test, Instr, x86_language, One, Two, with_move_if}
-use Rattle.lw_fence.proofs.Common.{lower_compare, lowered, instrs_of, IsCompiledThread, IsCompiled}
+-- What is made of a well-scoped source test is a well-scoped program, and what is made of a well-formed one a well-formed program.
+use Rattle.lw_fence.proofs.Common.{IsWellScopedThread-well_formed, IsWellScopedThread, IsWellScopedSource}
+use Rattle.lw_fence.proofs.Common.{IsWellScopedProgram, HasInitialWords, ◌≡◌, ℕ, zero, suc, ◌+◌, ◌-◌, ◌<◌}
+use Rattle.lw_fence.proofs.Common.{◌≤◌, ◌==◌, List, [], ◌∷◌, length, Some, None, Bool, refl, sym, ap, ◌∙◌}
+use Rattle.lw_fence.proofs.Common.{subst, subst₂, ⊎_elim, arith, slice_get, slice_index, All, slice_index_or}
+use Rattle.lw_fence.proofs.Common.{ForSome, cases_eq, cases_lt, All-nil, All-cons, same_Some, none-some}
+use Rattle.lw_fence.proofs.Common.{slice_get_within, get_or_from_slice_get, TestHead, thread_code}
+use Rattle.lw_fence.proofs.Common.{IsWordNumber, IsRegisterIndex, IsWellFormedHead, X86, Operand, Register}
+use Rattle.lw_fence.proofs.Common.{Number, IsWellFormedStatement, IsWellFormedThread, get_some, at_index}
+use Rattle.lw_fence.proofs.Common.{Stmt, Store, Load, Swap, FetchAdd, Set, Sum, IfEq, IfNe, Goto}
+use Rattle.lw_fence.proofs.Common.{operand_registers, operand_numbers, branch_target, source_language}
+use Rattle.lw_fence.proofs.Common.{source_operation, IsWellFormedSource, IsWellFormedProgram, SourceTest}
+use Rattle.lw_fence.proofs.Common.{X86Test, Instr, x86_language, One, Two, with_move_if, lower_compare}
+use Rattle.lw_fence.proofs.Common.{lowered, instrs_of, IsCompiledThread, IsCompiled}
 use Rattle.lw_fence.proofs.CodeLayout.{chosen, StandsAt, Laid, LaidOut, laid_out}
 use Rattle.lw_litmus.specs.declared.instr.Instr.TheVariants as instr
 use Rattle.lw_litmus.specs.Programs as programs
@@ -154,7 +156,7 @@ all_at : {X : Type 0} (P : X → Type 0) (xs : List X) (k : ℕ) (x : X) → All
 all_at P xs k x all e = subst P (get_or_from_slice_get xs k x x e) (all k x (slice_get_within xs k x e))
 
 -- A compiled thread.
-module _ (locs : ℕ) (code : List Stmt) (instrs : List Instr) (starts : List ℕ) (ok : IsWellFormedThread source_language locs code)
+module _ (locs : ℕ) (code : List Stmt) (instrs : List Instr) (starts : List ℕ) (ok : IsWellScopedThread source_language locs code)
     (stands : Laid code instrs starts) where
   abbrev start : ℕ → ℕ
   start k = slice_index starts k
@@ -197,12 +199,38 @@ module _ (locs : ℕ) (code : List Stmt) (instrs : List Instr) (starts : List �
   fits : (j : ℕ) (i : Instr) → slice_get instrs j ≡ Some i → FitsHere j i
   fits j i e = below (length code) (omega arith) j i (subst (λ n. j < n) (sym stands.last) (slice_get_within instrs j i e)) e
 
-  is_thread : IsWellFormedThread x86_language locs instrs
-  is_thread = record {
-    short = omega (arith, stands.short, ok.short);
-    there = λ j d lt. (fits j _ (at_index instrs j d lt)).0;
-    forward = λ j i e. (fits j i e).1;
-  }
+  thread_scoped : IsWellScopedThread x86_language locs instrs
+  thread_scoped = record { there = λ j d lt. (fits j _ (at_index instrs j d lt)).0; forward = λ j i e. (fits j i e).1 }
+
+-- What is made of a well-formed code is a well-formed code.
+thread_formed : (locs : ℕ) (code : List Stmt) (instrs : List Instr) (starts : List ℕ)
+    → IsWellFormedThread source_language locs code
+    → Laid code instrs starts
+    → IsWellFormedThread x86_language locs instrs
+thread_formed locs code instrs starts ok stands =
+    let scoped = thread_scoped locs code instrs starts (IsWellScopedThread-well_formed source_language ok) stands in
+    record { short = omega (arith, stands.short, ok.short); there = scoped.there; forward = scoped.forward }
+
+-- If what holds of each code of a source holds of the codes that are made of it, on as many locations, it holds of the program's codes.
+threads_laid : (P : ℕ → List Stmt → Type 0) (Q : ℕ → List Instr → Type 0)
+    → ((locs : ℕ) (code : List Stmt) (instrs : List Instr) (starts : List ℕ)
+    → P locs code
+    → Laid code instrs starts
+    → Q locs instrs)
+    → (s : SourceTest) (p : X86Test) (starts : List (List ℕ))
+    → LaidOut s p starts
+    → All (P (length s.head.locs)) s.threads
+    → All (Q (length p.head.locs)) p.threads
+threads_laid P Q made s p starts laid all t d lt =
+    subst (λ (h : TestHead). Q (length h.locs) (slice_index_or p.threads t d)) (sym laid.head) (at _ (at_index p.threads t d lt))
+  where
+    at : (instrs : List Instr) → slice_get p.threads t ≡ Some instrs → Q (length s.head.locs) instrs
+    at instrs e =
+        let within : t < length s.threads = omega (arith, slice_get_within p.threads t instrs e, laid.as_many) in
+        let thread =
+        made (length s.head.locs) (thread_code s.threads t) (thread_code p.threads t) (thread_code starts t) (all t [] within)
+        (laid.at t within) in
+        subst (Q (length s.head.locs)) (get_or_from_slice_get p.threads t instrs [] e) thread
 
 -- a well-formed head of the source language is a well-formed head of x86
 in_x86 : {h : TestHead} → IsWellFormedHead h → IsWellFormedHead (record h { arch = X86 })
@@ -222,6 +250,28 @@ in_x86 ok = record {
   condition = ok.condition;
 }
 
+-- As many threads as the source has, of which its head says how many there are.
+as_many_threads : (s : SourceTest) (p : X86Test) (starts : List (List ℕ))
+    → length s.threads ≡ s.head.threads
+    → LaidOut s p starts
+    → length p.threads ≡ p.head.threads
+as_many_threads s p starts many laid = laid.as_many ∙ many ∙ sym (ap (λ (h : TestHead). h.threads) laid.head)
+
+-- What is laid out of a well-scoped source, whatever its fences, is a well-scoped program.
+pub laid_well_scoped : (s : SourceTest) (p : X86Test) (starts : List (List ℕ))
+    → IsWellScopedSource s
+    → LaidOut s p starts
+    → IsWellScopedProgram p
+laid_well_scoped s p starts ok laid = record {
+  head =
+      subst HasInitialWords (sym laid.head)
+      (let words = ok.head in record { regs = words.regs; six = words.six; words = words.words });
+  arch = ap (λ (h : TestHead). h.arch) laid.head;
+  as_many = as_many_threads s p starts ok.as_many laid;
+  code =
+      threads_laid (IsWellScopedThread source_language) (IsWellScopedThread x86_language) thread_scoped s p starts laid ok.code;
+}
+
 -- what is laid out of a well-formed source, whatever its fences, is a well-formed program
 pub laid_program : (s : SourceTest) (p : X86Test) (starts : List (List ℕ))
     → IsWellFormedSource s
@@ -230,21 +280,17 @@ pub laid_program : (s : SourceTest) (p : X86Test) (starts : List (List ℕ))
 laid_program s p starts ok laid = record {
   head = subst IsWellFormedHead (sym laid.head) (in_x86 ok.head);
   arch = ap (λ (h : TestHead). h.arch) laid.head;
-  as_many = laid.as_many ∙ ok.as_many ∙ sym (ap (λ (h : TestHead). h.threads) laid.head);
-  code = λ t d lt.
-      subst (λ (h : TestHead). IsWellFormedThread x86_language (length h.locs) (slice_index_or p.threads t d)) (sym laid.head)
-      (at t _ (at_index p.threads t d lt));
+  as_many = as_many_threads s p starts ok.as_many laid;
+  code =
+      threads_laid (IsWellFormedThread source_language) (IsWellFormedThread x86_language) thread_formed s p starts laid ok.code;
 }
-  where
-    at : (t : ℕ) (instrs : List Instr)
-        → slice_get p.threads t ≡ Some instrs
-        → IsWellFormedThread x86_language (length s.head.locs) instrs
-    at t instrs e =
-        let within : t < length s.threads = omega (arith, slice_get_within p.threads t instrs e, laid.as_many) in
-        let thread =
-        is_thread (length s.head.locs) (thread_code s.threads t) (thread_code p.threads t) (thread_code starts t)
-        (ok.code t [] within) (laid.at t within) in
-        subst (IsWellFormedThread x86_language (length s.head.locs)) (get_or_from_slice_get p.threads t instrs [] e) thread
+
+-- What a well-scoped source is compiled to is a well-scoped program.
+pub is_well_scoped : (s : SourceTest) (p : X86Test) (starts : List (List ℕ))
+    → IsWellScopedSource s
+    → IsCompiled s p starts
+    → IsWellScopedProgram p
+is_well_scoped s p starts ok compiled = laid_well_scoped s p starts ok (laid_out s p starts compiled)
 
 -- what a well-formed source is compiled to is a well-formed program
 pub is_program : (s : SourceTest) (p : X86Test) (starts : List (List ℕ))

@@ -1,8 +1,8 @@
 -- A source that lags behind the machine, as Lag tells, through whole runs: whatever the machine does, the source follows.
-use Rattle.lw_fence.proofs.Common.{◌≡◌, ℕ, ◌<◌, List, [], ◌∷◌, ◌++◌, length, map, Some, refl, sym, subst}
-use Rattle.lw_fence.proofs.Common.{arith, slice_get, slice_set, slice_get_within, thread_code, Event, Step}
-use Rattle.lw_fence.proofs.Common.{Drain, Evict, flat_memory, Thread, IsWellFormedSource, SourceTest, X86Test}
-use Rattle.lw_fence.proofs.Common.{State, SourceRunsTo, state_of, cpu_of, event_effect, Processor}
+use Rattle.lw_fence.proofs.Common.{IsWellScopedSource, ◌≡◌, ℕ, ◌<◌, List, [], ◌∷◌, ◌++◌, length, map, Some}
+use Rattle.lw_fence.proofs.Common.{refl, sym, subst, arith, slice_get, slice_set, slice_get_within}
+use Rattle.lw_fence.proofs.Common.{thread_code, Event, Step, Drain, Evict, flat_memory, Thread, SourceTest}
+use Rattle.lw_fence.proofs.Common.{X86Test, State, SourceRunsTo, state_of, cpu_of, event_effect, Processor}
 use Rattle.lw_fence.proofs.Common.{MachineState, MachineRunsTo, state, EffectLeadsTo, EventOccurrence}
 use Rattle.lw_fence.proofs.Common.{effect_of_event, no_eviction, IsCompiled}
 use Rattle.lw_fence.proofs.Beside.{Beside, thread_at, gone_on}
@@ -57,7 +57,7 @@ module _ (s : SourceTest) (p : X86Test) (starts : List (List ℕ)) where
   pub not_moved : {ss : State} {ms : MachineState (List ℕ)} → SimulationRelation ss ms → SimulatedToEnd ss ss ms
   not_moved b = record { order = []; ran = refl; behind = b }
 
-module _ (s : SourceTest) (p : X86Test) (starts : List (List ℕ)) (ok : IsWellFormedSource s)
+module _ (s : SourceTest) (p : X86Test) (starts : List (List ℕ)) (ok : IsWellScopedSource s)
     (compiled : IsCompiled s p starts) where
   -- what the source does at an event of processor t, which was c
   follows : (e : Event) (ss : State) (ms : MachineState (List ℕ)) (th : Thread) (c q : Processor) (n : List ℕ)

@@ -1,10 +1,10 @@
--- A well-formed source has a compiled program.
-use Rattle.lw_fence.proofs.Common.{◌≡◌, ℕ, zero, suc, ◌<◌, ◌≤◌, List, [], ◌∷◌, ◌++◌, length, replicate, Some}
-use Rattle.lw_fence.proofs.Common.{Bool, false, ◌&&◌, if◌then◌else◌, refl, subst, arith, slice_get}
-use Rattle.lw_fence.proofs.Common.{slice_index_or, ForSome, thread_code, get_some, at_index, Instr, Stmt}
-use Rattle.lw_fence.proofs.Common.{branch_target, is_load, source_operation, SourceTest, X86Test}
-use Rattle.lw_fence.proofs.Common.{IsWellFormedSource, lowered_code, starts_from, IsCompiledThread}
-use Rattle.lw_fence.proofs.Common.{IsCompiled, may_wait, mark_successors}
+-- A well-scoped source has a compiled program.
+use Rattle.lw_fence.proofs.Common.{IsWellScopedSource, ◌≡◌, ℕ, zero, suc, ◌<◌, ◌≤◌, List, [], ◌∷◌, ◌++◌}
+use Rattle.lw_fence.proofs.Common.{length, replicate, Some, Bool, false, ◌&&◌, if◌then◌else◌, refl, subst}
+use Rattle.lw_fence.proofs.Common.{arith, slice_get, slice_index_or, ForSome, thread_code, get_some, at_index}
+use Rattle.lw_fence.proofs.Common.{Instr, Stmt, branch_target, is_load, source_operation, SourceTest, X86Test}
+use Rattle.lw_fence.proofs.Common.{lowered_code, starts_from, IsCompiledThread, IsCompiled, may_wait}
+use Rattle.lw_fence.proofs.Common.{mark_successors}
 use Rattle.lw_fence.proofs.CompiledThreads.{AreCompiled, none_compiled, one_compiled}
 use Rattle.lw_fence.proofs.FencesFound.{Found, found_none, found_more, needed}
 use Rattle.lw_fence.proofs.Marks.{Marked, at, mark_step, marked_behind_stores, first_marks}
@@ -53,7 +53,7 @@ module _ (code : List Stmt)
         },
       )
 
-module _ (s : SourceTest) (ok : IsWellFormedSource s) where
+module _ (s : SourceTest) (ok : IsWellScopedSource s) where
   thread_of : (t : ℕ)
       → t < length s.threads
       → (instrs : List Instr) × (starts : List ℕ) × IsCompiledThread (thread_code s.threads t) instrs starts

@@ -1,15 +1,14 @@
 -- From source to machine: the schedule of a source run replays on the compiled program, to the same outcome.
-use Rattle.lw_fence.proofs.Common.{◌≡◌, ℕ, ◌+◌, ◌-◌, ◌<◌, ◌≤◌, ◌==◌, List, [], ◌∷◌, ◌++◌, length, map, Some}
-use Rattle.lw_fence.proofs.Common.{Bool, true, false, refl, sym, ap, ◌∙◌, subst, subst₂, arith, IsTrue}
-use Rattle.lw_fence.proofs.Common.{slice_get, slice_set, slice_index, le-leb, leb-true, and_from}
-use Rattle.lw_fence.proofs.Common.{slice_get_within, get_or_from_slice_get, FinalState, thread_code, Event}
-use Rattle.lw_fence.proofs.Common.{Step, get_some, zip_pass, zip_passes, flat_memory, Stmt, Instr}
-use Rattle.lw_fence.proofs.Common.{source_operation, IsWellFormedSource, SourceTest, X86Test, Thread}
-use Rattle.lw_fence.proofs.Common.{thread_after, words_after, State, SourceRunsTo, InterleavesTo}
-use Rattle.lw_fence.proofs.Common.{initial_state, Stepped, step-decompose, Processor, MachineState}
-use Rattle.lw_fence.proofs.Common.{MachineRunsTo, ReplaysTo, has_terminated, is_final, state, lowered}
-use Rattle.lw_fence.proofs.Common.{instrs_of, IsCompiled, statement_events, thread_events, after_step}
-use Rattle.lw_fence.proofs.Common.{compiled_schedule}
+use Rattle.lw_fence.proofs.Common.{IsWellScopedSource, ◌≡◌, ℕ, ◌+◌, ◌-◌, ◌<◌, ◌≤◌, ◌==◌, List, [], ◌∷◌, ◌++◌}
+use Rattle.lw_fence.proofs.Common.{length, map, Some, Bool, true, false, refl, sym, ap, ◌∙◌, subst, subst₂}
+use Rattle.lw_fence.proofs.Common.{arith, IsTrue, slice_get, slice_set, slice_index, le-leb, leb-true}
+use Rattle.lw_fence.proofs.Common.{and_from, slice_get_within, get_or_from_slice_get, FinalState, thread_code}
+use Rattle.lw_fence.proofs.Common.{Event, Step, get_some, zip_pass, zip_passes, flat_memory, Stmt, Instr}
+use Rattle.lw_fence.proofs.Common.{source_operation, SourceTest, X86Test, Thread, thread_after, words_after}
+use Rattle.lw_fence.proofs.Common.{State, SourceRunsTo, InterleavesTo, initial_state, Stepped, step-decompose}
+use Rattle.lw_fence.proofs.Common.{Processor, MachineState, MachineRunsTo, ReplaysTo, has_terminated}
+use Rattle.lw_fence.proofs.Common.{is_final, state, lowered, instrs_of, IsCompiled, statement_events}
+use Rattle.lw_fence.proofs.Common.{thread_events, after_step, compiled_schedule}
 use Rattle.lw_interleaving.specs.Runs.{is_source_final as is_over}
 use Rattle.lw_fence.proofs.Beside.{Beside, thread_at, processor_at, gone_on, same_outcome, first}
 use Rattle.lw_fence.proofs.Beside.{compiled_start, start_is}
@@ -18,7 +17,7 @@ use Rattle.lw_fence.proofs.CodeLayout.{Stands, LaidOut, laid_out}
 use Rattle.lw_fence.proofs.Statements.{standing, events_for, statement_turned}
 use Rattle.lw_fence.proofs.Steps.{Sane, allowed_at, stays_sane}
 
-module _ (s : SourceTest) (p : X86Test) (starts : List (List ℕ)) (ok : IsWellFormedSource s) (laid : LaidOut s p starts) where
+module _ (s : SourceTest) (p : X86Test) (starts : List (List ℕ)) (ok : IsWellScopedSource s) (laid : LaidOut s p starts) where
   -- The processor stands where the thread stands, with an empty buffer.
   abbrev Standing : ℕ → Thread → Processor → Type 0
   Standing t th c =
@@ -123,7 +122,7 @@ module _ (s : SourceTest) (p : X86Test) (starts : List (List ℕ)) (ok : IsWellF
 
 -- the schedule of a source run leads to the run's outcome, wherever fences stand
 pub laid_replays : (s : SourceTest) (p : X86Test) (starts : List (List ℕ)) (order : List ℕ) {o : FinalState}
-    → IsWellFormedSource s
+    → IsWellScopedSource s
     → LaidOut s p starts
     → InterleavesTo s order o
     → ReplaysTo flat_memory p p.head.init_words (compiled_schedule s.threads starts order (initial_state s)) o
@@ -143,7 +142,7 @@ laid_replays s p starts order ok laid run =
 
 -- the schedule that is made of a source run replays on the compiled program, to that run's outcome
 pub schedule_replays : {s : SourceTest} (p : X86Test) {starts : List (List ℕ)} (order : List ℕ) (o : FinalState)
-    → IsWellFormedSource s
+    → IsWellScopedSource s
     → IsCompiled s p starts
     → InterleavesTo s order o
     → ReplaysTo flat_memory p p.head.init_words (compiled_schedule s.threads starts order (initial_state s)) o

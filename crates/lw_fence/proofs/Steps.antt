@@ -1,22 +1,22 @@
--- What the threads of a well-formed source keep, step by step.
-use Rattle.lw_fence.proofs.Common.{◌≡◌, ℕ, ◌<◌, ◌≤◌, List, [], length, Some, refl, ap, ◌∙◌, subst, ⊎_elim}
-use Rattle.lw_fence.proofs.Common.{arith, length-set, All, slice_get, slice_index_or, ForSome, cases_lt}
-use Rattle.lw_fence.proofs.Common.{get_or_past, slice_get_within, get_or_from_slice_get, thread_code}
-use Rattle.lw_fence.proofs.Common.{IsRegisterIndex, IsWellFormedThread, IsWellFormedStatement, registers_of}
-use Rattle.lw_fence.proofs.Common.{Stmt, Operation, Thread, branch_target, source_language, source_operation}
-use Rattle.lw_fence.proofs.Common.{IsWellFormedSource, SourceTest, thread_after, leads}
-use Rattle.lw_fence.proofs.Common.{length-set_word_if_some, Compare, Fence, Branch}
+-- What the threads of a well-scoped source keep, step by step.
+use Rattle.lw_fence.proofs.Common.{IsWellScopedThread, IsWellScopedSource, ◌≡◌, ℕ, ◌<◌, ◌≤◌, List, [], length}
+use Rattle.lw_fence.proofs.Common.{Some, refl, ap, ◌∙◌, subst, ⊎_elim, arith, length-set, All, slice_get}
+use Rattle.lw_fence.proofs.Common.{slice_index_or, ForSome, cases_lt, get_or_past, slice_get_within}
+use Rattle.lw_fence.proofs.Common.{get_or_from_slice_get, thread_code, IsRegisterIndex, IsWellFormedStatement}
+use Rattle.lw_fence.proofs.Common.{registers_of, Stmt, Operation, Thread, branch_target, source_language}
+use Rattle.lw_fence.proofs.Common.{source_operation, SourceTest, thread_after, leads, length-set_word_if_some}
+use Rattle.lw_fence.proofs.Common.{Compare, Fence, Branch}
 use Rattle.lw_litmus.specs.declared.operation.Operation.TheVariants.{Store, FetchAdd}
 use Rattle.lw_fence.proofs.Marks.{forward}
 
--- What a statement of a well-formed thread has: its registers are there, and a jump leads forward, at most to the end.
+-- What a statement of a well-scoped thread has: its registers are there, and a jump leads forward, at most to the end.
 pub record Allowed (code : List Stmt) (j : ℕ) (x : Stmt) : Type 0 where
   pub registers : All IsRegisterIndex (registers_of (source_operation x))
   pub target : ForSome (branch_target (source_operation x)) (λ to. (j < to) × (to ≤ length code))
 
--- each statement of a well-formed thread has registers that are there, and jumps forward alone
+-- Each statement of a well-scoped thread has registers that are there, and jumps forward only.
 allowed : (locs : ℕ) (code : List Stmt) (j : ℕ) (x : Stmt)
-    → IsWellFormedThread source_language locs code
+    → IsWellScopedThread source_language locs code
     → slice_get code j ≡ Some x
     → Allowed code j x
 allowed locs code j x thread at =
@@ -24,9 +24,9 @@ allowed locs code j x thread at =
     let statement = subst (IsWellFormedStatement source_language locs) same (thread.there j x (slice_get_within code j x at)) in
     record { registers = statement.1; target = thread.forward j x at }
 
--- each statement of a well-formed source has registers that are there, and jumps forward alone
+-- Each statement of a well-scoped source has registers that are there, and jumps forward only.
 pub allowed_at : (s : SourceTest)
-    → IsWellFormedSource s
+    → IsWellScopedSource s
     → (t j : ℕ) (x : Stmt)
     → slice_get (thread_code s.threads t) j ≡ Some x
     → Allowed (thread_code s.threads t) j x

@@ -1,3 +1,3 @@
--- What proofs of other crates cite: that a well-formed source has one compiled program, and which outcomes that has, with its
+-- What proofs of other crates cite: that a well-scoped source has one compiled program, and which outcomes that has, with its
 -- fences, with others or without.
 pub mod Compilations

@@ -10,7 +10,7 @@ ghost use Rattle.lw_tso.specs.Runs.{ReplaysTo};
 ghost use Rattle.lw_litmus.specs.Operations.{is_store};
 ghost use Rattle.lw_litmus.specs.Sources.{source_operation};
 ghost use Rattle.lw_litmus.specs.Tests.{SourceTest, X86Test};
-ghost use Rattle.lw_litmus.specs.WellFormedTests.{IsWellFormedSource};
+ghost use Rattle.lw_litmus.specs.WellScopedTests.{IsWellScopedSource};
 ghost use Rattle.lw_fence.specs.Compiling.{IsCompiled};
 ghost use Rattle.lw_fence.specs.Schedules.{statement_events, compiled_schedule};
 
@@ -99,6 +99,6 @@ pub fn schedule_of<A: Allocator + Copy>(
 /// run.
 pub fn schedules_replay()
     ensures { (s : SourceTest) (p : X86Test) (starts : List (List ℕ)) (order : List ℕ) (o : FinalState)
-        → IsWellFormedSource s → IsCompiled s p starts → InterleavesTo s order o
+        → IsWellScopedSource s → IsCompiled s p starts → InterleavesTo s order o
         → ReplaysTo flat_memory p p.head.init_words (compiled_schedule s.threads starts order (initial_state s)) o }
 {}

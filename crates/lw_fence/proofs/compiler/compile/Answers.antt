@@ -1,4 +1,5 @@
-use Rattle.lw_fence.proofs.Common.{source_of, initial_state, compiled_schedule}
+use Rattle.lw_fence.proofs.Common.{source_language, source_of, initial_state, compiled_schedule}
+use Rattle.lw_fence.proofs.Common.{IsWellScoped-well_formed}
 use Rattle.lw_fence.proofs.Endings.{compiled_ends}
 use Rattle.lw_fence.proofs.MachineToSource.{machine_to_source}
 use Rattle.lw_fence.proofs.Programs.{compiled_of, is_program}
@@ -18,7 +19,7 @@ returns g c =
     let codes = c.in_ok-codes.codes in
     let source = source_of c.args.source.now in
     let compiled = compiled_of c.in_ok-head.ensures told.as_many told.as_many_starts told.threads in
-    let ok = c.args.source.now.well_formed in
+    let ok = IsWellScoped-well_formed source_language c.args.source.now.well_formed in
     record {
       compiled = compiled;
       outcomes = λ o. (

@@ -1,7 +1,7 @@
-use Rattle.lw_fence.proofs.Common.{◌≡◌, ◌+◌, ◌++◌, ◌∙◌, ℕ, List, map, drop, ap, ap₂, sym, subst, append-nil}
-use Rattle.lw_fence.proofs.Common.{drop_all, slice_get_within, Event, Step, flat_memory, Stmt, State}
-use Rattle.lw_fence.proofs.Common.{SourceRunsTo, source_step, program_of, possible, ReplaysTo}
-use Rattle.lw_fence.proofs.Common.{compiled_schedule}
+use Rattle.lw_fence.proofs.Common.{IsWellScoped-well_formed, source_language, ◌≡◌, ◌+◌, ◌++◌, ◌∙◌, ℕ, List}
+use Rattle.lw_fence.proofs.Common.{map, drop, ap, ap₂, sym, subst, append-nil, drop_all, slice_get_within}
+use Rattle.lw_fence.proofs.Common.{Event, Step, flat_memory, Stmt, State, SourceRunsTo, source_step}
+use Rattle.lw_fence.proofs.Common.{program_of, possible, ReplaysTo, compiled_schedule}
 use Rattle.lw_fence.proofs.Scheduling.{answered_ok, next_turn, placed_in, one_further}
 use Rattle.lw_fence.proofs.SourceToMachine.{schedule_replays}
 use Rattle.lw_fence.proofs.schedule.schedule_of.Goals as goal
@@ -66,7 +66,8 @@ returns-clause-replays g c = λ o runs.
     let rest =
     λ (order : List ℕ). compiled_schedule c.args.source.now.threads c.args.compiled.now.starts order c.loop-cpu.run.state in
     let all = sym (append-nil events) ∙ ap (λ (order : List ℕ). events ++ rest order) (sym none) ∙ c.loop-cpu.invariant.so_far in
-    let replays = schedule_replays program _ o c.args.source.now.well_formed c.requires.compiled runs in
+    let ok = IsWellScoped-well_formed source_language c.args.source.now.well_formed in
+    let replays = schedule_replays program _ o ok c.requires.compiled runs in
     subst (λ (es : List Event). ReplaysTo flat_memory program program.head.init_words es o) (sym all) replays
 
 pub unwrap-requires : goal.unwrap-requires
