@@ -28,11 +28,12 @@ pub use Rattle.lw_base.proofs.api.Zips.{get-map, zip_passes}
 pub use Rattle.lw_base.specs.declared.event.Event.{Event}
 pub use Rattle.lw_base.specs.declared.event.Event.TheVariants.{Drain, Evict, Step}
 pub use Rattle.lw_base.specs.declared.stop.Stop.{Stop}
-pub use Rattle.lw_litmus.proofs.Common.{IsFlowPathFrom, IsFlowSuccessor, IsSuccessor, IsWellFormed}
-pub use Rattle.lw_litmus.proofs.Common.{IsWellFormedProgram, IsWellFormedSource, IsWellFormedThread, Language}
+pub use Rattle.lw_litmus.proofs.Common.{IsFlowPathFrom, IsFlowSuccessor, IsSuccessor, IsWellScoped}
+pub use Rattle.lw_litmus.proofs.Common.{IsWellScopedProgram, IsWellScopedSource, IsWellScopedThread, Language}
 pub use Rattle.lw_litmus.proofs.Common.{SourceTest, Test, X86Test, is_same_location, is_store, location_of}
 pub use Rattle.lw_litmus.proofs.Common.{needs_empty_buffer, program_of, source_language, source_of, writes}
 pub use Rattle.lw_litmus.proofs.Common.{x86_language, x86_operation}
+pub use Rattle.lw_litmus.proofs.api.WellScoped.{IsWellScoped-well_formed}
 pub use Rattle.lw_litmus.specs.declared.instr.Instr.{Instr}
 pub use Rattle.lw_litmus.specs.declared.operation.Operation.{Operation}
 pub use Rattle.lw_litmus.specs.declared.operation.Operation.TheVariants.{Load, Store}

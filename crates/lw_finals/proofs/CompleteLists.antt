@@ -1,17 +1,17 @@
 -- What is collected from all path assignments of a test is its complete list, in either language.
-use Rattle.lw_finals.proofs.Common.{◌≡◌, ℕ, inl, inr, List, [], ◌∷◌, length, Result, Ok, Err, refl, sym, ap}
-use Rattle.lw_finals.proofs.Common.{subst, IfOk, OnOk, All, Contains, ◌↔◌, cases_lt, All-nil, All-contains}
-use Rattle.lw_finals.proofs.Common.{All-weaker, Contains-append_right, FinalState, flat_memory, Protocol}
-use Rattle.lw_finals.proofs.Common.{Mesi, Instr, without_evictions, MachineState, MachineRunsTo}
-use Rattle.lw_finals.proofs.Common.{IsMachineOutcome, initial_machine_state, EventOccurrence, effect_of_event}
-use Rattle.lw_finals.proofs.Common.{no_eviction, Event, Step, Drain, Evict, Language, Test, X86Test}
-use Rattle.lw_finals.proofs.Common.{IsWellFormedThread, IsWellFormed, Constraints, IsLinearExtension}
-use Rattle.lw_finals.proofs.Common.{most_items, orders, JumpsForward, IsPathAssignment, HasTooManyItems}
-use Rattle.lw_finals.proofs.Common.{IsWithinLimits, items_at_choice, items_of, transitive_reduction, Item}
-use Rattle.lw_finals.proofs.Common.{choices_are_all, reduced_well_formed, same_orders, Contains-head}
-use Rattle.lw_finals.proofs.Common.{from_map, OutcomeEntries, outcomes_of, ReplaysToOverCaches}
-use Rattle.lw_finals.proofs.Common.{ItemTransitionSystem, ReplaysFlatTo, CollectsOutcomes, OutcomesOfProgram}
-use Rattle.lw_finals.proofs.Common.{AreComplete, AreFlat, IsComplete, no_evictions, FollowsPathsToEnd}
+use Rattle.lw_finals.proofs.Common.{IsWellScoped, IsWellScopedThread, ◌≡◌, ℕ, inl, inr, List, [], ◌∷◌, length}
+use Rattle.lw_finals.proofs.Common.{Result, Ok, Err, refl, sym, ap, subst, IfOk, OnOk, All, Contains, ◌↔◌}
+use Rattle.lw_finals.proofs.Common.{cases_lt, All-nil, All-contains, All-weaker, Contains-append_right}
+use Rattle.lw_finals.proofs.Common.{FinalState, flat_memory, Protocol, Mesi, Instr, without_evictions}
+use Rattle.lw_finals.proofs.Common.{MachineState, MachineRunsTo, IsMachineOutcome, initial_machine_state}
+use Rattle.lw_finals.proofs.Common.{EventOccurrence, effect_of_event, no_eviction, Event, Step, Drain, Evict}
+use Rattle.lw_finals.proofs.Common.{Language, Test, X86Test, Constraints, IsLinearExtension, most_items}
+use Rattle.lw_finals.proofs.Common.{orders, JumpsForward, IsPathAssignment, HasTooManyItems, IsWithinLimits}
+use Rattle.lw_finals.proofs.Common.{items_at_choice, items_of, transitive_reduction, Item, choices_are_all}
+use Rattle.lw_finals.proofs.Common.{reduced_well_formed, same_orders, Contains-head, from_map, OutcomeEntries}
+use Rattle.lw_finals.proofs.Common.{outcomes_of, ReplaysToOverCaches, ItemTransitionSystem, ReplaysFlatTo}
+use Rattle.lw_finals.proofs.Common.{CollectsOutcomes, OutcomesOfProgram, AreComplete, AreFlat, IsComplete}
+use Rattle.lw_finals.proofs.Common.{no_evictions, FollowsPathsToEnd}
 use Rattle.lw_finals.proofs.SourceTraceEquivalence.{OrdersEndAlike}
 use Rattle.lw_finals.proofs.Ordered.{OfChoice}
 use Rattle.lw_orders.specs.Order as orders
@@ -38,7 +38,7 @@ module _ {S : Type 0} (language : Language S) (test : Test S) {State : Type 0} (
   AreAlike =
       (paths : List (List ℕ)) → IsPathAssignment language test.threads paths → OrdersEndAlike language test.threads paths system
 
-  module _ (is : IsWellFormed language test) (alike : AreAlike) (complete : AreComplete)
+  module _ (is : IsWellScoped language test) (alike : AreAlike) (complete : AreComplete)
       (few : HasTooManyItems language test.threads → ⊥) where
     formed : (paths : List (List ℕ))
         → IsPathAssignment language test.threads paths
@@ -61,7 +61,7 @@ module _ {S : Type 0} (language : Language S) (test : Test S) {State : Type 0} (
         (Contains-append_right given.before _ given.one (Contains-head given.one given.one given.after refl)) in
         let keeps = (same given.one).0 (All-contains (IsLinearExtension t) _ _ (complete.each t (formed paths choice)) there) in
         let forward : All (JumpsForward language) test.threads =
-        All-weaker (IsWellFormedThread language (length test.head.locs)) (JumpsForward language) (λ code t. t.forward)
+        All-weaker (IsWellScopedThread language (length test.head.locs)) (JumpsForward language) (λ code t. t.forward)
         test.threads is.code in (
           paths,
           (choices_are_all language test.threads paths forward).1 choice,
@@ -105,7 +105,7 @@ module _ {S : Type 0} (language : Language S) (test : Test S) {State : Type 0} (
 
   -- Why a test's list is complete: its outcomes are those of the path assignments, and those of this program on the flat machine.
   pub record CanBeListed (Has : FinalState → Type 0) (program : X86Test) : Type 0 where
-    pub is : IsWellFormed language test
+    pub is : IsWellScoped language test
     pub alike : AreAlike
     pub complete : AreComplete
     pub choices : (o : FinalState) → Has o ↔ OfChoice language test.threads system o

@@ -1,8 +1,8 @@
 -- The complete list of a source test.
-use Rattle.lw_finals.proofs.Common.{ℕ, List, [], length, Result, subst, IfOk, OnOk, All, ◌↔◌, AllByRecursion}
-use Rattle.lw_finals.proofs.Common.{All-weaker, IsListedOutcome, TestHead, FinalState, HasOutcomeShape}
-use Rattle.lw_finals.proofs.Common.{IsEvent, IsCompiled, flat_memory, SourceOutcome, source_language}
-use Rattle.lw_finals.proofs.Common.{IsWellFormedSource, SourceTest, X86Test, IsMachineOutcome, IsWithinLimits}
+use Rattle.lw_finals.proofs.Common.{IsWellScopedSource, ℕ, List, [], length, Result, subst, IfOk, OnOk, All}
+use Rattle.lw_finals.proofs.Common.{◌↔◌, AllByRecursion, All-weaker, IsListedOutcome, TestHead, FinalState}
+use Rattle.lw_finals.proofs.Common.{HasOutcomeShape, IsEvent, IsCompiled, flat_memory, SourceOutcome}
+use Rattle.lw_finals.proofs.Common.{source_language, SourceTest, X86Test, IsMachineOutcome, IsWithinLimits}
 use Rattle.lw_finals.proofs.Common.{OutcomeEntries, source_item_system, SourceFollowsPathsToEnd}
 use Rattle.lw_finals.proofs.Common.{ReplaysFlatTo, CollectsOutcomes, OutcomesOfProgram, AreComplete, AreFlat}
 use Rattle.lw_finals.proofs.Common.{IsComplete}
@@ -11,7 +11,7 @@ use Rattle.lw_finals.proofs.SourceOutcomes.{alike_orders_end_alike, outcomes_are
 
 -- What the orders of all path assignments collect is the complete list of the source test's outcomes.
 pub source_listed : (s : SourceTest)
-    → IsWellFormedSource s
+    → IsWellScopedSource s
     → AreComplete
     → (program : X86Test)
     → ((o : FinalState) → IsMachineOutcome flat_memory program program.head.init_words o ↔ SourceOutcome s o)

@@ -1,12 +1,12 @@
 -- Trace-equivalent orders of the items of a source test reach the same outcome; and the outcomes of the orders of all path assignments are
 -- exactly the test's.
-use Rattle.lw_finals.proofs.Common.{◌≡◌, ℕ, ◌≤◌, ◌==◌, Bool, true, false, if◌then◌else◌, List, [], ◌∷◌, map}
-use Rattle.lw_finals.proofs.Common.{length, Option, Some, None, Result, Ok, refl, sym, subst, inl, inr}
-use Rattle.lw_finals.proofs.Common.{slice_get, arith, ◌≢◌, ◌<◌, ap₂, ◌∙◌, ◌↔◌, IsTrue, true≢false, leb-true}
-use Rattle.lw_finals.proofs.Common.{get_or_past, cases_lt, cases_order, false_from_ne_true, FinalState}
-use Rattle.lw_finals.proofs.Common.{thread_code, Event, Step, Stop, at_index, get-map, zip_passes, Stmt}
-use Rattle.lw_finals.proofs.Common.{IsFlowSuccessor, source_language, IsWellFormedSource, SourceTest, Thread}
-use Rattle.lw_finals.proofs.Common.{State, source_step, SourceRunsTo, InterleavesTo, is_source_final}
+use Rattle.lw_finals.proofs.Common.{IsWellScopedSource, ◌≡◌, ℕ, ◌≤◌, ◌==◌, Bool, true, false, if◌then◌else◌}
+use Rattle.lw_finals.proofs.Common.{List, [], ◌∷◌, map, length, Option, Some, None, Result, Ok, refl, sym}
+use Rattle.lw_finals.proofs.Common.{subst, inl, inr, slice_get, arith, ◌≢◌, ◌<◌, ap₂, ◌∙◌, ◌↔◌, IsTrue}
+use Rattle.lw_finals.proofs.Common.{true≢false, leb-true, get_or_past, cases_lt, cases_order}
+use Rattle.lw_finals.proofs.Common.{false_from_ne_true, FinalState, thread_code, Event, Step, Stop, at_index}
+use Rattle.lw_finals.proofs.Common.{get-map, zip_passes, Stmt, IsFlowSuccessor, source_language, SourceTest}
+use Rattle.lw_finals.proofs.Common.{Thread, State, source_step, SourceRunsTo, InterleavesTo, is_source_final}
 use Rattle.lw_finals.proofs.Common.{initial_state, initial_thread, SourceOutcome, FollowsFlow, next_statement}
 use Rattle.lw_finals.proofs.Common.{moved, others_placed, exchange, next_is, IsPathAssignment, Item, items_of}
 use Rattle.lw_finals.proofs.Common.{item_at, statement_of, conflict_by, items_conflict, IsMember, item}
@@ -187,7 +187,7 @@ module _ (test : SourceTest) where
   steps_alone [] s end ran = ran
   steps_alone (t ∷ order) s end (mid, step, ran) = (mid, (t, step), steps_alone order mid end ran)
 
-  runs : IsWellFormedSource test → Runs source_language program (source_item_system test) thread_position Steps NoneWaits
+  runs : IsWellScopedSource test → Runs source_language program (source_item_system test) thread_position Steps NoneWaits
   runs is = record {
     first = λ u. refl;
     starts = λ t l.
@@ -212,9 +212,9 @@ pub order_runs_to : (s : SourceTest) (items : List Item) (order : List ℕ) (o :
 order_runs_to s items order o r =
     record { end = r.end; ran = scheduled s items order (initial_state s) r.end r.ran; final = r.final; is = r.is }
 
--- The outcomes of a well-formed test are those of its path assignments.
+-- The outcomes of a well-scoped test are those of its path assignments.
 pub outcomes_are_those_of_choices : (s : SourceTest) (o : FinalState)
-    → IsWellFormedSource s
+    → IsWellScopedSource s
     → SourceOutcome s o
     ↔ ((paths : List (List ℕ)) × IsPathAssignment source_language s.threads paths × IsSourceChoiceOutcome s paths o)
 outcomes_are_those_of_choices s o is = (

@@ -1,5 +1,5 @@
 -- The complete list of an x86 test.
-use Rattle.lw_finals.proofs.Common.{[], Result, IfOk, OnOk, flat_memory, x86_language, IsWellFormedProgram}
+use Rattle.lw_finals.proofs.Common.{IsWellScopedProgram, [], Result, IfOk, OnOk, flat_memory, x86_language}
 use Rattle.lw_finals.proofs.Common.{X86Test, IsMachineOutcome, IsWithinLimits, OutcomeEntries, ReplaysFlatTo}
 use Rattle.lw_finals.proofs.Common.{CollectsOutcomes, OutcomesOfProgram, AreComplete, AreFlat, IsComplete}
 use Rattle.lw_finals.proofs.Common.{x86_item_system, X86FollowsPathsToEnd}
@@ -9,7 +9,7 @@ use Rattle.lw_finals.proofs.X86Outcomes.{x86_outcomes}
 
 -- What the orders of all path assignments collect is the complete list of the x86 test's outcomes.
 pub program_listed : (test : X86Test)
-    → IsWellFormedProgram test
+    → IsWellScopedProgram test
     → AreComplete
     → AreFlat test
     → {E : Type 0} (result : Result OutcomeEntries E)

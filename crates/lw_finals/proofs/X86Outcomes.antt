@@ -1,11 +1,11 @@
 -- The outcomes over flat memory of the orders of all path assignments are exactly the outcomes of an x86 test.
-use Rattle.lw_finals.proofs.Common.{◌≡◌, ℕ, ◌≤◌, ◌==◌, List, [], ◌∷◌, length, Option, Some, None, Bool, true}
-use Rattle.lw_finals.proofs.Common.{false, Ok, refl, sym, ap, ◌∙◌, subst, arith, slice_get, length-set, ◌↔◌}
-use Rattle.lw_finals.proofs.Common.{IsTrue, nat_le, option_map, true≢false, leb-true, eqb-true, and_parts}
-use Rattle.lw_finals.proofs.Common.{length-map, nil_from_length, slice_get-map, slice_get_within, FinalState}
-use Rattle.lw_finals.proofs.Common.{thread_code, Event, Step, Drain, Evict, get-set_same, get-set_other}
-use Rattle.lw_finals.proofs.Common.{at_index, get-map, zip_passes, flat_memory, Instr, IsSuccessor}
-use Rattle.lw_finals.proofs.Common.{x86_operation, x86_language, IsWellFormedProgram, X86Test, step_effect}
+use Rattle.lw_finals.proofs.Common.{IsWellScopedProgram, ◌≡◌, ℕ, ◌≤◌, ◌==◌, List, [], ◌∷◌, length, Option}
+use Rattle.lw_finals.proofs.Common.{Some, None, Bool, true, false, Ok, refl, sym, ap, ◌∙◌, subst, arith}
+use Rattle.lw_finals.proofs.Common.{slice_get, length-set, ◌↔◌, IsTrue, nat_le, option_map, true≢false}
+use Rattle.lw_finals.proofs.Common.{leb-true, eqb-true, and_parts, length-map, nil_from_length, slice_get-map}
+use Rattle.lw_finals.proofs.Common.{slice_get_within, FinalState, thread_code, Event, Step, Drain, Evict}
+use Rattle.lw_finals.proofs.Common.{get-set_same, get-set_other, at_index, get-map, zip_passes, flat_memory}
+use Rattle.lw_finals.proofs.Common.{Instr, IsSuccessor, x86_operation, x86_language, X86Test, step_effect}
 use Rattle.lw_finals.proofs.Common.{MachineState, position_of, MachineTransition, Processor}
 use Rattle.lw_finals.proofs.Common.{initial_processor, is_final, MachineRunsTo, ReplaysTo, IsMachineOutcome}
 use Rattle.lw_finals.proofs.Common.{initial_machine_state, EffectLeadsTo, EventOccurrence, effect_of_event}
@@ -146,7 +146,7 @@ module _ (test : X86Test) where
         let d : EventOccurrence program (Evict t x) s mid = effect_of_event program (Evict t x) s mid done in
         absurd (no_eviction program (length s.memory) t x d.from d.to s.memory d.words d.does)
 
-    runs : IsWellFormedProgram test
+    runs : IsWellScopedProgram test
         → Runs x86_language program (x86_item_system flat_memory test test.head.init_words) position_of
         (MachineTransition flat_memory program) IsSound
     runs ok = record {
@@ -180,9 +180,9 @@ order_replays test items order o r = record {
   is = r.is;
 }
 
--- The outcomes of a well-formed test are those of its path assignments.
+-- The outcomes of a well-scoped test are those of its path assignments.
 pub x86_outcomes : (test : X86Test) (o : FinalState)
-    → IsWellFormedProgram test
+    → IsWellScopedProgram test
     → IsMachineOutcome flat_memory test test.head.init_words o
     ↔ ((paths : List (List ℕ))
     × IsPathAssignment x86_language test.threads paths

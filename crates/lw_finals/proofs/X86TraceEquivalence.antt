@@ -1,9 +1,9 @@
 -- Trace-equivalent orders of the items of an x86 test reach the same outcome over flat memory.
-use Rattle.lw_finals.proofs.Common.{◌≡◌, ℕ, suc, ◌<◌, false, true≢false, List, [], length, Some, sym, ap, ◌∙◌}
-use Rattle.lw_finals.proofs.Common.{inl, inr, option_map_or, cases_order, thread_code, flat_memory, index_in}
-use Rattle.lw_finals.proofs.Common.{IsLinearExtension, MachineState, exchanged, Instr, x86_language}
-use Rattle.lw_finals.proofs.Common.{IsWellFormedProgram, X86Test, JumpsForward, IsPathAssignment, Item}
-use Rattle.lw_finals.proofs.Common.{item_at, items_of, statement_of, statement_needs_empty_buffer}
+use Rattle.lw_finals.proofs.Common.{IsWellScopedProgram, ◌≡◌, ℕ, suc, ◌<◌, false, true≢false, List, []}
+use Rattle.lw_finals.proofs.Common.{length, Some, sym, ap, ◌∙◌, inl, inr, option_map_or, cases_order}
+use Rattle.lw_finals.proofs.Common.{thread_code, flat_memory, index_in, IsLinearExtension, MachineState}
+use Rattle.lw_finals.proofs.Common.{exchanged, Instr, x86_language, X86Test, JumpsForward, IsPathAssignment}
+use Rattle.lw_finals.proofs.Common.{Item, item_at, items_of, statement_of, statement_needs_empty_buffer}
 use Rattle.lw_finals.proofs.Common.{constraints_of, IsItemOnPath, IsItemOnPath-of_member, thread_rank}
 use Rattle.lw_finals.proofs.Common.{slot_less, store_slot, number_less, AreOrdered, forward_of, event_of}
 use Rattle.lw_finals.proofs.Common.{X86ItemTransition, x86_item_system}
@@ -108,7 +108,7 @@ module _ (program : List (List Instr)) (forward : (u : ℕ) → JumpsForward x86
 
 -- Trace-equivalent orders of an x86 test's items reach the same outcome over flat memory.
 pub x86_orders_end_alike : (test : X86Test) (paths : List (List ℕ))
-    → IsWellFormedProgram test
+    → IsWellScopedProgram test
     → IsPathAssignment x86_language test.threads paths
     → OrdersEndAlike x86_language test.threads paths (x86_item_system flat_memory test test.head.init_words)
 x86_orders_end_alike test paths ok choice =

@@ -6,7 +6,8 @@ ghost use Rattle.lw_memory.specs.Flat.{flat_memory};
 ghost use Rattle.lw_orders.specs.Order.{IsLinearExtension, AreTraceEquivalent};
 ghost use Rattle.lw_interleaving.specs.Runs.{SourceOutcome};
 ghost use Rattle.lw_litmus.specs.Sources.{source_language};
-ghost use Rattle.lw_litmus.specs.WellFormedTests.{IsWellFormedSource, IsWellFormedProgram};
+ghost use Rattle.lw_litmus.specs.WellFormedTests.{IsWellFormedProgram};
+ghost use Rattle.lw_litmus.specs.WellScopedTests.{IsWellScopedSource, IsWellScopedProgram};
 ghost use Rattle.lw_litmus.specs.Tests.{SourceTest, X86Test};
 ghost use Rattle.lw_tso.specs.Runs.{IsMachineOutcome};
 ghost use Rattle.lw_litmus.specs.Programs.{x86_language};
@@ -44,7 +45,7 @@ pub fn alike_source_orders_end_alike()
 /// States that the outcomes of a source test are those of its path assignments: of the linear extensions of their
 /// items that follow the paths to a final state.
 pub fn source_outcomes_are_those_of_choices()
-    ensures { (s : SourceTest) (o : FinalState) → IsWellFormedSource s
+    ensures { (s : SourceTest) (o : FinalState) → IsWellScopedSource s
         → SourceOutcome s o ↔ ((paths : List (List ℕ)) × IsPathAssignment source_language s.threads paths × IsSourceChoiceOutcome s paths o) }
 {}
 
@@ -52,7 +53,7 @@ pub fn source_outcomes_are_those_of_choices()
 /// if one follows the paths to a final state, the other does too, and has the same outcome.
 pub fn alike_x86_orders_end_alike()
     ensures { (test : X86Test) (paths : List (List ℕ)) (xs ys : List ℕ) (o : FinalState)
-        → IsWellFormedProgram test → IsPathAssignment x86_language test.threads paths
+        → IsWellScopedProgram test → IsPathAssignment x86_language test.threads paths
         → IsLinearExtension (constraints_of x86_language test.threads (items_of x86_language test.threads paths)) xs
         → IsLinearExtension (constraints_of x86_language test.threads (items_of x86_language test.threads paths)) ys
         → AreTraceEquivalent (constraints_of x86_language test.threads (items_of x86_language test.threads paths)).conflicts xs ys
@@ -63,7 +64,7 @@ pub fn alike_x86_orders_end_alike()
 /// States that the outcomes of an x86 test over flat memory are those of its path assignments: of the linear
 /// extensions of their items that follow the paths to a final state.
 pub fn x86_outcomes_are_those_of_choices()
-    ensures { (test : X86Test) (o : FinalState) → IsWellFormedProgram test
+    ensures { (test : X86Test) (o : FinalState) → IsWellScopedProgram test
         → IsMachineOutcome flat_memory test test.head.init_words o
         ↔ ((paths : List (List ℕ)) × IsPathAssignment x86_language test.threads paths × machine.IsX86ChoiceOutcome flat_memory test test.head.init_words paths o) }
 {}

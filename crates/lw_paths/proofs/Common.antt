@@ -33,9 +33,9 @@ pub use Rattle.std.specs.Option.{option_map_or}
 pub use Rattle.lw_base.proofs.Common.{IsDuplicateFree, most_threads, thread_code}
 pub use Rattle.lw_base.proofs.api.Lists.{cons_head, get_some}
 pub use Rattle.lw_litmus.proofs.Common.{IsFlowPathFrom, IsFlowSuccessor, IsWellFormedSource}
-pub use Rattle.lw_litmus.proofs.Common.{IsWellFormedThread, Language, SourceTest, Test, branch_target}
-pub use Rattle.lw_litmus.proofs.Common.{falls_through, is_same_location, location_of, most_instructions}
-pub use Rattle.lw_litmus.proofs.Common.{most_statements, source_language}
+pub use Rattle.lw_litmus.proofs.Common.{IsWellFormedThread, IsWellScoped, IsWellScopedThread, Language}
+pub use Rattle.lw_litmus.proofs.Common.{SourceTest, Test, branch_target, falls_through, is_same_location}
+pub use Rattle.lw_litmus.proofs.Common.{location_of, most_instructions, most_statements, source_language}
 pub use Rattle.lw_litmus.specs.declared.operation.Operation.{Operation}
 pub use Rattle.lw_litmus.specs.declared.operation.Operation.TheVariants.{Branch}
 pub use Rattle.lw_orders.proofs.Common.{AreAscending, AreSorted, Before, Constraints, IsLinearExtension}

@@ -33,6 +33,7 @@ pub use Rattle.lw_base.specs.declared.stop.Stop.TheVariants.{BufferEmpty, Ended,
 pub use Rattle.lw_base.specs.declared.stop.Stop.TheVariants.{SwapWaits}
 pub use Rattle.lw_litmus.proofs.Common.{IsWellFormedProgram, IsWellFormedThread, X86Test, is_locked, is_store}
 pub use Rattle.lw_litmus.proofs.Common.{location_of, program_of, writes, x86_language, x86_operation}
+pub use Rattle.lw_litmus.proofs.api.WellScoped.{IsWellScoped-well_formed}
 pub use Rattle.lw_litmus.specs.declared.instr.Instr.{Instr}
 pub use Rattle.lw_litmus.specs.declared.operation.Operation.{Operation}
 pub use Rattle.lw_litmus.specs.declared.operation.Operation.TheVariants.{Branch, Compare, FetchAdd, Load, Set}

@@ -1,7 +1,8 @@
--- The path assignments of a well-formed test of either language can be visited.
-use Rattle.lw_paths.proofs.Common.{◌≡◌, ℕ, ◌≤◌, inl, inr, [], Some, length, sym, subst, slice_get, arith}
-use Rattle.lw_paths.proofs.Common.{cases_lt, get_or_past, All-weaker, All-get_or, thread_code, Language, Test}
-use Rattle.lw_paths.proofs.Common.{IsWellFormedThread, JumpsForward, IsVisitable}
+-- The path assignments of a well-formed test of either language can be visited, and the jumps of a well-scoped test go forward.
+use Rattle.lw_paths.proofs.Common.{IsWellScoped, IsWellScopedThread, ◌≡◌, ℕ, ◌≤◌, inl, inr, [], Some, length}
+use Rattle.lw_paths.proofs.Common.{sym, subst, slice_get, arith, cases_lt, get_or_past, All-weaker}
+use Rattle.lw_paths.proofs.Common.{All-get_or, thread_code, Language, Test, IsWellFormedThread, JumpsForward}
+use Rattle.lw_paths.proofs.Common.{IsVisitable}
 use Rattle.lw_litmus.specs.WellFormed.{IsWellFormed}
 
 module _ {S : Type 0} (language : Language S) (test : Test S) (is : IsWellFormed language test) where
@@ -15,12 +16,13 @@ module _ {S : Type 0} (language : Language S) (test : Test S) (is : IsWellFormed
     forward = All-weaker (IsWellFormedThread language (length test.head.locs)) _ (λ code t. t.forward) _ is.code;
   }
 
+module _ {S : Type 0} (language : Language S) (test : Test S) (is : IsWellScoped language test) where
   -- The jumps of each thread go forward, and so do those of the empty code past the last thread.
   pub forward_of : (t : ℕ) → JumpsForward language (thread_code test.threads t)
   forward_of t = elim (cases_lt t (length test.threads)) [
     | inl h ↦
-        (let thread : IsWellFormedThread language (length test.head.locs) (thread_code test.threads t) =
-        All-get_or (IsWellFormedThread language (length test.head.locs)) test.threads t [] h is.code in
+        (let thread : IsWellScopedThread language (length test.head.locs) (thread_code test.threads t) =
+        All-get_or (IsWellScopedThread language (length test.head.locs)) test.threads t [] h is.code in
         thread.forward)
     | inr h ↦ subst (JumpsForward language) (sym (get_or_past _ t [] h)) (λ k s e. absurd (nothing k s e))
   ]

@@ -1,5 +1,5 @@
-use Rattle.lw_finals.proofs.Common.{arith, IfOk, IfOk-weaker, IsComplete, IsMachineOutcome, flat_memory}
-use Rattle.lw_finals.proofs.Common.{program_of, visitable}
+use Rattle.lw_finals.proofs.Common.{IsWellScoped-well_formed, x86_language, arith, IfOk, IfOk-weaker}
+use Rattle.lw_finals.proofs.Common.{IsComplete, IsMachineOutcome, flat_memory, program_of, visitable}
 use Rattle.lw_finals.proofs.X86List.{program_listed}
 use Rattle.lw_finals.proofs.list.list_raw.Given.{Over}
 use Rattle.lw_finals.proofs.list.list_raw.Goals.{After-drop-runner-inside-4}
@@ -11,9 +11,9 @@ whole : (g : Over) (c : After-drop-runner-inside-4 g)
     IfOk c.list_program.result (IsComplete (IsMachineOutcome flat_memory program program.head.init_words) program)
 whole g c =
     let program = c.args.program.now in
-    program_listed (program_of program) program.well_formed c.lists_are_complete.ensures.complete
-    (c.lists_are_complete.ensures.caches (program_of program) program.well_formed) c.list_program.result
-    (rw (c.as_slice.ensures, c.in_ok-runner.ensures.test) at c.list_program.ensures.gathered)
+    program_listed (program_of program) (IsWellScoped-well_formed x86_language program.well_formed)
+    c.lists_are_complete.ensures.complete (c.lists_are_complete.ensures.caches (program_of program) program.well_formed)
+    c.list_program.result (rw (c.as_slice.ensures, c.in_ok-runner.ensures.test) at c.list_program.ensures.gathered)
     (rw c.as_slice.ensures at c.list_program.ensures.within)
 
 pub list_program-requires : goal.list_program-requires

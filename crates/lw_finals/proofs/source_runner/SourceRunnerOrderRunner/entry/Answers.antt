@@ -1,6 +1,6 @@
-use Rattle.lw_finals.proofs.Common.{◌≡◌, List, ap, sym, ◌∙◌, subst, FinalState, Event, SourceTest, source_of}
-use Rattle.lw_finals.proofs.Common.{program_of, initial_state, SourceFollowsPathsToEnd, ReplaysFlatTo}
-use Rattle.lw_finals.proofs.Common.{RunnerState, CompiledSource}
+use Rattle.lw_finals.proofs.Common.{IsWellScoped-well_formed, source_language, ◌≡◌, List, ap, sym, ◌∙◌, subst}
+use Rattle.lw_finals.proofs.Common.{FinalState, Event, SourceTest, source_of, program_of, initial_state}
+use Rattle.lw_finals.proofs.Common.{SourceFollowsPathsToEnd, ReplaysFlatTo, RunnerState, CompiledSource}
 use Rattle.lw_finals.proofs.SourceRunners.{all_there, leads}
 use Rattle.lw_finals.proofs.source_runner.SourceRunnerOrderRunner.entry.Goals as goal
 
@@ -28,9 +28,9 @@ returns-clause-leads g c =
     subst (λ (s : SourceTest). SourceFollowsPathsToEnd s items order end) (sym (ap (λ (t : CompiledSource). t.source) same))
     c.requires.ran in
     let events = c.in_ok-events.events.items in
+    let ok = IsWellScoped-well_formed source_language source.well_formed in
     let led : ReplaysFlatTo test.program events end = leads test items order events end run c.in_ok-events.ensures (λ p runs.
-    c.schedules_replay.ensures (source_of source) (program_of compiled.program) compiled.starts _ p source.well_formed
-    c.self.invariant.0 runs) in
+    c.schedules_replay.ensures (source_of source) (program_of compiled.program) compiled.starts _ p ok c.self.invariant.0 runs) in
     let told : ReplaysFlatTo test.program c.from.result end =
     subst (λ (es : List Event). ReplaysFlatTo test.program es end) (sym c.from.ensures) led in
     let at : ReplaysFlatTo c.args.self.now.test.program c.from.result end =

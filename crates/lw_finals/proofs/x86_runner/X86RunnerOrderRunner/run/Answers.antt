@@ -1,8 +1,8 @@
-use Rattle.lw_finals.proofs.Common.{arith, ◌≡◌, ◌∙◌, ℕ, List, Err, ap, subst, sym, true, true≢false}
-use Rattle.lw_finals.proofs.Common.{FinalState, Stop, flat_memory, caches_by, caches_invariant, Mesi}
-use Rattle.lw_finals.proofs.Common.{IsAtPosition, MachineTransition, InitialWords, is_final, Instr, X86Test}
-use Rattle.lw_finals.proofs.Common.{program_of, Item, RunnerState, event_of, X86ItemTransition, common_steps}
-use Rattle.lw_finals.proofs.Common.{x86_item_system, X86FollowsPathsToEnd}
+use Rattle.lw_finals.proofs.Common.{IsWellScoped-well_formed, x86_language, arith, ◌≡◌, ◌∙◌, ℕ, List, Err, ap}
+use Rattle.lw_finals.proofs.Common.{subst, sym, true, true≢false, FinalState, Stop, flat_memory, caches_by}
+use Rattle.lw_finals.proofs.Common.{caches_invariant, Mesi, IsAtPosition, MachineTransition, InitialWords}
+use Rattle.lw_finals.proofs.Common.{is_final, Instr, X86Test, program_of, Item, RunnerState, event_of}
+use Rattle.lw_finals.proofs.Common.{X86ItemTransition, common_steps, x86_item_system, X86FollowsPathsToEnd}
 use Rattle.lw_finals.proofs.OrderSteps.{ends_alone, ends_so}
 use Rattle.lw_finals.proofs.X86Runners.{can_start, carried_on, left_off}
 use Rattle.lw_finals.proofs.x86_runner.X86RunnerOrderRunner.run.Goals as goal
@@ -44,8 +44,9 @@ loop-index-preserved g c =
       words = c.carry_out.ensures.words ∙ c.loop-index.invariant.words;
       ran =
           carried_on _ _ m c.args.items.now (λ events s after e answer.
-          c.events_are_flat.ensures.over_flat test m events s after e answer c.self.inside.program.now.well_formed start)
-          c.args.order.now c.loop-index.index-index item _ _ (record {
+          c.events_are_flat.ensures.over_flat test m events s after e answer
+          (IsWellScoped-well_formed x86_language c.self.inside.program.now.well_formed) start) c.args.order.now
+          c.loop-index.index-index item _ _ (record {
             index = c.from.result;
             past = 0;
             within = c.loop-index-test.true;
@@ -75,8 +76,9 @@ returns-then-not-carry_out-clause-ends g c o stays =
     → (stop : Stop) × MachineTransition mem p (event_of item) now (Err stop) c.carry_out.new.machine.state)
     c.loop-index.invariant.threads (c.carry_out.ensures.left c.if-not-carry_out.true) in
     left_off mem _ m c.args.items.now (λ events s after e answer.
-    c.events_are_flat.ensures.over_flat test m events s after e answer c.self.inside.program.now.well_formed start)
-    c.args.order.now c.loop-index.index-index item now c.carry_out.new.machine.state (record {
+    c.events_are_flat.ensures.over_flat test m events s after e answer
+    (IsWellScoped-well_formed x86_language c.self.inside.program.now.well_formed) start) c.args.order.now c.loop-index.index-index
+    item now c.carry_out.new.machine.state (record {
       index = c.from.result;
       past = 0;
       within = c.loop-index-test.true;
