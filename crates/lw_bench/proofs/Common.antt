@@ -51,8 +51,10 @@ pub use Rattle.lw_base.specs.declared.stop.Replay.{Replay}
 pub use Rattle.lw_base.specs.declared.stop.Stop.{Stop}
 pub use Rattle.lw_base.specs.declared.stop.Stop.TheVariants.{NoCpu}
 pub use Rattle.lw_litmus.proofs.Common.{IsWellFormedProgram, IsWellFormedSource, IsWellFormedStatement}
-pub use Rattle.lw_litmus.proofs.Common.{IsWellFormedThread, SourceTest, X86Test, branch_target, program_of}
+pub use Rattle.lw_litmus.proofs.Common.{IsWellFormedThread, IsWellScopedProgram, IsWellScopedSource}
+pub use Rattle.lw_litmus.proofs.Common.{SourceTest, X86Test, branch_target, program_of, source_language}
 pub use Rattle.lw_litmus.proofs.Common.{source_of, x86_language, x86_operation}
+pub use Rattle.lw_litmus.proofs.api.WellScoped.{IsWellScoped-well_formed}
 pub use Rattle.lw_litmus.specs.declared.instr.Instr.{Instr}
 pub use Rattle.lw_litmus.specs.declared.stmt.Stmt.{Stmt}
 pub use Rattle.lw_interleaving.proofs.Common.{SourceOutcome, SourceRunsTo, State, initial_state}
@@ -73,9 +75,9 @@ pub use Rattle.lw_tso.proofs.api.Endings.{can_end}
 pub use Rattle.lw_tso.proofs.api.FenceRemoval.{left_out}
 pub use Rattle.lw_tso.proofs.api.FlatSimulation.{within_reached}
 pub use Rattle.lw_fence.proofs.Common.{IsCompiled, IsCompiledWith}
-pub use Rattle.lw_fence.proofs.api.Compilations.{has_outcome, has_outcomes, is_program, is_program_with}
-pub use Rattle.lw_fence.proofs.api.Compilations.{more_fences, none_among, one_program, same_outcomes}
-pub use Rattle.lw_fence.proofs.api.Compilations.{some_program, without_needless_fences}
+pub use Rattle.lw_fence.proofs.api.Compilations.{has_outcome, has_outcomes, is_program, is_well_scoped}
+pub use Rattle.lw_fence.proofs.api.Compilations.{is_well_scoped_with, more_fences, none_among, one_program}
+pub use Rattle.lw_fence.proofs.api.Compilations.{same_outcomes, some_program, without_needless_fences}
 pub use Rattle.lw_outcome_map.specs.Listings.{IsStrictlySorted, OutcomeEntries, outcomes_of, schedules_of}
 pub use Rattle.lw_paths.proofs.Common.{HasTooManyItems, IsWithinOrderLimit, JumpsForward, items_at_choice}
 pub use Rattle.lw_paths.proofs.Common.{path_assignments, total_of}
@@ -83,7 +85,7 @@ pub use Rattle.lw_paths.proofs.api.Enumerated.{choices_are_all}
 pub use Rattle.lw_paths.proofs.api.Totals.{total_is}
 pub use Rattle.lw_tso_caches.proofs.api.Starts.{starts}
 pub use Rattle.lw_tso_caches.specs.CompleteLists.{ListsMachine}
-pub use Rattle.lw_tso_caches.specs.OverCaches.{OutcomeOverCaches, ReplaysToOverCaches}
+pub use Rattle.lw_tso_caches.specs.OverCaches.{FitsCaches, OutcomeOverCaches, ReplaysToOverCaches}
 pub use Rattle.lw_report.proofs.Common.{AreListedStates, AreStatesOf, IsFirstWithWords, IsReport}
 pub use Rattle.lw_report.proofs.Common.{IsScheduleList, IsSmallestOf, ListedState, ProjectedState, final_word}
 pub use Rattle.lw_report.proofs.Common.{is_true, project_state, projection_of, report_text}

@@ -1,4 +1,5 @@
 -- Outcomes of compiled programs over caches.
+use Rattle.lw_bench.proofs.Common.{IsWellScopedProgram, FitsCaches, IsWellScoped-well_formed, x86_language}
 use Rattle.lw_bench.proofs.Common.{◌↔◌, FinalState, flat_memory, Protocol, SourceOutcome, SourceTest, X86Test}
 use Rattle.lw_bench.proofs.Common.{IsMachineOutcome, IsWellFormedProgram, OutcomeOverCaches}
 
@@ -6,13 +7,14 @@ use Rattle.lw_bench.proofs.Common.{IsMachineOutcome, IsWellFormedProgram, Outcom
 -- caches.
 pub by_flat : (test : SourceTest) (program : X86Test)
     → ((protocol : Protocol) (p : X86Test) (o : FinalState)
-    → IsWellFormedProgram p
+    → IsWellScopedProgram p
+    → FitsCaches p
     → OutcomeOverCaches protocol p o ↔ IsMachineOutcome flat_memory p p.head.init_words o)
     → IsWellFormedProgram program
     → ((o : FinalState) → IsMachineOutcome flat_memory program program.head.init_words o ↔ SourceOutcome test o)
     → (protocol : Protocol) (o : FinalState)
     → OutcomeOverCaches protocol program o ↔ SourceOutcome test o
 by_flat test program caches ok outcomes protocol o =
-    let over = caches protocol program o ok in
+    let over = caches protocol program o (IsWellScoped-well_formed x86_language ok) ok.head.few in
     let same = outcomes o in
     ((λ outcome. same.0 (over.0 outcome)), (λ outcome. over.1 (same.1 outcome)))

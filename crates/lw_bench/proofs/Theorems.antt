@@ -1,20 +1,23 @@
 -- The theorems on tests as values, from those of the crates below. A premise is that outcomes over caches are those over flat memory; the
 -- laws prove it by a call.
-use Rattle.lw_bench.proofs.Common.{◌≡◌, ◌↔◌, ℕ, List, Bool, refl, sym, subst, FinalState, Bytes}
-use Rattle.lw_bench.proofs.Common.{SourceOutcome, SourceTest, X86Test, IsWellFormedSource}
+use Rattle.lw_bench.proofs.Common.{IsWellScopedProgram, FitsCaches, ◌≤◌, most_threads, TestHead}
+use Rattle.lw_bench.proofs.Common.{IsWellScopedSource, is_well_scoped_with, IsWellScoped-well_formed}
+use Rattle.lw_bench.proofs.Common.{source_language, x86_language, ◌≡◌, ◌↔◌, ℕ, List, Bool, refl, sym, subst}
+use Rattle.lw_bench.proofs.Common.{FinalState, Bytes, SourceOutcome, SourceTest, X86Test, IsWellFormedSource}
 use Rattle.lw_bench.proofs.Common.{IsWellFormedProgram, flat_memory, Protocol, IsMachineOutcome}
-use Rattle.lw_bench.proofs.Common.{OutcomeOverCaches, IsCompiled, IsCompiledWith, is_program, is_program_with}
-use Rattle.lw_bench.proofs.Common.{some_program, same_outcomes, has_outcomes, has_outcome, one_report}
-use Rattle.lw_bench.proofs.Common.{frame_well_formed, frame_columns, well_formed_source, well_formed_program}
-use Rattle.lw_bench.proofs.Common.{LitmusTest, Of_source, Of_x86, IsWellFormedTest, IsStatesReport, OutcomeOf}
+use Rattle.lw_bench.proofs.Common.{OutcomeOverCaches, IsCompiled, IsCompiledWith, is_program, some_program}
+use Rattle.lw_bench.proofs.Common.{same_outcomes, has_outcomes, has_outcome, one_report, frame_well_formed}
+use Rattle.lw_bench.proofs.Common.{frame_columns, well_formed_source, well_formed_program, LitmusTest}
+use Rattle.lw_bench.proofs.Common.{Of_source, Of_x86, IsWellFormedTest, IsStatesReport, OutcomeOf}
 use Rattle.lw_bench.proofs.Common.{IsProgramRunFor, IsProgramOf, IsOutputOf, HasTest, Exact, X86, ap}
-use Rattle.lw_bench.proofs.Common.{HasOverCaches, IsCompilation, canonical_text, IsTextOf}
+use Rattle.lw_bench.proofs.Common.{HasOverCaches, IsCompilation, canonical_text, IsTextOf, is_well_scoped}
 
 -- Outcomes over caches are those over flat memory.
 abbrev pub CachesAreFlat : Type 0
 CachesAreFlat =
     (protocol : Protocol) (p : X86Test) (o : FinalState)
-    → IsWellFormedProgram p
+    → IsWellScopedProgram p
+    → FitsCaches p
     → OutcomeOverCaches protocol p o ↔ IsMachineOutcome flat_memory p p.head.init_words o
 
 -- ---- texts
@@ -38,28 +41,37 @@ one_report_of one text a b m n =
 
 -- ---- compiled programs
 
+-- A compiled program fits the caches if its source has no more threads than they have processors.
+fits_compiled : (s : SourceTest) (p : X86Test) (starts : List (List ℕ))
+    → IsCompiled s p starts
+    → s.head.threads ≤ most_threads
+    → FitsCaches p
+fits_compiled s p starts compiled few = subst (λ (h : TestHead). h.threads ≤ most_threads) (sym compiled.head) few
+
 -- A compiled program's outcomes over caches are those of its source test by interleaving.
 pub outcomes_over_caches : CachesAreFlat
     → (s : SourceTest) (p : X86Test) (starts : List (List ℕ))
-    → IsWellFormedSource s
+    → IsWellScopedSource s
     → IsCompiled s p starts
+    → FitsCaches p
     → (protocol : Protocol) (o : FinalState)
     → OutcomeOverCaches protocol p o ↔ SourceOutcome s o
-outcomes_over_caches caches s p starts ok compiled protocol o =
-    let over = caches protocol p o (is_program s p starts ok compiled) in
+outcomes_over_caches caches s p starts ok compiled fits protocol o =
+    let over = caches protocol p o (is_well_scoped s p starts ok compiled) fits in
     let same = same_outcomes s p starts o ok compiled in
     ((λ outcome. same.0 (over.0 outcome)), (λ outcome. over.1 (same.1 outcome)))
 
 -- A program compiled with any choice of fences has at least its source test's outcomes.
 pub outcomes_with_fences : {fences : List (List Bool)} {s : SourceTest} {p : X86Test} {starts : List (List ℕ)}
     → CachesAreFlat
-    → IsWellFormedSource s
+    → IsWellScopedSource s
     → IsCompiledWith fences s p starts
+    → FitsCaches p
     → (protocol : Protocol) (o : FinalState)
     → SourceOutcome s o
     → OutcomeOverCaches protocol p o
-outcomes_with_fences {s} {p} caches ok compiled protocol o outcome =
-    (caches protocol p o (is_program_with _ s p _ ok compiled)).1 (has_outcomes _ s p _ o ok compiled outcome)
+outcomes_with_fences {s} {p} caches ok compiled fits protocol o outcome =
+    (caches protocol p o (is_well_scoped_with _ s p _ ok compiled) fits).1 (has_outcomes _ s p _ o ok compiled outcome)
 
 -- ---- the program that is run for a test
 
@@ -69,7 +81,8 @@ pub program_runs : (test : LitmusTest) (program : X86Test)
     → IsProgramRunFor test program
     → IsProgramOf test program
 program_runs (Of_source test) program ok runs =
-    record { runs = runs; outcomes = λ o. same_outcomes test program runs.0 o ok runs.1 }
+    let scoped = IsWellScoped-well_formed source_language ok in
+    record { runs = runs; outcomes = λ o. same_outcomes test program runs.0 o scoped runs.1 }
 program_runs (Of_x86 test) program ok runs = record {
   runs = runs;
   outcomes = λ o.
@@ -80,7 +93,8 @@ program_runs (Of_x86 test) program ok runs = record {
 -- For each well-formed test there is a program to run that has its outcomes on the machine.
 pub has_program : (test : LitmusTest) → IsWellFormedTest test → (program : X86Test) × IsProgramOf test program
 has_program (Of_source test) ok =
-    let some = some_program test ok in (some.0, program_runs (Of_source test) some.0 ok (some.1, some.2))
+    let some = some_program test (IsWellScoped-well_formed source_language ok) in
+    (some.0, program_runs (Of_source test) some.0 ok (some.1, some.2))
 has_program (Of_x86 test) ok = (test, program_runs (Of_x86 test) test ok refl)
 
 -- The program that is run for a test has exactly the test's outcomes over caches.
@@ -89,25 +103,29 @@ pub runs_over_caches : CachesAreFlat
     → IsWellFormedTest test
     → IsProgramRunFor test program
     → HasOverCaches test program
-runs_over_caches caches (Of_source test) program ok runs = outcomes_over_caches caches test program runs.0 ok runs.1
+runs_over_caches caches (Of_source test) program ok runs =
+    outcomes_over_caches caches test program runs.0 (IsWellScoped-well_formed source_language ok) runs.1
+    (fits_compiled test program runs.0 runs.1 ok.head.few)
 runs_over_caches caches (Of_x86 test) program ok runs =
-    subst (HasOverCaches (Of_x86 test)) (sym runs) (λ protocol o. caches protocol test o ok)
+    subst (HasOverCaches (Of_x86 test)) (sym runs)
+    (λ protocol o. caches protocol test o (IsWellScoped-well_formed x86_language ok) ok.head.few)
 
 -- ---- outcomes
 
 -- Each source test has an outcome.
-pub source_outcome : (s : SourceTest) → IsWellFormedSource s → (o : FinalState) × SourceOutcome s o
+pub source_outcome : (s : SourceTest) → IsWellScopedSource s → (o : FinalState) × SourceOutcome s o
 source_outcome s ok =
     let some = some_program s ok in
-    let o = has_outcome some.0 (is_program s some.0 some.1 ok some.2) in
+    let o = has_outcome some.0 (is_well_scoped s some.0 some.1 ok some.2) in
     (o.0, (same_outcomes s some.0 some.1 o.0 ok some.2).0 o.1)
 
--- Each x86 test has an outcome over caches.
+-- Each x86 test that fits the caches has an outcome over them.
 pub cached_outcome : CachesAreFlat
     → (protocol : Protocol) (p : X86Test)
-    → IsWellFormedProgram p
+    → IsWellScopedProgram p
+    → FitsCaches p
     → (o : FinalState) × OutcomeOverCaches protocol p o
-cached_outcome caches protocol p ok = let o = has_outcome p ok in (o.0, (caches protocol p o.0 ok).1 o.1)
+cached_outcome caches protocol p ok fits = let o = has_outcome p ok in (o.0, (caches protocol p o.0 ok fits).1 o.1)
 
 -- ---- texts of compiled programs
 
@@ -132,10 +150,11 @@ pub compiled_text_read : HasOneTest
 compiled_text_read one back text made source has makes =
     let is =
     subst (λ (t : LitmusTest). IsCompilation t made) (one text makes.test (Of_source source) makes.has_test has) makes.is in
-    let read = back is.program (is_program source is.program is.starts (well_formed text (Of_source source) has) is.compiled) in (
+    let formed : IsWellFormedSource source = well_formed text (Of_source source) has in
+    let read = back is.program (is_program source is.program is.starts formed is.compiled) in (
       is.program,
       subst (λ (t : Bytes). HasTest t (Of_x86 is.program)) (sym is.is)
           (record { frame = read.frame; has_frame = read.framed; says = read.says }),
       is.compiled.head,
-      λ o. same_outcomes source is.program is.starts o (well_formed text (Of_source source) has) is.compiled,
+      λ o. same_outcomes source is.program is.starts o (IsWellScoped-well_formed source_language formed) is.compiled,
     )

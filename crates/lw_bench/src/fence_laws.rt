@@ -1,20 +1,19 @@
 //! Theorems about fences, for tests as values: which outcomes they remove, and where none is needed. A law is a
 //! function without a result, whose contract states the law.
 ghost use Rattle.std.specs.Prelude.{◌≡◌, ◌↔◌, ℕ, Bool, false, List};
-ghost use Rattle.lw_base.specs.Names.{IsTestName};
 ghost use Rattle.lw_base.specs.Outcomes.{FinalState};
 ghost use Rattle.lw_bench.specs.Classics.{store_buffering_in_x86};
 ghost use Rattle.lw_fence.specs.Compiling.{IsCompiled};
 ghost use Rattle.lw_fence.specs.Unfenced.{AreSubset, IsCompiledWith, IsCompiledWithoutFences, NeedsNoFence};
 ghost use Rattle.lw_interleaving.specs.Runs.{SourceOutcome};
 ghost use Rattle.lw_litmus.specs.Tests.{SourceTest, X86Test};
-ghost use Rattle.lw_litmus.specs.WellFormedTests.{IsWellFormedSource, IsWellFormedProgram};
+ghost use Rattle.lw_litmus.specs.WellScopedTests.{IsWellScopedSource, IsWellScopedProgram};
 ghost use Rattle.lw_memory.specs.Flat.{flat_memory};
 ghost use Rattle.lw_mesi.specs.declared.protocol.Protocol.{Protocol};
 ghost use Rattle.lw_report.specs.Truth.{is_true};
 ghost use Rattle.lw_tso.specs.Fencing.{IsFencedTest};
 ghost use Rattle.lw_tso.specs.Runs.{IsMachineOutcome};
-ghost use Rattle.lw_tso_caches.specs.OverCaches.{OutcomeOverCaches};
+ghost use Rattle.lw_tso_caches.specs.OverCaches.{FitsCaches, OutcomeOverCaches};
 
 use crate::laws::compiled_programs_have_their_sources_outcomes;
 use lw_tso::{fences_only_take_outcomes_away, tests_without_fences_are_well_formed};
@@ -23,7 +22,7 @@ use lw_tso_caches::outcomes_over_caches_are_flat;
 /// States that fences only remove outcomes over caches too, of each protocol: every outcome of a test with MFENCEs
 /// inserted, at any places, is an outcome of the test.
 pub fn fences_only_take_outcomes_away_over_caches()
-    ensures { (protocol : Protocol) (test fenced : X86Test) (o : FinalState) → IsTestName test.head.name → IsWellFormedProgram fenced
+    ensures { (protocol : Protocol) (test fenced : X86Test) (o : FinalState) → IsWellScopedProgram fenced → FitsCaches fenced
         → IsFencedTest test fenced → OutcomeOverCaches protocol fenced o → OutcomeOverCaches protocol test o }
 {
     outcomes_over_caches_are_flat();
@@ -49,12 +48,13 @@ pub fn more_fences_have_no_more_outcomes()
         → IsCompiledWith others source other begins
         → IsMachineOutcome flat_memory other other.head.init_words o → IsMachineOutcome flat_memory program program.head.init_words o }
     ensures caches { (fences others : List (List Bool)) (source : SourceTest) (program other : X86Test)
-        (starts begins : List (List ℕ)) (protocol : Protocol) (o : FinalState) → IsWellFormedSource source → AreSubset fences others
+        (starts begins : List (List ℕ)) (protocol : Protocol) (o : FinalState) → IsWellScopedSource source → FitsCaches other
+        → AreSubset fences others
         → IsCompiledWith fences source program starts → IsCompiledWith others source other begins
         → OutcomeOverCaches protocol other o → OutcomeOverCaches protocol program o }
     ensures without { (fences : List (List Bool)) (source : SourceTest) (program other : X86Test)
-        (starts begins : List (List ℕ)) (protocol : Protocol) (o : FinalState) → IsWellFormedSource source
-        → IsCompiledWithoutFences source program starts → IsCompiledWith fences source other begins
+        (starts begins : List (List ℕ)) (protocol : Protocol) (o : FinalState) → IsWellScopedSource source
+        → FitsCaches other → IsCompiledWithoutFences source program starts → IsCompiledWith fences source other begins
         → OutcomeOverCaches protocol other o → OutcomeOverCaches protocol program o }
 {
     fences_only_take_outcomes_away();
@@ -68,10 +68,10 @@ pub fn no_fence_is_needed_where_no_store_waits()
     ensures same_program { (source : SourceTest) (program : X86Test) (starts : List (List ℕ)) → NeedsNoFence source
         → IsCompiled source program starts ↔ IsCompiledWithoutFences source program starts }
     ensures flat_memory { (source : SourceTest) (program : X86Test) (starts : List (List ℕ)) (o : FinalState)
-        → IsWellFormedSource source → NeedsNoFence source → IsCompiledWithoutFences source program starts
+        → IsWellScopedSource source → NeedsNoFence source → IsCompiledWithoutFences source program starts
         → IsMachineOutcome flat_memory program program.head.init_words o ↔ SourceOutcome source o }
     ensures caches { (source : SourceTest) (program : X86Test) (starts : List (List ℕ)) (protocol : Protocol) (o : FinalState)
-        → IsWellFormedSource source → NeedsNoFence source → IsCompiledWithoutFences source program starts
+        → IsWellScopedSource source → NeedsNoFence source → IsCompiledWithoutFences source program starts → FitsCaches program
         → OutcomeOverCaches protocol program o ↔ SourceOutcome source o }
 {
     compiled_programs_have_their_sources_outcomes();

@@ -16,10 +16,10 @@ ghost use Rattle.lw_bench.specs.TestTexts.{HasTest};
 ghost use Rattle.lw_bench.specs.WellFormedTests.{IsWellFormedTest};
 ghost use Rattle.lw_fence.specs.Compiling.{IsCompiled};
 ghost use Rattle.lw_fence.specs.Unfenced.{IsCompiledWith, IsCompiledWithoutFences};
-ghost use Rattle.lw_tso_caches.specs.OverCaches.{OutcomeOverCaches};
+ghost use Rattle.lw_tso_caches.specs.OverCaches.{FitsCaches, OutcomeOverCaches};
 ghost use Rattle.lw_interleaving.specs.Runs.{SourceOutcome};
 ghost use Rattle.lw_litmus.specs.Tests.{SourceTest, X86Test};
-ghost use Rattle.lw_litmus.specs.WellFormedTests.{IsWellFormedSource, IsWellFormedProgram};
+ghost use Rattle.lw_litmus.specs.WellScopedTests.{IsWellScopedSource, IsWellScopedProgram};
 ghost use Rattle.lw_memory.specs.Flat.{flat_memory};
 ghost use Rattle.lw_memory.specs.Memory.{memory_of};
 ghost use Rattle.lw_memory.specs.SystemLaws.{invariant_of};
@@ -56,18 +56,19 @@ pub fn message_passing_is_forbidden_on_x86()
     outcomes_over_caches_are_flat();
 }
 
-/// States that every test of a text is well-formed, which is what the laws below require of a test.
+/// States that every test of a text is well-formed. So it is well-scoped (`well_formed_tests_are_well_scoped`) and has
+/// at most four threads, which is what the laws below require of a test.
 pub fn what_a_text_says_is_well_formed()
     ensures { (text : Bytes) (test : LitmusTest) → HasTest text test → IsWellFormedTest test }
 {}
 
-/// States that every well-formed test has an outcome: a source test by interleaving on one memory, an x86 test over
-/// flat memory and over caches of either protocol. The reason is that jumps lead forward, and that a full store
-/// buffer can always drain.
+/// States that every test has an outcome: a source test by interleaving on one memory, an x86 test over flat memory and
+/// over caches of either protocol. The reason is that jumps lead forward, and that a full store buffer can always
+/// drain.
 pub fn every_test_has_an_outcome()
-    ensures source { (test : SourceTest) → IsWellFormedSource test → (o : FinalState) × SourceOutcome test o }
-    ensures flat_memory { (test : X86Test) → IsWellFormedProgram test → (o : FinalState) × IsMachineOutcome flat_memory test test.head.init_words o }
-    ensures caches { (protocol : Protocol) (test : X86Test) → IsWellFormedProgram test
+    ensures source { (test : SourceTest) → IsWellScopedSource test → (o : FinalState) × SourceOutcome test o }
+    ensures flat_memory { (test : X86Test) → IsWellScopedProgram test → (o : FinalState) × IsMachineOutcome flat_memory test test.head.init_words o }
+    ensures caches { (protocol : Protocol) (test : X86Test) → IsWellScopedProgram test → FitsCaches test
         → (o : FinalState) × OutcomeOverCaches protocol test o }
 {
     outcomes_over_caches_are_flat();
@@ -80,10 +81,9 @@ pub fn a_text_has_one_report()
     a_text_has_one_test();
 }
 
-/// States that a well-formed source test has exactly one compiled program, with the indices at which its statements
-/// start.
+/// States that a source test has exactly one compiled program, with the indices at which its statements start.
 pub fn a_source_has_one_compiled_program()
-    ensures some { (source : SourceTest) → IsWellFormedSource source
+    ensures some { (source : SourceTest) → IsWellScopedSource source
         → (program : X86Test) × (starts : List (List ℕ)) × IsCompiled source program starts }
     ensures one { (source : SourceTest) (program other : X86Test) (starts begins : List (List ℕ))
         → IsCompiled source program starts → IsCompiled source other begins → (program ≡ other) × (starts ≡ begins) }
@@ -93,21 +93,21 @@ pub fn a_source_has_one_compiled_program()
 /// states with the source's initial words.
 pub fn compiled_programs_have_their_sources_outcomes_over_every_memory<M: MemorySystem>()
     ensures { (source : SourceTest) (program : X86Test) (starts : List (List ℕ)) (m : M) (o : FinalState)
-        → IsWellFormedSource source → IsCompiled source program starts
+        → IsWellScopedSource source → IsCompiled source program starts
         → IsInitialMemory (memory_of M.content M.state M.serves) (invariant_of M.cpus M.sound) program m
         → IsMachineOutcome (memory_of M.content M.state M.serves) program m o ↔ SourceOutcome source o }
 {
     outcomes_are_flat::<M>();
 }
 
-/// States that the compiled program of a well-formed source test has exactly its source's outcomes over flat memory,
-/// and over caches of either protocol, empty at the start, with evictions at any time.
+/// States that the compiled program of a source test has exactly its source's outcomes over flat memory, and over
+/// caches of either protocol, empty at the start, with evictions at any time.
 pub fn compiled_programs_have_their_sources_outcomes()
     ensures flat_memory { (source : SourceTest) (program : X86Test) (starts : List (List ℕ)) (o : FinalState)
-        → IsWellFormedSource source → IsCompiled source program starts
+        → IsWellScopedSource source → IsCompiled source program starts
         → IsMachineOutcome flat_memory program program.head.init_words o ↔ SourceOutcome source o }
     ensures caches { (source : SourceTest) (program : X86Test) (starts : List (List ℕ)) (protocol : Protocol) (o : FinalState)
-        → IsWellFormedSource source → IsCompiled source program starts
+        → IsWellScopedSource source → IsCompiled source program starts → FitsCaches program
         → OutcomeOverCaches protocol program o ↔ SourceOutcome source o }
 {
     outcomes_over_caches_are_flat();
@@ -117,11 +117,11 @@ pub fn compiled_programs_have_their_sources_outcomes()
 /// before any other of its loads: interleaving has none of the outcomes that fences remove.
 pub fn interleaving_outcomes_need_no_fences()
     ensures without { (source : SourceTest) (program : X86Test) (starts : List (List ℕ)) (protocol : Protocol) (o : FinalState)
-        → IsWellFormedSource source → IsCompiledWithoutFences source program starts
+        → IsWellScopedSource source → IsCompiledWithoutFences source program starts → FitsCaches program
         → SourceOutcome source o → OutcomeOverCaches protocol program o }
     ensures anywhere { (fences : List (List Bool)) (source : SourceTest) (program : X86Test) (starts : List (List ℕ))
-        (protocol : Protocol) (o : FinalState) → IsWellFormedSource source → IsCompiledWith fences source program starts
-        → SourceOutcome source o → OutcomeOverCaches protocol program o }
+        (protocol : Protocol) (o : FinalState) → IsWellScopedSource source → IsCompiledWith fences source program starts
+        → FitsCaches program → SourceOutcome source o → OutcomeOverCaches protocol program o }
 {
     outcomes_over_caches_are_flat();
 }

@@ -1,9 +1,10 @@
 -- When entries are the list of a test.
-use Rattle.lw_bench.proofs.Common.{◌≡◌, ◌↔◌, refl, All, Contains, Result, Ok, Err, IfOk, FinalState}
-use Rattle.lw_bench.proofs.Common.{IsListedOutcome, OutcomeEntries, outcomes_of, IsStrictlySorted}
-use Rattle.lw_bench.proofs.Common.{ListsMachine, ReplaysToOverCaches, OutcomeOverCaches, Protocol, Mesi}
-use Rattle.lw_bench.proofs.Common.{SourceOutcome, SourceTest, X86Test, Of_source, Of_x86, IsListOf}
-use Rattle.lw_bench.proofs.Common.{IsWellFormedSource, IsWellFormedProgram, same_outcomes}
+use Rattle.lw_bench.proofs.Common.{IsWellScoped-well_formed, source_language, x86_language, ◌≡◌, ◌↔◌, refl}
+use Rattle.lw_bench.proofs.Common.{All, Contains, Result, Ok, Err, IfOk, FinalState, IsListedOutcome}
+use Rattle.lw_bench.proofs.Common.{OutcomeEntries, outcomes_of, IsStrictlySorted, ListsMachine}
+use Rattle.lw_bench.proofs.Common.{ReplaysToOverCaches, OutcomeOverCaches, Protocol, Mesi, SourceOutcome}
+use Rattle.lw_bench.proofs.Common.{SourceTest, X86Test, Of_source, Of_x86, IsListOf, IsWellFormedSource}
+use Rattle.lw_bench.proofs.Common.{IsWellFormedProgram, same_outcomes}
 use Rattle.lw_bench.proofs.Theorems.{CachesAreFlat}
 
 -- Sorted entries that have exactly a source test's outcomes, each with a schedule of its compiled program that reaches it, are the test's
@@ -19,7 +20,7 @@ source_list test entries ok sorted exactly lists of = record {
   program = lists.program;
   of_test = record {
     runs = (lists.starts, lists.compiled);
-    outcomes = λ o. same_outcomes test lists.program lists.starts o ok lists.compiled;
+    outcomes = λ o. same_outcomes test lists.program lists.starts o (IsWellScoped-well_formed source_language ok) lists.compiled;
   };
   sorted = sorted;
   exactly = exactly;
@@ -53,7 +54,7 @@ x86_list caches test entries ok sorted exactly replays of = record {
   sorted = sorted;
   exactly = λ o.
       let listed = exactly Mesi o in
-      let over = caches Mesi test o ok in
+      let over = caches Mesi test o (IsWellScoped-well_formed x86_language ok) ok.head.few in
       ((λ there. over.0 (listed.0 there)), (λ outcome. listed.1 (over.1 outcome)));
   entries_are = of;
   lead = λ k d lt protocol. replays protocol k d lt;

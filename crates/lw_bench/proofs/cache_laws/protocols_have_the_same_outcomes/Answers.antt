@@ -1,7 +1,7 @@
 use Rattle.lw_bench.proofs.cache_laws.protocols_have_the_same_outcomes.Goals as goal
 
 pub returns : goal.returns
-returns c protocol other test o ok =
-    let this = c.outcomes_over_caches_are_flat.ensures protocol test o ok in
-    let that = c.outcomes_over_caches_are_flat.ensures other test o ok in
+returns c protocol other test o ok fits =
+    let this = c.outcomes_over_caches_are_flat.ensures protocol test o ok fits in
+    let that = c.outcomes_over_caches_are_flat.ensures other test o ok fits in
     ((λ outcome. that.1 (this.0 outcome)), (λ outcome. this.1 (that.0 outcome)))

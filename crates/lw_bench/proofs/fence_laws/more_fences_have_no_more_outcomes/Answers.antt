@@ -1,4 +1,4 @@
-use Rattle.lw_bench.proofs.Common.{[], is_program_with, more_fences, none_among}
+use Rattle.lw_bench.proofs.Common.{is_well_scoped_with, [], more_fences, none_among}
 use Rattle.lw_bench.proofs.fence_laws.more_fences_have_no_more_outcomes.Goals as goal
 
 pub returns : goal.returns
@@ -9,12 +9,10 @@ returns c =
       are_inserted = more_fences;
       flat_memory = λ fences others source program other starts begins o among one more.
           flat_law program other o (more_fences fences others source program other starts begins among one more);
-      caches = λ fences others source program other starts begins protocol o ok among one more.
-          law protocol program other o (is_program_with fences source program starts ok one).head.name
-          (is_program_with others source other begins ok more)
+      caches = λ fences others source program other starts begins protocol o ok fits among one more.
+          law protocol program other o (is_well_scoped_with others source other begins ok more) fits
           (more_fences fences others source program other starts begins among one more);
-      without = λ fences source program other starts begins protocol o ok one more.
-          law protocol program other o (is_program_with [] source program starts ok one).head.name
-          (is_program_with fences source other begins ok more)
+      without = λ fences source program other starts begins protocol o ok fits one more.
+          law protocol program other o (is_well_scoped_with fences source other begins ok more) fits
           (more_fences [] fences source program other starts begins (none_among fences) one more);
     }

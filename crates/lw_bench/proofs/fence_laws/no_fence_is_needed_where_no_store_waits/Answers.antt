@@ -8,7 +8,7 @@ returns c =
       same_program = without_needless_fences;
       flat_memory = λ source program starts o ok needless without.
           compiled.flat_memory source program starts o ok ((without_needless_fences source program starts needless).1 without);
-      caches = λ source program starts protocol o ok needless without.
-          compiled.caches source program starts protocol o ok
-          ((without_needless_fences source program starts needless).1 without);
+      caches = λ source program starts protocol o ok needless without fits.
+          compiled.caches source program starts protocol o ok ((without_needless_fences source program starts needless).1 without)
+          fits;
     }

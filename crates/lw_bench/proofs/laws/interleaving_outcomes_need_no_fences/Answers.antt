@@ -5,6 +5,7 @@ pub returns : goal.returns
 returns c =
     let caches = c.outcomes_over_caches_are_flat.ensures in
     record {
-      without = λ source program starts protocol o ok compiled. outcomes_with_fences caches ok compiled protocol o;
-      anywhere = λ fences source program starts protocol o ok compiled. outcomes_with_fences caches ok compiled protocol o;
+      without = λ source program starts protocol o ok compiled fits. outcomes_with_fences caches ok compiled fits protocol o;
+      anywhere =
+          λ fences source program starts protocol o ok compiled fits. outcomes_with_fences caches ok compiled fits protocol o;
     }

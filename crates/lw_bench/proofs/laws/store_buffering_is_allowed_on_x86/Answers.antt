@@ -1,9 +1,11 @@
-use Rattle.lw_bench.proofs.Common.{store_buffering_in_x86}
+use Rattle.lw_bench.proofs.Common.{IsWellScoped-well_formed, x86_language, store_buffering_in_x86}
 use Rattle.lw_bench.proofs.Classics.{store_buffering_formed, store_buffering_allowed}
 use Rattle.lw_bench.proofs.laws.store_buffering_is_allowed_on_x86.Goals as goal
 
 pub returns : goal.returns
 returns c protocol =
+    let ok = IsWellScoped-well_formed x86_language store_buffering_formed in
     let over =
-    c.outcomes_over_caches_are_flat.ensures protocol store_buffering_in_x86 store_buffering_allowed.0 store_buffering_formed in
+    c.outcomes_over_caches_are_flat.ensures protocol store_buffering_in_x86 store_buffering_allowed.0 ok
+    store_buffering_formed.head.few in
     (store_buffering_allowed.0, over.1 store_buffering_allowed.1, store_buffering_allowed.2)
