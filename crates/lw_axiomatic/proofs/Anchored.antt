@@ -6,10 +6,11 @@ use Rattle.lw_axiomatic.proofs.Common.{false, Option, Some, None, refl, sym, ap,
 use Rattle.lw_axiomatic.proofs.Common.{if◌then◌else◌, true≢false, option_map_or, cases_Bool, cases_eq}
 use Rattle.lw_axiomatic.proofs.Common.{cases_order, cond-true, cond-false, or_left, or_right, thread_code}
 use Rattle.lw_axiomatic.proofs.Common.{Contains, Operation, or_cases, needs_empty_buffer, writes}
-use Rattle.lw_axiomatic.proofs.Common.{x86_language, X86Test, IsWellFormedProgram, SatisfiesAxioms}
-use Rattle.lw_axiomatic.proofs.Common.{MemoryEvent, Execution, reads, operation_is, IsEvent, Writes, Po, Rf}
-use Rattle.lw_axiomatic.proofs.Common.{Fr, Ppo, IsSequentiallyConsistent}
+use Rattle.lw_axiomatic.proofs.Common.{x86_language, X86Test, SatisfiesAxioms, MemoryEvent, Execution, reads}
+use Rattle.lw_axiomatic.proofs.Common.{operation_is, IsEvent, Writes, Po, Rf, Fr, Ppo}
+use Rattle.lw_axiomatic.proofs.Common.{IsSequentiallyConsistent}
 use Rattle.lw_axiomatic.proofs.EventKinds.{write_or_load, low}
+use Rattle.lw_axiomatic.proofs.Levels.{level, level-le, level-lt, size}
 use Rattle.lw_axiomatic.proofs.Timing.{anchor, anchor_above, anchor_least}
 use Rattle.lw_axiomatic.proofs.EventLists.{event}
 use Rattle.lw_litmus.specs.Operations as operations
@@ -25,7 +26,7 @@ waits_kind (Some o) w = elim (or_cases (operations.is_fence o) _ w) [
   | inr locked ↦ inr (or_right (operations.is_load o) _ locked, or_right (operations.is_store o) _ locked)
 ]
 
-module _ {test : X86Test} {x : Execution} (ok : IsWellFormedProgram test) (axioms : SatisfiesAxioms test x) where
+module _ {test : X86Test} {x : Execution} (axioms : SatisfiesAxioms test x) where
   abbrev is : (Operation → Bool) → MemoryEvent → Bool
   is = operation_is x86_language test
 
@@ -85,9 +86,13 @@ module _ {test : X86Test} {x : Execution} (ok : IsWellFormedProgram test) (axiom
   abbrev pub anchored : MemoryEvent → ℕ
   anchored e = anchor (top e.thread) (thread_code x.paths e.thread) e.position
 
+  -- No position is as high as the number of all instructions.
+  abbrev pub width : ℕ
+  width = size test.threads
+
   -- an event's rank: by its anchored number, and among equal ones by its position
   abbrev pub rank : MemoryEvent → ℕ
-  rank e = 64 * anchored e + e.position
+  rank e = level width (anchored e) + e.position
 
   -- program order goes up by the ranks
   pub po_up : (a b : MemoryEvent) → Po x a b → rank a < rank b
@@ -96,7 +101,7 @@ module _ {test : X86Test} {x : Execution} (ok : IsWellFormedProgram test) (axiom
       anchor_least (top a.thread) (thread_code x.paths a.thread) a.position (anchored b) (λ k c le.
       subst (λ t. Contains (thread_code x.paths t) k → top t k ≤ anchored b) (sym po.2)
       (λ d. anchor_above (top b.thread) (thread_code x.paths b.thread) b.position k d (omega (arith, le, po.3))) c) in
-      omega (arith, le, po.3)
+      omega (arith, level-le width (anchored a) (anchored b) le, po.3)
 
   -- the anchored number of an access is at least its own top
   pub above : (e : MemoryEvent) → IsEvent x e → accesses e ≡ true → suc (g e) ≤ anchored e
@@ -145,7 +150,8 @@ module _ {test : X86Test} {x : Execution} (ok : IsWellFormedProgram test) (axiom
       → g w < g e
       → rank w < rank e
   from_write w e l writing there a less =
-      omega (arith, own_write w writing.0 writing.2, above e there a, less, low test ok w l writing.1)
+      let lower : anchored w < anchored e = omega (arith, own_write w writing.0 writing.2, above e there a, less) in
+      omega (arith, level-lt width (anchored w) (anchored e) lower, low test w l writing.1)
 
   -- reads-from goes up by the ranks
   pub rf_up : (w r : MemoryEvent) → Rf x86_language test x w r → rank w < rank r
@@ -199,13 +205,10 @@ module _ {test : X86Test} {x : Execution} (ok : IsWellFormedProgram test) (axiom
 
   -- from-reads of a read whose anchored number is at most its own top go up by the ranks
   pub fr_when : (r w : MemoryEvent) → Fr x86_language test x r w → anchored r ≤ suc (g r) → rank r < rank w
-  fr_when r w fr stands = omega (
-    arith,
-    stands,
-    above w fr.2.0 (writing_accesses w fr.2.2),
-    axioms.happens_before.1 r w (inr (inr (inr fr))),
-    low test ok r fr.0 fr.1.1,
-  )
+  fr_when r w fr stands =
+      let less = axioms.happens_before.1 r w (inr (inr (inr fr))) in
+      let lower : anchored r < anchored w = omega (arith, stands, above w fr.2.0 (writing_accesses w fr.2.2), less) in
+      omega (arith, level-lt width (anchored r) (anchored w) lower, low test r fr.0 fr.1.1)
 
   -- coherence order goes up by the ranks
   pub co_up : (w v : MemoryEvent) → Co x86_language test x w v → rank w < rank v

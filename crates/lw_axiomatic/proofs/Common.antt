@@ -17,20 +17,21 @@ pub use Rattle.std.proofs.lemmas.Option.{get_or_from_slice_get, none-some, same_
 pub use Rattle.std.proofs.lemmas.Option.{slice_get-map, slice_get_past, slice_get_within}
 pub use Rattle.std.specs.List.{AllByRecursion}
 pub use Rattle.std.specs.Option.{ForSome, option_map_or, option_or}
-pub use Rattle.lw_base.proofs.Common.{Bytes, FinalState, HasOutcomeShape, TestHead, operand_value, registers}
-pub use Rattle.lw_base.proofs.Common.{thread_code, word_or_zero}
+pub use Rattle.lw_base.proofs.Common.{Bytes, FinalState, HasOutcomeShape, TestHead, most_threads}
+pub use Rattle.lw_base.proofs.Common.{operand_value, registers, thread_code, word_or_zero}
 pub use Rattle.lw_base.proofs.api.Lists.{AtEach, cut_at, get-set_other, get-set_same, get_some}
 pub use Rattle.lw_base.proofs.api.Lists.{length-set_word_if_some}
 pub use Rattle.lw_base.proofs.api.Zips.{get-map, zip_pass, zip_passes}
 pub use Rattle.lw_base.specs.declared.event.Event.TheVariants.{Drain, Step}
 pub use Rattle.lw_base.specs.declared.stop.Stop.TheVariants.{FenceWaits, SwapWaits}
-pub use Rattle.lw_litmus.proofs.Common.{IsFlowPathFrom, IsFlowSuccessor, IsSuccessor, IsWellFormed}
-pub use Rattle.lw_litmus.proofs.Common.{IsWellFormedProgram, IsWellFormedSource, IsWellFormedStatement}
-pub use Rattle.lw_litmus.proofs.Common.{IsWellFormedThread, Language, SourceTest, Test, X86Test, guard_holds}
+pub use Rattle.lw_litmus.proofs.Common.{IsFlowPathFrom, IsFlowSuccessor, IsSuccessor, IsWellFormedStatement}
+pub use Rattle.lw_litmus.proofs.Common.{IsWellScoped, IsWellScopedProgram, IsWellScopedSource}
+pub use Rattle.lw_litmus.proofs.Common.{IsWellScopedThread, Language, SourceTest, Test, X86Test, guard_holds}
 pub use Rattle.lw_litmus.proofs.Common.{is_load, is_locked, is_same_location, is_store, location_of}
 pub use Rattle.lw_litmus.proofs.Common.{needs_empty_buffer, source_language, source_operation, writes}
 pub use Rattle.lw_litmus.proofs.Common.{x86_language, x86_operation}
 pub use Rattle.lw_litmus.proofs.api.Kinds.{locked_located, locked_no_store}
+pub use Rattle.lw_litmus.proofs.api.WellScoped.{IsWellScoped-well_formed}
 pub use Rattle.lw_litmus.specs.declared.instr.Instr.{Instr}
 pub use Rattle.lw_litmus.specs.declared.instr.Instr.TheVariants.{Je, Jmp, Jne, Mfence}
 pub use Rattle.lw_litmus.specs.declared.operation.Guard.{Guard}
@@ -45,7 +46,6 @@ pub use Rattle.lw_interleaving.proofs.Common.{state_after_step, thread_after, th
 pub use Rattle.lw_interleaving.proofs.api.Commutation.{Stepped, step-decompose}
 pub use Rattle.lw_interleaving.specs.declared.thread.Thread.{Thread}
 pub use Rattle.lw_memory.proofs.Common.{flat_memory}
-pub use Rattle.lw_mesi.specs.declared.protocol.Protocol.TheVariants.{Mesi}
 pub use Rattle.lw_tso.proofs.Common.{EndsBlock, IsFencedCode, IsFencedTest, IsInserted, IsMachineOutcome}
 pub use Rattle.lw_tso.proofs.Common.{MachineState, MarksAreFences, Processor, TransitionAt, advance_processor}
 pub use Rattle.lw_tso.proofs.Common.{code_without, drain_effect, has_terminated, initial_machine_state}
@@ -54,8 +54,9 @@ pub use Rattle.lw_tso.proofs.Common.{newest_buffered, operation_effect, retarget
 pub use Rattle.lw_tso.proofs.Common.{step_effect}
 pub use Rattle.lw_tso.proofs.api.Effects.{EffectLeadsTo, event_of_effect}
 pub use Rattle.lw_tso.proofs.api.Operations.{branch_leads, can_step, once_done}
+pub use Rattle.lw_tso.proofs.api.Replaying.{outcome_of_test}
 pub use Rattle.lw_fence.proofs.Common.{IsCompiled}
-pub use Rattle.lw_fence.proofs.api.Compilations.{is_program, same_outcomes}
+pub use Rattle.lw_fence.proofs.api.Compilations.{is_well_scoped, same_outcomes}
 pub use Rattle.lw_orders.proofs.Common.{Before, IsLinearExtension, IsOrder, index_in}
 pub use Rattle.lw_orders.proofs.api.Indices.{order_split, same_index}
 pub use Rattle.lw_paths.proofs.Common.{IsPathAssignment, JumpsForward, constraints_of, item_at, items_of}

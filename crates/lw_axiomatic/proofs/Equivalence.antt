@@ -1,6 +1,6 @@
 -- The machine's outcomes over flat memory are those that the axioms allow.
-use Rattle.lw_axiomatic.proofs.Common.{ℕ, List, length, sym, subst, FinalState, HasOutcomeShape, x86_language}
-use Rattle.lw_axiomatic.proofs.Common.{X86Test, IsWellFormedProgram, flat_memory, IsPathAssignment}
+use Rattle.lw_axiomatic.proofs.Common.{IsWellScopedProgram, ℕ, List, length, sym, subst, FinalState}
+use Rattle.lw_axiomatic.proofs.Common.{HasOutcomeShape, x86_language, X86Test, flat_memory, IsPathAssignment}
 use Rattle.lw_axiomatic.proofs.Common.{IsX86ChoiceOutcome, Execution, IsCandidate, IsAllowed}
 use Rattle.lw_axiomatic.proofs.Common.{HasConsistentTimes, HasTimes}
 use Rattle.lw_axiomatic.proofs.Timed.{keeps_axioms}
@@ -17,7 +17,7 @@ OfChoice test o =
     × IsPathAssignment x86_language test.threads paths
     × IsX86ChoiceOutcome flat_memory test test.head.init_words paths o
 
-module _ {test : X86Test} (ok : IsWellFormedProgram test) {o : FinalState} where
+module _ {test : X86Test} (ok : IsWellScopedProgram test) {o : FinalState} where
   -- an outcome to which the machine runs along an order of a choice's items is allowed by the axioms
   pub allowed : HasOutcomeShape test.head.threads (length test.head.locs) o → OfChoice test o → IsAllowed test o
   allowed of_test (paths, choice, c) =
@@ -30,13 +30,13 @@ module _ {test : X86Test} (ok : IsWellFormedProgram test) {o : FinalState} where
             subst (IsCandidate x86_language test x) (sym c.run.is)
             (from.candidate given c.run.end c.run.ran c.run.final
             (subst (HasOutcomeShape test.head.threads (length test.head.locs)) c.run.is of_test));
-        axioms = keeps_axioms ok timed;
+        axioms = keeps_axioms timed;
       }
 
   -- an outcome that the axioms allow is one of an order of a choice's items, which the machine runs along
   pub reached_by_machine : IsAllowed test o → OfChoice test o
   reached_by_machine a =
-      let t : HasTimes test a.execution = has_times ok a.candidate a.axioms in
+      let t : HasTimes test a.execution = has_times a.candidate a.axioms in
       let given : KeptOrder test a.execution.paths = by.given ok a.candidate t.timed in (
         a.execution.paths,
         given.choice,

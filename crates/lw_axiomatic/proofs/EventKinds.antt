@@ -1,13 +1,13 @@
--- What an event is by the kinds of its operation, and that it stands low in its code.
+-- What an event is by the kinds of its operation, and that it stands in its code.
 use Rattle.lw_axiomatic.proofs.Common.{◌≡◌, ℕ, ◌<◌, ◌≤◌, ◌⊎◌, inl, inr, Bool, true, false, Option, Some, None}
 use Rattle.lw_axiomatic.proofs.Common.{refl, sym, subst, arith, [], List, slice_get, length, true≢false}
 use Rattle.lw_axiomatic.proofs.Common.{option_and_then, option_map, option_map_or, cases_lt, get_or_past}
 use Rattle.lw_axiomatic.proofs.Common.{All-get_or, none-some, slice_get_past, thread_code, Instr, Operation}
 use Rattle.lw_axiomatic.proofs.Common.{Load, Store, Set, Sum, Compare, Fence, Branch, location_of, or_cases}
 use Rattle.lw_axiomatic.proofs.Common.{or_right, is_store, is_load, is_locked, needs_empty_buffer, writes}
-use Rattle.lw_axiomatic.proofs.Common.{x86_language, x86_operation, X86Test, IsWellFormedThread}
-use Rattle.lw_axiomatic.proofs.Common.{IsWellFormedProgram, MemoryEvent, reads, operation_is, location}
-use Rattle.lw_axiomatic.proofs.Common.{locked_located}
+use Rattle.lw_axiomatic.proofs.Common.{x86_language, x86_operation, X86Test, MemoryEvent, reads, operation_is}
+use Rattle.lw_axiomatic.proofs.Common.{location, locked_located}
+use Rattle.lw_axiomatic.proofs.Levels.{size, length-size}
 use Rattle.lw_litmus.specs.Operations as operations
 
 -- where all operations of the kind P pass the test Q, or all fail it, so does the operation of an event of that kind
@@ -163,22 +163,10 @@ module _ (test : X86Test) where
       → (is writes e ≡ true) ⊎ (is is_load e ≡ true)
   write_or_load e l at = writes_or_loads _ l at
 
-  -- the code of a well-formed test's thread has at most 32 instructions
-  pub short_code : IsWellFormedProgram test → (t : ℕ) → length (thread_code test.threads t) ≤ 32
-  short_code ok t = elim (cases_lt t (length test.threads)) [
-    | inl h ↦
-        (let thread : IsWellFormedThread x86_language (length test.head.locs) (thread_code test.threads t) =
-        All-get_or (IsWellFormedThread x86_language (length test.head.locs)) test.threads t [] h ok.code in
-        thread.short)
-    | inr h ↦
-        (let none : thread_code test.threads t ≡ [] = get_or_past test.threads t [] h in
-        subst (λ (code : List Instr). length code ≤ 32) (sym none) (omega arith))
-  ]
-
-  -- an event that has a location stands at a position below 32
-  pub low : IsWellFormedProgram test → (e : MemoryEvent) (l : ℕ) → location x86_language test e ≡ Some l → e.position < 32
-  low ok e l at = elim (cases_lt e.position (length (thread_code test.threads e.thread))) [
-    | inl h ↦ (let short : length (thread_code test.threads e.thread) ≤ 32 = short_code ok e.thread in omega (arith, h, short))
+  -- An event that has a location stands in its code, which is no longer than the whole test.
+  pub low : (e : MemoryEvent) (l : ℕ) → location x86_language test e ≡ Some l → e.position < size test.threads
+  low e l at = elim (cases_lt e.position (length (thread_code test.threads e.thread))) [
+    | inl h ↦ omega (arith, h, length-size test.threads e.thread)
     | inr h ↦ absurd (nothing (slice_get (thread_code test.threads e.thread) e.position) (slice_get_past _ e.position h) at)
   ]
     where

@@ -1,23 +1,22 @@
 -- A run by interleaving is a sequentially consistent execution, in either language. Begun at the end of the run: what comes
 -- first of a run stands before all events of the rest, and what the rest finds at the start there, it reads from it.
-use Rattle.lw_axiomatic.proofs.Common.{◌≡◌, ◌≢◌, ℕ, zero, suc, ◌<◌, ◌≤◌, inl, inr, Bool, true, false, List}
-use Rattle.lw_axiomatic.proofs.Common.{[], ◌∷◌, length, map, Option, Some, None, refl, sym, ap, ap₂, ◌∙◌}
-use Rattle.lw_axiomatic.proofs.Common.{subst, arith, slice_get, slice_set, Contains, true≢false, length-set}
-use Rattle.lw_axiomatic.proofs.Common.{slice_index, slice_index_or, option_map, option_and_then}
-use Rattle.lw_axiomatic.proofs.Common.{option_map_or, cases_eq, get_or_past, get_or-set_same}
-use Rattle.lw_axiomatic.proofs.Common.{get_or-set_other, length-map, All-get_or, none-some, same_Some}
-use Rattle.lw_axiomatic.proofs.Common.{slice_get_within, get_or_from_slice_get, slice_get-map, get-set_same}
-use Rattle.lw_axiomatic.proofs.Common.{get-set_other, get_some, get-map, FinalState, HasOutcomeShape}
-use Rattle.lw_axiomatic.proofs.Common.{thread_code, follows_within, not-Contains-nil, Contains-head}
-use Rattle.lw_axiomatic.proofs.Common.{Contains-tail, Contains-cons, IsAscendingFrom}
+use Rattle.lw_axiomatic.proofs.Common.{IsWellScoped, IsWellScopedThread, ◌≡◌, ◌≢◌, ℕ, zero, suc, ◌<◌, ◌≤◌}
+use Rattle.lw_axiomatic.proofs.Common.{inl, inr, Bool, true, false, List, [], ◌∷◌, length, map, Option, Some}
+use Rattle.lw_axiomatic.proofs.Common.{None, refl, sym, ap, ap₂, ◌∙◌, subst, arith, slice_get, slice_set}
+use Rattle.lw_axiomatic.proofs.Common.{Contains, true≢false, length-set, slice_index, slice_index_or}
+use Rattle.lw_axiomatic.proofs.Common.{option_map, option_and_then, option_map_or, cases_eq, get_or_past}
+use Rattle.lw_axiomatic.proofs.Common.{get_or-set_same, get_or-set_other, length-map, All-get_or, none-some}
+use Rattle.lw_axiomatic.proofs.Common.{same_Some, slice_get_within, get_or_from_slice_get, slice_get-map}
+use Rattle.lw_axiomatic.proofs.Common.{get-set_same, get-set_other, get_some, get-map, FinalState}
+use Rattle.lw_axiomatic.proofs.Common.{HasOutcomeShape, thread_code, follows_within, not-Contains-nil}
+use Rattle.lw_axiomatic.proofs.Common.{Contains-head, Contains-tail, Contains-cons, IsAscendingFrom}
 use Rattle.lw_axiomatic.proofs.Common.{IsAscendingFrom-lower_bound, path_up, forward_of, Operation}
-use Rattle.lw_axiomatic.proofs.Common.{IsFlowSuccessor, location_of, writes, Test, IsWellFormedThread}
-use Rattle.lw_axiomatic.proofs.Common.{IsWellFormedStatement, ThreadExecutes, IsReadFrom, IsLast, MemoryEvent}
-use Rattle.lw_axiomatic.proofs.Common.{Execution, IsEvent, operation_is, location, Reads, Writes, ScOrder}
-use Rattle.lw_axiomatic.proofs.Common.{IsScOutcome, ThreadState, first_state, state_after, word_written}
-use Rattle.lw_axiomatic.proofs.Common.{AllByRecursion, registers, Language, IsWellFormed, Interleaved}
-use Rattle.lw_axiomatic.proofs.Common.{read_value, words_after, IsStep, InterleavedRunsTo, IsEnd, start}
-use Rattle.lw_axiomatic.proofs.Common.{InterleavingOutcome}
+use Rattle.lw_axiomatic.proofs.Common.{IsFlowSuccessor, location_of, writes, Test, IsWellFormedStatement}
+use Rattle.lw_axiomatic.proofs.Common.{ThreadExecutes, IsReadFrom, IsLast, MemoryEvent, Execution, IsEvent}
+use Rattle.lw_axiomatic.proofs.Common.{operation_is, location, Reads, Writes, ScOrder, IsScOutcome}
+use Rattle.lw_axiomatic.proofs.Common.{ThreadState, first_state, state_after, word_written, AllByRecursion}
+use Rattle.lw_axiomatic.proofs.Common.{registers, Language, Interleaved, read_value, words_after, IsStep}
+use Rattle.lw_axiomatic.proofs.Common.{InterleavedRunsTo, IsEnd, start, InterleavingOutcome}
 use Rattle.lw_axiomatic.proofs.Decisions.{Decidable, same_event, decided_located, decided_and, decided_number}
 use Rattle.lw_axiomatic.proofs.Decisions.{decided_true}
 use Rattle.lw_axiomatic.proofs.Paths.{goes_path, state_leads}
@@ -77,7 +76,7 @@ module _ {S : Type 0} (language : Language S) where
             (λ k c. same k (Contains-tail h k path c)) rest),
       )
 
-module _ {S : Type 0} {language : Language S} {test : Test S} (ok : IsWellFormed language test) where
+module _ {S : Type 0} {language : Language S} {test : Test S} (ok : IsWellScoped language test) where
   -- no thread has a step ahead
   abbrev empty_path : List S → List ℕ
   empty_path code = []
@@ -202,8 +201,8 @@ module _ {S : Type 0} {language : Language S} {test : Test S} (ok : IsWellFormed
 
     located : (l : ℕ) → location_of op ≡ Some l → l < length s.words
     located l at =
-        let thread : IsWellFormedThread language (length test.head.locs) (thread_code test.threads t) =
-        All-get_or (IsWellFormedThread language (length test.head.locs)) test.threads t [] in_test ok.code in
+        let thread : IsWellScopedThread language (length test.head.locs) (thread_code test.threads t) =
+        All-get_or (IsWellScopedThread language (length test.head.locs)) test.threads t [] in_test ok.code in
         let statement : IsWellFormedStatement language (length test.head.locs) d.statement =
         subst (IsWellFormedStatement language (length test.head.locs))
         (get_or_from_slice_get (thread_code test.threads t) j d.statement d.statement d.at)
@@ -606,7 +605,7 @@ module _ {S : Type 0} {language : Language S} {test : Test S} (ok : IsWellFormed
   later_of (t ∷ order) s end (mid, d, rest) final good =
       let more = later_of order mid end rest final (good_next d good) in (with_first d good more.0, more.1)
 
-  -- the start of a well-formed test is a good state
+  -- The start of a well-scoped test is a good state.
   pub good_start : IsGood (start language test)
   good_start = record {
     many = length-map test.head.init_regs first_state ∙ (ok.head.regs ∙ sym ok.as_many);

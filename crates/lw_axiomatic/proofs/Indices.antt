@@ -1,21 +1,21 @@
 -- When the events of a choice of paths are done, and when they reach memory, in an order of its items: the indices of their
 -- items.
-use Rattle.lw_axiomatic.proofs.Common.{◌≡◌, ℕ, zero, suc, ◌+◌, ◌<◌, ◌≤◌, ◌⊎◌, inl, inr, Bool, true, false}
-use Rattle.lw_axiomatic.proofs.Common.{Option, Some, None, refl, sym, ap, ap₂, ◌∙◌, subst, arith}
-use Rattle.lw_axiomatic.proofs.Common.{if◌then◌else◌, List, [], ◌∷◌, length, take, ◌-◌, slice_get, Contains}
-use Rattle.lw_axiomatic.proofs.Common.{true≢false, ◌==◌, eq-eqb, ◌&&◌, option_map, slice_index_or}
+use Rattle.lw_axiomatic.proofs.Common.{IsWellScopedProgram, ◌≡◌, ℕ, zero, suc, ◌+◌, ◌<◌, ◌≤◌, ◌⊎◌, inl, inr}
+use Rattle.lw_axiomatic.proofs.Common.{Bool, true, false, Option, Some, None, refl, sym, ap, ap₂, ◌∙◌, subst}
+use Rattle.lw_axiomatic.proofs.Common.{arith, if◌then◌else◌, List, [], ◌∷◌, length, take, ◌-◌, slice_get}
+use Rattle.lw_axiomatic.proofs.Common.{Contains, true≢false, ◌==◌, eq-eqb, ◌&&◌, option_map, slice_index_or}
 use Rattle.lw_axiomatic.proofs.Common.{option_map_or, cases_Bool, cases_lt, cond-true, cond-false, or_cases}
 use Rattle.lw_axiomatic.proofs.Common.{and_from, and_parts, nat_tests, get_or_past, get_or_default}
 use Rattle.lw_axiomatic.proofs.Common.{thread_code, Instr, Operation, Store, is_store, needs_empty_buffer}
 use Rattle.lw_axiomatic.proofs.Common.{writes, location_of, x86_language, x86_operation, IsFlowSuccessor}
-use Rattle.lw_axiomatic.proofs.Common.{IsFlowPathFrom, X86Test, IsWellFormedProgram, index_in, Before}
-use Rattle.lw_axiomatic.proofs.Common.{IsLinearExtension, same_index, Item, JumpsForward, IsPathAssignment}
-use Rattle.lw_axiomatic.proofs.Common.{item_at, items_of, constraints_of, statement_of}
-use Rattle.lw_axiomatic.proofs.Common.{statement_needs_empty_buffer, IsMember, HasItem, item, thread_rank}
-use Rattle.lw_axiomatic.proofs.Common.{slot_by, slot_less, store_slot, IsItemOnPath, IsItemOnPath-of_member}
-use Rattle.lw_axiomatic.proofs.Common.{IsStoring, item_there, as_many, number_less, same_number, AreOrdered}
-use Rattle.lw_axiomatic.proofs.Common.{kept, not-Contains-nil, Contains-cons, forward_of, MemoryEvent}
-use Rattle.lw_axiomatic.proofs.Common.{Execution, reads, operation_is, IsEvent, Po, Ppo}
+use Rattle.lw_axiomatic.proofs.Common.{IsFlowPathFrom, X86Test, index_in, Before, IsLinearExtension}
+use Rattle.lw_axiomatic.proofs.Common.{same_index, Item, JumpsForward, IsPathAssignment, item_at, items_of}
+use Rattle.lw_axiomatic.proofs.Common.{constraints_of, statement_of, statement_needs_empty_buffer, IsMember}
+use Rattle.lw_axiomatic.proofs.Common.{HasItem, item, thread_rank, slot_by, slot_less, store_slot}
+use Rattle.lw_axiomatic.proofs.Common.{IsItemOnPath, IsItemOnPath-of_member, IsStoring, item_there, as_many}
+use Rattle.lw_axiomatic.proofs.Common.{number_less, same_number, AreOrdered, kept, not-Contains-nil}
+use Rattle.lw_axiomatic.proofs.Common.{Contains-cons, forward_of, MemoryEvent, Execution, reads, operation_is}
+use Rattle.lw_axiomatic.proofs.Common.{IsEvent, Po, Ppo}
 use Rattle.lw_axiomatic.proofs.EventKinds.{store_reads_nothing, store_is_no_fence, write_stores_or_waits}
 use Rattle.lw_axiomatic.proofs.EventKinds.{fence_waits_there}
 use Rattle.lw_litmus.specs.Operations as operations
@@ -89,9 +89,9 @@ from_list [] j h = absurd h
 from_list (k ∷ path) j (inl e) = (0, omega arith, e)
 from_list (k ∷ path) j (inr h) = let r = from_list path j h in (suc r.0, omega (arith, r.1), r.2)
 
--- A well-formed test, a choice of its paths, and an order of the choice's items that keeps the fixed pairs.
+-- A well-scoped test, a choice of its paths, and an order of the choice's items that keeps the fixed pairs.
 pub record KeptOrder (test : X86Test) (paths : List (List ℕ)) : Type 0 where
-  pub ok : IsWellFormedProgram test
+  pub ok : IsWellScopedProgram test
   pub choice : IsPathAssignment x86_language test.threads paths
   pub order : List ℕ
   pub keeps : IsLinearExtension (constraints_of x86_language test.threads (items_of x86_language test.threads paths)) order

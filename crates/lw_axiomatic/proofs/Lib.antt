@@ -1,4 +1,5 @@
 pub mod Common
+pub mod Levels
 pub mod EventKinds
 pub mod Decisions
 pub mod EventLists

@@ -10,7 +10,7 @@ use Rattle.lw_axiomatic.proofs.Common.{none-some, same_Some, slice_get_within, g
 use Rattle.lw_axiomatic.proofs.Common.{slice_get-map, thread_code, get-set_same, get-set_other, Instr}
 use Rattle.lw_axiomatic.proofs.Common.{Operation, Store, is_store, is_locked, or_cases, locked_located}
 use Rattle.lw_axiomatic.proofs.Common.{locked_no_store, needs_empty_buffer, writes, location_of, x86_language}
-use Rattle.lw_axiomatic.proofs.Common.{x86_operation, X86Test, IsWellFormedThread, IsWellFormedStatement}
+use Rattle.lw_axiomatic.proofs.Common.{x86_operation, X86Test, IsWellScopedThread, IsWellFormedStatement}
 use Rattle.lw_axiomatic.proofs.Common.{flat_memory, index_in, Item, statement_of, item, IsItemOnPath}
 use Rattle.lw_axiomatic.proofs.Common.{IsItemOnPath-of_member, MachineState, Processor, step_effect}
 use Rattle.lw_axiomatic.proofs.Common.{drain_effect, EffectLeadsTo, X86ItemTransition, entry_location}
@@ -256,8 +256,8 @@ module _ {test : X86Test} (x : Execution) (given : KeptOrder test x.paths) where
       → l < length test.head.locs
   located t j i l here loc = elim (cases_lt t (length test.threads)) [
     | inl h ↦
-        (let thread : IsWellFormedThread x86_language (length test.head.locs) (thread_code test.threads t) =
-        All-get_or (IsWellFormedThread x86_language (length test.head.locs)) test.threads t [] h given.ok.code in
+        (let thread : IsWellScopedThread x86_language (length test.head.locs) (thread_code test.threads t) =
+        All-get_or (IsWellScopedThread x86_language (length test.head.locs)) test.threads t [] h given.ok.code in
         let statement : IsWellFormedStatement x86_language (length test.head.locs) i =
         subst (IsWellFormedStatement x86_language (length test.head.locs))
         (get_or_from_slice_get (thread_code test.threads t) j i i here)

@@ -1,10 +1,10 @@
 -- What `lw states` prints is the report of what the axioms allow.
-use Rattle.lw_axiomatic.proofs.Common.{◌≡◌, ◌↔◌, ℕ, List, subst, TestHead, FinalState, Bytes, LitmusTest}
-use Rattle.lw_axiomatic.proofs.Common.{Of_source, Of_x86, head_of_test, IsWithinListLimits, IsStatesReport}
-use Rattle.lw_axiomatic.proofs.Common.{OutcomeOf, IsOutputOf, HasTest, IsWellFormedTest, IsCompiled}
-use Rattle.lw_axiomatic.proofs.Common.{SourceOutcome, SourceTest, X86Test, IsWellFormedSource}
-use Rattle.lw_axiomatic.proofs.Common.{IsWellFormedProgram, flat_memory, IsReport, Exact, IsMachineOutcome}
-use Rattle.lw_axiomatic.proofs.Common.{IsAllowed, source_language, IsScOutcome}
+use Rattle.lw_axiomatic.proofs.Common.{IsWellScopedProgram, IsWellScoped-well_formed, x86_language}
+use Rattle.lw_axiomatic.proofs.Common.{IsWellScopedSource, ◌≡◌, ◌↔◌, ℕ, List, subst, TestHead, FinalState}
+use Rattle.lw_axiomatic.proofs.Common.{Bytes, LitmusTest, Of_source, Of_x86, head_of_test, IsWithinListLimits}
+use Rattle.lw_axiomatic.proofs.Common.{IsStatesReport, OutcomeOf, IsOutputOf, HasTest, IsWellFormedTest}
+use Rattle.lw_axiomatic.proofs.Common.{IsCompiled, SourceOutcome, SourceTest, X86Test, flat_memory, IsReport}
+use Rattle.lw_axiomatic.proofs.Common.{Exact, IsMachineOutcome, IsAllowed, source_language, IsScOutcome}
 
 -- the report of a set of outcomes is the report of any set with the same outcomes
 same_report : (head : TestHead) (Has Other : FinalState → Type 0)
@@ -47,19 +47,27 @@ module _ (one : (text : Bytes) (s t : LitmusTest) → HasTest text s → HasTest
     },
   )
 
+  -- An x86 test of a text is well-scoped.
+  x86_scoped : (text : Bytes) (test : X86Test) → HasTest text (Of_x86 test) → IsWellScopedProgram test
+  x86_scoped text test has = IsWellScoped-well_formed x86_language (formed text (Of_x86 test) has)
+
+  -- A source test of a text is well-scoped.
+  source_scoped : (text : Bytes) (test : SourceTest) → HasTest text (Of_source test) → IsWellScopedSource test
+  source_scoped text test has = IsWellScoped-well_formed source_language (formed text (Of_source test) has)
+
   -- of an x86 test, the report that is printed is that of the outcomes that the axioms allow
   pub prints_x86 : ((test : X86Test) (o : FinalState)
-      → IsWellFormedProgram test
+      → IsWellScopedProgram test
       → IsMachineOutcome flat_memory test test.head.init_words o ↔ IsAllowed test o)
       → (text made : Bytes) (test : X86Test)
       → HasTest text (Of_x86 test)
       → IsOutputOf IsStatesReport text made ↔ (IsWithinListLimits (Of_x86 test) × IsReport test.head (IsAllowed test) Exact made)
   prints_x86 machine text made test has =
-      printed text made (Of_x86 test) (IsAllowed test) has (λ o. machine test o (formed text (Of_x86 test) has))
+      printed text made (Of_x86 test) (IsAllowed test) has (λ o. machine test o (x86_scoped text test has))
 
   -- of a source test, the report that is printed is that of what the axioms allow its compiled program
   pub prints_compiled : ((test : SourceTest) (program : X86Test) (starts : List (List ℕ)) (o : FinalState)
-      → IsWellFormedSource test
+      → IsWellScopedSource test
       → IsCompiled test program starts
       → SourceOutcome test o ↔ IsAllowed program o)
       → (text made : Bytes) (test : SourceTest) (program : X86Test) (starts : List (List ℕ))
@@ -69,15 +77,14 @@ module _ (one : (text : Bytes) (s t : LitmusTest) → HasTest text s → HasTest
       ↔ (IsWithinListLimits (Of_source test) × IsReport test.head (IsAllowed program) Exact made)
   prints_compiled compiled text made test program starts has is =
       printed text made (Of_source test) (IsAllowed program) has
-      (λ o. compiled test program starts o (formed text (Of_source test) has) is)
+      (λ o. compiled test program starts o (source_scoped text test has) is)
 
   -- of a source test, the report that is printed is that of its sequentially consistent outcomes
   pub prints_sequential :
-      ((test : SourceTest) (o : FinalState) → IsWellFormedSource test → SourceOutcome test o ↔ IsScOutcome source_language test o)
+      ((test : SourceTest) (o : FinalState) → IsWellScopedSource test → SourceOutcome test o ↔ IsScOutcome source_language test o)
       → (text made : Bytes) (test : SourceTest)
       → HasTest text (Of_source test)
       → IsOutputOf IsStatesReport text made
       ↔ (IsWithinListLimits (Of_source test) × IsReport test.head (IsScOutcome source_language test) Exact made)
   prints_sequential same text made test has =
-      printed text made (Of_source test) (IsScOutcome source_language test) has
-      (λ o. same test o (formed text (Of_source test) has))
+      printed text made (Of_source test) (IsScOutcome source_language test) has (λ o. same test o (source_scoped text test has))

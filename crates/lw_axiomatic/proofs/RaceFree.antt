@@ -1,23 +1,23 @@
 -- An execution that keeps the axioms is sequentially consistent, or its test has a triangular race. Of the from-reads that do
 -- not go up by the anchored numbers take one with the first read, and of that the first write: up to the write all others, and
 -- the reading thread up to its read, are a run by interleaving; there both are next, behind a store that no fence followed.
-use Rattle.lw_axiomatic.proofs.Common.{IsAllowed, InterleavingOutcome, IsScOutcome, ◌↔◌, ◌≡◌, ◌≢◌, ℕ, suc}
-use Rattle.lw_axiomatic.proofs.Common.{◌*◌, ◌<◌, ◌≤◌, ◌⊎◌, ◌||◌, ◌==◌, inl, inr, Bool, true, false, Option}
-use Rattle.lw_axiomatic.proofs.Common.{Some, None, List, [], ◌∷◌, ◌++◌, map, refl, sym, ap, ap₂, ◌∙◌, subst}
-use Rattle.lw_axiomatic.proofs.Common.{arith, true≢false, eq-eqb, eqb-true, Contains, slice_get, lt-ltb}
-use Rattle.lw_axiomatic.proofs.Common.{ltb-true, ◌&&◌, nat_lt, option_map, option_and_then, option_map_or}
-use Rattle.lw_axiomatic.proofs.Common.{cases_Bool, cases_eq, cases_lt, cases_order, or_left, or_right}
-use Rattle.lw_axiomatic.proofs.Common.{or_cases, and_from, and_parts, false_from_ne_true, get_some}
+use Rattle.lw_axiomatic.proofs.Common.{IsWellScopedProgram, IsAllowed, InterleavingOutcome, IsScOutcome, ◌↔◌}
+use Rattle.lw_axiomatic.proofs.Common.{◌≡◌, ◌≢◌, ℕ, suc, ◌*◌, ◌<◌, ◌≤◌, ◌⊎◌, ◌||◌, ◌==◌, inl, inr, Bool, true}
+use Rattle.lw_axiomatic.proofs.Common.{false, Option, Some, None, List, [], ◌∷◌, ◌++◌, map, refl, sym, ap}
+use Rattle.lw_axiomatic.proofs.Common.{ap₂, ◌∙◌, subst, arith, true≢false, eq-eqb, eqb-true, Contains}
+use Rattle.lw_axiomatic.proofs.Common.{slice_get, lt-ltb, ltb-true, ◌&&◌, nat_lt, option_map, option_and_then}
+use Rattle.lw_axiomatic.proofs.Common.{option_map_or, cases_Bool, cases_eq, cases_lt, cases_order, or_left}
+use Rattle.lw_axiomatic.proofs.Common.{or_right, or_cases, and_from, and_parts, false_from_ne_true, get_some}
 use Rattle.lw_axiomatic.proofs.Common.{FinalState, thread_code, Contains-head, IsAscendingFrom, path_up}
 use Rattle.lw_axiomatic.proofs.Common.{forward_of, Operation, Store, location_of, is_store, is_load}
 use Rattle.lw_axiomatic.proofs.Common.{needs_empty_buffer, writes, x86_language, x86_operation, X86Test}
-use Rattle.lw_axiomatic.proofs.Common.{IsWellFormedProgram, SatisfiesAxioms, ThreadExecutes, IsCandidate}
-use Rattle.lw_axiomatic.proofs.Common.{MemoryEvent, Execution, IsEvent, Po, reads, operation_is, location}
-use Rattle.lw_axiomatic.proofs.Common.{Writes, Rf, Fr, start, IsNext, HasTriangularRace}
-use Rattle.lw_axiomatic.proofs.Common.{IsSequentiallyConsistent}
+use Rattle.lw_axiomatic.proofs.Common.{SatisfiesAxioms, ThreadExecutes, IsCandidate, MemoryEvent, Execution}
+use Rattle.lw_axiomatic.proofs.Common.{IsEvent, Po, reads, operation_is, location, Writes, Rf, Fr, start}
+use Rattle.lw_axiomatic.proofs.Common.{IsNext, HasTriangularRace, IsSequentiallyConsistent}
 use Rattle.lw_axiomatic.proofs.Decisions.{Decidable, decided_and, decided_fr}
 use Rattle.lw_axiomatic.proofs.EventKinds.{write_or_load, low, write_stores_or_reads, store_waits_not}
 use Rattle.lw_axiomatic.proofs.EventLists.{least_event}
+use Rattle.lw_axiomatic.proofs.Levels.{level, level-le, level-lt, level-below}
 use Rattle.lw_axiomatic.proofs.FencedTests.{thread_there, path_of}
 use Rattle.lw_axiomatic.proofs.Fronts.{fronts, tails, as_many_fronts, parted_at, from_fronts, to_fronts}
 use Rattle.lw_axiomatic.proofs.Fronts.{tail_from}
@@ -26,10 +26,10 @@ use Rattle.lw_axiomatic.proofs.Timing.{anchor_reached}
 use Rattle.lw_axiomatic.proofs.Walks.{AreFronts, Ends, walked}
 use Rattle.lw_axiomatic.proofs.Anchored as anchored_by
 
-module _ {test : X86Test} (ok : IsWellFormedProgram test) {x : Execution} {o : FinalState}
+module _ {test : X86Test} (ok : IsWellScopedProgram test) {x : Execution} {o : FinalState}
     (candidate : IsCandidate x86_language test x o) (axioms : SatisfiesAxioms test x) where
   abbrev n : MemoryEvent → ℕ
-  n = anchored_by.rank ok axioms
+  n = anchored_by.rank axioms
 
   abbrev g : MemoryEvent → ℕ
   g = axioms.happens_before.0
@@ -38,7 +38,7 @@ module _ {test : X86Test} (ok : IsWellFormedProgram test) {x : Execution} {o : F
   at t j = record { thread = t; position = j }
 
   po_up : (a b : MemoryEvent) → Po x a b → n a < n b
-  po_up = anchored_by.po_up ok axioms
+  po_up = anchored_by.po_up axioms
 
   -- from-reads that do not go up
   abbrev IsLate : MemoryEvent → MemoryEvent → Type 0
@@ -83,21 +83,29 @@ module _ {test : X86Test} (ok : IsWellFormedProgram test) {x : Execution} {o : F
     ]
 
     two : b.thread ≢ c.thread
-    two one = let up : n b < n c = anchored_by.fr_own ok axioms b c fr one in omega (arith, up, f.is_late.1)
+    two one = let up : n b < n c = anchored_by.fr_own axioms b c fr one in omega (arith, up, f.is_late.1)
 
     g_up : g b < g c
     g_up = axioms.happens_before.1 b c (inr (inr (inr fr)))
 
-    low_b : b.position < 32
-    low_b = low test ok b l fr.1.1
+    abbrev width : ℕ
+    width = anchored_by.width axioms
 
-    c_above : 64 * suc (g c) ≤ n c
-    c_above = let up = anchored_by.above ok axioms c fr.2.0 (anchored_by.writing_accesses ok axioms c fr.2.2) in omega (arith, up)
+    c_above : level width (suc (g c)) ≤ n c
+    c_above =
+        let up = anchored_by.above axioms c fr.2.0 (anchored_by.writing_accesses axioms c fr.2.2) in
+        omega (arith, level-le width (suc (g c)) (anchored_by.anchored axioms c) up)
+
+    -- What the read is anchored by is no lower than the write.
+    late_high : suc (g c) ≤ anchored_by.anchored axioms b
+    late_high =
+        level-below width (suc (g c)) (anchored_by.anchored axioms b) b.position (low test b l fr.1.1)
+        (omega (arith, c_above, f.is_late.1))
 
     load : operation_is x86_language test is_load b ≡ true
     load = elim (write_or_load test b l fr.1.1) [
       | inl writing ↦
-          absurd (let up : n b < n c = anchored_by.fr_when ok axioms b c fr (anchored_by.own_write ok axioms b fr.1.0 writing) in
+          absurd (let up : n b < n c = anchored_by.fr_when axioms b c fr (anchored_by.own_write axioms b fr.1.0 writing) in
           omega (arith, up, f.is_late.1))
       | inr is ↦ is
     ]
@@ -111,23 +119,22 @@ module _ {test : X86Test} (ok : IsWellFormedProgram test) {x : Execution} {o : F
       high : g c ≤ g (at b.thread k)
 
     stored : Stored
-    stored = elim (anchor_reached (anchored_by.top ok axioms b.thread) (thread_code x.paths b.thread) b.position) [
-      | inr none ↦ absurd (omega (arith, none, c_above, f.is_late.1, low_b))
-      | inl (k, on, le, is) ↦ by_access k on le is (cases_Bool (anchored_by.accesses ok axioms (at b.thread k)))
+    stored = elim (anchor_reached (anchored_by.top axioms b.thread) (thread_code x.paths b.thread) b.position) [
+      | inr none ↦ absurd (omega (arith, none, late_high))
+      | inl (k, on, le, is) ↦ by_access k on le is (cases_Bool (anchored_by.accesses axioms (at b.thread k)))
     ]
       where
         by_access : (k : ℕ)
             → Contains (thread_code x.paths b.thread) k
             → k ≤ b.position
-            → anchored_by.top ok axioms b.thread k ≡ anchored_by.anchored ok axioms b
-            → (anchored_by.accesses ok axioms (at b.thread k) ≡ true) ⊎ (anchored_by.accesses ok axioms (at b.thread k) ≡ false)
+            → anchored_by.top axioms b.thread k ≡ anchored_by.anchored axioms b
+            → (anchored_by.accesses axioms (at b.thread k) ≡ true) ⊎ (anchored_by.accesses axioms (at b.thread k) ≡ false)
             → Stored
-        by_access k on le is (inr none) =
-            absurd (omega (arith, is, anchored_by.top_other ok axioms (at b.thread k) none, c_above, f.is_late.1, low_b))
+        by_access k on le is (inr none) = absurd (omega (arith, is, anchored_by.top_other axioms (at b.thread k) none, late_high))
         by_access k on le is (inl a) =
-            let own : anchored_by.top ok axioms b.thread k ≡ suc (g (at b.thread k)) =
-            anchored_by.top_access ok axioms (at b.thread k) a in
-            let high : g c ≤ g (at b.thread k) = omega (arith, is, own, c_above, f.is_late.1, low_b) in
+            let own : anchored_by.top axioms b.thread k ≡ suc (g (at b.thread k)) =
+            anchored_by.top_access axioms (at b.thread k) a in
+            let high : g c ≤ g (at b.thread k) = omega (arith, is, own, late_high) in
             elim (cases_eq k b.position) [
               | inl same ↦ absurd (let this : at b.thread k ≡ b = ap (at b.thread) same in omega (arith, ap g this, high, g_up))
               | inr ne ↦
@@ -136,10 +143,10 @@ module _ {test : X86Test} (ok : IsWellFormedProgram test) {x : Execution} {o : F
                     k = k;
                     po = po;
                     store = elim (or_cases (operation_is x86_language test reads (at b.thread k)) _ a) [
-                      | inl r ↦ absurd (omega (arith, anchored_by.kept_reading ok axioms (at b.thread k) b po r, high, g_up))
+                      | inl r ↦ absurd (omega (arith, anchored_by.kept_reading axioms (at b.thread k) b po r, high, g_up))
                       | inr w ↦ elim (write_stores_or_reads test (at b.thread k) w) [
                         | inl s ↦ s
-                        | inr r ↦ absurd (omega (arith, anchored_by.kept_reading ok axioms (at b.thread k) b po r, high, g_up))
+                        | inr r ↦ absurd (omega (arith, anchored_by.kept_reading axioms (at b.thread k) b po r, high, g_up))
                       ]
                     ];
                     high = high;
@@ -151,13 +158,14 @@ module _ {test : X86Test} (ok : IsWellFormedProgram test) {x : Execution} {o : F
 
     -- nothing between them waits
     none_waits : (h : MemoryEvent) → Po x k h → Po x h b → operation_is x86_language test needs_empty_buffer h ≡ true → ⊥
-    none_waits h first second w = omega (
-      arith,
-      anchored_by.behind_waiting ok axioms k h first w,
-      anchored_by.before_waiting ok axioms h b second w,
-      stored.high,
-      g_up,
-    )
+    none_waits h first second w =
+        omega (
+          arith,
+          anchored_by.behind_waiting axioms k h first w,
+          anchored_by.before_waiting axioms h b second w,
+          stored.high,
+          g_up,
+        )
 
     -- and the store is to another location
     apart : location x86_language test k ≡ Some l → ⊥
@@ -242,20 +250,25 @@ module _ {test : X86Test} (ok : IsWellFormedProgram test) {x : Execution} {o : F
     closed w r ir rf =
         let is = from_in r ir in
         to_in w rf.1.0 (elim (passing r.thread r.position is.1) [
-          | inl early ↦ by_number w.thread w.position (omega (arith, anchored_by.rf_up ok axioms w r rf, early))
+          | inl early ↦ by_number w.thread w.position (omega (arith, anchored_by.rf_up axioms w r rf, early))
           | inr (one, before) ↦ elim (cases_eq w.thread r.thread) [
             | inl own ↦
-                (let po : Po x w r = anchored_by.rf_own ok axioms w r rf own in
+                (let po : Po x w r = anchored_by.rf_own axioms w r rf own in
                 by_thread w.thread w.position (own ∙ one) (omega (arith, po.3, before)))
-            | inr far ↦ by_number w.thread w.position (omega (
-              arith,
-              axioms.happens_before.1 w r (inr (inl (rf, far))),
-              anchored_by.kept_reading ok axioms r b (is.0, fr.1.0, one, before) rf.2.2,
-              g_up,
-              c_above,
-              anchored_by.own_write ok axioms w rf.1.0 rf.1.2,
-              low test ok w rf.0 rf.1.1,
-            ))
+            | inr far ↦
+                (let lower : anchored_by.anchored axioms w < suc (g c) = omega (
+                  arith,
+                  axioms.happens_before.1 w r (inr (inl (rf, far))),
+                  anchored_by.kept_reading axioms r b (is.0, fr.1.0, one, before) rf.2.2,
+                  g_up,
+                  anchored_by.own_write axioms w rf.1.0 rf.1.2,
+                ) in
+                by_number w.thread w.position (omega (
+                  arith,
+                  level-lt width (anchored_by.anchored axioms w) (suc (g c)) lower,
+                  c_above,
+                  low test w rf.0 rf.1.1,
+                )))
           ]
         ])
 
@@ -265,8 +278,8 @@ module _ {test : X86Test} (ok : IsWellFormedProgram test) {x : Execution} {o : F
       parted = λ t. parted_at passes t x.paths;
       up = λ r w ir iw. elim [
         | inl po ↦ po_up r w po
-        | inr (inl rf) ↦ anchored_by.rf_up ok axioms r w rf
-        | inr (inr (inl co)) ↦ anchored_by.co_up ok axioms r w co
+        | inr (inl rf) ↦ anchored_by.rf_up axioms r w rf
+        | inr (inr (inl co)) ↦ anchored_by.co_up axioms r w co
         | inr (inr (inr from)) ↦ fr_goes_up r w ir from
       ];
       closed = closed;
@@ -387,7 +400,7 @@ module _ {test : X86Test} (ok : IsWellFormedProgram test) {x : Execution} {o : F
   -- an execution that keeps the axioms is sequentially consistent, or its test has a triangular race
   pub sequential_or_race : IsSequentiallyConsistent x86_language test x ⊎ HasTriangularRace test
   sequential_or_race = elim (least_event n FirstWrite first_write x.paths) [
-    | inl none ↦ inl (anchored_by.sequential_if ok axioms (λ r w from. elim (cases_lt (n r) (n w)) [
+    | inl none ↦ inl (anchored_by.sequential_if axioms (λ r w from. elim (cases_lt (n r) (n w)) [
       | inl less ↦ less
       | inr le ↦ absurd (elim (first_write r) [
         | inl some ↦ none r from.1.0 some
@@ -404,11 +417,11 @@ module _ {test : X86Test} (ok : IsWellFormedProgram test) {x : Execution} {o : F
 
 module _
     (same : (test : X86Test) (o : FinalState)
-    → IsWellFormedProgram test
+    → IsWellScopedProgram test
     → InterleavingOutcome x86_language test o ↔ IsScOutcome x86_language test o) where
   -- an outcome that the axioms allow is one by interleaving, or the test has a triangular race
   pub interleaving_or_race : (test : X86Test) (o : FinalState)
-      → IsWellFormedProgram test
+      → IsWellScopedProgram test
       → IsAllowed test o
       → InterleavingOutcome x86_language test o ⊎ HasTriangularRace test
   interleaving_or_race test o ok a = elim (sequential_or_race ok a.candidate a.axioms) [
@@ -420,7 +433,7 @@ module _
   -- the axioms allow a test without triangular races exactly its outcomes by interleaving
   pub race_free : ((test : X86Test) (o : FinalState) → IsScOutcome x86_language test o → IsAllowed test o)
       → (test : X86Test) (o : FinalState)
-      → IsWellFormedProgram test
+      → IsWellScopedProgram test
       → (HasTriangularRace test → ⊥)
       → IsAllowed test o ↔ InterleavingOutcome x86_language test o
   race_free allowed test o ok raceless = (

@@ -1,14 +1,14 @@
 -- A run that is walked along an execution, seen from one of its events: what was done before it, and what since.
-use Rattle.lw_axiomatic.proofs.Common.{◌≡◌, ℕ, ◌≤◌, inl, inr, false, List, [], ◌∷◌, map, refl, sym, ap, ◌∙◌}
-use Rattle.lw_axiomatic.proofs.Common.{subst, Contains, slice_get, option_map, option_map_or, FinalState}
-use Rattle.lw_axiomatic.proofs.Common.{thread_code, not-Contains-nil, Contains-head, Contains-tail}
-use Rattle.lw_axiomatic.proofs.Common.{Contains-cons, needs_empty_buffer, x86_language, x86_operation}
-use Rattle.lw_axiomatic.proofs.Common.{X86Test, IsWellFormedProgram, IsCandidate, MemoryEvent, Execution}
-use Rattle.lw_axiomatic.proofs.Common.{operation_is, Interleaved, IsStep, InterleavedRunsTo}
+use Rattle.lw_axiomatic.proofs.Common.{IsWellScopedProgram, ◌≡◌, ℕ, ◌≤◌, inl, inr, false, List, [], ◌∷◌, map}
+use Rattle.lw_axiomatic.proofs.Common.{refl, sym, ap, ◌∙◌, subst, Contains, slice_get, option_map}
+use Rattle.lw_axiomatic.proofs.Common.{option_map_or, FinalState, thread_code, not-Contains-nil}
+use Rattle.lw_axiomatic.proofs.Common.{Contains-head, Contains-tail, Contains-cons, needs_empty_buffer}
+use Rattle.lw_axiomatic.proofs.Common.{x86_language, x86_operation, X86Test, IsCandidate, MemoryEvent}
+use Rattle.lw_axiomatic.proofs.Common.{Execution, operation_is, Interleaved, IsStep, InterleavedRunsTo}
 use Rattle.lw_axiomatic.proofs.Common.{RunsToWithoutBarrier}
 use Rattle.lw_axiomatic.proofs.Walks.{AreFronts, RanBy}
 
-module _ {test : X86Test} (ok : IsWellFormedProgram test) {x : Execution} {o : FinalState}
+module _ {test : X86Test} (ok : IsWellScopedProgram test) {x : Execution} {o : FinalState}
     (candidate : IsCandidate x86_language test x o) {rank : MemoryEvent → ℕ} {fronts tails : List (List ℕ)}
     (are : AreFronts x86_language test x rank fronts tails) where
   abbrev Runs : List MemoryEvent → Interleaved → Interleaved → Type 0

@@ -1,10 +1,10 @@
 -- Which executions that keep the axioms are sequentially consistent: those with a fence between each store and each later load that
 -- reads what another thread then overwrites. And each sequentially consistent execution keeps the axioms.
 use Rattle.lw_axiomatic.proofs.Common.{◌≢◌, suc, ◌≤◌, inl, inr, sym, arith, cases_eq, or_cases, FinalState}
-use Rattle.lw_axiomatic.proofs.Common.{x86_language, X86Test, IsWellFormedProgram, SatisfiesAxioms, IsAllowed}
-use Rattle.lw_axiomatic.proofs.Common.{IsCandidate, MemoryEvent, Execution, reads, operation_is, Fr}
-use Rattle.lw_axiomatic.proofs.Common.{HasFenceBetween, IsFenced, IsFencedWhereShared}
-use Rattle.lw_axiomatic.proofs.Common.{IsFencedWhereOverwritten, IsSequentiallyConsistent, IsScOutcome}
+use Rattle.lw_axiomatic.proofs.Common.{x86_language, X86Test, SatisfiesAxioms, IsAllowed, IsCandidate}
+use Rattle.lw_axiomatic.proofs.Common.{MemoryEvent, Execution, reads, operation_is, Fr, HasFenceBetween}
+use Rattle.lw_axiomatic.proofs.Common.{IsFenced, IsFencedWhereShared, IsFencedWhereOverwritten}
+use Rattle.lw_axiomatic.proofs.Common.{IsSequentiallyConsistent, IsScOutcome}
 use Rattle.lw_axiomatic.proofs.EventKinds.{write_or_load, write_stores_or_reads}
 use Rattle.lw_axiomatic.proofs.Anchored.{g, anchored, own, own_write, reading_accesses, kept_reading}
 use Rattle.lw_axiomatic.proofs.Anchored.{behind_waiting, before_waiting, sequential_if, fr_own, fr_when}
@@ -32,30 +32,29 @@ sequential_is_allowed test o s =
 
 -- ---- fenced where another thread overwrites what is read
 
-module _ {test : X86Test} {x : Execution} (ok : IsWellFormedProgram test) (axioms : SatisfiesAxioms test x)
-    (overwritten : IsFencedWhereOverwritten test x) where
+module _ {test : X86Test} {x : Execution} (axioms : SatisfiesAxioms test x) (overwritten : IsFencedWhereOverwritten test x) where
   -- a load that reads what was there before another thread's write has a fence behind each store before it
-  own_read : (r w : MemoryEvent) → Fr x86_language test x r w → r.thread ≢ w.thread → anchored ok axioms r ≤ suc (g ok axioms r)
+  own_read : (r w : MemoryEvent) → Fr x86_language test x r w → r.thread ≢ w.thread → anchored axioms r ≤ suc (g axioms r)
   own_read r w fr two = elim (write_or_load test r fr.0 fr.1.1) [
-    | inl writing ↦ own_write ok axioms r fr.1.0 writing
+    | inl writing ↦ own_write axioms r fr.1.0 writing
     | inr load ↦
-        own ok axioms r fr.1.0 (reading_accesses ok axioms r fr.1.2)
+        own axioms r fr.1.0 (reading_accesses axioms r fr.1.2)
         (λ k po a. elim (or_cases (operation_is x86_language test reads k) _ a) [
-          | inl reading ↦ kept_reading ok axioms k r po reading
+          | inl reading ↦ kept_reading axioms k r po reading
           | inr writing ↦ elim (write_stores_or_reads test k writing) [
-            | inr reading ↦ kept_reading ok axioms k r po reading
+            | inr reading ↦ kept_reading axioms k r po reading
             | inl store ↦
                 (let f : HasFenceBetween test x k r = overwritten k r w (record { po = po; store = store; load = load }) fr two in
-                omega (arith, behind_waiting ok axioms k f.0 f.1 f.3, before_waiting ok axioms f.0 r f.2 f.3))
+                omega (arith, behind_waiting axioms k f.0 f.1 f.3, before_waiting axioms f.0 r f.2 f.3))
           ]
         ])
   ]
 
   -- an execution that keeps the axioms and is fenced where another thread overwrites is sequentially consistent
   pub sequential : IsSequentiallyConsistent x86_language test x
-  sequential = sequential_if ok axioms (λ r w fr. elim (cases_eq r.thread w.thread) [
-    | inr two ↦ fr_when ok axioms r w fr (own_read r w fr two)
-    | inl one ↦ fr_own ok axioms r w fr one
+  sequential = sequential_if axioms (λ r w fr. elim (cases_eq r.thread w.thread) [
+    | inr two ↦ fr_when axioms r w fr (own_read r w fr two)
+    | inl one ↦ fr_own axioms r w fr one
   ])
 
 -- ---- so are those with fences
@@ -74,12 +73,11 @@ fenced_where_overwritten-from_shared test x fenced a b c pair fr two =
 -- if each execution with an outcome that keeps the axioms is fenced where another thread overwrites, and the axioms allow the outcome,
 -- it is sequentially consistent
 pub same_outcomes : (test : X86Test) (o : FinalState)
-    → IsWellFormedProgram test
     → ((x : Execution) → IsCandidate x86_language test x o → SatisfiesAxioms test x → IsFencedWhereOverwritten test x)
     → IsAllowed test o
     → IsScOutcome x86_language test o
-same_outcomes test o ok each a = record {
+same_outcomes test o each a = record {
   execution = a.execution;
   candidate = a.candidate;
-  sequential = sequential ok a.axioms (each a.execution a.candidate a.axioms);
+  sequential = sequential a.axioms (each a.execution a.candidate a.axioms);
 }

@@ -1,17 +1,17 @@
 -- A run of a source test, as lw_interleaving has it, is a run by interleaving, and back: its threads have no zero flag, and no
 -- statement of the source language asks for one.
-use Rattle.lw_axiomatic.proofs.Common.{◌≡◌, ◌↔◌, ℕ, ◌<◌, List, [], ◌∷◌, length, map, Some, Ok, refl, sym, ap}
-use Rattle.lw_axiomatic.proofs.Common.{ap₂, ◌∙◌, subst, arith, slice_get, IsTrue, nat_le, leb-true, le-leb}
-use Rattle.lw_axiomatic.proofs.Common.{length-set, option_map, slice_set, map-set, length-map, slice_get-map}
-use Rattle.lw_axiomatic.proofs.Common.{slice_get_within, slice_get-get_or, get_or_from_slice_get, get-map}
-use Rattle.lw_axiomatic.proofs.Common.{zip_pass, zip_passes, FinalState, thread_code, Step, Stepped}
-use Rattle.lw_axiomatic.proofs.Common.{step-decompose, State, SourceRunsTo, SourceOutcome, initial_state}
-use Rattle.lw_axiomatic.proofs.Common.{initial_thread, is_source_final, source_outcome, source_step}
-use Rattle.lw_axiomatic.proofs.Common.{thread_step, state_after_step, thread_after, Thread, Stmt}
-use Rattle.lw_axiomatic.proofs.Common.{source_language, source_operation, SourceTest, IsWellFormedSource}
-use Rattle.lw_axiomatic.proofs.Common.{Interleaved, read_value, words_after, after, IsStep, InterleavedRunsTo}
-use Rattle.lw_axiomatic.proofs.Common.{IsEnd, start, InterleavingOutcome, ThreadState, first_state}
-use Rattle.lw_axiomatic.proofs.Common.{state_after}
+use Rattle.lw_axiomatic.proofs.Common.{IsWellScopedSource, ◌≡◌, ◌↔◌, ℕ, ◌<◌, List, [], ◌∷◌, length, map, Some}
+use Rattle.lw_axiomatic.proofs.Common.{Ok, refl, sym, ap, ap₂, ◌∙◌, subst, arith, slice_get, IsTrue, nat_le}
+use Rattle.lw_axiomatic.proofs.Common.{leb-true, le-leb, length-set, option_map, slice_set, map-set}
+use Rattle.lw_axiomatic.proofs.Common.{length-map, slice_get-map, slice_get_within, slice_get-get_or}
+use Rattle.lw_axiomatic.proofs.Common.{get_or_from_slice_get, get-map, zip_pass, zip_passes, FinalState}
+use Rattle.lw_axiomatic.proofs.Common.{thread_code, Step, Stepped, step-decompose, State, SourceRunsTo}
+use Rattle.lw_axiomatic.proofs.Common.{SourceOutcome, initial_state, initial_thread, is_source_final}
+use Rattle.lw_axiomatic.proofs.Common.{source_outcome, source_step, thread_step, state_after_step}
+use Rattle.lw_axiomatic.proofs.Common.{thread_after, Thread, Stmt, source_language, source_operation}
+use Rattle.lw_axiomatic.proofs.Common.{SourceTest, Interleaved, read_value, words_after, after, IsStep}
+use Rattle.lw_axiomatic.proofs.Common.{InterleavedRunsTo, IsEnd, start, InterleavingOutcome, ThreadState}
+use Rattle.lw_axiomatic.proofs.Common.{first_state, state_after}
 use Rattle.lw_interleaving.proofs.api.Commutation as source_steps
 use Rattle.lw_interleaving.specs.Statements as statements
 use Rattle.lw_litmus.specs.declared.stmt.Stmt.TheVariants as stmt
@@ -130,7 +130,7 @@ starts_same (row ∷ rows) = ap (λ ths. initial_thread row ∷ ths) (starts_sam
 
 -- the outcomes of a source test, as lw_interleaving has them, are its outcomes by interleaving, as they are defined here
 pub same_outcomes : (test : SourceTest) (o : FinalState)
-    → IsWellFormedSource test
+    → IsWellScopedSource test
     → SourceOutcome test o ↔ InterleavingOutcome source_language test o
 same_outcomes test o ok = (
   λ run.

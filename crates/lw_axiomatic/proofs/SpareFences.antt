@@ -1,7 +1,7 @@
 -- Spare MFENCEs can be inserted and no outcome is lost: an execution of the shorter test, without them, that keeps the axioms keeps
 -- them in the longer test too. An event's rank there is by the greatest number, in global happens-before of the shorter test, of the
 -- events that it comes after: by preserved program order, and because they are before an inserted MFENCE.
-use Rattle.lw_axiomatic.proofs.Common.{max, X86Test, IsFencedTest, IsWellFormedProgram, Execution, FinalState}
+use Rattle.lw_axiomatic.proofs.Common.{IsWellScopedProgram, max, X86Test, IsFencedTest, Execution, FinalState}
 use Rattle.lw_axiomatic.proofs.Common.{IsCandidate, x86_language, MemoryEvent, Po, subst, ◌<◌, arith, ap}
 use Rattle.lw_axiomatic.proofs.Common.{length, thread_code, PoLoc, sym, ◌∙◌, Co, ℕ, Reads, ◌≡◌, Some}
 use Rattle.lw_axiomatic.proofs.Common.{IsReadFrom, Rf, refl, Option, option_map, None, none-some, same_Some}
@@ -14,6 +14,7 @@ use Rattle.lw_axiomatic.proofs.Common.{List, Instr, AreOnPath, Contains, IsInser
 use Rattle.lw_axiomatic.proofs.Common.{IsLocationOnlyWrittenBy, [], get_or_past, slice_get, AreStoreAndLoad}
 use Rattle.lw_axiomatic.proofs.Common.{needs_empty_buffer, option_map_or, x86_operation, cases_order}
 use Rattle.lw_axiomatic.proofs.Common.{is_store, HappensBefore, IsAllowed, HasOtherFence}
+use Rattle.lw_axiomatic.proofs.Levels.{size, level, level-le, level-lt, level-suc}
 use Rattle.lw_axiomatic.proofs.Anchored.{g, behind_waiting, before_waiting}
 use Rattle.lw_axiomatic.proofs.EventKinds.{low, write_or_load, write_stores_or_reads}
 use Rattle.lw_axiomatic.proofs.EventLists.{event}
@@ -29,7 +30,7 @@ use Rattle.lw_litmus.specs.Operations as operations
 
 -- ---- Relations of the longer test's execution are relations of the shorter test's.
 
-module _ {test fenced : X86Test} (f : IsFencedTest test fenced) (ok : IsWellFormedProgram fenced) {x : Execution} {o : FinalState}
+module _ {test fenced : X86Test} (f : IsFencedTest test fenced) (ok : IsWellScopedProgram fenced) {x : Execution} {o : FinalState}
     (candidate : IsCandidate x86_language test x o) where
   -- The execution of the longer test.
   abbrev y : Execution
@@ -133,9 +134,8 @@ module _ {test fenced : X86Test} (f : IsFencedTest test fenced) (ok : IsWellForm
 
 -- ---- Ranks of the longer test's events.
 
-module _ {test fenced : X86Test} (f : IsFencedTest test fenced) (ok : IsWellFormedProgram fenced)
-    (formed : IsWellFormedProgram test) {x : Execution} {o : FinalState} (candidate : IsCandidate x86_language test x o)
-    (axioms : SatisfiesAxioms test x) where
+module _ {test fenced : X86Test} (f : IsFencedTest test fenced) (ok : IsWellScopedProgram fenced) {x : Execution} {o : FinalState}
+    (candidate : IsCandidate x86_language test x o) (axioms : SatisfiesAxioms test x) where
   -- The execution of the longer test.
   abbrev z : Execution
   z = with_fences f ok candidate
@@ -145,7 +145,7 @@ module _ {test fenced : X86Test} (f : IsFencedTest test fenced) (ok : IsWellForm
 
   -- Returns the number in global happens-before of the event of the shorter test.
   abbrev number : MemoryEvent → ℕ
-  number e = g formed axioms (event_without f e)
+  number e = g axioms (event_without f e)
 
   -- The event is at an inserted MFENCE.
   abbrev is_inserted : MemoryEvent → Bool
@@ -175,9 +175,17 @@ module _ {test fenced : X86Test} (f : IsFencedTest test fenced) (ok : IsWellForm
   abbrev base : MemoryEvent → ℕ
   base e = anchor (top e.thread) (thread_code z.paths e.thread) e.position
 
-  -- Returns the event's rank: by the greater of its base and its own number, and then by its position.
+  -- Returns the greater of an event's base and its own number.
+  abbrev height : MemoryEvent → ℕ
+  height e = max (base e) (own e)
+
+  -- No position is as high as the number of all instructions.
+  abbrev width : ℕ
+  width = size fenced.threads
+
+  -- Returns the event's rank: by its height, and then by its position.
   abbrev rank : MemoryEvent → ℕ
-  rank e = 64 * max (base e) (own e) + e.position
+  rank e = level width (height e) + e.position
 
   own-counting : (e : MemoryEvent) → counts e ≡ true → own e ≡ suc (number e)
   own-counting e h = cond-true (counts e) (suc (number e)) 0 h
@@ -314,12 +322,12 @@ module _ {test fenced : X86Test} (f : IsFencedTest test fenced) (ok : IsWellForm
       ])
 
   -- An event that counts has at least the rank of its number.
-  rank-at_least : (e : MemoryEvent) → counts e ≡ true → 64 * suc (number e) ≤ rank e
-  rank-at_least e counting = omega (arith, own-counting e counting)
+  rank-at_least : (e : MemoryEvent) → counts e ≡ true → level width (suc (number e)) ≤ rank e
+  rank-at_least e counting = omega (arith, level-le width (suc (number e)) (height e) (omega (arith, own-counting e counting)))
 
   -- An event has at most the rank of n, if its base and its own number are at most n.
-  rank-at_most : (e : MemoryEvent) (n : ℕ) → base e ≤ n → own e ≤ n → rank e ≤ 64 * n + e.position
-  rank-at_most e n by_base by_own = omega (arith, by_base, by_own)
+  rank-at_most : (e : MemoryEvent) (n : ℕ) → base e ≤ n → own e ≤ n → rank e ≤ level width n + e.position
+  rank-at_most e n by_base by_own = omega (arith, level-le width (height e) n (omega (arith, by_base, by_own)))
 
   -- An event that reads or writes a location counts.
   counts-from_access : (e : MemoryEvent) (l : ℕ)
@@ -357,9 +365,10 @@ module _ {test fenced : X86Test} (f : IsFencedTest test fenced) (ok : IsWellForm
       number-before_write (event w.thread m) w (on, writing.0, refl, omega (arith, before, le))
       (counts-not_inserted (event w.thread m) counting_m) facts.0 writing.2 in
       omega (arith, order))) in
-      let below : rank w ≤ 64 * suc (number w) + w.position =
+      let below : rank w ≤ level width (suc (number w)) + w.position =
       rank-at_most w (suc (number w)) by_base (omega (arith, own-counting w facts.1)) in
-      omega (arith, below, rank-at_least e counting, less, low fenced ok w l writing.1)
+      let next = level-lt width (suc (number w)) (suc (number e)) (omega (arith, less)) in
+      omega (arith, below, rank-at_least e counting, next, low fenced w l writing.1)
 
   -- ---- Ranks increase along preserved program order.
 
@@ -416,12 +425,14 @@ module _ {test fenced : X86Test} (f : IsFencedTest test fenced) (ok : IsWellForm
 
   rank-Ppo : (a b : MemoryEvent) → Ppo x86_language fenced z a b → rank a < rank b
   rank-Ppo a b ppo =
-      subst (λ t. Ppo x86_language fenced z a (event t b.position) → rank a < rank (event t b.position)) ppo.0.2 (λ there. omega (
+      subst (λ t. Ppo x86_language fenced z a (event t b.position) → rank a < rank (event t b.position)) ppo.0.2 (λ there.
+      let c : MemoryEvent = event a.thread b.position in
+      let le : height a ≤ height c = omega (
         arith,
-        there.0.3,
         base-increasing a.thread a.position b.position (omega (arith, there.0.3)),
         own-increasing a.thread a.position b.position there,
-      )) ppo
+      ) in
+      omega (arith, there.0.3, level-le width (height a) (height c) le)) ppo
 
   -- ---- Ranks increase along from-reads, if the MFENCEs are spare.
 
@@ -480,9 +491,9 @@ module _ {test fenced : X86Test} (f : IsFencedTest test fenced) (ok : IsWellForm
               omega (
                 arith,
                 less,
-                behind_waiting formed axioms (event_without f m) (event_without f e)
+                behind_waiting axioms (event_without f m) (event_without f e)
                     (Po-event_without f ok candidate m e to (is_kept-from_not_inserted m pair.po.0 not_m) kept) waiting_there,
-                before_waiting formed axioms (event_without f e) (event_without f r)
+                before_waiting axioms (event_without f e) (event_without f r)
                     (Po-event_without f ok candidate e r from kept (is_kept-from_not_inserted r pair.po.1 not_r)) waiting_there,
               ))
           | inr is_own ↦
@@ -545,9 +556,9 @@ module _ {test fenced : X86Test} (f : IsFencedTest test fenced) (ok : IsWellForm
                 not_at_fence facts.0 among before apart at_fence reading.1 writing fr less
           ]
         ])) in
-        let below : rank r ≤ 64 * number w + r.position =
+        let below : rank r ≤ level width (number w) + r.position =
         rank-at_most r (number w) by_base (omega (arith, less, own-counting r facts.1)) in
-        omega (arith, below, rank-at_least w also.1, low fenced ok r l reading.1)
+        omega (arith, below, rank-at_least w also.1, level-suc width (number w), low fenced r l reading.1)
       where
         is_store-from_counts : (e : MemoryEvent) → counts e ≡ true → leads e ≡ false → is is_store e ≡ true
         is_store-from_counts e counting not_leading =
@@ -586,14 +597,13 @@ module _ {test fenced : X86Test} (f : IsFencedTest test fenced) (ok : IsWellForm
 
 -- An outcome that the axioms allow a test is one that they allow it with spare MFENCEs inserted.
 pub IsAllowed-with_fences : {test fenced : X86Test} (f : IsFencedTest test fenced)
-    → IsWellFormedProgram fenced
-    → IsWellFormedProgram test
+    → IsWellScopedProgram fenced
     → AreSpare test fenced f
     → {o : FinalState}
     → IsAllowed test o
     → IsAllowed fenced o
-IsAllowed-with_fences f ok formed spare a = record {
+IsAllowed-with_fences f ok spare a = record {
   execution = with_fences f ok a.candidate;
   candidate = IsCandidate-with_fences f ok a.candidate;
-  axioms = SatisfiesAxioms-with_fences f ok formed a.candidate a.axioms spare;
+  axioms = SatisfiesAxioms-with_fences f ok a.candidate a.axioms spare;
 }

@@ -1,11 +1,11 @@
 -- The order of an execution's items by their times: the fixed pairs stand, and what is newest by the times is so by the indices.
-use Rattle.lw_axiomatic.proofs.Common.{◌≡◌, ℕ, suc, ◌<◌, ◌≤◌, ◌⊎◌, inl, inr, Bool, true, false, Option, Some}
-use Rattle.lw_axiomatic.proofs.Common.{None, refl, sym, ap, ap₂, ◌∙◌, arith, if◌then◌else◌, List, [], ◌∷◌}
-use Rattle.lw_axiomatic.proofs.Common.{length, true≢false, option_map, option_map_or, cases_Bool, cases_eq}
-use Rattle.lw_axiomatic.proofs.Common.{cases_order, cond-false, or_left, or_right, none-some, FinalState}
-use Rattle.lw_axiomatic.proofs.Common.{thread_code, Instr, Operation, Store, is_store, needs_empty_buffer}
-use Rattle.lw_axiomatic.proofs.Common.{or_cases, writes, location_of, x86_language, x86_operation}
-use Rattle.lw_axiomatic.proofs.Common.{IsFlowPathFrom, X86Test, IsWellFormedProgram, Before}
+use Rattle.lw_axiomatic.proofs.Common.{IsWellScopedProgram, ◌≡◌, ℕ, suc, ◌<◌, ◌≤◌, ◌⊎◌, inl, inr, Bool, true}
+use Rattle.lw_axiomatic.proofs.Common.{false, Option, Some, None, refl, sym, ap, ap₂, ◌∙◌, arith}
+use Rattle.lw_axiomatic.proofs.Common.{if◌then◌else◌, List, [], ◌∷◌, length, true≢false, option_map}
+use Rattle.lw_axiomatic.proofs.Common.{option_map_or, cases_Bool, cases_eq, cases_order, cond-false, or_left}
+use Rattle.lw_axiomatic.proofs.Common.{or_right, none-some, FinalState, thread_code, Instr, Operation, Store}
+use Rattle.lw_axiomatic.proofs.Common.{is_store, needs_empty_buffer, or_cases, writes, location_of}
+use Rattle.lw_axiomatic.proofs.Common.{x86_language, x86_operation, IsFlowPathFrom, X86Test, Before}
 use Rattle.lw_axiomatic.proofs.Common.{IsLinearExtension, Item, IsPathAssignment, item_at, items_of}
 use Rattle.lw_axiomatic.proofs.Common.{constraints_of, statement_needs_empty_buffer, item, thread_rank}
 use Rattle.lw_axiomatic.proofs.Common.{slot_by, slot_goes_up, IsItemOnPath-of_member, AreOrdered, keeps_all}
@@ -32,7 +32,7 @@ choice_from (code ∷ program) (path ∷ paths) same each =
 choice_from [] (path ∷ paths) same each = absurd (omega (arith, same))
 choice_from (code ∷ program) [] same each = absurd (omega (arith, same))
 
-module _ {test : X86Test} (ok : IsWellFormedProgram test) {x : Execution} {o : FinalState}
+module _ {test : X86Test} (ok : IsWellScopedProgram test) {x : Execution} {o : FinalState}
     (candidate : IsCandidate x86_language test x o) where
   -- a candidate's paths are a choice
   pub choice : IsPathAssignment x86_language test.threads x.paths

@@ -3,12 +3,12 @@ use Rattle.lw_axiomatic.proofs.Common.{◌≡◌, ℕ, suc, ◌+◌, ◌*◌, �
 use Rattle.lw_axiomatic.proofs.Common.{Some, None, refl, ap, ◌∙◌, subst, arith, if◌then◌else◌, ForSome}
 use Rattle.lw_axiomatic.proofs.Common.{cases_Bool, cases_order, cond-true, cond-false, or_left, or_right}
 use Rattle.lw_axiomatic.proofs.Common.{Operation, is_store, is_load, writes, x86_language, X86Test}
-use Rattle.lw_axiomatic.proofs.Common.{IsWellFormedProgram, MemoryEvent, Execution, reads, operation_is}
-use Rattle.lw_axiomatic.proofs.Common.{IsEvent, Reads, Writes, Po, Rf, Co, Fr, PoLoc, Rfe, Coherence}
-use Rattle.lw_axiomatic.proofs.Common.{GlobalHappensBefore, SatisfiesAxioms, IsBefore, IsNewest}
-use Rattle.lw_axiomatic.proofs.Common.{HasConsistentTimes}
+use Rattle.lw_axiomatic.proofs.Common.{MemoryEvent, Execution, reads, operation_is, IsEvent, Reads, Writes}
+use Rattle.lw_axiomatic.proofs.Common.{Po, Rf, Co, Fr, PoLoc, Rfe, Coherence, GlobalHappensBefore}
+use Rattle.lw_axiomatic.proofs.Common.{SatisfiesAxioms, IsBefore, IsNewest, HasConsistentTimes}
 use Rattle.lw_axiomatic.proofs.EventKinds.{read_is_no_store, load_reads_there, load_writes_nothing}
 use Rattle.lw_axiomatic.proofs.EventKinds.{write_or_load, low}
+use Rattle.lw_axiomatic.proofs.Levels.{level, level-suc, level-le, level-lt, size}
 
 module _ {test : X86Test} {x : Execution} {done reached : MemoryEvent → ℕ} (timed : HasConsistentTimes test x done reached) where
   abbrev is : (Operation → Bool) → MemoryEvent → Bool
@@ -72,14 +72,18 @@ module _ {test : X86Test} {x : Execution} {done reached : MemoryEvent → ℕ} (
 
   -- ---- coherence: each load stands right behind what it reads, those of one write by their positions
 
+  -- More than any position.
+  abbrev width : ℕ
+  width = suc (size test.threads)
+
   abbrev source : Option MemoryEvent → ℕ
   source None = 0
-  source (Some v) = 34 * suc (reached v)
+  source (Some v) = level width (suc (reached v))
 
   abbrev rank : MemoryEvent → ℕ
-  rank e = if is writes e then 34 * suc (reached e) else suc (e.position + source (x.rf e))
+  rank e = if is writes e then level width (suc (reached e)) else suc (e.position + source (x.rf e))
 
-  of_write : (e : MemoryEvent) → is writes e ≡ true → rank e ≡ 34 * suc (reached e)
+  of_write : (e : MemoryEvent) → is writes e ≡ true → rank e ≡ level width (suc (reached e))
   of_write e w = cond-true (is writes e) _ _ w
 
   of_load : (e : MemoryEvent) → is is_load e ≡ true → rank e ≡ suc (e.position + source (x.rf e))
@@ -90,22 +94,23 @@ module _ {test : X86Test} {x : Execution} {done reached : MemoryEvent → ℕ} (
       → IsNewest test x done reached r l q
       → Writes x86_language test x w l
       → IsBefore x done reached w r
-      → 34 * suc (reached w) ≤ source q
+      → level width (suc (reached w)) ≤ source q
   source_least r w l None newest writing before = absurd (newest w writing before)
-  source_least r w l (Some v) newest writing before = omega (arith, newest.2 w writing before)
+  source_least r w l (Some v) newest writing before =
+      level-le width (suc (reached w)) (suc (reached v)) (omega (arith, newest.2 w writing before))
 
   -- what a read sees is older than a write behind it
   source_older : (r w : MemoryEvent) (l : ℕ) (q : Option MemoryEvent)
       → IsNewest test x done reached r l q
       → Po x r w
       → is writes w ≡ true
-      → source q ≤ 34 * reached w
+      → source q ≤ level width (reached w)
   source_older r w l None newest po writing = omega arith
   source_older r w l (Some v) newest po writing =
       let less : reached v < reached w =
       ⊎_elim (λ early. omega (arith, early, timed.po r w po, no_sooner w po.1))
       (λ own. writes_last v w (own.0, po.1, own.2 ∙ po.2, omega (arith, own.3, po.3)) writing) newest.1 in
-      omega (arith, less)
+      level-le width (suc (reached v)) (reached w) (omega (arith, less))
 
   -- and what was there for a load is there for the next one
   source_up : (r s : MemoryEvent) (l : ℕ) (q : Option MemoryEvent)
@@ -119,85 +124,90 @@ module _ {test : X86Test} {x : Execution} {done reached : MemoryEvent → ℕ} (
       (⊎_elim (λ early. inl (omega (arith, early, timed.po r s po)))
       (λ own. inr (own.0, po.1, own.2 ∙ po.2, omega (arith, own.3, po.3))) newest.1)
 
-  module _ (ok : IsWellFormedProgram test) where
-    poloc_up : (a b : MemoryEvent) → PoLoc x86_language test x a b → rank a < rank b
-    poloc_up a b (po, l, at, too) = elim (write_or_load test a l at) [
-      | inl wa ↦ elim (write_or_load test b l too) [
-        | inl wb ↦ omega (arith, of_write a wa, of_write b wb, writes_last a b po wb)
-        | inr lb ↦ omega (
-          arith,
-          of_write a wa,
-          of_load b lb,
-          source_least b a l (x.rf b) (timed.newest b l (po.1, too, load_reads_there test b lb)) (po.0, at, wa) (inr po),
-        )
-      ]
-      | inr la ↦ elim (write_or_load test b l too) [
-        | inl wb ↦ omega (
-          arith,
-          of_load a la,
-          of_write b wb,
-          low test ok a l at,
-          source_older a b l (x.rf a) (timed.newest a l (po.0, at, load_reads_there test a la)) po wb,
-        )
-        | inr lb ↦ omega (
-          arith,
-          of_load a la,
-          of_load b lb,
-          po.3,
-          source_up a b l (x.rf a) (timed.newest a l (po.0, at, load_reads_there test a la))
-              (po.1, too, load_reads_there test b lb) po,
-        )
-      ]
+  -- Of two writes the one that reaches memory later has the greater rank.
+  write_up : (a b : MemoryEvent) → is writes a ≡ true → is writes b ≡ true → reached a < reached b → rank a < rank b
+  write_up a b wa wb less =
+      omega (arith, of_write a wa, of_write b wb, level-lt width (suc (reached a)) (suc (reached b)) (omega (arith, less)))
+
+  poloc_up : (a b : MemoryEvent) → PoLoc x86_language test x a b → rank a < rank b
+  poloc_up a b (po, l, at, too) = elim (write_or_load test a l at) [
+    | inl wa ↦ elim (write_or_load test b l too) [
+      | inl wb ↦ write_up a b wa wb (writes_last a b po wb)
+      | inr lb ↦ omega (
+        arith,
+        of_write a wa,
+        of_load b lb,
+        source_least b a l (x.rf b) (timed.newest b l (po.1, too, load_reads_there test b lb)) (po.0, at, wa) (inr po),
+      )
     ]
-
-    rf_up : (w r : MemoryEvent) → Rf x86_language test x w r → rank w < rank r
-    rf_up w r (l, writing, reading, from) = elim (write_or_load test r l reading.1) [
-      | inl wr ↦
-          (let up : reached w < reached r =
-          ⊎_elim (λ less. omega (arith, less, read_at_once r reading.2)) (λ po. writes_last w r po wr)
-          (seen r w l reading from).1 in
-          omega (arith, of_write w writing.2, of_write r wr, up))
-      | inr lr ↦ omega (arith, of_write w writing.2, of_load r lr, ap source from)
+    | inr la ↦ elim (write_or_load test b l too) [
+      | inl wb ↦ omega (
+        arith,
+        of_load a la,
+        of_write b wb,
+        low test a l at,
+        level-suc width (reached b),
+        source_older a b l (x.rf a) (timed.newest a l (po.0, at, load_reads_there test a la)) po wb,
+      )
+      | inr lb ↦ omega (
+        arith,
+        of_load a la,
+        of_load b lb,
+        po.3,
+        source_up a b l (x.rf a) (timed.newest a l (po.0, at, load_reads_there test a la)) (po.1, too, load_reads_there test b lb)
+            po,
+      )
     ]
+  ]
 
-    co_up : (w v : MemoryEvent) → Co x86_language test x w v → rank w < rank v
-    co_up w v co = omega (arith, of_write w co.1.2, of_write v co.2.2, timed.co w v co)
+  rf_up : (w r : MemoryEvent) → Rf x86_language test x w r → rank w < rank r
+  rf_up w r (l, writing, reading, from) = elim (write_or_load test r l reading.1) [
+    | inl wr ↦
+        (let up : reached w < reached r =
+        ⊎_elim (λ less. omega (arith, less, read_at_once r reading.2)) (λ po. writes_last w r po wr)
+        (seen r w l reading from).1 in
+        write_up w r writing.2 wr up)
+    | inr lr ↦ omega (arith, of_write w writing.2, of_load r lr, ap source from)
+  ]
 
-    fr_next : (r w : MemoryEvent) → Fr x86_language test x r w → rank r < rank w
-    fr_next r w (l, reading, writing, ne, behind) = elim (write_or_load test r l reading.1) [
-      | inl wr ↦ omega (arith, of_write r wr, of_write w writing.2, fr_up r w (l, reading, writing, ne, behind))
-      | inr lr ↦
-          omega (
-            arith,
-            of_load r lr,
-            of_write w writing.2,
-            low test ok r l reading.1,
-            older (x.rf r) (timed.newest r l reading) behind,
-          )
-    ]
-      where
-        older : (q : Option MemoryEvent)
-            → IsNewest test x done reached r l q
-            → ForSome q (λ v. x.co v < x.co w)
-            → source q ≤ 34 * reached w
-        older None newest behind = omega arith
-        older (Some v) newest behind =
-            let up : reached v < reached w = timed.co v w (l, newest.0, writing, behind v refl) in omega (arith, up)
+  co_up : (w v : MemoryEvent) → Co x86_language test x w v → rank w < rank v
+  co_up w v co = write_up w v co.1.2 co.2.2 (timed.co w v co)
 
-    pub coherence : Coherence test x
-    coherence = (
-      rank,
-      λ a b. elim [
-        | inl poloc ↦ poloc_up a b poloc
-        | inr (inl rf) ↦ rf_up a b rf
-        | inr (inr (inl co)) ↦ co_up a b co
-        | inr (inr (inr fr)) ↦ fr_next a b fr
-      ],
+  fr_next : (r w : MemoryEvent) → Fr x86_language test x r w → rank r < rank w
+  fr_next r w (l, reading, writing, ne, behind) = elim (write_or_load test r l reading.1) [
+    | inl wr ↦ write_up r w wr writing.2 (fr_up r w (l, reading, writing, ne, behind))
+    | inr lr ↦ omega (
+      arith,
+      of_load r lr,
+      of_write w writing.2,
+      low test r l reading.1,
+      level-suc width (reached w),
+      older (x.rf r) (timed.newest r l reading) behind,
     )
+  ]
+    where
+      older : (q : Option MemoryEvent)
+          → IsNewest test x done reached r l q
+          → ForSome q (λ v. x.co v < x.co w)
+          → source q ≤ level width (reached w)
+      older None newest behind = omega arith
+      older (Some v) newest behind =
+          let up : reached v < reached w = timed.co v w (l, newest.0, writing, behind v refl) in
+          level-le width (suc (reached v)) (reached w) (omega (arith, up))
+
+  pub coherence : Coherence test x
+  coherence = (
+    rank,
+    λ a b. elim [
+      | inl poloc ↦ poloc_up a b poloc
+      | inr (inl rf) ↦ rf_up a b rf
+      | inr (inr (inl co)) ↦ co_up a b co
+      | inr (inr (inr fr)) ↦ fr_next a b fr
+    ],
+  )
 
 -- an execution with times keeps the axioms
 pub keeps_axioms : {test : X86Test} {x : Execution} {done reached : MemoryEvent → ℕ}
-    → IsWellFormedProgram test
     → HasConsistentTimes test x done reached
     → SatisfiesAxioms test x
-keeps_axioms ok timed = record { coherence = coherence timed ok; happens_before = happens_before timed }
+keeps_axioms timed = record { coherence = coherence timed; happens_before = happens_before timed }

@@ -8,13 +8,13 @@ use Rattle.lw_axiomatic.proofs.Common.{nat_lt, ForSome, cases_Bool, cases_lt, ca
 use Rattle.lw_axiomatic.proofs.Common.{cond-true, cond-false, or_left, or_right, or_cases, nat_tests}
 use Rattle.lw_axiomatic.proofs.Common.{get_or_past, same_Some, slice_get_within, FinalState, thread_code}
 use Rattle.lw_axiomatic.proofs.Common.{not-Contains-nil, Contains-head, Contains-tail, Contains-cons, Instr}
-use Rattle.lw_axiomatic.proofs.Common.{Operation, is_store, writes, x86_language, X86Test}
-use Rattle.lw_axiomatic.proofs.Common.{IsWellFormedProgram, ThreadState, MemoryEvent, Execution, reads}
-use Rattle.lw_axiomatic.proofs.Common.{operation_is, IsEvent, Reads, Writes, Po, Rf, Co, Fr, Ppo}
-use Rattle.lw_axiomatic.proofs.Common.{ThreadExecutes, IsReadFrom, IsCandidate, SatisfiesAxioms, IsBefore}
-use Rattle.lw_axiomatic.proofs.Common.{IsNewest, HasTimes, leb-true, ◌⊎◌}
+use Rattle.lw_axiomatic.proofs.Common.{Operation, is_store, writes, x86_language, X86Test, ThreadState}
+use Rattle.lw_axiomatic.proofs.Common.{MemoryEvent, Execution, reads, operation_is, IsEvent, Reads, Writes}
+use Rattle.lw_axiomatic.proofs.Common.{Po, Rf, Co, Fr, Ppo, ThreadExecutes, IsReadFrom, IsCandidate}
+use Rattle.lw_axiomatic.proofs.Common.{SatisfiesAxioms, IsBefore, IsNewest, HasTimes, leb-true, ◌⊎◌}
 use Rattle.lw_axiomatic.proofs.EventKinds.{read_is_no_store, fence_is_no_store, store_reads_nothing}
-use Rattle.lw_axiomatic.proofs.EventKinds.{store_is_no_fence, write_stores_or_reads, short_code}
+use Rattle.lw_axiomatic.proofs.EventKinds.{store_is_no_fence, write_stores_or_reads}
+use Rattle.lw_axiomatic.proofs.Levels.{level, level-le, level-lt, level-apart, size, length-size}
 use Rattle.lw_litmus.specs.Operations as operations
 
 -- the greatest of the numbers that the members of a list up to j have
@@ -85,8 +85,8 @@ goes_within x t code (k ∷ path) s end goes j c = elim (Contains-cons k j path 
   | inr r ↦ goes_within x t code path _ end goes.4 j r
 ]
 
-module _ {test : X86Test} {x : Execution} {o : FinalState} (ok : IsWellFormedProgram test)
-    (candidate : IsCandidate x86_language test x o) (axioms : SatisfiesAxioms test x) where
+module _ {test : X86Test} {x : Execution} {o : FinalState} (candidate : IsCandidate x86_language test x o)
+    (axioms : SatisfiesAxioms test x) where
   abbrev is : (Operation → Bool) → MemoryEvent → Bool
   is = operation_is x86_language test
 
@@ -96,21 +96,25 @@ module _ {test : X86Test} {x : Execution} {o : FinalState} (ok : IsWellFormedPro
   abbrev at : ℕ → ℕ → MemoryEvent
   at t j = record { thread = t; position = j }
 
-  -- threads are few, and positions low
+  -- No position is as high as the number of all instructions.
+  abbrev width : ℕ
+  width = size test.threads
+
+  -- An event's thread is one of the test's, and its position one of its code.
   record IsWithin (e : MemoryEvent) : Type 0 where
-    thread : e.thread < 4
-    position : e.position < 32
+    thread : e.thread < length test.threads
+    position : e.position < width
 
   within : (e : MemoryEvent) → IsEvent x e → IsWithin e
   within e c = elim (cases_lt e.thread (length test.threads)) [
     | inl h ↦ record {
-      thread = omega (arith, h, ok.as_many, ok.head.few);
+      thread = h;
       position =
           (let goes = candidate.threads e.thread h in
           let l : e.position < length (thread_code test.threads e.thread) =
           goes_within x e.thread (thread_code test.threads e.thread) (thread_code x.paths e.thread) _ goes.0 goes.1 e.position
           c in
-          omega (arith, l, short_code test ok e.thread));
+          omega (arith, l, length-size test.threads e.thread));
     }
     | inr h ↦
         (let none : thread_code x.paths e.thread ≡ [] = get_or_past x.paths e.thread [] (omega (arith, h, candidate.as_many)) in
@@ -133,17 +137,21 @@ module _ {test : X86Test} {x : Execution} {o : FinalState} (ok : IsWellFormedPro
 
   -- a number for each event, by its thread and then its position, by which equal anchored numbers are told apart
   abbrev slot : MemoryEvent → ℕ
-  slot e = 2 * (32 * e.thread + e.position)
+  slot e = 2 * (level width e.thread + e.position)
+
+  -- No slot of an event is as high.
+  abbrev slots : ℕ
+  slots = 2 * level width (length test.threads)
 
   -- when an event is done: by its anchored number, then by thread and position
   abbrev pub done : MemoryEvent → ℕ
-  done e = 256 * anchored e + slot e
+  done e = level slots (anchored e) + slot e
 
   -- when an event reaches memory: a store at its own number in global happens-before, all else when it is done
   abbrev pub reached : MemoryEvent → ℕ
-  reached e = if is is_store e then 256 * suc (g e) + suc (slot e) else done e
+  reached e = if is is_store e then level slots (suc (g e)) + suc (slot e) else done e
 
-  of_store : (e : MemoryEvent) → is is_store e ≡ true → reached e ≡ 256 * suc (g e) + suc (slot e)
+  of_store : (e : MemoryEvent) → is is_store e ≡ true → reached e ≡ level slots (suc (g e)) + suc (slot e)
   of_store e s = cond-true (is is_store e) _ (done e) s
 
   of_other : (e : MemoryEvent) → is is_store e ≡ false → reached e ≡ done e
@@ -226,15 +234,16 @@ module _ {test : X86Test} {x : Execution} {o : FinalState} (ok : IsWellFormedPro
 
   -- so each access reaches memory at its own number
   record AtOwn (e : MemoryEvent) : Type 0 where
-    least : 256 * suc (g e) ≤ reached e
-    most : reached e < 256 * suc (g e) + 256
+    least : level slots (suc (g e)) ≤ reached e
+    most : reached e < level slots (suc (g e)) + slots
 
-  slot_low : (e : MemoryEvent) → IsEvent x e → suc (slot e) < 256
-  slot_low e there = let w : IsWithin e = within e there in omega (arith, w.thread, w.position)
+  slot_low : (e : MemoryEvent) → IsEvent x e → suc (slot e) < slots
+  slot_low e there =
+      let w : IsWithin e = within e there in omega (arith, level-lt width e.thread (length test.threads) w.thread, w.position)
 
   own_of_halts : (e : MemoryEvent) → IsEvent x e → halts e ≡ true → AtOwn e
   own_of_halts e there h =
-      let a = of_halts e there h in
+      let a = ap (level slots) (of_halts e there h) in
       let b = of_other e (halts_no_store e h) in
       let c = slot_low e there in
       record { least = omega (arith, a, b, c); most = omega (arith, a, b, c) }
@@ -251,10 +260,10 @@ module _ {test : X86Test} {x : Execution} {o : FinalState} (ok : IsWellFormedPro
   -- ---- they are times
 
   po_up : (a b : MemoryEvent) → Po x a b → done a < done b
-  po_up a b po = omega (arith, anchored_up a b po, po.2, po.3)
+  po_up a b po = omega (arith, level-le slots (anchored a) (anchored b) (anchored_up a b po), ap (level width) po.2, po.3)
 
   later : (e : MemoryEvent) → IsEvent x e → is is_store e ≡ true → done e < reached e
-  later e there s = omega (arith, of_store e s, of_store_low e there s)
+  later e there s = omega (arith, of_store e s, level-le slots (anchored e) (suc (g e)) (omega (arith, of_store_low e there s)))
 
   -- what is not a store and comes behind a store in preserved program order halts
   behind_store : (a b : MemoryEvent) → Ppo x86_language test x a b → is is_store a ≡ true → is is_store b ≡ false → halts b ≡ true
@@ -275,20 +284,22 @@ module _ {test : X86Test} {x : Execution} {o : FinalState} (ok : IsWellFormedPro
       let low = slot_low a ppo.0.0 in
       elim (cases_Bool (is is_store a)) [
         | inl s ↦ elim (cases_Bool (is is_store b)) [
-          | inl t ↦ omega (arith, of_store a s, of_store b t, up, low)
+          | inl t ↦ omega (arith, of_store a s, of_store b t, level-lt slots (suc (g a)) (suc (g b)) (omega (arith, up)), low)
           | inr n ↦
               (let own : AtOwn b = own_of_halts b ppo.0.1 (behind_store a b ppo s n) in
-              omega (arith, of_store a s, own.least, up, low))
+              omega (arith, of_store a s, own.least, level-lt slots (suc (g a)) (suc (g b)) (omega (arith, up)), low))
         ]
         | inr n ↦ elim (cases_Bool (is is_store b)) [
-          | inl t ↦ omega (arith, of_other a n, of_store b t, anchored_up a b ppo.0, of_store_low b ppo.0.1 t, low)
+          | inl t ↦
+              (let under : anchored a < suc (g b) = omega (arith, anchored_up a b ppo.0, of_store_low b ppo.0.1 t) in
+              omega (arith, of_other a n, of_store b t, level-lt slots (anchored a) (suc (g b)) under, low))
           | inr m ↦ omega (arith, of_other a n, of_other b m, po_up a b ppo.0)
         ]
       ]
 
   -- of two accesses, by their numbers
   by_number : (a b : MemoryEvent) → AtOwn a → AtOwn b → g a < g b → reached a < reached b
-  by_number a b ownA ownB up = omega (arith, ownA.most, ownB.least, up)
+  by_number a b ownA ownB up = omega (arith, ownA.most, ownB.least, level-lt slots (suc (g a)) (suc (g b)) (omega (arith, up)))
 
   co_up : (w v : MemoryEvent) → Co x86_language test x w v → reached w < reached v
   co_up w v co =
@@ -297,21 +308,36 @@ module _ {test : X86Test} {x : Execution} {o : FinalState} (ok : IsWellFormedPro
 
   apart : (a b : MemoryEvent) → IsEvent x a → IsEvent x b → reached a ≡ reached b → a ≡ b
   apart a b ia ib same =
-      let slots : slot a ≡ slot b = elim (cases_Bool (is is_store a)) [
+      let la = slot_low a ia in
+      let lb = slot_low b ib in
+      let one : slot a ≡ slot b = elim (cases_Bool (is is_store a)) [
         | inl s ↦ elim (cases_Bool (is is_store b)) [
-          | inl t ↦ omega (arith, same, of_store a s, of_store b t, slot_low a ia, slot_low b ib)
-          | inr m ↦ omega (arith, same, of_store a s, of_other b m, slot_low a ia, slot_low b ib)
+          | inl t ↦ omega (
+            arith,
+            (level-apart slots (suc (g a)) (suc (g b)) (suc (slot a)) (suc (slot b)) la lb
+                (omega (arith, same, of_store a s, of_store b t))).1,
+          )
+          | inr m ↦ omega (
+            arith,
+            (level-apart slots (suc (g a)) (anchored b) (suc (slot a)) (slot b) la (omega (arith, lb))
+                (omega (arith, same, of_store a s, of_other b m))).1,
+          )
         ]
         | inr n ↦ elim (cases_Bool (is is_store b)) [
-          | inl t ↦ omega (arith, same, of_other a n, of_store b t, slot_low a ia, slot_low b ib)
-          | inr m ↦ omega (arith, same, of_other a n, of_other b m, slot_low a ia, slot_low b ib)
+          | inl t ↦ omega (
+            arith,
+            (level-apart slots (anchored a) (suc (g b)) (slot a) (suc (slot b)) (omega (arith, la)) lb
+                (omega (arith, same, of_other a n, of_store b t))).1,
+          )
+          | inr m ↦
+              (level-apart slots (anchored a) (anchored b) (slot a) (slot b) (omega (arith, la)) (omega (arith, lb))
+              (omega (arith, same, of_other a n, of_other b m))).1
         ]
       ] in
       let wa : IsWithin a = within a ia in
       let wb : IsWithin b = within b ib in
-      let threads : a.thread ≡ b.thread = omega (arith, slots, wa.position, wb.position) in
-      let positions : a.position ≡ b.position = omega (arith, slots, threads) in
-      ap₂ at threads positions
+      let both = level-apart width a.thread b.thread a.position b.position wa.position wb.position (omega (arith, one)) in
+      ap₂ at both.0 both.1
 
   -- ---- each read has its newest write
 

@@ -1,12 +1,11 @@
 -- A sequentially consistent execution is a run by interleaving, in either language: its paths are walked to their ends.
-use Rattle.lw_axiomatic.proofs.Common.{◌≡◌, ℕ, inl, inr, List, [], ◌∷◌, ◌++◌, length, map, Some, refl, sym}
-use Rattle.lw_axiomatic.proofs.Common.{ap, ap₂, ◌∙◌, subst, arith, slice_get, Contains, ext_get_or}
+use Rattle.lw_axiomatic.proofs.Common.{IsWellScoped, ◌≡◌, ℕ, inl, inr, List, [], ◌∷◌, ◌++◌, length, map, Some}
+use Rattle.lw_axiomatic.proofs.Common.{refl, sym, ap, ap₂, ◌∙◌, subst, arith, slice_get, Contains, ext_get_or}
 use Rattle.lw_axiomatic.proofs.Common.{append-nil, slice_index, slice_index_or, option_map, get_or_past}
 use Rattle.lw_axiomatic.proofs.Common.{length-map, get_or_from_slice_get, slice_get-map, get_some, FinalState}
-use Rattle.lw_axiomatic.proofs.Common.{thread_code, Contains-head, Language, Test, IsWellFormed}
-use Rattle.lw_axiomatic.proofs.Common.{ThreadExecutes, IsLast, IsCandidate, MemoryEvent, Execution}
-use Rattle.lw_axiomatic.proofs.Common.{Interleaved, IsEnd, start, InterleavingOutcome}
-use Rattle.lw_axiomatic.proofs.Common.{IsSequentiallyConsistent, ThreadState}
+use Rattle.lw_axiomatic.proofs.Common.{thread_code, Contains-head, Language, Test, ThreadExecutes, IsLast}
+use Rattle.lw_axiomatic.proofs.Common.{IsCandidate, MemoryEvent, Execution, Interleaved, IsEnd, start}
+use Rattle.lw_axiomatic.proofs.Common.{InterleavingOutcome, IsSequentiallyConsistent, ThreadState}
 use Rattle.lw_axiomatic.proofs.FromInterleaving.{outcome_of}
 use Rattle.lw_axiomatic.proofs.Walks.{AreFronts, IsAt, LastDone, Ends, walked, ran_by}
 
@@ -18,7 +17,7 @@ no_tails = []
 no_tail : (t : ℕ) → thread_code no_tails t ≡ []
 no_tail t = get_or_past no_tails t [] (omega arith)
 
-module _ {S : Type 0} {language : Language S} {test : Test S} (ok : IsWellFormed language test) {x : Execution} {o : FinalState}
+module _ {S : Type 0} {language : Language S} {test : Test S} (ok : IsWellScoped language test) {x : Execution} {o : FinalState}
     (candidate : IsCandidate language test x o) (sequential : IsSequentiallyConsistent language test x) where
   abbrev event : ℕ → ℕ → MemoryEvent
   event t j = record { thread = t; position = j }

@@ -1,16 +1,16 @@
 -- Runs by interleaving along an execution: of the events that are ahead the first by ranks is done, again and again. The
 -- fronts of the paths are walked, up to their ends or to any indices in them; along them the ranks go up with what is in
 -- sequence.
-use Rattle.lw_axiomatic.proofs.Common.{◌≡◌, ◌≢◌, ℕ, zero, suc, ◌+◌, ◌<◌, ◌≤◌, ◌⊎◌, inl, inr, true, List, []}
-use Rattle.lw_axiomatic.proofs.Common.{◌∷◌, ◌++◌, length, map, Option, Some, None, refl, sym, ap, ap₂, ◌∙◌}
-use Rattle.lw_axiomatic.proofs.Common.{subst, arith, slice_get, slice_set, Contains, length-set, slice_index}
-use Rattle.lw_axiomatic.proofs.Common.{slice_index_or, cases_Bool, cases_eq, cases_lt, cases_order}
-use Rattle.lw_axiomatic.proofs.Common.{get_or_past, get_or-set_same, get_or-set_other, Contains-append_left}
-use Rattle.lw_axiomatic.proofs.Common.{none-some, same_Some, slice_get_within, get_or_from_slice_get}
-use Rattle.lw_axiomatic.proofs.Common.{get_some, get-map, FinalState, thread_code, not-Contains-nil}
-use Rattle.lw_axiomatic.proofs.Common.{Contains-head, Contains-tail, Contains-cons, IsAscendingFrom}
-use Rattle.lw_axiomatic.proofs.Common.{IsAscendingFrom-lower_bound, path_up, Operation, Language, writes}
-use Rattle.lw_axiomatic.proofs.Common.{Test, IsWellFormed, ThreadExecutes, IsReadFrom, IsCandidate}
+use Rattle.lw_axiomatic.proofs.Common.{IsWellScoped, ◌≡◌, ◌≢◌, ℕ, zero, suc, ◌+◌, ◌<◌, ◌≤◌, ◌⊎◌, inl, inr}
+use Rattle.lw_axiomatic.proofs.Common.{true, List, [], ◌∷◌, ◌++◌, length, map, Option, Some, None, refl, sym}
+use Rattle.lw_axiomatic.proofs.Common.{ap, ap₂, ◌∙◌, subst, arith, slice_get, slice_set, Contains, length-set}
+use Rattle.lw_axiomatic.proofs.Common.{slice_index, slice_index_or, cases_Bool, cases_eq, cases_lt}
+use Rattle.lw_axiomatic.proofs.Common.{cases_order, get_or_past, get_or-set_same, get_or-set_other}
+use Rattle.lw_axiomatic.proofs.Common.{Contains-append_left, none-some, same_Some, slice_get_within}
+use Rattle.lw_axiomatic.proofs.Common.{get_or_from_slice_get, get_some, get-map, FinalState, thread_code}
+use Rattle.lw_axiomatic.proofs.Common.{not-Contains-nil, Contains-head, Contains-tail, Contains-cons}
+use Rattle.lw_axiomatic.proofs.Common.{IsAscendingFrom, IsAscendingFrom-lower_bound, path_up, Operation}
+use Rattle.lw_axiomatic.proofs.Common.{Language, writes, Test, ThreadExecutes, IsReadFrom, IsCandidate}
 use Rattle.lw_axiomatic.proofs.Common.{MemoryEvent, Execution, IsEvent, reads, operation_is, location, Reads}
 use Rattle.lw_axiomatic.proofs.Common.{Writes, Rf, Fr, Interleaved, read_value, after, IsStep}
 use Rattle.lw_axiomatic.proofs.Common.{InterleavedRunsTo, start, ScOrder, forward_of, ThreadState}
@@ -56,7 +56,7 @@ pub record AreFronts {S : Type 0} (language : Language S) (test : Test S) (x : E
       → Rf language test x w r
       → Contains (thread_code fronts w.thread) w.position
 
-module _ {S : Type 0} {language : Language S} {test : Test S} (ok : IsWellFormed language test) {x : Execution} {o : FinalState}
+module _ {S : Type 0} {language : Language S} {test : Test S} (ok : IsWellScoped language test) {x : Execution} {o : FinalState}
     (candidate : IsCandidate language test x o) {rank : MemoryEvent → ℕ} {fronts tails : List (List ℕ)}
     (are : AreFronts language test x rank fronts tails) where
   abbrev event : ℕ → ℕ → MemoryEvent

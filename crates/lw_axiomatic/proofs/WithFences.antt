@@ -1,18 +1,18 @@
 -- An execution of a test is one of the test with MFENCEs inserted, in which each thread passes the inserted ones too. The test with
 -- them is called the longer one here, the test without them the shorter one.
-use Rattle.lw_axiomatic.proofs.Common.{Operation, Bool, Guard, Branch, operation_is, option_map_or, false}
-use Rattle.lw_axiomatic.proofs.Common.{location, option_and_then, location_of, Some, none-some}
-use Rattle.lw_axiomatic.proofs.Common.{slice_get_past, IsWellFormedProgram, FinalState, IsCandidate}
+use Rattle.lw_axiomatic.proofs.Common.{IsWellScopedThread, IsWellScopedProgram, Operation, Bool, Guard}
+use Rattle.lw_axiomatic.proofs.Common.{Branch, operation_is, option_map_or, false, location, option_and_then}
+use Rattle.lw_axiomatic.proofs.Common.{location_of, Some, none-some, slice_get_past, FinalState, IsCandidate}
 use Rattle.lw_axiomatic.proofs.Common.{first_state, slice_index_or, All-get_or, IsEvent, Reads, reads, Writes}
 use Rattle.lw_axiomatic.proofs.Common.{IsReadFrom, Option, None, TestHead, slice_index, IsLast}
 use Rattle.lw_axiomatic.proofs.Common.{HasOutcomeShape, ℕ, List, ◌<◌, length, ◌≡◌, thread_code, zero, []}
 use Rattle.lw_axiomatic.proofs.Common.{refl, arith, suc, ◌∷◌, IsFencedCode, X86Test, IsFencedTest, ◌≤◌}
 use Rattle.lw_axiomatic.proofs.Common.{get_or_past, subst, Instr, sym, ◌⊎◌, inl, inr, cases_lt, MemoryEvent}
-use Rattle.lw_axiomatic.proofs.Common.{Execution, option_map, IsWellFormedThread, x86_language, ThreadState}
-use Rattle.lw_axiomatic.proofs.Common.{ThreadExecutes, Contains, true≢false, Contains-cons, slice_get_within}
-use Rattle.lw_axiomatic.proofs.Common.{Contains-tail, ◌+◌, ap, writes, x86_operation, true, word_written}
-use Rattle.lw_axiomatic.proofs.Common.{state_after, retarget_to_blocks, IsSuccessor, ◌∙◌, Contains-head}
-use Rattle.lw_axiomatic.proofs.Common.{not-Contains-nil, same_Some, slice_get, IsInsertedAt, at_next, Mfence}
+use Rattle.lw_axiomatic.proofs.Common.{Execution, option_map, x86_language, ThreadState, ThreadExecutes}
+use Rattle.lw_axiomatic.proofs.Common.{Contains, true≢false, Contains-cons, slice_get_within, Contains-tail}
+use Rattle.lw_axiomatic.proofs.Common.{◌+◌, ap, writes, x86_operation, true, word_written, state_after}
+use Rattle.lw_axiomatic.proofs.Common.{retarget_to_blocks, IsSuccessor, ◌∙◌, Contains-head, not-Contains-nil}
+use Rattle.lw_axiomatic.proofs.Common.{same_Some, slice_get, IsInsertedAt, at_next, Mfence}
 use Rattle.lw_axiomatic.proofs.EventLists.{event}
 use Rattle.lw_axiomatic.proofs.Paths.{state_leads}
 use Rattle.lw_axiomatic.proofs.Inserted.{IsInsertedFence, IsKeptAt, inserted_or_kept, kept-not_inserted}
@@ -168,7 +168,7 @@ module _ {test fenced : X86Test} (f : IsFencedTest test fenced) (x : Execution) 
       × ThreadExecutes x86_language x t code path (state_after (x86_operation i) (there r) (x.read (event t j))) end
 
   -- A thread at an instruction of its path has a route if it has one after that instruction.
-  route-take_step : {locs : ℕ} (ok : IsWellFormedThread x86_language locs longer) (j : ℕ) (path : List ℕ) (r end : ThreadState)
+  route-take_step : {locs : ℕ} (ok : IsWellScopedThread x86_language locs longer) (j : ℕ) (path : List ℕ) (r end : ThreadState)
       (kept : IsKeptAt c r.position)
       → c.block r.position ≡ j
       → DoesStep path r end (c.block r.position) (retarget_to_blocks c.block kept.instr)
@@ -233,7 +233,7 @@ module _ {test fenced : X86Test} (f : IsFencedTest test fenced) (x : Execution) 
       )
 
   -- A thread that goes along a path of the shorter code has a route through the longer one.
-  pub route-exists : {locs : ℕ} (ok : IsWellFormedThread x86_language locs longer) (path : List ℕ) (s end : ThreadState)
+  pub route-exists : {locs : ℕ} (ok : IsWellScopedThread x86_language locs longer) (path : List ℕ) (s end : ThreadState)
       → s.position ≤ length longer
       → ThreadExecutes x86_language x t code path (there s) end
       → Route path s end
@@ -326,7 +326,7 @@ position-in_code test e l located = elim (cases_lt e.position (length (thread_co
 
 -- ---- The whole execution.
 
-module _ {test fenced : X86Test} (f : IsFencedTest test fenced) (ok : IsWellFormedProgram fenced) {x : Execution} {o : FinalState}
+module _ {test fenced : X86Test} (f : IsFencedTest test fenced) (ok : IsWellScopedProgram fenced) {x : Execution} {o : FinalState}
     (candidate : IsCandidate x86_language test x o) where
   -- A route of a thread from its start, to an end with the registers of the outcome.
   pub record IsThreadRoute (t : ℕ) (route : List ℕ) : Type 0 where
@@ -337,8 +337,8 @@ module _ {test fenced : X86Test} (f : IsFencedTest test fenced) (ok : IsWellForm
   route_of : (t : ℕ) → t < length test.threads → (route : List ℕ) × IsThreadRoute t route
   route_of t before =
       let locs = length fenced.head.locs in
-      let thread_ok : IsWellFormedThread x86_language locs (thread_code fenced.threads t) =
-      All-get_or (IsWellFormedThread x86_language locs) fenced.threads t [] (omega (arith, before, f.as_many)) ok.code in
+      let thread_ok : IsWellScopedThread x86_language locs (thread_code fenced.threads t) =
+      All-get_or (IsWellScopedThread x86_language locs) fenced.threads t [] (omega (arith, before, f.as_many)) ok.code in
       let g = candidate.threads t before in
       let s = first_state (slice_index_or test.head.init_regs t []) in
       let r =

@@ -15,48 +15,47 @@ ghost use Rattle.lw_interleaving.specs.Runs.{SourceOutcome};
 ghost use Rattle.lw_litmus.specs.Programs.{x86_language};
 ghost use Rattle.lw_litmus.specs.Sources.{source_language};
 ghost use Rattle.lw_litmus.specs.Tests.{SourceTest, X86Test};
-ghost use Rattle.lw_litmus.specs.WellFormedTests.{IsWellFormedSource, IsWellFormedProgram};
+ghost use Rattle.lw_litmus.specs.WellScopedTests.{IsWellScopedSource, IsWellScopedProgram};
 ghost use Rattle.lw_memory.specs.Flat.{flat_memory};
 ghost use Rattle.lw_mesi.specs.declared.protocol.Protocol.{Protocol};
 ghost use Rattle.lw_report.specs.Reports.{IsReport};
 ghost use Rattle.lw_report.specs.declared.judgement.Claim.TheVariants.{Exact};
 ghost use Rattle.lw_tso.specs.Runs.{IsMachineOutcome};
-ghost use Rattle.lw_tso_caches.specs.OverCaches.{OutcomeOverCaches};
+ghost use Rattle.lw_tso_caches.specs.OverCaches.{FitsCaches, OutcomeOverCaches};
 
 use lw_bench::{a_text_has_one_test, what_a_text_says_is_well_formed};
 use lw_finals::x86_outcomes_are_those_of_choices;
-use lw_tso_caches::{outcomes_over_caches_are_flat, replays_over_caches_are_flat};
+use lw_tso_caches::outcomes_over_caches_are_flat;
 
-/// States the theorem: the outcomes of a well-formed x86 test on the machine, with store buffers over flat memory,
-/// are exactly those that the axioms allow. The same holds over caches of each protocol, empty at the start, with
-/// evictions at any time.
+/// States the theorem: the outcomes of an x86 test on the machine, with store buffers over flat memory, are exactly
+/// those that the axioms allow, for any number of threads, locations and instructions. The same holds over caches of
+/// each protocol that the test fits, empty at the start, with evictions at any time.
 pub fn the_machine_is_what_the_axioms_allow()
-    ensures flat_memory { (test : X86Test) (o : FinalState) → IsWellFormedProgram test
+    ensures flat_memory { (test : X86Test) (o : FinalState) → IsWellScopedProgram test
         → IsMachineOutcome flat_memory test test.head.init_words o ↔ IsAllowed test o }
-    ensures caches { (protocol : Protocol) (test : X86Test) (o : FinalState) → IsWellFormedProgram test
+    ensures caches { (protocol : Protocol) (test : X86Test) (o : FinalState) → IsWellScopedProgram test → FitsCaches test
         → OutcomeOverCaches protocol test o ↔ IsAllowed test o }
 {
     x86_outcomes_are_those_of_choices();
     outcomes_over_caches_are_flat();
-    replays_over_caches_are_flat();
 }
 
-/// States that the outcomes of a well-formed source test, by interleaving on one memory, are exactly those that the
-/// axioms of x86-TSO allow its compiled program.
+/// States that the outcomes of a source test, by interleaving on one memory, are exactly those that the axioms of
+/// x86-TSO allow its compiled program.
 pub fn compiled_programs_are_what_the_axioms_allow()
-    ensures { (test : SourceTest) (program : X86Test) (starts : List (List ℕ)) (o : FinalState) → IsWellFormedSource test
+    ensures { (test : SourceTest) (program : X86Test) (starts : List (List ℕ)) (o : FinalState) → IsWellScopedSource test
         → IsCompiled test program starts → SourceOutcome test o ↔ IsAllowed program o }
 {
     the_machine_is_what_the_axioms_allow();
 }
 
-/// States that the outcomes of a well-formed test by interleaving on one memory are exactly those of its sequentially
-/// consistent executions, in which program order, reads-from, coherence order and from-reads together are acyclic.
-/// This holds of source tests, and of x86 tests whose instructions take effect at once on one memory.
+/// States that the outcomes of a test by interleaving on one memory are exactly those of its sequentially consistent
+/// executions, in which program order, reads-from, coherence order and from-reads together are acyclic. This holds of
+/// source tests, and of x86 tests whose instructions take effect at once on one memory.
 pub fn interleaving_outcomes_are_sequential()
-    ensures source { (test : SourceTest) (o : FinalState) → IsWellFormedSource test
+    ensures source { (test : SourceTest) (o : FinalState) → IsWellScopedSource test
         → SourceOutcome test o ↔ IsScOutcome source_language test o }
-    ensures x86 { (test : X86Test) (o : FinalState) → IsWellFormedProgram test
+    ensures x86 { (test : X86Test) (o : FinalState) → IsWellScopedProgram test
         → InterleavingOutcome x86_language test o ↔ IsScOutcome x86_language test o }
 {}
 

@@ -1,5 +1,5 @@
 //! The axiomatic model of x86-TSO: which executions of a test are allowed, by relations between their events. Its
-//! theorem: the axioms allow exactly the outcomes that a well-formed test has on the machine.
+//! theorem: the axioms allow exactly the outcomes that a test has on the machine, whatever its size.
 //! There is no code here. `specs/` has the definitions: executions and candidates (of tests of either language), the
 //! axioms of x86-TSO and of sequential consistency, equivalent forms, runs by interleaving, and fences; they do not
 //! name the machine. `laws` has the theorem, `herd` the relation to herd's definitions, `times` the same model by

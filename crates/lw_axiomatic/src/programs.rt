@@ -11,17 +11,16 @@ ghost use Rattle.lw_axiomatic.specs.Interleavings.{InterleavingOutcome};
 ghost use Rattle.lw_axiomatic.specs.Races.{HasTriangularRace};
 ghost use Rattle.lw_axiomatic.specs.Sequential.{IsSequentiallyConsistent, IsScOutcome};
 ghost use Rattle.lw_axiomatic.specs.SpareFences.{AreSpare};
-ghost use Rattle.lw_base.specs.Names.{IsTestName};
 ghost use Rattle.lw_base.specs.Outcomes.{FinalState};
 ghost use Rattle.lw_litmus.specs.Operations.{is_locked};
 ghost use Rattle.lw_litmus.specs.Programs.{x86_language};
 ghost use Rattle.lw_litmus.specs.Tests.{X86Test};
-ghost use Rattle.lw_litmus.specs.WellFormedTests.{IsWellFormedProgram};
+ghost use Rattle.lw_litmus.specs.WellScopedTests.{IsWellScopedProgram};
 ghost use Rattle.lw_memory.specs.Flat.{flat_memory};
 ghost use Rattle.lw_mesi.specs.declared.protocol.Protocol.{Protocol};
 ghost use Rattle.lw_tso.specs.Fencing.{IsFencedTest};
 ghost use Rattle.lw_tso.specs.Runs.{IsMachineOutcome};
-ghost use Rattle.lw_tso_caches.specs.OverCaches.{OutcomeOverCaches};
+ghost use Rattle.lw_tso_caches.specs.OverCaches.{FitsCaches, OutcomeOverCaches};
 
 use crate::laws::{interleaving_outcomes_are_sequential, the_machine_is_what_the_axioms_allow};
 use crate::times::executions_have_times;
@@ -53,8 +52,8 @@ pub fn locked_instructions_are_atomic()
 
 /// States that no word comes out of thin air: program order and reads-from are acyclic together.
 pub fn no_word_comes_out_of_thin_air()
-    ensures { (test : X86Test) (x : Execution) (o : FinalState) → IsWellFormedProgram test → IsCandidate x86_language test x o
-        → SatisfiesAxioms test x → Acyclic (λ a b. Po x a b ⊎ Rf x86_language test x a b) }
+    ensures { (test : X86Test) (x : Execution) (o : FinalState) → IsCandidate x86_language test x o → SatisfiesAxioms test x
+        → Acyclic (λ a b. Po x a b ⊎ Rf x86_language test x a b) }
 {
     executions_have_times();
 }
@@ -70,9 +69,9 @@ pub fn sequential_outcomes_are_allowed()
 /// is between each store and each later load of its thread that reads a word that another thread's write overwrites.
 /// So an outcome is one of interleaving if this holds of every execution with it.
 pub fn executions_fenced_where_overwritten_are_sequential()
-    ensures executions { (test : X86Test) (x : Execution) → IsWellFormedProgram test → SatisfiesAxioms test x
-        → IsFencedWhereOverwritten test x → IsSequentiallyConsistent x86_language test x }
-    ensures outcomes { (test : X86Test) (o : FinalState) → IsWellFormedProgram test
+    ensures executions { (test : X86Test) (x : Execution) → SatisfiesAxioms test x → IsFencedWhereOverwritten test x
+        → IsSequentiallyConsistent x86_language test x }
+    ensures outcomes { (test : X86Test) (o : FinalState)
         → ((x : Execution) → IsCandidate x86_language test x o → SatisfiesAxioms test x → IsFencedWhereOverwritten test x)
         → IsAllowed test o → IsScOutcome x86_language test o }
 {}
@@ -80,7 +79,7 @@ pub fn executions_fenced_where_overwritten_are_sequential()
 /// States that an execution is sequentially consistent if a fence or a locked instruction is between each store and
 /// each later load of its thread.
 pub fn well_fenced_executions_are_sequential()
-    ensures { (test : X86Test) (x : Execution) → IsWellFormedProgram test → SatisfiesAxioms test x → IsFenced test x
+    ensures { (test : X86Test) (x : Execution) → SatisfiesAxioms test x → IsFenced test x
         → IsSequentiallyConsistent x86_language test x }
 {
     executions_fenced_where_overwritten_are_sequential();
@@ -91,7 +90,7 @@ pub fn well_fenced_executions_are_sequential()
 /// law of all loads at once: if another load lacks its fence, the fence before such a load may be needed
 /// (`spare_fences_change_no_outcome`).
 pub fn executions_fenced_where_shared_are_sequential()
-    ensures { (test : X86Test) (x : Execution) → IsWellFormedProgram test → SatisfiesAxioms test x → IsFencedWhereShared test x
+    ensures { (test : X86Test) (x : Execution) → SatisfiesAxioms test x → IsFencedWhereShared test x
         → IsSequentiallyConsistent x86_language test x }
 {
     executions_fenced_where_overwritten_are_sequential();
@@ -100,9 +99,9 @@ pub fn executions_fenced_where_shared_are_sequential()
 /// States that a test has exactly the outcomes of its sequentially consistent executions, and on the machine exactly
 /// those of interleaving, if on each path a fence or a locked instruction is between each store and each later load.
 pub fn fenced_tests_have_sequential_outcomes()
-    ensures axioms { (test : X86Test) (o : FinalState) → IsWellFormedProgram test → IsFencedInAllThreads test
+    ensures axioms { (test : X86Test) (o : FinalState) → IsFencedInAllThreads test
         → IsAllowed test o ↔ IsScOutcome x86_language test o }
-    ensures flat_memory { (test : X86Test) (o : FinalState) → IsWellFormedProgram test → IsFencedInAllThreads test
+    ensures flat_memory { (test : X86Test) (o : FinalState) → IsWellScopedProgram test → IsFencedInAllThreads test
         → IsMachineOutcome flat_memory test test.head.init_words o ↔ InterleavingOutcome x86_language test o }
 {
     sequential_outcomes_are_allowed();
@@ -115,9 +114,9 @@ pub fn fenced_tests_have_sequential_outcomes()
 /// instruction is between each store and each later load, except loads of locations that no instruction of another
 /// thread writes. This is a law of all loads at once, as `executions_fenced_where_shared_are_sequential` is.
 pub fn tests_fenced_where_others_write_are_interleaving()
-    ensures axioms { (test : X86Test) (o : FinalState) → IsWellFormedProgram test → IsFencedWhereOthersWrite test
+    ensures axioms { (test : X86Test) (o : FinalState) → IsFencedWhereOthersWrite test
         → IsAllowed test o ↔ IsScOutcome x86_language test o }
-    ensures flat_memory { (test : X86Test) (o : FinalState) → IsWellFormedProgram test → IsFencedWhereOthersWrite test
+    ensures flat_memory { (test : X86Test) (o : FinalState) → IsWellScopedProgram test → IsFencedWhereOthersWrite test
         → IsMachineOutcome flat_memory test test.head.init_words o ↔ InterleavingOutcome x86_language test o }
 {
     sequential_outcomes_are_allowed();
@@ -131,13 +130,13 @@ pub fn tests_fenced_where_others_write_are_interleaving()
 /// instruction, which remains, separates them too, or no instruction of another thread writes what the load reads.
 /// The laws above speak of all loads at once, this one of each fence by itself.
 pub fn spare_fences_change_no_outcome()
-    ensures axioms { (test fenced : X86Test) (o : FinalState) (inserted : IsFencedTest test fenced) → IsTestName test.head.name
-        → IsWellFormedProgram fenced → AreSpare test fenced inserted → IsAllowed test o ↔ IsAllowed fenced o }
-    ensures flat_memory { (test fenced : X86Test) (o : FinalState) (inserted : IsFencedTest test fenced) → IsTestName test.head.name
-        → IsWellFormedProgram fenced → AreSpare test fenced inserted
+    ensures axioms { (test fenced : X86Test) (o : FinalState) (inserted : IsFencedTest test fenced) → IsWellScopedProgram fenced
+        → AreSpare test fenced inserted → IsAllowed test o ↔ IsAllowed fenced o }
+    ensures flat_memory { (test fenced : X86Test) (o : FinalState) (inserted : IsFencedTest test fenced) → IsWellScopedProgram fenced
+        → AreSpare test fenced inserted
         → IsMachineOutcome flat_memory test test.head.init_words o ↔ IsMachineOutcome flat_memory fenced fenced.head.init_words o }
     ensures caches { (protocol : Protocol) (test fenced : X86Test) (o : FinalState) (inserted : IsFencedTest test fenced)
-        → IsTestName test.head.name → IsWellFormedProgram fenced → AreSpare test fenced inserted
+        → IsWellScopedProgram fenced → FitsCaches fenced → AreSpare test fenced inserted
         → OutcomeOverCaches protocol test o ↔ OutcomeOverCaches protocol fenced o }
 {
     fences_only_take_outcomes_away();
@@ -149,11 +148,11 @@ pub fn spare_fences_change_no_outcome()
 /// interleaving: these are the outcomes that the axioms allow, and the machine's, over flat memory and over caches of
 /// each protocol. So without triangular races programmers may think of one memory.
 pub fn tests_without_triangular_races_are_interleaving()
-    ensures axioms { (test : X86Test) (o : FinalState) → IsWellFormedProgram test → (HasTriangularRace test → ⊥)
+    ensures axioms { (test : X86Test) (o : FinalState) → IsWellScopedProgram test → (HasTriangularRace test → ⊥)
         → IsAllowed test o ↔ InterleavingOutcome x86_language test o }
-    ensures flat_memory { (test : X86Test) (o : FinalState) → IsWellFormedProgram test → (HasTriangularRace test → ⊥)
+    ensures flat_memory { (test : X86Test) (o : FinalState) → IsWellScopedProgram test → (HasTriangularRace test → ⊥)
         → IsMachineOutcome flat_memory test test.head.init_words o ↔ InterleavingOutcome x86_language test o }
-    ensures caches { (protocol : Protocol) (test : X86Test) (o : FinalState) → IsWellFormedProgram test
+    ensures caches { (protocol : Protocol) (test : X86Test) (o : FinalState) → IsWellScopedProgram test → FitsCaches test
         → (HasTriangularRace test → ⊥) → OutcomeOverCaches protocol test o ↔ InterleavingOutcome x86_language test o }
 {
     the_machine_is_what_the_axioms_allow();
@@ -167,11 +166,11 @@ pub fn tests_without_triangular_races_are_interleaving()
 /// races is stronger: of data races it counts only those in which a load follows a store of its thread to another
 /// location, with neither a fence nor a locked instruction between.
 pub fn tests_without_data_races_are_interleaving()
-    ensures axioms { (test : X86Test) (o : FinalState) → IsWellFormedProgram test → (HasDataRace test → ⊥)
+    ensures axioms { (test : X86Test) (o : FinalState) → IsWellScopedProgram test → (HasDataRace test → ⊥)
         → IsAllowed test o ↔ InterleavingOutcome x86_language test o }
-    ensures flat_memory { (test : X86Test) (o : FinalState) → IsWellFormedProgram test → (HasDataRace test → ⊥)
+    ensures flat_memory { (test : X86Test) (o : FinalState) → IsWellScopedProgram test → (HasDataRace test → ⊥)
         → IsMachineOutcome flat_memory test test.head.init_words o ↔ InterleavingOutcome x86_language test o }
-    ensures caches { (protocol : Protocol) (test : X86Test) (o : FinalState) → IsWellFormedProgram test
+    ensures caches { (protocol : Protocol) (test : X86Test) (o : FinalState) → IsWellScopedProgram test → FitsCaches test
         → (HasDataRace test → ⊥) → OutcomeOverCaches protocol test o ↔ InterleavingOutcome x86_language test o }
 {
     tests_without_triangular_races_are_interleaving();
@@ -179,7 +178,7 @@ pub fn tests_without_data_races_are_interleaving()
 
 /// States that a test has a triangular race if some outcome of x86-TSO is not one of interleaving.
 pub fn relaxed_outcomes_come_of_triangular_races()
-    ensures { (test : X86Test) (o : FinalState) → IsWellFormedProgram test → IsAllowed test o
+    ensures { (test : X86Test) (o : FinalState) → IsWellScopedProgram test → IsAllowed test o
         → InterleavingOutcome x86_language test o ⊎ HasTriangularRace test }
 {
     interleaving_outcomes_are_sequential();

@@ -8,15 +8,14 @@ ghost use Rattle.lw_axiomatic.specs.Times.{HasTimes};
 ghost use Rattle.lw_base.specs.Outcomes.{FinalState};
 ghost use Rattle.lw_litmus.specs.Programs.{x86_language};
 ghost use Rattle.lw_litmus.specs.Tests.{X86Test};
-ghost use Rattle.lw_litmus.specs.WellFormedTests.{IsWellFormedProgram};
 
 /// States that an execution with times satisfies the axioms.
 pub fn timed_executions_keep_the_axioms()
-    ensures { (test : X86Test) (x : Execution) → IsWellFormedProgram test → HasTimes test x → SatisfiesAxioms test x }
+    ensures { (test : X86Test) (x : Execution) → HasTimes test x → SatisfiesAxioms test x }
 {}
 
 /// States that a candidate execution that satisfies the axioms has times.
 pub fn executions_have_times()
-    ensures { (test : X86Test) (x : Execution) (o : FinalState) → IsWellFormedProgram test → IsCandidate x86_language test x o
+    ensures { (test : X86Test) (x : Execution) (o : FinalState) → IsCandidate x86_language test x o
         → SatisfiesAxioms test x → HasTimes test x }
 {}

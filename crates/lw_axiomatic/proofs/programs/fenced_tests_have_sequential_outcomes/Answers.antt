@@ -4,9 +4,9 @@ use Rattle.lw_axiomatic.proofs.programs.fenced_tests_have_sequential_outcomes.Go
 
 pub returns : goal.returns
 returns c = record {
-  axioms = λ test o ok fenced. (
+  axioms = λ test o fenced. (
     λ a.
-        c.executions_fenced_where_overwritten_are_sequential.ensures.outcomes test o ok
+        c.executions_fenced_where_overwritten_are_sequential.ensures.outcomes test o
         (λ x candidate axioms. fenced_where_overwritten-from_fenced test x (fenced_executions candidate fenced)) a,
     λ s. c.sequential_outcomes_are_allowed.ensures.outcomes test o s,
   );
@@ -14,7 +14,7 @@ returns c = record {
       let machine = c.the_machine_is_what_the_axioms_allow.ensures.flat_memory test o ok in
       let same = c.interleaving_outcomes_are_sequential.ensures.x86 test o ok in (
         λ run.
-            same.1 (c.executions_fenced_where_overwritten_are_sequential.ensures.outcomes test o ok
+            same.1 (c.executions_fenced_where_overwritten_are_sequential.ensures.outcomes test o
             (λ x candidate axioms. fenced_where_overwritten-from_fenced test x (fenced_executions candidate fenced))
             (machine.0 run)),
         λ run. machine.1 (c.sequential_outcomes_are_allowed.ensures.outcomes test o (same.0 run)),

@@ -7,5 +7,5 @@ returns c =
     record {
       axioms = λ test o ok none. law.axioms test o ok (λ race. none (data_race-triangular test race));
       flat_memory = λ test o ok none. law.flat_memory test o ok (λ race. none (data_race-triangular test race));
-      caches = λ protocol test o ok none. law.caches protocol test o ok (λ race. none (data_race-triangular test race));
+      caches = λ protocol test o ok fits none. law.caches protocol test o ok fits (λ race. none (data_race-triangular test race));
     }

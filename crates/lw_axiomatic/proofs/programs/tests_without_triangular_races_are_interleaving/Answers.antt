@@ -11,8 +11,8 @@ returns c =
           let m = machine.flat_memory test o ok in
           let s = same test o ok raceless in
           (λ run. s.0 (m.0 run), λ run. m.1 (s.1 run));
-      caches = λ protocol test o ok raceless.
-          let m = machine.caches protocol test o ok in
+      caches = λ protocol test o ok fits raceless.
+          let m = machine.caches protocol test o ok fits in
           let s = same test o ok raceless in
           (λ run. s.0 (m.0 run), λ run. m.1 (s.1 run));
     }

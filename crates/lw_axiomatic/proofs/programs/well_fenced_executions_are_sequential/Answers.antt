@@ -2,6 +2,6 @@ use Rattle.lw_axiomatic.proofs.Sequenced.{fenced_where_overwritten-from_fenced}
 use Rattle.lw_axiomatic.proofs.programs.well_fenced_executions_are_sequential.Goals as goal
 
 pub returns : goal.returns
-returns c test x ok axioms fenced =
-    c.executions_fenced_where_overwritten_are_sequential.ensures.executions test x ok axioms
+returns c test x axioms fenced =
+    c.executions_fenced_where_overwritten_are_sequential.ensures.executions test x axioms
     (fenced_where_overwritten-from_fenced test x fenced)
