@@ -9,7 +9,7 @@ use Rattle.lw_axiomatic.proofs.CoherenceLaws.{two_writes}
 use Rattle.lw_axiomatic.proofs.EventKinds.{locked_reads_there, locked_writes_there}
 
 -- What a locked instruction reads from comes before it in coherence order.
-source_before : {test : X86Test} {x : Execution} {o : FinalState} (candidate : IsCandidate x86_language test x o)
+pub source_before : {test : X86Test} {x : Execution} {o : FinalState} (candidate : IsCandidate x86_language test x o)
     (coherence : Coherence test x) (r u : MemoryEvent) (l : ℕ)
     → Reads x86_language test x r l
     → Writes x86_language test x r l

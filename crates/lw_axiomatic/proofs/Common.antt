@@ -4,25 +4,27 @@ pub use Rattle.std.proofs.Common.{append_assoc, ap₂, arith, drop, eq-eqb, eqb-
 pub use Rattle.std.proofs.Common.{get_or-set_other, get_or-set_same, if◌then◌else◌, inl, inr, le-leb}
 pub use Rattle.std.proofs.Common.{leb-true, length, length-append, length-set, lt-ltb, ltb-true, map, max}
 pub use Rattle.std.proofs.Common.{nat_le, nat_lt, ne_eqb, not, option_and_then, option_map, refl, replicate}
-pub use Rattle.std.proofs.Common.{slice_get, slice_index, slice_index_or, slice_set, subst, suc, sym, take}
-pub use Rattle.std.proofs.Common.{true, true≢false, zero, ℕ, ⊎_elim, ◌&&◌, ◌*◌, ◌++◌, ◌+◌, ◌-◌, ◌<◌, ◌==◌}
-pub use Rattle.std.proofs.Common.{◌||◌, ◌↔◌, ◌∙◌, ◌∷◌, ◌≡◌, ◌≢◌, ◌≤◌, ◌⊎◌}
+pub use Rattle.std.proofs.Common.{slice_get, slice_index, slice_index_or, slice_set, subst, subst₂, suc, sym}
+pub use Rattle.std.proofs.Common.{take, true, true≢false, zero, ℕ, ⊎_elim, ◌&&◌, ◌*◌, ◌++◌, ◌+◌, ◌-◌, ◌<◌}
+pub use Rattle.std.proofs.Common.{◌==◌, ◌||◌, ◌↔◌, ◌∙◌, ◌∷◌, ◌≡◌, ◌≢◌, ◌≤◌, ◌⊎◌}
 pub use Rattle.std.proofs.lemmas.Bool.{and_from, and_parts, cases_Bool, cases_eq, cases_lt, cases_order}
 pub use Rattle.std.proofs.lemmas.Bool.{cond-false, cond-true, false_from_ne_true, or_cases, or_left, or_right}
 pub use Rattle.std.proofs.lemmas.Bool.Decides.{nat_tests}
-pub use Rattle.std.proofs.lemmas.List.{get_or_default, get_or_past, length-map, map-set}
-pub use Rattle.std.proofs.lemmas.List.Elements.{All-get_or, Contains-append_cases, Contains-append_left}
+pub use Rattle.std.proofs.lemmas.List.{get_or_default, get_or_past, length-map, length-replicate, map-set}
+pub use Rattle.std.proofs.lemmas.List.Elements.{All-contains, All-from_recursion, All-get_or}
+pub use Rattle.std.proofs.lemmas.List.Elements.{Contains-append_cases, Contains-append_left}
 pub use Rattle.std.proofs.lemmas.List.Elements.{Contains-append_right}
 pub use Rattle.std.proofs.lemmas.Option.{get_or_from_slice_get, none-some, same_Some, slice_get-get_or}
 pub use Rattle.std.proofs.lemmas.Option.{slice_get-map, slice_get_past, slice_get_within}
 pub use Rattle.std.specs.List.{AllByRecursion}
 pub use Rattle.std.specs.Option.{ForSome, option_map_or, option_or}
 pub use Rattle.lw_base.proofs.Common.{Bytes, FinalState, HasOutcomeShape, TestHead, most_threads}
-pub use Rattle.lw_base.proofs.Common.{operand_value, registers, thread_code, word_or_zero}
+pub use Rattle.lw_base.proofs.Common.{operand_value, registers, thread_code, word_or_zero, wrapping_sum}
 pub use Rattle.lw_base.proofs.api.Lists.{AtEach, cut_at, get-set_other, get-set_same, get_some}
 pub use Rattle.lw_base.proofs.api.Lists.{length-set_word_if_some}
 pub use Rattle.lw_base.proofs.api.Zips.{get-map, zip_pass, zip_passes}
 pub use Rattle.lw_base.specs.declared.event.Event.TheVariants.{Drain, Step}
+pub use Rattle.lw_base.specs.declared.operand.Operand.TheVariants.{Number, Register}
 pub use Rattle.lw_base.specs.declared.stop.Stop.TheVariants.{FenceWaits, SwapWaits}
 pub use Rattle.lw_litmus.proofs.Common.{IsFlowPathFrom, IsFlowSuccessor, IsSuccessor, IsWellFormedStatement}
 pub use Rattle.lw_litmus.proofs.Common.{IsWellScoped, IsWellScopedProgram, IsWellScopedSource}
@@ -78,7 +80,7 @@ pub use Rattle.lw_finals.proofs.api.Waiting.{waits_after, waits_other, waits_sam
 pub use Rattle.lw_finals.proofs.api.X86Prefix.{Coming, Waiting, oldest, waiting_first, waiting_next}
 pub use Rattle.lw_finals.proofs.api.X86Waiting.{AllHold, BufferHolds, Holds, ItemStep, all_hold, carried}
 pub use Rattle.lw_finals.proofs.api.X86Waiting.{hold_first}
-pub use Rattle.lw_report.proofs.Common.{IsReport}
+pub use Rattle.lw_report.proofs.Common.{IsReport, is_true}
 pub use Rattle.lw_report.specs.declared.judgement.Claim.TheVariants.{Exact}
 pub use Rattle.lw_bench.proofs.Common.{HasTest, IsOutputOf, IsStatesReport, IsWellFormedTest}
 pub use Rattle.lw_bench.proofs.Common.{IsWithinListLimits, LitmusTest, Of_source, Of_x86, OutcomeOf}
@@ -90,7 +92,8 @@ pub use Rattle.lw_axiomatic.specs.CoherenceLaws.{CoRR, CoRW, CoWR, CoWW}
 pub use Rattle.lw_axiomatic.specs.CoherenceOrders.{IsCoherenceOrder}
 pub use Rattle.lw_axiomatic.specs.Cycles.{HasNoCycle, Walk}
 pub use Rattle.lw_axiomatic.specs.DataRaces.{HasDataRace, is_plain}
-pub use Rattle.lw_axiomatic.specs.Examples.{both_loads_early, own_loads, own_loads_fenced}
+pub use Rattle.lw_axiomatic.specs.Examples.{both_loads_early, one_is_lost, own_loads, own_loads_fenced}
+pub use Rattle.lw_axiomatic.specs.Examples.{spin_lock, spin_lock_code}
 pub use Rattle.lw_axiomatic.specs.Executions.{Co, Execution, Fr, IsEvent, MemoryEvent, Po, PoLoc, Ppo, Reads}
 pub use Rattle.lw_axiomatic.specs.Executions.{Rf, Rfe, Writes, location, operation_at, operation_is, reads}
 pub use Rattle.lw_axiomatic.specs.Fenced.{AreOnPath, AreStoreAndLoad, HasFenceBetween, HasFenceOnPath}
@@ -99,6 +102,7 @@ pub use Rattle.lw_axiomatic.specs.Fenced.{IsFencedWhereOverwritten, IsFencedWher
 pub use Rattle.lw_axiomatic.specs.Fenced.{IsLocationOnlyWrittenBy, IsOfOneThread}
 pub use Rattle.lw_axiomatic.specs.Interleavings.{Interleaved, InterleavedRunsTo, InterleavingOutcome, IsEnd}
 pub use Rattle.lw_axiomatic.specs.Interleavings.{IsStep, after, read_value, start, words_after}
+pub use Rattle.lw_axiomatic.specs.Locks.{Acquires, IsOrderedBefore, IsOverBefore, IsUsedAsLock, Releases}
 pub use Rattle.lw_axiomatic.specs.Races.{HasTriangularRace, IsNext, RunsToWithoutBarrier}
 pub use Rattle.lw_axiomatic.specs.Sequential.{IsScOutcome, IsSequentiallyConsistent, ScOrder}
 pub use Rattle.lw_axiomatic.specs.SpareFences.{AreSpare, HasOtherFence, IsInsertedAt}

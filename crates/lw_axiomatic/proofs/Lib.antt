@@ -39,4 +39,7 @@ pub mod WorkedRaces
 pub mod Inserted
 pub mod WithFences
 pub mod SpareFences
+pub mod Locks
 pub mod WorkedSpare
+pub mod WorkedLocks
+pub mod WorkedCounts

@@ -12,5 +12,6 @@ pub mod Fenced
 pub mod Races
 pub mod DataRaces
 pub mod SpareFences
+pub mod Locks
 pub mod Times
 pub mod Examples

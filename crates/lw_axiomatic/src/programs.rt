@@ -8,6 +8,7 @@ ghost use Rattle.lw_axiomatic.specs.Executions.{MemoryEvent, Execution, Po, Read
 ghost use Rattle.lw_axiomatic.specs.Fenced.{IsFenced, IsFencedWhereShared, IsFencedWhereOverwritten};
 ghost use Rattle.lw_axiomatic.specs.Fenced.{IsAtomic, IsFencedInAllThreads, IsFencedWhereOthersWrite};
 ghost use Rattle.lw_axiomatic.specs.Interleavings.{InterleavingOutcome};
+ghost use Rattle.lw_axiomatic.specs.Locks.{Acquires, Releases, IsUsedAsLock, IsOrderedBefore, IsOverBefore};
 ghost use Rattle.lw_axiomatic.specs.Races.{HasTriangularRace};
 ghost use Rattle.lw_axiomatic.specs.Sequential.{IsSequentiallyConsistent, IsScOutcome};
 ghost use Rattle.lw_axiomatic.specs.SpareFences.{AreSpare};
@@ -48,6 +49,17 @@ pub fn locked_instructions_are_atomic()
     ensures apart { (test : X86Test) (x : Execution) (o : FinalState) → IsCandidate x86_language test x o → SatisfiesAxioms test x
         → (r s : MemoryEvent) (l : ℕ) → operation_is x86_language test is_locked r ≡ true → operation_is x86_language test is_locked s ≡ true
         → Reads x86_language test x r l → Reads x86_language test x s l → x.rf r ≡ x.rf s → r ≡ s }
+{}
+
+/// States that critical sections of a lock that locked instructions take do not overlap, for any number of threads. Of
+/// two instructions that find the lock free, the store that releases one of them comes before the other in global
+/// happens-before. So each event before the release in its thread comes before each event after the other instruction.
+pub fn critical_sections_do_not_overlap()
+    ensures exclusive { (test : X86Test) (x : Execution) (o : FinalState) → IsCandidate x86_language test x o → SatisfiesAxioms test x
+        → (l : ℕ) → IsUsedAsLock test x l → (r s : MemoryEvent) → Acquires test x l r → Acquires test x l s
+        → (r ≡ s) ⊎ (IsOverBefore test x l r s ⊎ IsOverBefore test x l s r) }
+    ensures ordered { (test : X86Test) (x : Execution) (l : ℕ) (r s u a b : MemoryEvent) → Acquires test x l s
+        → Releases test x l r u → IsOrderedBefore test x u s → Po x a u → Po x s b → IsOrderedBefore test x a b }
 {}
 
 /// States that no word comes out of thin air: program order and reads-from are acyclic together.

@@ -1,5 +1,5 @@
-//! Tests of values and texts: outcomes, names and registers, the reading of a head, of cells and of three classic
-//! tests, and a run of a source test.
+//! Tests of values and texts: outcomes, names and registers, the reading of a head, of cells, of three classic tests and
+//! of a spin lock, and a run of a source test.
 #![tactic(auto)]
 
 #[cfg(test)]
@@ -8,6 +8,8 @@ mod cells;
 mod classics;
 #[cfg(test)]
 mod heads;
+#[cfg(test)]
+mod locks;
 #[cfg(test)]
 mod names;
 #[cfg(test)]
