@@ -24,7 +24,7 @@ from shared.home import HOME
 
 PAGE = f"{HOME}/docs/BELIEVE.md"
 MADE = ("lw_bench", "Outputs", "IsOutputOf"), ("lw_bench", "Lists", "IsStatesReport"), ("lw_bench", "Lists", "IsReachedOnMachine")
-AXIOMS = ("lw_axiomatic", "Axioms", "IsAllowed"), ("lw_axiomatic", "Sequential", "IsScOutcome")
+AXIOMS = ("lw_axiomatic", "Axioms", "IsAllowed"), ("lw_axiomatic", "Sequential", "IsScOutcome"), ("lw_litmus", "WellScoped", "IsWellScoped")
 CACHES = (("lw_bench", "Lists", "IsReachedOverCaches"),)
 LAST = "HasTest", "IsWithinListLimits"
 SEARCH = (
