@@ -19,14 +19,15 @@ through it; what other threads can see of it becomes instructions of lw, which l
 - `--show` prints these tests and nothing else, with a comment that has the lines of FILE from which each instruction comes. The other tools
   take them.
 - `--schedules` prints after the report a run to each state: its events, with the lines of FILE.
-- `--fences` prints after the report what tools/fences.py says of each fence and exchange, with the lines of FILE: which of them the answer needs.
+- `--fences` prints after the report what tools/fences.py says of each fence and exchange, with the lines of FILE: which of them the answer
+  needs. What is of one line of a thread is left out together, if there are several tests.
 - `--film N` prints, and nothing else, the film of a run to the N-th state of the report as an SVG, as tools/picture.py draws it: the machine at
   each event, with the line of FILE. It needs the program lw.
 - `--matrix` compiles by all compilers that are there (or by those of `--cc`) at all levels, and prints each list once with those that have
   it; and whether the verdict changes with weaker memory orders.
 
-The last line but one says by whom the lists are made, and `not proved` if not by lw or beyond. Notes and refusals are lines `FILE:LINE: ..` on standard
-error. The status is 1 if FILE is refused, 2 if the command is none, and 6 if no run is left, so that there is no verdict.
+The last line but one says by whom the lists are made, and `not proved` if not by lw or beyond. Notes and refusals are lines `FILE:LINE: ..` on
+standard error. The status is 1 if FILE is refused, 2 if the command is none, and 6 if no run is left, so that there is no verdict.
 Python 3.8 is enough; it needs a compiler that writes assembly of x86-64 in AT&T's order.
 """
 import os

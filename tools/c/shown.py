@@ -73,7 +73,7 @@ def fences_of_tests(answer: Answer, made: Converter) -> str:
     names = Names(made, answer.tests[0].conversion.question)
     original = Original(made.name, made.condition.text, named, named, everything, all_shown="its question and all locations")
     # (Who lists the tests, and how often loops are gone through, is said of the whole answer.)
-    return plain.text_of(lines_of(Together(parts, names.line), original, False, True)[:-1])
+    return plain.text_of(lines_of(Together(parts, names.line, True), original, False, True)[:-1])
 
 
 def schedules_of(answer: Answer, made: Converter) -> str:

@@ -6,7 +6,7 @@ from typing import Callable, Dict, Hashable, Iterator, List, NamedTuple, Optiona
 
 import plain
 from fencing.exchanges import exchanges_of, with_instructions, without_lock
-from fencing.places import places_of, with_fences, without
+from fencing.places import behind_stores, places_of, with_fences, without
 from fencing.sets import smallest_sets
 from herd.convert import Conversion
 from herd.together import put_together
@@ -15,6 +15,11 @@ from shared import answers
 # What an instruction of the original is known by; None if an instruction of lw comes from none. A thread with one is a place.
 Origin = Optional[Hashable]
 Place = Tuple[int, Hashable]
+
+
+def places_behind_stores(test: plain.Test) -> List[Tuple[int, int]]:
+    """All instructions, by thread and number, that some way leads to from a store, with nothing between that waits for it."""
+    return [(thread, at) for thread, code in enumerate(test.threads) for at in sorted(behind_stores(code))]
 
 
 class Part(NamedTuple):
@@ -45,10 +50,11 @@ class Part(NamedTuple):
 
 
 class Together:
-    """The tests, and the lists that were asked for."""
+    """The tests, and the lists that were asked for. If the tests have different branches, since what a guess decides is none, one fence before a
+    branch of the original may do what two do in the tests: then fences are tried everywhere after stores."""
 
-    def __init__(self, parts: List[Part], in_names: Callable[[str], str]):
-        self.parts, self.in_names = parts, in_names
+    def __init__(self, parts: List[Part], in_names: Callable[[str], str], is_tried_everywhere: bool = False):
+        self.parts, self.in_names, self.is_tried_everywhere = parts, in_names, is_tried_everywhere
         self.makers: Set[answers.Maker] = set()
         self.known: Dict[tuple, str] = {}
         self.question = parts[0].conversion.question
@@ -57,7 +63,8 @@ class Together:
         """The same with more sites shown."""
         shown = lambda test: replace(test, listed=test.listed | sites)
         conversions = [replace(it.conversion, test=shown(it.test), question=shown(it.conversion.question)) for it in self.parts]
-        return Together([it._replace(conversion=made) for it, made in zip(self.parts, conversions)], self.in_names)
+        parts = [it._replace(conversion=made) for it, made in zip(self.parts, conversions)]
+        return Together(parts, self.in_names, self.is_tried_everywhere)
 
     def report(self, change: Callable[[Part], plain.Test] = lambda part: part.test) -> str:
         """The report that is put together from all tests, each of them changed."""
@@ -99,7 +106,7 @@ class Together:
 
     def helping(self) -> List[List[Place]]:
         """All smallest sets of places at which fences answer the question; none if no fence does."""
-        places = self.in_order(lambda part: part.places(places_of(part.test)))
+        places = self.in_order(lambda part: part.places(places_behind_stores(part.test) if self.is_tried_everywhere else places_of(part.test)))
         return smallest_sets(places, lambda chosen: not self.unwanted(lambda part: with_fences(part.test, sorted(part.first(chosen)))))
 
     # Exchanges.

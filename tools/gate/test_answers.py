@@ -27,7 +27,14 @@ from shared.home import HOME
 
 SB = "examples/SB-x86.litmus"
 # A report of SB-x86 that is wrong.
-WRONG = "Test SB-x86 Allowed\nStates 1\n0:EAX=1; 1:EAX=1;\nNo\nPositive: 0 Negative: 1\nCondition exists (0:EAX=0 /\\ 1:EAX=0)\nObservation SB-x86 Never 0 1\n"
+WRONG = """Test SB-x86 Allowed
+States 1
+0:EAX=1; 1:EAX=1;
+No
+Positive: 0 Negative: 1
+Condition exists (0:EAX=0 /\\ 1:EAX=0)
+Observation SB-x86 Never 0 1
+"""
 LIMIT = "echo 'lw: limit 2 TooManyOrders' >&2; exit 3"
 # Writes what a program is made of.
 MADE_OF = """home=$1; . "$home/tools/program/program.sh"; use_program "$2"

@@ -30,14 +30,16 @@ NUMBERS = ("constant.numeric", "entity.name.section")
 NAMES = ("variable.other", "entity.name.function", "entity.name.section")
 # What the reader takes and a list of words does not tell apart: a text, and of some of its words the scopes.
 TYPED = (
-    ("X86 MOV\n{}\n P0 ;\n MOV: MOV [MOV],1 ;\nexists (MOV=1)\n", "MOV", ("entity.name.type", "entity.name.function", "keyword.control", "variable.other", "variable.other")),
+    ("X86 MOV\n{}\n P0 ;\n MOV: MOV [MOV],1 ;\nexists (MOV=1)\n", "MOV", (
+        "entity.name.type", "entity.name.function", "keyword.control", "variable.other", "variable.other")),
     ("X86 A\n{}\n P0 ;\n mov eax,[x] ;\nexists (0:EaX=0x1F)\n", "eax", ("variable.language", "variable.language")),
     ("SRC A\n{}\n P0 ;\n eax := 1 ;\n mov := 1 ;\nexists (r7=1)\n", "mov", ("variable.other",)),
     ("SRC A\n(* x (* SRC x *) x *)\nx=x{x\n\"x=x\" {x=1;}\n P0 ;\n x := 1 ;\nexists (x=1)\n", "x", (
         "comment.block", "comment.block", "comment.block", "variable.parameter", "string.unquoted", "string.unquoted",
         "string.quoted.double", "string.quoted.double", "variable.other", "variable.other", "variable.other")),
     ("(* SRC *) X86 A\n{}\n P0 ;\n lock xchg [x],eax ;\nexists (x=1)\n", "lock", ("keyword.other.fence",)),
-    ("SRC A\n{}\n P0 ;\n r0 := fetchadd x r1 ;\n if r0 != 0 goto L ;\n L: ;\n~exists (not true)\n", "fetchadd|if|goto|L|exists|not|true", (
+    ("SRC A\n{}\n P0 ;\n r0 := fetchadd x r1 ;\n if r0 != 0 goto L ;\n L: ;\n~exists (not true)\n",
+     "fetchadd|if|goto|L|exists|not|true", (
         "keyword.other.fence", "keyword.control", "keyword.control", "variable.other", "entity.name.function", "keyword.control.question",
         "keyword.operator.logical", "constant.language")),
 )
@@ -160,7 +162,8 @@ class Words(cases.Case):
             with self.subTest(name):
                 self.assertEqual(text, read(name))
                 self.assertTrue(not name.endswith(".json") or json.loads(text))
-        paths = [it["path"] for it in grammar.extension()["contributes"]["grammars"]] + [grammar.extension()["contributes"]["languages"][0]["configuration"]]
+        parts = grammar.extension()["contributes"]
+        paths = [*(it["path"] for it in parts["grammars"]), *(it["configuration"] for it in parts["languages"])]
         self.assertEqual([], [it for it in paths if not os.path.exists(os.path.join(HOME, grammar.FOLDER, it))])
 
 

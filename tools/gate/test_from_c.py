@@ -53,6 +53,26 @@ void P0() {{ {0}; int r0 = {1}; lw_see(r0, r0); }}
 void P1() {{ y.store(1); int r0 = x.load(); lw_see(r0, r0); }}
 // lw: exists (0:r0=0 /\\ 1:r0=0)
 """
+# Store buffering in which each thread swaps at its end, and a branch of the first one is over before.
+SWAPPING = """#include <stdatomic.h>
+atomic_int x, y, z, lock;
+void P0(void) {
+    atomic_store_explicit(&x, 1, memory_order_relaxed);
+    int r0 = atomic_load_explicit(&z, memory_order_relaxed) ? 2 : atomic_load_explicit(&y, memory_order_relaxed);
+    int want = 0;
+    atomic_compare_exchange_strong(&lock, &want, 1);
+    lw_see(r0, r0);
+}
+void P1(void) {
+    atomic_store_explicit(&y, 1, memory_order_relaxed);
+    atomic_thread_fence(memory_order_seq_cst);
+    int r0 = atomic_load_explicit(&x, memory_order_relaxed);
+    int want = 0;
+    atomic_compare_exchange_strong(&lock, &want, 2);
+    lw_see(r0, r0);
+}
+// lw: exists (0:r0=0 /\\ 1:r0=0)
+"""
 # A program whose states are the same with any orders: one thread does what <atomic> has.
 ALL_OF_CC = """#include <atomic>
 std::atomic<unsigned> n{0};
@@ -638,6 +658,9 @@ class Compiled(cases.Case):
         asked = "~exists (0:got=0 \\/ 1:got=0 \\/ writers=2)"
         self.assertEqual([f"  by its question, {asked}: 1 state more", "    0:got=5; 1:got=5; writers=2;"], lines[at + 1 : at + 3])
         self.assertEqual("a, by its question, " + asked + ": fences 0, states 1", lines[0].replace(" (not proved)", ""))
+        lines = fences_of(*from_c.converted(read_source("a.c", SWAPPING), compiler, 1)).splitlines()
+        self.assertIn("P1 line 12: can be left out alone", lines)
+        self.assertEqual(["  P0 line 5"], lines[lines.index("Enough, with none to spare: no fence") + 2 :][:1])
 
     @unittest.skipUnless(spawn.is_current(), "the program is not built")
     def test_film(self):

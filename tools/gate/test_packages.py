@@ -36,6 +36,7 @@ sys.path.insert(0, os.path.dirname(os.path.dirname(os.path.abspath(__file__))))
 import make_deb
 import make_wheel
 import pack
+from editor import grammar
 from gate import cases, check_library, container
 from gate.examples import read
 from packing import manual, tree
@@ -333,6 +334,7 @@ class Debian(Packed):
         self.assertTrue(len(paths) > 700)
         self.assertEqual([], [it for it in paths if not os.path.exists(it)])
         self.assertEqual([], [it for it in paths if it.endswith((".rt", ".antt", "crates.txt"))])
+        self.assertTrue(os.path.exists(f"{self.at}/usr/share/lw/{grammar.FOLDER}/lw.tmLanguage.json"))
         modes = {os.stat(f"{self.at}/usr/{it}").st_mode & 0o777 for it in ("bin/lw", "bin/lw-fences")}
         self.assertEqual({0o755}, modes)
 

@@ -1,8 +1,8 @@
 """The runs of the proved program that the web page asks for, and of tests on this processor, each a process group of its own, with limits.
 
-At most four run at once, and one on this processor; others wait for their turn. A run has 1 GiB of memory, and is ended after 20 seconds, when the client goes
-away, and when the server ends. A server that is killed ends nothing: then the system ends its runs at once where it can (by setpriv of
-util-linux), and else when they have had their processor time. A run that crashes is told of, and ends nothing else.
+At most four run at once, and one on this processor; others wait for their turn. A run has 1 GiB of memory, and is ended after 20 seconds,
+when the client goes away, and when the server ends. A server that is killed ends nothing: then the system ends its runs at once where it can
+(by setpriv of util-linux), and else when they have had their processor time. A run that crashes is told of, and ends nothing else.
 """
 import contextlib
 import json
