@@ -12,6 +12,7 @@ What a control needs and this machine lacks is told by `skipped`, and the contro
 tools/gate/test_machine_parts.py tries what needs no processor. tools/check_documents.py calls all this (tools/gate/cases.py).
 """
 import ctypes
+import json
 import os
 import re
 import shutil
@@ -284,6 +285,11 @@ class Controls(cases.Case):
         self.assertEqual(("seen", 0), (head, status))
         self.assertEqual([True, True], [bool(re.fullmatch("[123] of 3", it)) for it in cells])
         self.assertEqual(["method"], run(["run_all.py", "--as", "csv", "examples/CoRR-x86.litmus"])[0].splitlines()[0].split(",")[-1:])
+        converted = ["tools/herd/tests/SB-att.litmus", "tools/herd/tests/Cas.litmus"]
+        out, err, status = run(["run_all.py", "--as", "json", "--on-machine", "0.3", *converted])
+        told = [it["seen"] for it in json.loads(out)]
+        self.assertEqual((True, "-", 0), (bool(re.fullmatch("[1-4] of 4", told[0])), told[1], status))
+        self.assertIn("Cas.litmus: a program, and a test that is converted to several or has loops, are not run on this machine", err)
         for seconds in ("0", "x", "nan", ""):
             with self.subTest(seconds):
                 self.assertEqual(2, run(["run_all.py", "--on-machine", seconds, "examples/SB.litmus"])[2])

@@ -1,6 +1,6 @@
 """A column of tools/run_all.py: how many of a test's listed states are seen on this machine."""
 import tempfile
-from typing import Callable, Dict, List, NamedTuple
+from typing import Callable, Dict, List, NamedTuple, Optional
 
 import given
 from machine.faults import NotRun
@@ -25,19 +25,22 @@ def cell_of(result: Result) -> str:
     return f"{len(result.seen_and_listed())} of {len(result.listed.states)}" + (f", and {beyond} not listed" if beyond else "")
 
 
-def column_of(files: List[str], seconds: float, tell: Callable[[str], None]) -> Column:
-    """Runs each file's test for this number of seconds, one after another, since runs disturb each other. Without a compiler or objdump
-    nothing is run, and `NotRun` says why.
-    """
+def text_of(file: str) -> str:
+    """Returns the text of a file."""
+    with open(file, "rb") as it:
+        return given.decoded(it.read())
+
+
+def column_of(texts: Dict[str, Optional[str]], seconds: float, tell: Callable[[str], None]) -> Column:
+    """Runs the test of each file, by its text or what that is converted to, for so many seconds, one after another, since runs disturb each
+    other. Without a compiler or objdump nothing is run, and `NotRun` says why."""
     made = Column({}, [], False)
     with tempfile.TemporaryDirectory(prefix="lw-machine-") as folder:
         laboratory = Laboratory(["cc"], folder)
-        for file in files:
+        for file, text in texts.items():
             made.cells[file] = NOT_RUN
             try:
-                with open(file, "rb") as it:
-                    text = given.decoded(it.read())
-                result = laboratory.result_of(file, text, Settings(Limits(seconds)))
+                result = laboratory.result_of(file, text_of(file) if text is None else text, Settings(Limits(seconds)))
             except (NotRun, given.Fault) as why:
                 made.faults.append(f"{file}: {why.args[0]}")
                 continue

@@ -52,18 +52,26 @@ def tell_of_machine(done: list, name: str) -> int:
     return SEEN_AND_NOT_LISTED if contradicting else 1 if not_compared or not both else 0
 
 
-def rows_with_seen(rows: list, seconds: float, tell) -> tuple:
-    """Runs each row's test on this machine, if anything can be run. Returns the rows with what was seen, and the exit status. Files that are
-    refused or were converted are not run."""
+def is_one_test(it) -> bool:
+    """Says whether an answer is that of one test of lw, as it is or converted, whose runs are all runs."""
+    return it.row.listed is not None and (it.row.converted is None or len(it.tests) == 1 and not it.tries)
+
+
+def rows_with_seen(done: list, seconds: float, tell) -> tuple:
+    """Runs each answer's test on this machine, if anything can be run. Returns the rows with what was seen, and the exit status. Files that are
+    refused are not run, nor such as are several tests, or are programs."""
+    rows = [it.row for it in done]
     from machine import column
     from machine.faults import NotRun
 
     try:
-        made = column.column_of([it.file for it in rows if it.converted is None and it.listed is not None], seconds, tell)
+        texts = {it.row.file: it.tests[0][0] if it.tests else None for it in done if is_one_test(it)}
+        made = column.column_of(texts, seconds, tell)
     except NotRun as why:
         print(f"run_all: {why}", file=sys.stderr)
         return rows, NOT_RUN
-    left_out = [f"{it.file}: a file that is converted is not run on this machine" for it in rows if it.converted is not None]
+    others = [it.row.file for it in done if it.row.listed is not None and not is_one_test(it)]
+    left_out = [f"{it}: a program, and a test that is converted to several or has loops, are not run on this machine" for it in others]
     for line in [*made.faults, *left_out]:
         print(line, file=sys.stderr)
     seen = [it._replace(seen=made.cells.get(it.file, column.NOT_RUN)) for it in rows]
