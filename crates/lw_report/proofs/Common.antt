@@ -52,10 +52,11 @@ pub use Rattle.lw_base.specs.declared.head.Seen.TheVariants.{Location, Register}
 pub use Rattle.lw_outcome_map.specs.Listings.{OutcomeEntries, outcomes_of, schedules_of}
 pub use Rattle.lw_report.specs.Judgement.{OkMeans, negative, positive, verdict_of}
 pub use Rattle.lw_report.specs.Observed.{is_named, is_observed, observed, observed_words}
-pub use Rattle.lw_report.specs.Reports.{IsReport, IsScheduleList, claim_line, count_line, judgement_lines}
-pub use Rattle.lw_report.specs.Reports.{kind_text, observation_line, observation_text, report_text}
-pub use Rattle.lw_report.specs.Reports.{schedule_list_text, scheduled, scheduled_lines, state_line}
-pub use Rattle.lw_report.specs.Reports.{title_line, verdict_text, word_text}
+pub use Rattle.lw_report.specs.Reports.{IsMarkedList, IsReport, IsScheduleList, claim_line, count_line}
+pub use Rattle.lw_report.specs.Reports.{judgement_lines, kind_text, mark_text, marked_line, marked_list_text}
+pub use Rattle.lw_report.specs.Reports.{observation_line, observation_text, report_text, schedule_list_text}
+pub use Rattle.lw_report.specs.Reports.{scheduled, scheduled_lines, state_line, title_line, verdict_text}
+pub use Rattle.lw_report.specs.Reports.{word_text}
 pub use Rattle.lw_report.specs.States.{AreListedStates, AreStatesOf, IsFirstWithWords, IsSmallestOf}
 pub use Rattle.lw_report.specs.States.{ListedState, ProjectedState, project_state, projection_of}
 pub use Rattle.lw_report.specs.Truth.{final_word, is_true}

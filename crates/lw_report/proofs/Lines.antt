@@ -1,14 +1,15 @@
 -- The lines of a report, written part by part, are those of the definitions.
-use Rattle.lw_report.proofs.Common.{◌≡◌, ℕ, suc, slice_get, Some, ◌<◌, ◌≤◌, ◌+◌, List, [], ◌∷◌, ◌++◌, length}
-use Rattle.lw_report.proofs.Common.{map, min, take, drop, get_or, refl, sym, ap, ◌∙◌, append_assoc, codes}
-use Rattle.lw_report.proofs.Common.{length-take, arith, zip, flat_map, decimal, take_all, length-map}
-use Rattle.lw_report.proofs.Common.{map-append, take_more, get_or_from_slice_get, min-le_left, min-le_right}
-use Rattle.lw_report.proofs.Common.{get_or_default_zero, length-zip, get_or-zip, items_more, items_all, Bytes}
-use Rattle.lw_report.proofs.Common.{register_name, condition_text, TestHead, joined, Seen, Register, Location}
-use Rattle.lw_report.proofs.Common.{gap, label, labels, labelled_word, labelled_words, positive, negative}
-use Rattle.lw_report.proofs.Common.{verdict_of, kind_text, verdict_text, word_text, state_line, title_line}
-use Rattle.lw_report.proofs.Common.{count_line, observation_line, claim_line, judgement_lines, report_text}
-use Rattle.lw_report.proofs.Common.{Claim, observed, ProjectedState, ListedState, projection_of}
+use Rattle.lw_report.proofs.Common.{mark_text, marked_line, ◌≡◌, ℕ, suc, slice_get, Some, ◌<◌, ◌≤◌, ◌+◌, List}
+use Rattle.lw_report.proofs.Common.{[], ◌∷◌, ◌++◌, length, map, min, take, drop, get_or, refl, sym, ap, ◌∙◌}
+use Rattle.lw_report.proofs.Common.{append_assoc, codes, length-take, arith, zip, flat_map, decimal, take_all}
+use Rattle.lw_report.proofs.Common.{length-map, map-append, take_more, get_or_from_slice_get, min-le_left}
+use Rattle.lw_report.proofs.Common.{min-le_right, get_or_default_zero, length-zip, get_or-zip, items_more}
+use Rattle.lw_report.proofs.Common.{items_all, Bytes, register_name, condition_text, TestHead, joined, Seen}
+use Rattle.lw_report.proofs.Common.{Register, Location, gap, label, labels, labelled_word, labelled_words}
+use Rattle.lw_report.proofs.Common.{positive, negative, verdict_of, kind_text, verdict_text, word_text}
+use Rattle.lw_report.proofs.Common.{state_line, title_line, count_line, observation_line, claim_line}
+use Rattle.lw_report.proofs.Common.{judgement_lines, report_text, Claim, observed, ProjectedState}
+use Rattle.lw_report.proofs.Common.{ListedState, projection_of}
 
 -- A label and its word are the text of the name with its word.
 label_told : (head : TestHead) (before : Bytes) (s : Seen) (w : ℕ)
@@ -232,3 +233,25 @@ report_written head claim states end parts =
     ∙ ap (λ t. t ++ judged) told
     ∙ append_assoc (title_line head) (count_line (length shown) ++ all) judged
     ∙ ap (λ t. title_line head ++ t) (append_assoc (count_line (length shown)) all judged)
+
+-- ---- The lines of marked states.
+
+-- A state's line after its mark, written part by part, is the marked line of its words.
+pub marked_written : (head : TestHead) (names : List Bytes) (ws : List ℕ) (s : ProjectedState) (mark out mid new : Bytes)
+    → mid ≡ out ++ mark
+    → mark ≡ mark_text s.holds
+    → new ≡ mid ++ (labelled_words names ws ++ codes "\n")
+    → names ≡ labels head (observed head)
+    → ws ≡ s.words
+    → new ≡ out ++ marked_line head s
+marked_written head names ws s mark out mid new begun is_mark written are same =
+    state_written head names ws s.words mid new written are same
+    ∙ ap (λ t. t ++ state_line head s.words) (begun ∙ ap (λ m. out ++ m) is_mark)
+    ∙ append_assoc out (mark_text s.holds) (state_line head s.words)
+
+-- The marked lines of listed states are those of the states without their indices.
+pub lines_marked : (head : TestHead) (states : List ListedState)
+    → flat_map (λ (s : ListedState). marked_line head (projection_of s)) states
+    ≡ flat_map (marked_line head) (map projection_of states)
+lines_marked head [] = refl
+lines_marked head (s ∷ states) = ap (λ t. marked_line head (projection_of s) ++ t) (lines_marked head states)

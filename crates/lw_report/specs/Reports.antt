@@ -1,5 +1,5 @@
 -- The report of a test's states, and the list of their schedules, by docs/FORMAT.md, which is close to what herd prints.
-use Rattle.std.specs.Prelude.{◌≡◌, ℕ, List, [], ◌++◌, length, map, codes, zip, slice_index_or, All}
+use Rattle.std.specs.Prelude.{◌≡◌, ℕ, Bool, true, false, List, [], ◌++◌, length, map, codes, zip, slice_index_or, All}
 use Rattle.std.specs.List.{flat_map}
 use Rattle.std.specs.Fmt.{decimal}
 use Rattle.lw_base.specs.Types.{Bytes}
@@ -128,3 +128,24 @@ pub record IsScheduleList
   pub are : AreStatesOf head Has (map (λ s. s.0) states)
   pub lead : All (λ s. (o : FinalState) × IsSmallestOf head Has s.0.words o × Leads s.1 o) states
   pub is : text ≡ schedule_list_text head states
+
+-- ---- The list of marked states.
+
+-- The mark of a state: `+` if the proposition is true in it, and `-` otherwise, and a space.
+abbrev pub mark_text : Bool → Bytes
+mark_text true = codes "+ "
+mark_text false = codes "- "
+
+-- The line of a state, after its mark.
+abbrev pub marked_line : TestHead → ProjectedState → Bytes
+marked_line head s = mark_text s.holds ++ state_line head s.words
+
+-- The lines of the states, each with its mark.
+abbrev pub marked_list_text : TestHead → List ProjectedState → Bytes
+marked_list_text head states = flat_map (marked_line head) states
+
+-- The text is the list of the states of a set of outcomes, each with its mark.
+pub record IsMarkedList (head : TestHead) (Has : FinalState → Type 0) (text : Bytes) : Type 0 where
+  pub states : List ProjectedState
+  pub are : AreStatesOf head Has states
+  pub is : text ≡ marked_list_text head states

@@ -6,6 +6,7 @@
 mod judgement;
 mod laws;
 mod line;
+mod marks;
 mod projection;
 mod report;
 mod schedules;
@@ -16,6 +17,7 @@ pub use judgement::{Claim, Observation, Verdict};
 pub use laws::{
     OutcomeSet, a_set_has_one_report, exact_verdicts_are_of_all_outcomes, same_words_agree,
 };
+pub use marks::write_marks;
 pub use projection::project;
 pub use report::{verdict, write_report};
 pub use schedules::write_schedules;
