@@ -1,13 +1,13 @@
 -- What proofs cite of std, of lower crates and of this crate's definitions, passed on from one place. Declares nothing.
 pub use Rattle.std.proofs.Common.{All, AllPairs, Bool, Bor, Contains, Err, IfErr, IfOk, IfSome, IsAscii}
 pub use Rattle.std.proofs.Common.{IsTrue, Less, List, MatchOption, None, Ok, OnOk, Option, Result, Some, []}
-pub use Rattle.std.proofs.Common.{ap, append-nil, append_assoc, ap₂, arith, codes, decimal, drop, drop-cons}
-pub use Rattle.std.proofs.Common.{eqb-true, false, if◌then◌else◌, inl, inr, is_ok, length, length-append}
-pub use Rattle.std.proofs.Common.{length-take, length-take-le, ltb-true, map, nat_cmp, nat_eq, nat_lt, not}
-pub use Rattle.std.proofs.Common.{option_map, refl, replicate, rules, slice_get, slice_index, slice_index_or}
-pub use Rattle.std.proofs.Common.{slice_set, string_bytes, subst, suc, sym, take, take-append-drop, take_all}
-pub use Rattle.std.proofs.Common.{true, zero, ℕ, ◌&&◌, ◌++◌, ◌+◌, ◌-◌, ◌<◌, ◌==◌, ◌^◌, ◌||◌, ◌↔◌, ◌∙◌, ◌∷◌}
-pub use Rattle.std.proofs.Common.{◌≡◌, ◌≢◌, ◌≤◌, ◌⊎◌}
+pub use Rattle.std.proofs.Common.{add-one, ap, append-nil, append_assoc, ap₂, arith, codes, decimal, drop}
+pub use Rattle.std.proofs.Common.{drop-cons, eqb-true, false, if◌then◌else◌, inl, inr, is_ok, length}
+pub use Rattle.std.proofs.Common.{length-append, length-take, length-take-le, ltb-true, map, nat_cmp, nat_eq}
+pub use Rattle.std.proofs.Common.{nat_lt, not, option_map, refl, replicate, rules, slice_get, slice_index}
+pub use Rattle.std.proofs.Common.{slice_index_or, slice_set, string_bytes, subst, suc, sym, take}
+pub use Rattle.std.proofs.Common.{take-append-drop, take_all, true, zero, ℕ, ◌&&◌, ◌++◌, ◌+◌, ◌-◌, ◌<◌, ◌==◌}
+pub use Rattle.std.proofs.Common.{◌^◌, ◌||◌, ◌↔◌, ◌∙◌, ◌∷◌, ◌≡◌, ◌≢◌, ◌≤◌, ◌⊎◌}
 pub use Rattle.std.proofs.lemmas.Bool.{agree_below, agree_below_at, and_parts, cases_lt, false≢true, not-true}
 pub use Rattle.std.proofs.lemmas.Bool.Decides.{nat_tests}
 pub use Rattle.std.proofs.lemmas.List.{drop_all, length-map, take-append-le}
@@ -86,10 +86,10 @@ pub use Rattle.lw_paths.proofs.api.Totals.{total_is}
 pub use Rattle.lw_tso_caches.proofs.api.Starts.{starts}
 pub use Rattle.lw_tso_caches.specs.CompleteLists.{ListsMachine}
 pub use Rattle.lw_tso_caches.specs.OverCaches.{FitsCaches, OutcomeOverCaches, ReplaysToOverCaches}
-pub use Rattle.lw_report.proofs.Common.{AreListedStates, AreStatesOf, IsFirstWithWords, IsReport}
-pub use Rattle.lw_report.proofs.Common.{IsScheduleList, IsSmallestOf, ListedState, ProjectedState, final_word}
-pub use Rattle.lw_report.proofs.Common.{is_true, project_state, projection_of, report_text}
-pub use Rattle.lw_report.proofs.Common.{schedule_list_text, scheduled}
+pub use Rattle.lw_report.proofs.Common.{AreListedStates, AreStatesOf, IsFirstWithWords, IsMarkedList}
+pub use Rattle.lw_report.proofs.Common.{IsReport, IsScheduleList, IsSmallestOf, ListedState, ProjectedState}
+pub use Rattle.lw_report.proofs.Common.{final_word, is_true, marked_list_text, project_state, projection_of}
+pub use Rattle.lw_report.proofs.Common.{report_text, schedule_list_text, scheduled}
 pub use Rattle.lw_report.proofs.api.OneList.{one_report}
 pub use Rattle.lw_report.specs.declared.judgement.Claim.{Claim}
 pub use Rattle.lw_report.specs.declared.judgement.Claim.TheVariants.{Exact}
@@ -125,8 +125,10 @@ pub use Rattle.lw_bench.specs.FaultTruth.{ReadFaultIsTrue, ReplayFaultIsTrue, Ru
 pub use Rattle.lw_bench.specs.FaultTruth.{TakesBeforeFault, TextFaultIsTrue}
 pub use Rattle.lw_bench.specs.Faults.{cell_fault, cell_run_fault, schedule_fault, schedule_run_fault}
 pub use Rattle.lw_bench.specs.Faults.{text_fault, text_run_fault}
-pub use Rattle.lw_bench.specs.Lists.{IsExactReport, IsExactScheduleList, IsListOf, IsReachedOnMachine}
-pub use Rattle.lw_bench.specs.Lists.{IsReachedOverCaches, IsStatesReport, IsWithinListLimits}
+pub use Rattle.lw_bench.specs.Films.{IsFilm, IsFilmOf}
+pub use Rattle.lw_bench.specs.Lists.{IsExactMarkedList, IsExactReport, IsExactScheduleList, IsListOf}
+pub use Rattle.lw_bench.specs.Lists.{IsReachedOnMachine, IsReachedOverCaches, IsStatesReport}
+pub use Rattle.lw_bench.specs.Lists.{IsWithinListLimits}
 pub use Rattle.lw_bench.specs.LitmusTests.{LitmusTest, Of_source, Of_x86, head_of_test, litmus_test_of}
 pub use Rattle.lw_bench.specs.Outcomes.{HasOverCaches, IsProgramOf, IsProgramRunFor, OutcomeOf}
 pub use Rattle.lw_bench.specs.Outcomes.{ProgramReplaysTo}

@@ -8,6 +8,7 @@ pub mod LitmusTests
 pub mod Pages
 pub mod Outputs
 pub mod Replays
+pub mod FilmSteps
 pub mod Compilations
 pub mod FaultTruths
 pub mod Endings

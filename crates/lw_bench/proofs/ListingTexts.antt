@@ -1,11 +1,11 @@
 -- A report or a list of schedules rendered from a listing is that of the set of its outcomes: for any set, and any relation of schedules to
 -- outcomes.
-use Rattle.lw_bench.proofs.Common.{◌≡◌, ◌⊎◌, inl, inr, ℕ, ◌<◌, ◌↔◌, List, [], ◌∷◌, zero, suc, Some, map, refl}
-use Rattle.lw_bench.proofs.Common.{sym, ap, ◌∙◌, subst, slice_get, arith, All, Contains, slice_index_or, Less}
-use Rattle.lw_bench.proofs.Common.{same_Some, cases_lt, All-map, All-weaker, slice_get-get_or}
-use Rattle.lw_bench.proofs.Common.{slice_get_within, get_or_from_slice_get, TestHead, FinalState}
-use Rattle.lw_bench.proofs.Common.{final_state_cmp, Event, OutcomeEntries, outcomes_of, schedules_of}
-use Rattle.lw_bench.proofs.Common.{IsStrictlySorted, IsReport, IsScheduleList, report_text}
+use Rattle.lw_bench.proofs.Common.{marked_list_text, IsMarkedList, ◌≡◌, ◌⊎◌, inl, inr, ℕ, ◌<◌, ◌↔◌, List, []}
+use Rattle.lw_bench.proofs.Common.{◌∷◌, zero, suc, Some, map, refl, sym, ap, ◌∙◌, subst, slice_get, arith}
+use Rattle.lw_bench.proofs.Common.{All, Contains, slice_index_or, Less, same_Some, cases_lt, All-map}
+use Rattle.lw_bench.proofs.Common.{All-weaker, slice_get-get_or, slice_get_within, get_or_from_slice_get}
+use Rattle.lw_bench.proofs.Common.{TestHead, FinalState, final_state_cmp, Event, OutcomeEntries, outcomes_of}
+use Rattle.lw_bench.proofs.Common.{schedules_of, IsStrictlySorted, IsReport, IsScheduleList, report_text}
 use Rattle.lw_bench.proofs.Common.{schedule_list_text, scheduled, ProjectedState, AreStatesOf, IsSmallestOf}
 use Rattle.lw_bench.proofs.Common.{ListedState, projection_of, IsFirstWithWords, AreListedStates, Claim}
 
@@ -29,6 +29,14 @@ module _ (head : TestHead) (Has : FinalState → Type 0) (entries : OutcomeEntri
       → text ≡ report_text head claim (map projection_of states)
       → IsReport head Has claim text
   report_is claim states text listed is =
+      record { states = map projection_of states; are = states_of_set (map projection_of states) listed.are; is = is }
+
+  -- A list of the marked states of a listing is that of the set of its outcomes.
+  pub marked_list_is : (states : List ListedState) (text : List ℕ)
+      → AreListedStates head (outcomes_of entries) states
+      → text ≡ marked_list_text head (map projection_of states)
+      → IsMarkedList head Has text
+  marked_list_is states text listed is =
       record { states = map projection_of states; are = states_of_set (map projection_of states) listed.are; is = is }
 
   module _ (sorted : IsStrictlySorted entries) where

@@ -1,11 +1,12 @@
 -- From the list of a test to its report and to its list of schedules.
-use Rattle.lw_bench.proofs.Common.{◌≡◌, ℕ, List, length, map, sym, subst, All, AllByRecursion, All-map}
-use Rattle.lw_bench.proofs.Common.{All-weaker, TestHead, FinalState, HasOutcomeShape, IsEvent, Event}
-use Rattle.lw_bench.proofs.Common.{IsListedOutcome, OutcomeEntries, outcomes_of, schedules_of, report_text}
-use Rattle.lw_bench.proofs.Common.{schedule_list_text, scheduled, ListedState, projection_of, AreListedStates}
-use Rattle.lw_bench.proofs.Common.{Exact, LitmusTest, head_of_test, OutcomeOf, ProgramReplaysTo}
-use Rattle.lw_bench.proofs.Common.{IsExactReport, IsExactScheduleList, IsListOf}
-use Rattle.lw_bench.proofs.ListingTexts.{report_is, schedule_list_is}
+use Rattle.lw_bench.proofs.Common.{marked_list_text, IsExactMarkedList, ◌≡◌, ℕ, List, length, map, sym, subst}
+use Rattle.lw_bench.proofs.Common.{All, AllByRecursion, All-map, All-weaker, TestHead, FinalState}
+use Rattle.lw_bench.proofs.Common.{HasOutcomeShape, IsEvent, Event, IsListedOutcome, OutcomeEntries}
+use Rattle.lw_bench.proofs.Common.{outcomes_of, schedules_of, report_text, schedule_list_text, scheduled}
+use Rattle.lw_bench.proofs.Common.{ListedState, projection_of, AreListedStates, Exact, LitmusTest}
+use Rattle.lw_bench.proofs.Common.{head_of_test, OutcomeOf, ProgramReplaysTo, IsExactReport}
+use Rattle.lw_bench.proofs.Common.{IsExactScheduleList, IsListOf}
+use Rattle.lw_bench.proofs.ListingTexts.{marked_list_is, report_is, schedule_list_is}
 
 module _ (test : LitmusTest) (entries : OutcomeEntries) (list : IsListOf test entries) (head : TestHead)
     (same : head ≡ head_of_test test) where
@@ -17,6 +18,15 @@ module _ (test : LitmusTest) (entries : OutcomeEntries) (list : IsListOf test en
   report_of_list states text listed is =
       report_is _ _ _ list.exactly Exact states text (subst (λ d. AreListedStates d (outcomes_of entries) states) same listed)
       (subst (λ d. text ≡ report_text d Exact (map projection_of states)) same is)
+
+  -- The list of marked states that results from a test's list is the test's.
+  pub marks_of_list : (states : List ListedState) (text : List ℕ)
+      → AreListedStates head (outcomes_of entries) states
+      → text ≡ marked_list_text head (map projection_of states)
+      → IsExactMarkedList test text
+  marks_of_list states text listed is =
+      marked_list_is _ _ _ list.exactly states text (subst (λ d. AreListedStates d (outcomes_of entries) states) same listed)
+      (subst (λ d. text ≡ marked_list_text d (map projection_of states)) same is)
 
   -- The list of schedules rendered from a test's list is the test's list of schedules.
   pub schedules_of_list : (states : List ListedState) (text : List ℕ)

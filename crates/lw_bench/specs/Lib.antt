@@ -12,6 +12,7 @@ pub mod Lists
 pub mod Outputs
 pub mod Pages
 pub mod Replays
+pub mod Films
 pub mod FaultTruth
 pub mod Commands
 pub mod Tasks

@@ -7,7 +7,7 @@ use Rattle.lw_paths.specs.Counts.{IsWithinLimits}
 use Rattle.lw_outcome_map.specs.Listings.{OutcomeEntries, outcomes_of, IsStrictlySorted}
 use Rattle.lw_litmus.specs.Sources.{source_language}
 use Rattle.lw_litmus.specs.Programs.{x86_language}
-use Rattle.lw_report.specs.Reports.{IsReport, IsScheduleList}
+use Rattle.lw_report.specs.Reports.{IsReport, IsScheduleList, IsMarkedList}
 use Rattle.lw_report.specs.declared.judgement.Claim.TheVariants.{Exact}
 use Rattle.lw_litmus.specs.Tests.{X86Test}
 use Rattle.lw_bench.specs.LitmusTests.{LitmusTest, Of_source, Of_x86, head_of_test}
@@ -22,6 +22,10 @@ IsWithinListLimits (Of_x86 test) = IsWithinLimits x86_language test.threads
 -- The text is the report of exactly the test's outcomes.
 abbrev pub IsExactReport : LitmusTest → Bytes → Type 0
 IsExactReport test = IsReport (head_of_test test) (OutcomeOf test) Exact
+
+-- The text is the list of exactly the states of the test's outcomes, each marked by whether the proposition is true in it.
+abbrev pub IsExactMarkedList : LitmusTest → Bytes → Type 0
+IsExactMarkedList test = IsMarkedList (head_of_test test) (OutcomeOf test)
 
 -- The text is the list of a test's states, each with a schedule of the program that reaches the smallest outcome with its words.
 pub record IsExactScheduleList (test : LitmusTest) (text : Bytes) : Type 0 where

@@ -16,6 +16,7 @@ mod device;
 mod ending;
 mod fault;
 mod fence_laws;
+mod films;
 mod input;
 mod laws;
 mod lists;
@@ -41,6 +42,7 @@ pub use fence_laws::{
     fences_only_take_outcomes_away_over_caches, more_fences_have_no_more_outcomes,
     no_fence_is_needed_where_no_store_waits, store_buffering_is_forbidden_with_fences,
 };
+pub use films::film;
 pub use input::read_input;
 pub use laws::{
     a_source_has_one_compiled_program, a_text_has_one_report,
@@ -52,7 +54,7 @@ pub use laws::{
     store_buffering_is_allowed_on_x86, store_buffering_is_forbidden_by_interleaving,
     the_text_of_store_buffering_has_this_report, what_a_text_says_is_well_formed,
 };
-pub use lists::{list_test, report_of_listing, schedules_of_listing};
+pub use lists::{list_test, marks_of_listing, report_of_listing, schedules_of_listing};
 pub use litmus_test::{LitmusTest, a_text_has_one_test, read_test};
 pub use lw_base::End;
 pub use lw_mesi::Protocol;

@@ -1,7 +1,7 @@
 //! The report of a test's states, and the list of their schedules.
 ghost use Rattle.std.specs.Prelude.{◌≡◌, ◌⊎◌, IfOk, IfErr, OnOk};
 ghost use Rattle.lw_bench.specs.LitmusTests.{litmus_test_of};
-ghost use Rattle.lw_bench.specs.Lists.{IsWithinListLimits, IsListOf, IsExactReport, IsExactScheduleList, IsStatesReport, IsScheduleReport};
+ghost use Rattle.lw_bench.specs.Lists.{IsWithinListLimits, IsListOf, IsExactReport, IsExactMarkedList, IsExactScheduleList, IsStatesReport, IsScheduleReport};
 ghost use Rattle.lw_bench.specs.FaultTruth.{TestLimitFaultIsTrue, ListFaultIsTrue, IsNotDeviceFault};
 
 use crate::fault::BenchFault;
@@ -10,7 +10,7 @@ use lw_base::Text;
 use lw_finals::{list_raw, list_source};
 use lw_outcome_map::Listing;
 use lw_paths::ListFault;
-use lw_report::{Claim, states_of, write_report, write_schedules};
+use lw_report::{Claim, states_of, write_marks, write_report, write_schedules};
 use lw_tso_caches::outcomes_over_caches_are_flat;
 use std::alloc::{AllocError, Allocator};
 
@@ -88,6 +88,24 @@ pub fn schedules_of_listing<A: Allocator + Copy>(
     let head = test.head();
     let states = states_of(alloc, head, listing)?;
     let list = write_schedules(alloc, head, &states, listing);
+    drop(states);
+    list
+}
+
+/// Renders the list of the states of a test with this list, each marked by whether the proposition is true in it.
+pub fn marks_of_listing<A: Allocator + Copy>(
+    alloc: A,
+    test: &LitmusTest<A>,
+    listing: Listing<A>,
+) -> Result<Text<A>, AllocError>
+    requires { IsListOf (litmus_test_of test.now) listing }
+    ensures { IfOk result (IsExactMarkedList (litmus_test_of test.now)) }
+{
+    let head = test.head();
+    let states = states_of(alloc, head, &listing);
+    drop(listing);
+    let states = states?;
+    let list = write_marks(alloc, head, &states);
     drop(states);
     list
 }

@@ -74,7 +74,7 @@ fn page_over_caches<P: ProtocolType + Drop, A: Allocator + Copy>(
 }
 
 /// Replays a test by these events, and returns the page and the replay's end.
-fn page_of_events<A: Allocator + Copy>(
+pub(crate) fn page_of_events<A: Allocator + Copy>(
     alloc: A,
     test: &LitmusTest<A>,
     events: &[Event],

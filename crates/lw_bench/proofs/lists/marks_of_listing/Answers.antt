@@ -1,0 +1,22 @@
+use Rattle.lw_bench.proofs.Common.{IsExactMarkedList, litmus_test_of, IfOk-weaker}
+use Rattle.lw_bench.proofs.TestReports.{marks_of_list, outcomes_there}
+use Rattle.lw_bench.proofs.lists.marks_of_listing.Goals as goal
+
+pub states_of-states-requires-clause-threads : goal.states_of-states-requires-clause-threads
+states_of-states-requires-clause-threads g c = c.head-head.ensures.formed.few
+
+pub states_of-states-requires-clause-condition : goal.states_of-states-requires-clause-condition
+states_of-states-requires-clause-condition g c = c.head-head.ensures.formed.condition
+
+pub states_of-states-requires-clause-outcomes : goal.states_of-states-requires-clause-outcomes
+states_of-states-requires-clause-outcomes g c =
+    outcomes_there (litmus_test_of c.args.test.now) c.args.listing c.requires _ c.head-head.ensures.head
+
+pub write_marks-list-requires : goal.write_marks-list-requires
+write_marks-list-requires g c = c.head-head.ensures.formed.few
+
+pub returns : goal.returns
+returns g c =
+    IfOk-weaker _ _ (IsExactMarkedList (litmus_test_of c.args.test.now)) (λ text is.
+    marks_of_list _ c.args.listing c.requires _ c.head-head.ensures.head c.in_ok-states.states text c.in_ok-states.ensures is)
+    c.write_marks-list.ensures
