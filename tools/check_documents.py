@@ -140,7 +140,7 @@ LEAST = {
     "tests of the crates": 52,
 }
 COMMANDS = (("states",), ("schedules",), ("compile",), ("replay", "P0 P0 P1 P1"))
-BEYOND_COMMANDS = (("states",), ("--search", "schedules"))
+BEYOND_COMMANDS = (("states",), ("--search", "schedules"), ("marks",))
 # Of each program its usage line, a command, and words that are none.
 USAGES = [
     (
@@ -151,7 +151,7 @@ USAGES = [
     ),
     (
         BEYOND,
-        "usage: beyond [--search] [--budget N] [--method] states|schedules\n",
+        "usage: beyond [--search] [--budget N] [--method] states|schedules|marks\n",
         ["--budget", "100", "states"],
         (
             *([], ["state"], ["states", "states"], ["states", "--search"], ["compile"], ["replay", "P0"], ["--search"]),

@@ -28,6 +28,9 @@ sys.path.insert(0, os.path.dirname(os.path.dirname(os.path.abspath(__file__))))
 import plain
 from gate import check_tables
 from gate.examples import examples, read
+from interpreter.conditions import holds
+from interpreter.reports import state_line, states_of
+from interpreter.walks import outcomes
 from search.explore import Search
 from search.reports import report_of
 from shared.answers import MOST_STATES
@@ -100,6 +103,21 @@ def check_within(name, text):
     schedules = [run(words, text)[0] for words in ([PROGRAM, "schedules"], [BEYOND, "--search", "schedules"])]
     yield f"beyond --search schedules, {name}: the states", *map(states_of_schedules, schedules)
     yield from check_schedules(name, text)
+    for words in ([BEYOND, "marks"], [BEYOND, "--search", "marks"]):
+        yield f"{' '.join(words[1:])}, {name}", (marks_of(plain.read_test(text)), "", 0), run(words, text)
+
+
+def marks_of(test):
+    """Returns the states of a test with their marks, by tools/plain.py."""
+    states = states_of(test, outcomes(test))
+    return "".join(f"{'+' if holds(test.proposition, outcome) else '-'} {state_line(test, words)}\n" for words, outcome in states)
+
+
+def check_marks(name, text, report):
+    """Checks the marks of a search: they have the states of the report, and as many hold."""
+    lines, positive = run([BEYOND, "marks"], text)[0].splitlines(), re.search(r"^Positive: (\d+)", report, re.M)
+    yield f"beyond marks, {name}: the states", report.splitlines()[2:-4], [it[2:] for it in lines]
+    yield f"beyond marks, {name}: how many hold", positive and int(positive[1]), sum(it.startswith("+ ") for it in lines)
 
 
 def check_refused(name, text):
@@ -144,6 +162,7 @@ def check_row(name, orders, visited, states, observed, sum_of_report):
     yield f"the report of {name}", (sum_of_report, f"States {states}", f"Observation {test.name} {observed}"), told
     if visited < EXAMPLE_BUDGET:
         yield from check_budget(name, text, visited)
+        yield from check_marks(name, text, report)
     if states <= MOST_REPLAYS:
         yield from check_schedules(name, text)
 
@@ -159,6 +178,7 @@ def check_past(name, text, report_by):
     report, line, status = run([BEYOND, "--method", "states"], text)
     yield f"beyond states, {name}", (report_by(plain.read_test(text)), 0), (report, status)
     yield from check_budget(name, text, int(re.search(r"(\d+) states$", line)[1]))
+    yield from check_marks(name, text, report)
     yield from check_schedules(name, text)
 
 

@@ -81,6 +81,7 @@ PARTED = (
     ("lw", "replay P0 --protocol moesi FILE", "replay P0 --protocol moesi", "FILE"),
     ("beyond", "states", "states", None),
     ("beyond", "--search --budget 10 states FILE", "--search --budget 10 states", "FILE"),
+    ("beyond", "marks FILE", "marks", "FILE"),
     ("beyond", "schedules --method", "schedules --method", None),
     ("beyond", "--budget 10", "--budget 10", None),
 )
@@ -93,6 +94,7 @@ COMPLETED = (
     ("beyond --b", "--budget"),
     ("beyond --budget 1", ""),
     ("beyond --search sch", "schedules"),
+    ("beyond m", "marks"),
     ("lw-fences --e", "--everything --exchanges"),
 )
 COMPLETE = 'COMP_WORDS=($2); COMP_CWORD=$((${#COMP_WORDS[@]} - 1)); . "$1" && _lw && echo "${COMPREPLY[*]}"'

@@ -6,7 +6,7 @@ use Rattle.lw_paths.specs.declared.fault.ListFault.TheVariants as list
 use Rattle.lw_litmus.specs.Tests.{X86Test}
 use Rattle.lw_search.specs.Reachability.{Visits, ExceedsBudget}
 use Rattle.lw_bench.specs.LitmusTests.{LitmusTest}
-use Rattle.lw_bench.specs.Lists.{IsWithinListLimits, IsExactReport, IsExactScheduleList}
+use Rattle.lw_bench.specs.Lists.{IsWithinListLimits, IsExactReport, IsExactMarkedList, IsExactScheduleList}
 use Rattle.lw_bench.specs.Outcomes.{IsProgramRunFor}
 use Rattle.lw_bench.specs.TestTexts.{HasTest}
 use Rattle.lw_bench.specs.FaultTruth.{ReadFaultIsTrue, TestLimitFaultIsTrue}
@@ -17,13 +17,14 @@ use Rattle.lw_beyond.specs.declared.fault.BeyondFault.TheVariants.{Bench, Budget
 use Rattle.lw_beyond.specs.declared.lists.Method.{Method}
 use Rattle.lw_beyond.specs.declared.lists.Method.TheVariants.{Orders, Search}
 use Rattle.lw_beyond.specs.declared.lists.Output.{Output}
-use Rattle.lw_beyond.specs.declared.lists.Output.TheVariants.{States, Schedules}
+use Rattle.lw_beyond.specs.declared.lists.Output.TheVariants.{States, Schedules, Marks}
 use Rattle.lw_beyond.specs.declared.lists.Request.{Request}
 
--- The output of a test: the report of exactly its outcomes, or the list of its states with schedules.
+-- The output of a test: the report of exactly its outcomes, or the list of its states with schedules or marks.
 abbrev pub IsMadeFor : Output → LitmusTest → Bytes → Type 0
 IsMadeFor States = IsExactReport
 IsMadeFor Schedules = IsExactScheduleList
+IsMadeFor Marks = IsExactMarkedList
 
 -- The test exceeds a limit of lists.
 abbrev pub PassesLimit : LitmusTest → Type 0

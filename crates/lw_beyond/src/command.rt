@@ -65,11 +65,12 @@ fn output_of(words: &[&str]) -> Option<Output> {
     match *word {
         "states" => Some(Output::States),
         "schedules" => Some(Output::Schedules),
+        "marks" => Some(Output::Marks),
         _ => None,
     }
 }
 
 /// Returns the line that says how the program is used, without a line end.
 pub fn usage_line() -> &'static str {
-    "usage: beyond [--search] [--budget N] [--method] states|schedules"
+    "usage: beyond [--search] [--budget N] [--method] states|schedules|marks"
 }

@@ -7,7 +7,7 @@ ghost use Rattle.lw_search.specs.declared.fault.SearchFault.TheVariants as searc
 
 use crate::fault::BeyondFault;
 use lw_base::Text;
-use lw_bench::{LitmusTest, list_test, report_of_listing, schedules_of_listing};
+use lw_bench::{LitmusTest, list_test, marks_of_listing, report_of_listing, schedules_of_listing};
 use lw_outcome_map::Listing;
 use lw_paths::ListFault;
 use lw_search::{SearchFault, Searched, reach_program, reach_source};
@@ -21,6 +21,8 @@ pub enum Output {
     States,
     /// The final states, each with a schedule.
     Schedules,
+    /// The final states, each marked by whether the proposition is true in it.
+    Marks,
 }
 
 /// A request for a complete list.
@@ -131,6 +133,7 @@ fn write_output<A: Allocator + Copy>(
             drop(listing);
             text
         }
+        Output::Marks => marks_of_listing(alloc, test, listing),
     }
 }
 

@@ -1,6 +1,6 @@
 //! Worked answers, by orders and by a search.
 use lw_bench::BenchFault;
-use lw_beyond::{BeyondFault, Method, Renderer, Request, answer_request};
+use lw_beyond::{BeyondFault, Method, Output, Request, answer_request};
 use std::alloc::Global;
 
 /// Store buffering.
@@ -22,7 +22,7 @@ const MANY_REPORT: &str =
 /// Returns a request for the report of the states.
 fn states(search: bool, budget: usize) -> Request {
     Request {
-        output: Renderer::States,
+        output: Output::States,
         search,
         budget,
     }

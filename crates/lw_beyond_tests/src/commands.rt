@@ -1,10 +1,10 @@
 //! The words of a command line.
-use lw_beyond::{Renderer, command_of};
+use lw_beyond::{Output, command_of};
 
 /// Returns whether the words give a command with these parts.
 fn gives(
     words: &[&str],
-    output: Renderer,
+    output: Output,
     search: bool,
     budget: usize,
     reports_method: bool,
@@ -27,10 +27,11 @@ fn gives_none(words: &[&str]) -> bool {
 
 #[test]
 fn words_that_give_a_command(rt: HostRuntime) {
-    let states = Renderer::States;
-    let schedules = Renderer::Schedules;
+    let states = Output::States;
+    let schedules = Output::Schedules;
     assert!(rt; gives(&["states"], states, false, 10_000_000, false));
     assert!(rt; gives(&["schedules"], schedules, false, 10_000_000, false));
+    assert!(rt; gives(&["marks"], Output::Marks, false, 10_000_000, false));
     assert!(rt; gives(&["--search", "states"], states, true, 10_000_000, false));
     assert!(rt; gives(&["--budget", "0", "states"], states, false, 0, false));
     assert!(rt;

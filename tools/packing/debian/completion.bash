@@ -5,8 +5,8 @@ _lw() {
         lw:1:*) words="states schedules compile replay" ;;
         lw:3:*) words=--protocol ;;
         lw:4:--protocol) words="mesi moesi" ;;
-        lw:* | beyond:*:--budget | beyond:*:states | beyond:*:schedules) ;;
-        beyond:*) words="states schedules --search --budget --method" ;;
+        lw:* | beyond:*:--budget | beyond:*:states | beyond:*:schedules | beyond:*:marks) ;;
+        beyond:*) words="states schedules marks --search --budget --method" ;;
         *)
             if [[ $word == -* ]]; then
                 words=$("${COMP_WORDS[0]}" --help 2>/dev/null | grep -oE -e '(^|[^a-z-])--[a-z][a-z-]*' | grep -oE -e '--[a-z][a-z-]*' | sort -u)

@@ -2,7 +2,7 @@
 
     python -m lw states|schedules|compile [FILE]
     python -m lw replay SCHEDULE [--protocol mesi|moesi] [FILE]
-    python -m lw beyond [--search] [--budget N] [--method] states|schedules [FILE]
+    python -m lw beyond [--search] [--budget N] [--method] states|schedules|marks [FILE]
     python -m lw TOOL [WORD...]
 
 The first three lines run the proved programs lw and beyond on FILE, or on standard input if there is none. A file that can't be opened ends
@@ -60,7 +60,7 @@ def parted(name, words):
     if last.startswith("-") and last != "-":
         return words, None
     if name == "beyond":
-        has_file = before[-1:] in (["states"], ["schedules"])
+        has_file = before[-1:] in (["states"], ["schedules"], ["marks"])
     else:
         has_file = len(before) in LENGTHS.get(words[0] if words else "", ())
     return (before, last) if has_file else (words, None)
