@@ -1,5 +1,5 @@
-/* The proved workbench as a C library: the four commands and lists of any size, each a call. crates/lw_library/src/exports.rt, reached.rt and
-   version.rt say what is proved of them, if C passes what this file says. That it does is up to the caller.
+/* The proved workbench as a C library: the four commands, films, and lists of any size, each a call. crates/lw_library/src/exports.rt, films.rt,
+   reached.rt and version.rt say what is proved of them, if C passes what this file says. That it does is up to the caller.
 
    A call takes memory to allocate from and room for its answer, and keeps nothing. Two calls may use the same memory in sequence. At the
    same time they may not: threads that call at once need memory and room of their own, each thread for itself. A call calls nothing except
@@ -77,6 +77,11 @@ void lw_compile(struct lw_memory memory, const uint8_t *text, size_t text_length
 void lw_replay(struct lw_memory memory, const uint8_t *text, size_t text_length, const uint8_t *schedule, size_t schedule_length,
                uint32_t protocol, uint8_t *room, size_t room_length, struct lw_told *told);
 
+/* The pages of `lw replay` for all prefixes of the schedule, the shortest first, each followed by an empty line: what the machine does, event by
+   event. The arguments and the faults are those of lw_replay, but the status of an answer is 0. */
+void lw_film(struct lw_memory memory, const uint8_t *text, size_t text_length, const uint8_t *schedule, size_t schedule_length,
+             uint32_t protocol, uint8_t *room, size_t room_length, struct lw_told *told);
+
 /* `beyond --budget BUDGET states`: the report of a test of any size. Within the limits of lists it is that of lw_states; past them it is made
    by a search, which ends with the line `beyond: budget BUDGET` and status 3 if it finds more than so many states of the machine. A state takes
    some 60 bytes of memory, and an outcome some 400. */
@@ -86,6 +91,11 @@ void lw_reach_states(struct lw_memory memory, const uint8_t *text, size_t text_l
 /* `beyond --budget BUDGET schedules`: the list of its final states, each with a schedule. */
 void lw_reach_schedules(struct lw_memory memory, const uint8_t *text, size_t text_length, size_t budget, uint8_t *room, size_t room_length,
                         struct lw_told *told);
+
+/* `beyond --budget BUDGET marks`: its final states, a line for each, which begins with `+ ` if the condition's proposition is true in it, and
+   with `- ` otherwise. */
+void lw_reach_marks(struct lw_memory memory, const uint8_t *text, size_t text_length, size_t budget, uint8_t *room, size_t room_length,
+                    struct lw_told *told);
 
 #ifdef __cplusplus
 }

@@ -29,7 +29,7 @@ from typing import NamedTuple
 
 ANSWER, FAULT, ROOM_TOO_SMALL = range(3)
 COMMANDS = ("states", "schedules", "compile", "replay")
-OUTPUTS = ("states", "schedules")
+OUTPUTS = ("states", "schedules", "marks")
 DEFAULT_BUDGET = 10_000_000
 LARGEST_BUDGET = (1 << 64) - 1
 PROTOCOLS = {"mesi": 0, "moesi": 1}
@@ -94,6 +94,13 @@ class Schedule(NamedTuple):
     words: str
 
 
+class Mark(NamedTuple):
+    """A state of a list, and whether the proposition is true in it."""
+
+    state: State
+    holds: bool
+
+
 @dataclass(frozen=True)
 class Report:
     """What `lw states` tells of a test, with the bytes that say so."""
@@ -149,6 +156,22 @@ def schedules_of(made):
     return [Schedule(_state(state), words.strip()) for state, words in pairs]
 
 
+def marks_of(made):
+    """Returns the states that some bytes list, each with whether the proposition is true in it."""
+    lines = made.decode("ascii").split("\n")
+    if lines.pop() or any(line[:2] not in ("+ ", "- ") for line in lines):
+        raise ValueError("no list of marks")
+    return [Mark(_state(line[2:]), line[0] == "+") for line in lines]
+
+
+def _pages_of(film):
+    """Returns the pages of a film. Each is followed by an empty line, and has none."""
+    pages = film.decode("ascii").split("\n\n")
+    if pages.pop():
+        raise ValueError("no film")
+    return [f"{page}\n".encode() for page in pages]
+
+
 def _bytes_of(text):
     """A test as bytes."""
     if isinstance(text, str):
@@ -199,9 +222,9 @@ class Workbench:
         self._memory = _Memory((ctypes.addressof(self._block) + 15) & ~15, memory)
         self._room = ctypes.create_string_buffer(LEAST_ROOM)
         self._lock = threading.Lock()
-        for name in COMMANDS:
+        for name in (*COMMANDS, "film"):
             call = getattr(self._calls, f"lw_{name}")
-            schedule = [ctypes.c_char_p, ctypes.c_size_t, ctypes.c_uint32] if name == "replay" else []
+            schedule = [ctypes.c_char_p, ctypes.c_size_t, ctypes.c_uint32] if name in ("replay", "film") else []
             text_and_room = [ctypes.c_char_p, ctypes.c_size_t], [ctypes.c_void_p, ctypes.c_size_t, ctypes.POINTER(_Told)]
             call.argtypes = [_Memory, *text_and_room[0], *schedule, *text_and_room[1]]
             call.restype = None
@@ -213,18 +236,21 @@ class Workbench:
     def run(self, command, text, schedule=None, protocol=None):
         """The exit status and the bytes of a command, as the program tells them. A fault is raised. `schedule` and `protocol` are for
         `replay` only, which takes MESI if no protocol is named."""
-        more, text = _schedule_of(command, schedule, protocol), _bytes_of(text)
+        return self._answer(command, _bytes_of(text), _schedule_of(command, schedule, protocol))
+
+    def _answer(self, name, text, more):
+        """Returns the exit status and the bytes of a call by its name. A fault is raised."""
         given = [self._memory, text, len(text)]
         if more:
             given += [more[0], len(more[0]), more[1]]
         with self._lock:
-            told, made = self._call(getattr(self._calls, f"lw_{command}"), given)
+            told, made = self._call(getattr(self._calls, f"lw_{name}"), given)
         if told.kind == FAULT:
             raise Fault(made.decode(), told.status, text, more[0] if more else b"")
         return told.status, made
 
     def reach(self, output, text, budget=DEFAULT_BUDGET):
-        """Returns the bytes of `beyond --budget BUDGET OUTPUT`: states or schedules of a test of any size. A fault is raised; its kind is
+        """Returns the bytes of `beyond --budget BUDGET OUTPUT`: states, schedules or marks of a test of any size. A fault is raised; its kind is
         `budget` if a search is needed and finds more states of the machine than the budget."""
         if output not in OUTPUTS:
             raise ValueError(f"no output: {output!r}; there are {', '.join(OUTPUTS)}")
@@ -262,3 +288,11 @@ class Workbench:
         """The page of a replay, and whether it ended in a final state."""
         status, page = self.run("replay", text, schedule, protocol)
         return page, status == 0
+
+    def marks(self, text, budget=DEFAULT_BUDGET):
+        """Returns the final states of a test of any size, each with whether the proposition is true in it."""
+        return marks_of(self.reach("marks", text, budget))
+
+    def film(self, text, schedule, protocol=None):
+        """Returns the pages of the replays by all prefixes of a schedule, the shortest first: what the machine does, event by event."""
+        return _pages_of(self._answer("film", _bytes_of(text), _schedule_of("replay", schedule, protocol))[1])

@@ -18,6 +18,9 @@ const SHORT_OF_MEMORY = "lw: memory";
 // The word of `beyond` before the most states that a search may find.
 const BUDGET = "--budget";
 const MOST_BUDGET = 2n ** 64n - 1n;
+const LISTS = ["states", "schedules", "marks"];
+// The calls that take a schedule.
+const REPLAYS = ["replay", "film"];
 // What the bytes are that a call tells, where they are no answer.
 const FAULT = 1;
 const ROOM_TOO_SMALL = 2;
@@ -26,6 +29,8 @@ const ROOM_TOO_SMALL = 2;
 export class Trap extends Error {}
 
 export class Workbench {
+  /** It has films and marks, which the program `lw` has not. */
+  hasFilmsAndMarks = true;
   room = "the browser gives it";
   kept = null;
 
@@ -34,8 +39,9 @@ export class Workbench {
   }
 
   /**
-   * The answer to words as on the command line of `lw`, or `--budget N states` and `--budget N schedules` as on that of `beyond`: the status,
-   * whether a fault is told, and the bytes of the answer or of the fault. A text that is no bytes, and words that are no command, throw
+   * The answer to words as on the command line of `lw`, or `--budget N states`, `--budget N schedules` and `--budget N marks` as on that of
+   * `beyond`: the status, whether a fault is told, and the bytes of the answer or of the fault. `film` takes what `replay` takes, and answers
+   * the pages of all prefixes of the schedule. A text that is no bytes, and words that are no command, throw
    * TypeError, and nothing is called.
    */
   run(words, text) {
@@ -71,8 +77,8 @@ export class Workbench {
 
 /** Whether words are those that `lw` takes, or a budget with a list. */
 function isCommand([task, ...more]) {
-  if (task === BUDGET) return more.length === 2 && isBudget(more[0]) && ["states", "schedules"].includes(more[1]);
-  if (task !== "replay") return ["states", "schedules", "compile"].includes(task) && !more.length;
+  if (task === BUDGET) return more.length === 2 && isBudget(more[0]) && LISTS.includes(more[1]);
+  if (!REPLAYS.includes(task)) return ["states", "schedules", "compile"].includes(task) && !more.length;
   const [schedule, option, protocol] = more;
   const isPlain = more.length === 1 || (more.length === 3 && option === "--protocol" && ["mesi", "moesi"].includes(protocol));
   return typeof schedule === "string" && isPlain;
@@ -115,7 +121,7 @@ function callWithMuch(module, words, text) {
 class Call {
   constructor(exports, words, text, size) {
     Object.assign(this, { exports, words });
-    const schedule = words[0] === "replay" ? words[1] : "";
+    const schedule = REPLAYS.includes(words[0]) ? words[1] : "";
     this.given = { text, schedule: new TextEncoder().encode(schedule) };
     const heap = size * MEGABYTE;
     this.sizes = { memory: GRAIN, told: GRAIN, text: text.length, schedule: this.given.schedule.length, room: heap / 8, heap };
@@ -156,7 +162,7 @@ class Call {
     const front = [BigInt(this.at.memory), ...this.put("text")];
     const behind = [...this.placeOf("room"), BigInt(this.at.told)];
     const [task, argument, output] = this.words;
-    if (task === "replay") this.exports.lw_replay(...front, ...this.put("schedule"), this.words[3] === "moesi" ? 1 : 0, ...behind);
+    if (REPLAYS.includes(task)) this.exports[`lw_${task}`](...front, ...this.put("schedule"), this.words[3] === "moesi" ? 1 : 0, ...behind);
     else if (task === BUDGET) this.exports[`lw_reach_${output}`](...front, BigInt(argument), ...behind);
     else this.exports[`lw_${task}`](...front, ...behind);
     return this.told();

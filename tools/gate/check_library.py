@@ -194,7 +194,7 @@ def lists_of_any_size(room):
         return
     with open(PAST_LIMITS, "rb") as it:
         text = it.read()
-    for output in ("states", "schedules"):
+    for output in ("states", "schedules", "marks"):
         for budget in (100_000, 10, 0):
             want = run([BEYOND, "--budget", str(budget), output], text)
             yield f"the library: reach {output} within {budget} states", want, reached(bench, output, text, budget)
@@ -204,6 +204,25 @@ def lists_of_any_size(room):
         except ValueError:
             told = ValueError
         yield f"the library from Python: reach {arguments[0]}, {arguments[2:]}", ValueError, told
+
+
+def films(room):
+    """Compares films from Python with the pages of the program: those of all prefixes of a schedule of each example, and faults."""
+    import lw
+
+    bench = lw.Workbench(f"{room}/liblw.so")
+    for name, words, text in cases():
+        if words[0] == "replay":
+            command, schedule, *option = words
+            events = schedule.split()
+            prefixes = [" ".join(events[:count]) for count in range(len(events) + 1)]
+            told = [run([PROGRAM, command, it, *option], text) for it in prefixes]
+            refused = [(status, err) for status, _, err in told if err]
+            try:
+                film = bench.film(text, schedule, *option[1:])
+            except lw.Fault as fault:
+                film = fault.status, f"{fault.told}\n".encode()
+            yield f"the library: film, {name}, {' '.join(words)}", refused[-1] if refused else [out for _, out, _ in told], film
 
 
 def is_there():
@@ -238,6 +257,7 @@ def all_comparisons():
         yield from stack(room)
         yield from threads_in_python(room)
         yield from lists_of_any_size(room)
+        yield from films(room)
         yield from example_in_python(room)
 
 

@@ -77,12 +77,24 @@ void lw_reach_schedules(struct lw_memory memory, const uint8_t *text, size_t len
     lw_reach_states(memory, text, length, budget, room, size, told);
 }
 
+void lw_reach_marks(struct lw_memory memory, const uint8_t *text, size_t length, size_t budget, uint8_t *room, size_t size,
+                    struct lw_told *told)
+{
+    lw_reach_states(memory, text, length, budget, room, size, told);
+}
+
 void lw_replay(struct lw_memory memory, const uint8_t *text, size_t length, const uint8_t *schedule, size_t words, uint32_t protocol,
                uint8_t *room, size_t size, struct lw_told *told)
 {
     (void)text, (void)length;
     copy(memory, schedule, words, room, size, told);
     told->status = protocol;
+}
+
+void lw_film(struct lw_memory memory, const uint8_t *text, size_t length, const uint8_t *schedule, size_t words, uint32_t protocol,
+             uint8_t *room, size_t size, struct lw_told *told)
+{
+    lw_replay(memory, text, length, schedule, words, protocol, room, size, told);
 }
 """
 TEXT = b"a test\0 and more"
@@ -211,6 +223,24 @@ class Calls(cases.Case):
         for schedule, protocol, wanted in ((b"P0", None, (0, b"P0")), ("P0 é", "moesi", (1, "P0 é".encode())), (b"", "mesi", (0, b""))):
             with self.subTest(schedule):
                 self.assertEqual(wanted, bench.run("replay", TEXT, schedule, protocol))
+
+    def test_films(self):
+        """A film gets its schedule and protocol, and is taken apart at its empty lines."""
+        bench = lw.Workbench(self.library, memory=1 << 20)
+        self.assertEqual([b"a\nb\n", b"c\n"], bench.film(TEXT, "a\nb\n\nc\n\n"))
+        for words in ((TEXT, None), (TEXT, ["P0"]), ("a text", "P0")):
+            with self.subTest(words):
+                self.assertIs(TypeError, self.refusal(bench.film, *words)[0])
+        self.assertEqual((ValueError, "no film"), self.refusal(bench.film, TEXT, "a\n\nb\n"))
+
+    def test_marks(self):
+        """States with marks are values, and bytes of another form are none."""
+        bench = lw.Workbench(self.library, memory=1 << 20)
+        told = [(str(it.state), it.holds) for it in bench.marks(b"+ x=1; 0:EAX=2;\n- x=2; 0:EAX=0;\n")]
+        self.assertEqual([("x=1; 0:EAX=2;", True), ("x=2; 0:EAX=0;", False)], told)
+        for made in (b"x=1;\n", b"+ x=1;", b"+x=1;\n", b"* x=1;\n", b"+ x\n"):
+            with self.subTest(made):
+                self.assertIs(ValueError, self.refusal(bench.marks, made)[0])
 
     def test_threads(self):
         """Threads that share a workbench get their own answers."""

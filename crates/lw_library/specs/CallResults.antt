@@ -9,6 +9,7 @@ use Rattle.lw_bench.specs.Faults.{end_status, fault_text, status}
 use Rattle.lw_bench.specs.LitmusTests.{LitmusTest}
 use Rattle.lw_bench.specs.Outputs.{IsOutputOf}
 use Rattle.lw_bench.specs.Replays.{IsReplayPage}
+use Rattle.lw_bench.specs.Films.{IsFilm}
 use Rattle.lw_bench.specs.FaultTruth.{RunFaultIsTrue, IsNotDeviceFault}
 use Rattle.lw_library.specs.declared.call_result.CallResult.{CallResult}
 
@@ -41,6 +42,10 @@ replay_protocol number = if number == 0 then Mesi else Moesi
 abbrev pub IsReplayed : Bytes → Protocol → LitmusTest → Bytes → ℕ → Type 0
 IsReplayed schedule protocol test made done =
     (end : End) × IsReplayPage protocol test schedule made end × (done ≡ end_status end)
+
+-- The bytes are the film of the replay of the test by this schedule, over caches of this protocol, with the exit status 0.
+abbrev pub IsFilmed : Bytes → Protocol → LitmusTest → Bytes → ℕ → Type 0
+IsFilmed schedule protocol test made done = IsFilm protocol test schedule made × (done ≡ 0)
 
 -- The result of a call, if answers and faults have this status and these bytes: an answer if the kind is 0; a fault if it is 1; and if it
 -- is 2, that one of them does not fit.

@@ -65,7 +65,7 @@ pub extern "C" fn lw_replay(
 }
 
 /// Returns the protocol of the number of a caller.
-fn protocol_of(number: u32) -> Protocol
+pub(crate) fn protocol_of(number: u32) -> Protocol
     ensures { result ≡ replay_protocol number }
 {
     if number == 0 {

@@ -7,5 +7,6 @@
 
 mod call_result;
 mod exports;
+mod films;
 mod reached;
 mod version;

@@ -45,6 +45,23 @@ pub extern "C" fn lw_reach_schedules(
     *told = run_request(memory, &request_of(Output::Schedules, budget), text, room);
 }
 
+/// Runs `beyond --budget BUDGET marks`: returns the test's final states, each marked by whether the proposition is true in
+/// it, within the limits of lists or past them.
+#[unsafe(no_mangle)]
+pub extern "C" fn lw_reach_marks(
+    memory: Memory,
+    text: &[u8],
+    budget: usize,
+    room: &mut [u8],
+    told: &mut CallResult,
+)
+    ensures told { IsReachTold (request_of output.Marks budget) text.now told.new room.old room.new }
+    ensures machine { IsReachedOnMachine text.now }
+    ensures caches { IsReachedOverCaches text.now }
+{
+    *told = run_request(memory, &request_of(Output::Marks, budget), text, room);
+}
+
 /// Returns the request for an output within a budget.
 fn request_of(output: Output, budget: usize) -> Request
     ensures { result ≡ request_of output budget }
