@@ -11,7 +11,7 @@ const TERMS = [
   ["fence", "an instruction that waits until the own store buffer is empty: `MFENCE`, `XCHG`, `LOCK XADD`"],
   ["interleaving", "the threads take turns on one memory, without store buffers"],
   ["complete (proved)", "the list has every final state and no other: found by the orders of what conflicts, or by a search of the machine's states"],
-  ["not proved", "found by the page's own code: marks, graphs, what is left of a program without its fences"],
+  ["not proved", "found by the page's own code: graphs, what is left of a program without its fences; and marks, if the program on this machine answers"],
 ];
 const KEYS = [
   ["← →", "a step back, a step forward"],

@@ -27,8 +27,7 @@ export function filmOf(program, text, schedule, protocol) {
   const { end } = program.replayed(text, given.join(" "), protocol);
   const refused = end.kind === "Stopped" ? { event: given[end.at], at: end.at, number: end.number, cause: end.cause } : null;
   const events = given.slice(0, refused?.at);
-  const numbers = Array.from({ length: events.length + 1 }, (_, number) => number);
-  const states = numbers.map((number) => program.replayed(text, events.slice(0, number).join(" "), protocol));
+  const states = program.statesAlong(text, events, protocol);
   const cells = cellsOf(program, text);
   const effects = events.map((event, at) => effectOf(event, cells, states[at], states[at + 1]));
   return { language: languageOf(text), text: textOf(text), cells, events, effects, states, refused, protocol };

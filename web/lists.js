@@ -1,5 +1,6 @@
-// The report of a test in parts, with the marks of the states in which its condition holds (these are not proved); the schedule that lw
-// lists to a state; and in which state a run has ended.
+// The report of a test in parts, with the marks of the states in which its condition holds; the schedule that lw lists to a state; and in
+// which state a run has ended. Marks are proved if the report says that none or all hold, or if the module makes them. The program lw makes
+// none, and of a long list making them would take as long again as the list did; there the page finds them, which is not proved.
 
 import { Fault, NoAnswer } from "./program.js";
 import { conditionText, holds, observed, siteName, wordAt } from "./propositions.js";
@@ -7,6 +8,8 @@ import { wordsOf } from "./replays.js";
 import { readTest } from "./tests.js";
 
 const MOST_STATES = 200000;
+// The most states that the module is asked to mark.
+const MOST_MARKED = 4096;
 
 /** Whether an error says that a test is nested too deeply for this browser's stack. */
 export function isTooDeep(error) {
@@ -17,8 +20,24 @@ function testOf(text) {
   return readTest(new TextDecoder("utf-8", { fatal: true, ignoreBOM: true }).decode(text));
 }
 
-/** Where a test's proposition is found true: of a state's line whether it holds there, or null where that is not known. */
-function marksOf(text) {
+/**
+ * The marks of so many states, of which the proposition holds in some: of a state's line and index whether it holds there, or null where that
+ * is not known; and whether that is proved.
+ */
+function marksOf(program, text, how, { number, positive }) {
+  if (positive === 0 || positive === number) return { isProved: true, holds: () => positive > 0 };
+  const marked = number <= MOST_MARKED ? program.marked(text, how) : null;
+  if (marked === null) return { isProved: false, holds: foundHere(text) };
+  return { isProved: true, holds: (line, index) => holdsBy(marked[index], line) };
+}
+
+/** Whether the proposition holds in a state by its line in the marked list, or null if that is another state's. */
+function holdsBy(marked, line) {
+  return marked?.slice(2) === line ? marked[0] === "+" : null;
+}
+
+/** The same as the page finds it by reading the test. */
+function foundHere(text) {
   try {
     const test = testOf(text);
     const sites = observed(test);
@@ -42,22 +61,23 @@ export function reportOf(program, text, how) {
   const lines = program.list("states", text, how).split("\n").slice(0, -1);
   const head = lines.slice(0, 2);
   const number = Number(/^States (\d+)$/.exec(head[1])[1]);
-  const marks = marksOf(text);
+  const tail = lines.slice(number + 2);
+  const positive = Number(/^Positive: (\d+)/.exec(tail[1])[1]);
+  const { isProved, holds: isHolding } = marksOf(program, text, how, { number, positive });
   const states = [];
   let holding = 0;
   for (let index = 0; index < number; index += 1) {
     const line = lines[index + 2];
-    const isHolding = marks(line);
-    if (isHolding) holding += 1;
-    if (index < MOST_STATES || (isHolding && holding <= MOST_STATES)) states.push({ index, line, holds: isHolding });
+    const isTrue = isHolding(line, index);
+    if (isTrue) holding += 1;
+    if (index < MOST_STATES || (isTrue && holding <= MOST_STATES)) states.push({ index, line, holds: isTrue });
   }
-  return partsOf(head, number, states, lines.slice(number + 2), holding);
+  return { ...partsOf(head, number, states, tail, positive === holding), positive, is_proved: isProved };
 }
 
 /** A report's parts. States are marked only if as many were found as the report counts. */
-function partsOf(head, number, states, tail, holding) {
-  const positive = Number(/^Positive: (\d+)/.exec(tail[1])[1]);
-  const isMarked = positive === holding && states.every((it) => it.holds !== null);
+function partsOf(head, number, states, tail, isWhole) {
+  const isMarked = isWhole && states.every((it) => it.holds !== null);
   return {
     head,
     number,
@@ -68,7 +88,6 @@ function partsOf(head, number, states, tail, holding) {
     most: MOST_STATES,
     asked: head[0].slice(head[0].lastIndexOf(" ") + 1),
     verdict: tail[0],
-    positive,
     condition: tail[2].slice(tail[2].indexOf(" ") + 1),
   };
 }

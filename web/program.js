@@ -48,7 +48,7 @@ export function languageOf(text) {
 
 /**
  * A workbench that answers words as on the command line: `run(words, bytes)` gives { status, isFault, out }. Its `room` says in words
- * how much memory a run may have.
+ * how much memory a run may have; `hasFilmsAndMarks` says whether it answers `film` and `marks` too.
  */
 export class Program {
   constructor(workbench) {
@@ -120,6 +120,22 @@ export class Program {
   /** The state that a schedule leads to. */
   replayed(text, schedule, protocol) {
     return readState(this.ask(["replay", schedule, "--protocol", protocol], text));
+  }
+
+  /** The states to which all prefixes of a schedule lead, the shortest first: one call, if the workbench has films. */
+  statesAlong(text, events, protocol) {
+    if (!this.workbench.hasFilmsAndMarks) {
+      return Array.from({ length: events.length + 1 }, (_, count) => this.replayed(text, events.slice(0, count).join(" "), protocol));
+    }
+    const pages = this.ask(["film", events.join(" "), "--protocol", protocol], text).split("\n\n");
+    return pages.slice(0, -1).map((page) => readState(`${page}\n`));
+  }
+
+  /** The list of states with a mark on each, as `list` makes it, or null if the workbench has no marks. */
+  marked(text, { search = false, passed = () => null } = {}) {
+    if (!this.workbench.hasFilmsAndMarks) return null;
+    const printed = search ? this.search("marks", text, passed) : this.ask(["--budget", "0", "marks"], text);
+    return printed.split("\n").slice(0, -1);
   }
 }
 

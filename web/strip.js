@@ -19,7 +19,8 @@ const TITLES = 6.4;
 const [WIDE_COLUMN, NARROW_COLUMN, NEVER_COLUMN] = [3, 2.5, 4.2];
 const AROUND_ROWS = 18;
 
-const NOT_PROVED = "in which states the condition holds: found by the page's own code, which is not proved";
+const MARKED = "in which states the condition holds";
+const NOT_PROVED = `${MARKED}: found by the page's own code, which is not proved`;
 
 export class Strip {
   /**
@@ -166,7 +167,7 @@ export class Strip {
   marks() {
     const mark = (state) => (state.holds ? "✓" : el("span", { class: "hidden" }, "false"));
     const cells = this.cellsOf((state) => (this.isShown(state) ? mark(state) : ""), "mark");
-    const title = el("th", { scope: "row", class: "small", title: NOT_PROVED }, "condition holds");
+    const title = el("th", { scope: "row", class: "small", title: this.report.is_proved ? MARKED : NOT_PROVED }, "condition holds");
     return el("tr", { class: "marks-row" }, title, cells, this.ghost ? el("td", { class: "never" }) : null);
   }
 

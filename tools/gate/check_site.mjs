@@ -54,14 +54,24 @@ class Native {
   }
 
   ask(words, text) {
+    if (words[0] === "film") return this.film(words, text);
     const ran = spawnSync(words[0] === "--budget" ? BEYOND : PROGRAM, words, { input: text, maxBuffer: 1 << 28 });
     const isFault = ran.stderr.length > 0;
     return { status: ran.status, isFault, out: isFault ? ran.stderr.subarray(0, -1) : ran.stdout };
   }
+
+  /** A film, by the pages of replays. */
+  film([, schedule, ...option], text) {
+    const events = schedule.split(" ").filter(Boolean);
+    const prefixes = Array.from({ length: events.length + 1 }, (_, count) => events.slice(0, count).join(" "));
+    const pages = prefixes.map((it) => this.run(["replay", it, ...option], text));
+    const refused = pages.find((it) => it.isFault);
+    return refused ?? { status: 0, isFault: false, out: Buffer.concat(pages.flatMap((it) => [it.out, Buffer.from("\n")])) };
+  }
 }
 
 /**
- * A module or a server. Each of its answers is compared with the program's, but for replays: of these some are compared below, and all
+ * A module or a server. Each of its answers is compared with the program's, except replays: some of these are compared below, and all
  * others are in films and in what can be done next, which are compared with those of tools/gate/plain_answers.py.
  */
 class Both {
@@ -75,9 +85,14 @@ class Both {
     return this.workbench.room;
   }
 
+  get hasFilmsAndMarks() {
+    return this.workbench.hasFilmsAndMarks;
+  }
+
   run(words, text) {
     const ran = this.workbench.run(words, text);
-    if (words[0] !== "replay") this.compare(words, text, ran);
+    const isBeyond = words[0] === "--budget";
+    if (words[0] !== "replay" && (!isBeyond || fs.existsSync(BEYOND))) this.compare(words, text, ran);
     return ran;
   }
 
@@ -284,11 +299,13 @@ function typedTexts() {
 
 // Comparisons.
 
-/** What of an answer is compared: all but the words on a verdict, and on a test that is not read. */
+/** What of an answer is compared: all but the words on a verdict, and on a test that is not read, and who has found the marks. */
 function shown(answer) {
   if (answer.error && UNREAD.test(answer.error)) return { error: "not read" };
   const { report, words, ...others } = answer;
-  return JSON.parse(JSON.stringify(report ? { report, ...others } : { words, ...others }));
+  if (!report) return JSON.parse(JSON.stringify({ words, ...others }));
+  const { is_proved: _, ...compared } = report;
+  return JSON.parse(JSON.stringify({ report: compared, ...others }));
 }
 
 /** Compares all answers on a text. */
@@ -408,6 +425,8 @@ function compareArguments(page, tally) {
     [["replay", text], text],
     [["replay", "P0", "--protocol"], text],
     [["replay", "P0", "--protocol", "msi"], text],
+    [["film"], text],
+    [["film", "P0", "--protocol", "msi"], text],
     [["--budget", "1"], text],
     [["--budget", "1", "compile"], text],
     [["--budget", "-1", "states"], text],
@@ -545,10 +564,13 @@ function compareTyped(page, program, tally) {
   const { kind, number, name, row, column, index } = ask("states", faulty).fault;
   compare("a fault, with a column that counts characters", ["cell", 1, "Form", 4, 12, "= 1"],
     [kind, number, name, row, column, faulty.slice(index, index + 3)]);
-  const deep = `SRC A\n{}\n P0 ;\n x := 1 ;\nexists ${"(".repeat(30000)}x=1${")".repeat(30000)}\n`;
-  const { report } = ask("states", deep);
-  const unmarked = [["Test A Allowed", "States 1"], false];
-  compare("a test that lw alone reads has its report, without marks", unmarked, [report.head, report.is_marked]);
+  const deep = (word) => `SRC A\n{}\n P0 | P1 ;\n x := 1 | x := 2 ;\nexists ${"(".repeat(30000)}x=${word}${")".repeat(30000)}\n`;
+  const hasMarks = Boolean(program.workbench.hasFilmsAndMarks);
+  for (const [word, isProved] of [[1, hasMarks], [7, true]]) {
+    const { report } = ask("states", deep(word));
+    const wanted = [["Test A Allowed", "States 2"], isProved, isProved];
+    compare("a test that lw alone reads has its report, and marks only if they are proved", wanted, [report.head, report.is_marked, report.is_proved]);
+  }
   const named = "X86 <b>\n{}\n P0 ;\n MOV [x],$1 ;\nexists (x=1)\n";
   const { picture } = ask("picture", named, { schedule: "P0", protocol: "mesi", strip: true });
   compare("a picture holds a test's name as a text", [true, false], [picture.includes("&lt;b&gt;"), picture.includes("<b>")]);

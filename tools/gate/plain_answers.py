@@ -94,8 +94,10 @@ def marks_of(text):
 
 def report_of(text):
     """The report of a test. Kept are the first states, as many with a true proposition, and the last lines."""
-    lines, marks = ask(["states"], text).splitlines(), marks_of(text)
+    lines = ask(["states"], text).splitlines()
     head, number = lines[:2], int(lines[1].split()[1])
+    positive = int(re.match(r"Positive: (\d+)", lines[2 + number + 1])[1])
+    marks = (lambda line: positive > 0) if positive in (0, number) else marks_of(text)
     states, holding = [], 0
     for index, line in enumerate(lines[2 : 2 + number]):
         holds = marks(line)
