@@ -103,7 +103,7 @@ class Mark(NamedTuple):
 
 @dataclass(frozen=True)
 class Report:
-    """What `lw states` tells of a test, with the bytes that say so."""
+    """The report of a test, as `lw states` prints it, with its bytes."""
 
     name: str
     question: str  # Allowed, Forbidden or Required
@@ -117,7 +117,7 @@ class Report:
 
 
 def _state(line):
-    """The state that a line says."""
+    """Returns the state of a line."""
     found = re.findall(r"(\S+)=([0-9]+);", line)
     if " ".join(f"{name}={value};" for name, value in found) != line:
         raise ValueError(f"no state: {line!r}")
@@ -125,7 +125,7 @@ def _state(line):
 
 
 def _lines_of(made, what):
-    """The lines of some bytes, and the number of states that the second one says."""
+    """Returns the lines of some bytes, and the number of states in the second one."""
     lines = made.decode("ascii").split("\n")
     count = re.fullmatch(r"States ([0-9]+)", lines[1]) if len(lines) > 1 else None
     if not count or lines[-1]:
@@ -134,7 +134,7 @@ def _lines_of(made, what):
 
 
 def report_of(made):
-    """The report that some bytes are."""
+    """Returns the report that some bytes are."""
     lines, count = _lines_of(made, "report")
     found = REPORT.fullmatch("\n".join([lines[0], *lines[2 + count :]]))
     if not found:
@@ -148,7 +148,7 @@ def report_of(made):
 
 
 def schedules_of(made):
-    """The states and schedules that some bytes list."""
+    """Returns the states and schedules that some bytes list."""
     lines, count = _lines_of(made, "list of schedules")
     if not re.fullmatch(r"Test \S+", lines[0]) or len(lines) != 2 + 2 * count:
         raise ValueError("no list of schedules")
@@ -173,7 +173,7 @@ def _pages_of(film):
 
 
 def _bytes_of(text):
-    """A test as bytes."""
+    """Returns a test as bytes."""
     if isinstance(text, str):
         raise TypeError("a test has to be bytes, and not str: open its file in mode 'rb', or encode it")
     if not isinstance(text, (bytes, bytearray, memoryview)):
@@ -182,7 +182,7 @@ def _bytes_of(text):
 
 
 def _schedule_of(command, schedule, protocol):
-    """The bytes of a schedule and the number of a protocol, as a command takes them: none unless it is a replay."""
+    """Returns the bytes of a schedule and the number of a protocol, as a command takes them: none unless it is a replay."""
     if command not in COMMANDS:
         raise ValueError(f"no command: {command!r}; there are {', '.join(COMMANDS)}")
     if command != "replay":
@@ -199,7 +199,7 @@ def _schedule_of(command, schedule, protocol):
 
 
 def _version_of(calls):
-    """The version of a library that is loaded."""
+    """Returns the version of a library that is loaded."""
     calls.lw_version.argtypes, calls.lw_version.restype = [], ctypes.c_uint32
     return "{}.{}".format(*divmod(calls.lw_version(), 100))
 
@@ -234,7 +234,7 @@ class Workbench:
             call.restype = None
 
     def run(self, command, text, schedule=None, protocol=None):
-        """The exit status and the bytes of a command, as the program tells them. A fault is raised. `schedule` and `protocol` are for
+        """Runs a command. Returns its exit status and its bytes, those of the program. A fault is raised. `schedule` and `protocol` are for
         `replay` only, which takes MESI if no protocol is named."""
         return self._answer(command, _bytes_of(text), _schedule_of(command, schedule, protocol))
 
@@ -264,7 +264,7 @@ class Workbench:
         return made
 
     def _call(self, call, given):
-        """What a call tells, and its bytes; with as much room as it needs."""
+        """Makes a call, with as much room as it needs. Returns its result and its bytes."""
         told = _Told()
         while True:
             call(*given, self._room, len(self._room), ctypes.byref(told))
@@ -273,19 +273,19 @@ class Workbench:
             self._room = ctypes.create_string_buffer(told.length)
 
     def states(self, text):
-        """The report of a test."""
+        """Returns the report of a test."""
         return report_of(self.run("states", text)[1])
 
     def schedules(self, text):
-        """The list of a test's final states, each with a schedule."""
+        """Returns the list of a test's final states, each with a schedule."""
         return schedules_of(self.run("schedules", text)[1])
 
     def compile(self, text):
-        """The canonical text of a test, a source test compiled to x86."""
+        """Returns the canonical text of a test, a source test compiled to x86."""
         return self.run("compile", text)[1]
 
     def replay(self, text, schedule, protocol=None):
-        """The page of a replay, and whether it ended in a final state."""
+        """Returns the page of a replay, and whether it ended in a final state."""
         status, page = self.run("replay", text, schedule, protocol)
         return page, status == 0
 
