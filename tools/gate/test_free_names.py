@@ -95,7 +95,7 @@ class Places(cases.Case):
 
     def test_definition(self):
         """A definition of a lower crate is found where it stands."""
-        self.assertEqual(["Rattle.lw_litmus.specs.WellFormed"], self.found("lw_tso", "IsOperation"))
+        self.assertEqual(["Rattle.lw_litmus.specs.WellFormed"], self.found("lw_tso", "IsWellFormedOperation"))
 
     def test_generated(self):
         """A type of the code is found where proofs import it from."""
@@ -107,19 +107,19 @@ class Places(cases.Case):
 
     def test_upper_crate(self):
         """A definition of a crate that does not stand below is not found."""
-        self.assertFalse("Rattle.lw_litmus.specs.WellFormed" in self.found("lw_memory", "IsOperation"))
+        self.assertFalse("Rattle.lw_litmus.specs.WellFormed" in self.found("lw_memory", "IsWellFormedOperation"))
 
     def test_told(self):
         """A proof is told what is imported, from where, and what stands nowhere."""
         with tempfile.TemporaryDirectory(prefix="lw-names-") as room:
-            file = written(room, "f : IsOperation\nf = nowhere_at_all")
+            file = written(room, "f : IsWellFormedOperation\nf = nowhere_at_all")
             file.crate = "lw_tso"
             self.missing.by_path[file.path] = file
             self.missing.told.clear()
             text = self.missing.completed(file.path)
-        self.assertEqual("-- A trial.\nuse Rattle.lw_litmus.specs.WellFormed.{IsOperation}\nf : IsOperation\nf = nowhere_at_all\n", text)
+        self.assertEqual("-- A trial.\nuse Rattle.lw_litmus.specs.WellFormed.{IsWellFormedOperation}\nf : IsWellFormedOperation\nf = nowhere_at_all\n", text)
         told = [(is_found, line.split(": ", 1)[1]) for is_found, line in self.missing.told]
-        first = (True, "IsOperation is imported from Rattle.lw_litmus.specs.WellFormed")
+        first = (True, "IsWellFormedOperation is imported from Rattle.lw_litmus.specs.WellFormed")
         self.assertEqual([first, (False, "nowhere_at_all stands nowhere")], told)
 
 
