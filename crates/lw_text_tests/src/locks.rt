@@ -28,44 +28,47 @@ const SPIN_LOCK: &str = "X86 SpinLock-x86
 ~exists (0:ESI=1 /\\ 1:ESI=1 /\\ n=1)
 ";
 
+/// The instructions of the spin lock, of their operands.
+fn load(reg: Reg, loc: Loc) -> Instr {
+    Instr::Load { reg, loc }
+}
+
+fn store(loc: Loc, val: Operand) -> Instr {
+    Instr::Store { loc, val }
+}
+
+fn set(reg: Reg, val: Operand) -> Instr {
+    Instr::Set { reg, val }
+}
+
+fn add(reg: Reg, val: Operand) -> Instr {
+    Instr::Add { reg, val }
+}
+
+fn compare(reg: Reg, val: Operand) -> Instr {
+    Instr::Cmp { reg, val }
+}
+
+fn exchange(loc: Loc, reg: Reg) -> Instr {
+    Instr::Xchg { loc, reg }
+}
+
 /// Returns the instructions of a thread of the spin lock: the location n is at index 0, and the lock at index 1.
 fn spin_lock_code() -> [Instr; 12] {
     let ([n, lock, ..], [eax, ebx, ecx, _, esi, _]) = (Loc::all(), Reg::all());
-    let (zero, one) = (Operand::Number(0), Operand::Number(1));
     [
-        Instr::Load {
-            reg: eax,
-            loc: lock,
-        },
-        Instr::Cmp {
-            reg: eax,
-            val: zero,
-        },
+        load(eax, lock),
+        compare(eax, Operand::Number(0)),
         Instr::Jne { to: 12 },
-        Instr::Set {
-            reg: eax,
-            val: Operand::Register(ebx),
-        },
-        Instr::Xchg {
-            loc: lock,
-            reg: eax,
-        },
-        Instr::Cmp {
-            reg: eax,
-            val: zero,
-        },
+        set(eax, Operand::Register(ebx)),
+        exchange(lock, eax),
+        compare(eax, Operand::Number(0)),
         Instr::Jne { to: 12 },
-        Instr::Set { reg: esi, val: one },
-        Instr::Load { reg: ecx, loc: n },
-        Instr::Add { reg: ecx, val: one },
-        Instr::Store {
-            loc: n,
-            val: Operand::Register(ecx),
-        },
-        Instr::Store {
-            loc: lock,
-            val: zero,
-        },
+        set(esi, Operand::Number(1)),
+        load(ecx, n),
+        add(ecx, Operand::Number(1)),
+        store(n, Operand::Register(ecx)),
+        store(lock, Operand::Number(0)),
     ]
 }
 
