@@ -1,5 +1,5 @@
 #!/usr/bin/env python3
-"""Whether python/lw.py looks at its arguments, refuses what is no answer, and whether threads may share a workbench.
+"""Whether python/lw.py looks at its arguments, refuses what is no answer, and whether threads may share a workbench; and what is said of stacks.
 
     python3 tools/gate/test_python.py, or python3 -m unittest tools.gate.test_python
 
@@ -250,6 +250,19 @@ class Calls(cases.Case):
             answers = list(pool.map(lambda text: bench.run("states", text)[1], texts))
         self.assertEqual([(it[:1], len(it)) for it in texts], [(it[:1], len(it)) for it in answers])
         self.assertTrue(answers == texts)
+
+
+class Documents(cases.Case):
+    """What is said of the stack that a call takes."""
+
+    def test_stack(self):
+        """docs/LIBRARY.md, docs/TRUSTED.md and include/lw.h name the same bytes: less than what is called ample, more than what is too small."""
+        texts = [read(it) for it in ("docs/LIBRARY.md", "docs/TRUSTED.md", "include/lw.h")]
+        told = [re.findall(r"(\d+,\d+) bytes(?:,| were)\s+measured", text) for text in texts]
+        self.assertEqual([told[0][:1]] * 3, told)
+        bytes_of_stack = int(told[0][0].replace(",", ""))
+        ample, too_small = map(int, re.search(r"(\d+) KiB of stack is ample, and one with (\d+) KiB", texts[0]).groups())
+        self.assertTrue(too_small << 10 < bytes_of_stack < ample << 10)
 
 
 if __name__ == "__main__":
