@@ -35,10 +35,12 @@ from machine.faults import NotRun
 from machine.laboratory import Laboratory, Settings
 from machine.plans import Limits
 from machine.subjects import Subject, subject_of
+from many.files import is_program
 from shared import command, start
 
 SEEN_AND_NOT_LISTED, NOT_RUN, INTERRUPTED = 3, 5, 130
 SECONDS = 10.0
+IS_PROGRAM = "a program in C, C++ or Rust is no test: `tools/from_c.py --show` prints the tests that its compiler's code is"
 
 
 def knob_of(word: str):
@@ -77,6 +79,8 @@ def settings_of(words, against: Optional[Subject]) -> Settings:
 def show(laboratory: Laboratory, words, settings: Settings, file: str, text: str) -> int:
     """Runs one test, and prints what was seen. Returns the exit status."""
     try:
+        if is_program(file):
+            raise NotRun(IS_PROGRAM)
         result = laboratory.result_of(file, text, settings)
     except NotRun as why:
         print(f"on_machine: {file}: {why}", file=sys.stderr)

@@ -195,6 +195,9 @@ class Commands(cases.Case):
         out, err, status = run(["on_machine.py", "--seconds", "0.1", "tools/herd/tests/Less.litmus", "nowhere"])
         told = "tools/herd/tests/Less.litmus:6:2: 'JL' is no instruction that is read\non_machine: nowhere: No such file or directory\n"
         self.assertEqual(("", told, 1), (out, err, status))
+        program = "examples/from_c/StoreBuffering.c"
+        told = "a program in C, C++ or Rust is no test: `tools/from_c.py --show` prints the tests that its compiler's code is"
+        self.assertEqual(("", f"on_machine: {program}: {told}\n", 5), run(["on_machine.py", program]))
         self.assertEqual(("", "on_machine: the compiler 'false' fails: it says nothing\n", 5), run(["on_machine.py", "--cc", "false", "F"]))
         out, err, status = run(["on_machine.py", "--seconds", "0.1", "--against", "examples/MP-x86.litmus", "examples/SB-x86.litmus"])
         told = "it is held against a test that speaks of other names: 1:EAX 1:EBX, and not 0:EAX 1:EAX"
