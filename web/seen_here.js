@@ -9,18 +9,34 @@ import { hasServer } from "./supplies.js";
 const SECONDS = 2;
 const ABOUT = "What a processor shows proves nothing, and a state that was not seen was not seen, no more (docs/ON-MACHINE.md).";
 
-/** The offer to run a test on this machine, and its place; nothing if no server stands behind the page. */
-export function seenHere(text) {
-  if (!hasServer) return "";
-  const place = el("div", { class: "seen-here" });
-  const offer = () => button(`Run it on this machine for ${SECONDS} seconds`, run, { class: "run-here" });
-  async function run() {
-    place.replaceChildren(el("p", { class: "row asking", role: "status" }, `Running on this machine for ${SECONDS} seconds …`));
-    const answer = await answerOf(text);
-    place.replaceChildren(...(answer.error ? [el("p", { class: "notice", role: "alert" }, answer.error)] : shown(answer)), offer());
+/** The offer to run a test on this machine, and what was seen. There is none if no server stands behind the page, or beside another test. */
+export class SeenHere {
+  text = null;
+
+  constructor({ isAlone }) {
+    this.isOffered = hasServer && isAlone;
+    this.place = el("div", { class: "seen-here", hidden: !this.isOffered });
   }
-  place.append(offer());
-  return place;
+
+  /** Offers to run the test of a text, in place of what was shown; of none if there is null. */
+  offer(text) {
+    this.text = this.isOffered ? text : null;
+    this.place.replaceChildren(...this.button());
+  }
+
+  button() {
+    const act = () => this.run(this.text);
+    return this.text === null ? [] : [button(`Run it on this machine for ${SECONDS} seconds`, act, { class: "run-here" })];
+  }
+
+  /** Runs a test, and shows what was seen, unless another is offered meanwhile. */
+  async run(text) {
+    const waiting = el("p", { class: "row asking", role: "status" }, `Running on this machine for ${SECONDS} seconds …`);
+    this.place.replaceChildren(waiting);
+    const answer = await answerOf(text);
+    if (!this.place.contains(waiting)) return;
+    this.place.replaceChildren(...(answer.error ? [el("p", { class: "notice", role: "alert" }, answer.error)] : shown(answer)), ...this.button());
+  }
 }
 
 /** What the server says. */

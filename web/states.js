@@ -10,11 +10,10 @@ import { missingState } from "./missing.js";
 import { asPrinted, leftOut, saveReport } from "./reports.js";
 import { Run } from "./run.js";
 import { isTooLong, searchOffer } from "./search.js";
-import { seenHere } from "./seen_here.js";
+import { SeenHere } from "./seen_here.js";
 import { Strip } from "./strip.js";
 import { codeNodes, tintedSentence, tintsOf } from "./tint.js";
 import { tell, tellNothing } from "./told.js";
-import { headingOf } from "./tokens.js";
 import { countWords, headlineOf } from "./verdicts.js";
 
 // Of how many states at most the list is shown as lw prints it.
@@ -42,7 +41,8 @@ export class States {
     this.strip = new Strip(editor, { choose: (line) => this.choose(line), why });
     this.run = new Run(editor, { reached: (line, program) => this.reach(line, program), graphPlace, ...called });
     panel.append(this.verdict, this.list, this.strip.place);
-    runPanel.append(this.run.place);
+    this.here = new SeenHere(editor);
+    runPanel.append(this.run.place, this.here.place);
   }
 
   clear() {
@@ -50,6 +50,7 @@ export class States {
     this.list.replaceChildren();
     this.strip.clear();
     this.run.clear();
+    this.here.offer(null);
     Object.assign(this, { report: null, isVeiled: false, found: new Set() });
     this.revealed();
   }
@@ -104,11 +105,11 @@ export class States {
     if (isHere) this.verdict.focus({ preventScroll: true });
   }
 
-  reveal({ report, words }, link) {
-    Object.assign(this, { report, words });
+  reveal({ report, language, words }, link) {
+    Object.assign(this, { report, language, words });
     this.tellVerdict();
     this.list.replaceChildren(leftOut(report) ?? "", report.is_marked ? "" : el("p", { class: "small" }, unmarked()));
-    if (!this.isByHand) this.list.append(seenHere(this.editor.text));
+    this.here.offer(this.isByHand ? null : this.editor.text);
     this.strip.show(report, tintsOf(this.editor.text), missingState(report, questionOf(this.editor.text)));
     this.revealed();
     if (this.isByHand) return this.beginByHand(link?.view === "hand" ? link : {});
@@ -138,7 +139,7 @@ export class States {
     const { text } = this.editor;
     const tints = tintsOf(text);
     const said = guess.guessOn(text);
-    const [kind, word, sentence] = headlineOf(headingOf(text).language, report, conditionWords(text));
+    const [kind, word, sentence] = headlineOf(this.language, report, conditionWords(text));
     const [by, way] = BY[this.isSearched ? "searched" : "enumerated"];
     this.verdict.className = `verdicts ${kind}`;
     this.verdict.replaceChildren(
