@@ -1,5 +1,5 @@
 -- What a reader must prove where it returns early with `?`: the claim of the error that it passes on.
-use Rattle.lw_text.proofs.Common.{◌≡◌, ◌≢◌, Result, Ok, Err, IsErrAnd, MatchResult, Memory, Refusal}
+use Rattle.lw_text.proofs.Common.{◌≡◌, ◌≢◌, None, Result, Ok, Err, IsErrAnd, MatchResult, Memory, Refusal}
 use Rattle.lw_text.proofs.Common.{IsOfReader, Unexpected}
 -- The callee's error is returned unchanged.
 pub use Rattle.lw_base.proofs.api.Returns.{Err-clause_known}
@@ -18,6 +18,6 @@ unexpected = (λ e. cc, λ e. cc)
 
 -- If a call failed because memory ran out, its result satisfies a clause that requires nothing of such errors.
 pub ran_out : {T : Type 0} (P : T → Type 0) (Q : Refusal → Type 0) (r : Result T Refusal)
-    → IsErrAnd r (λ f. (f.token ≡ 0) × (f.cause ≡ Memory))
+    → IsErrAnd r (λ f. (f.at ≡ None) × (f.cause ≡ Memory))
     → MatchResult r P (λ f. f.cause ≢ Memory → Q f)
 ran_out P Q r h = exits P (λ f. f.cause ≢ Memory → Q f) r h (λ f k other. absurd (other k.1))

@@ -14,6 +14,7 @@ pub mod Headers
 pub mod CellPlaces
 pub mod Cells
 pub mod NameTables
+pub mod Failures
 pub mod Readings
 pub mod SiteLists
 pub mod PlacedRows
@@ -23,7 +24,9 @@ pub mod Atoms
 pub mod Sites
 pub mod TerminalLists
 pub mod PropositionCases
+pub mod PropositionPlaces
 pub mod Whole
+pub mod StreamFailures
 pub mod Bodies
 pub mod WellFormedHeads
 pub mod PropositionReadings

@@ -4,6 +4,7 @@ use Rattle.lw_text.proofs.Common.{AllByRecursion, is_ascii_graphic, not-true, fa
 use Rattle.lw_text.proofs.Common.{HoldsOfNothing, ParsesNothing, Bytes, Arch, Source, X86, arch_keyword}
 use Rattle.lw_text.proofs.Common.{is_blank, first_byte_is, IsFirstToken, IsTestName, ParsesTestName, Notes}
 use Rattle.lw_text.proofs.Common.{Preamble, blank_all}
+use Rattle.lw_text.proofs.Common.{◌∙◌, append-nil, false≢true, length, nil_from_length, not-false}
 use Rattle.lw_text.proofs.Texts.{is_no_text}
 use Rattle.lw_text.proofs.NameRuns.{run-unique}
 use Rattle.lw_text.proofs.TokenRows.{IsFirstToken-unique}
@@ -90,3 +91,29 @@ Preamble-unique text a n r b m s p q =
     let e = IsFirstToken-unique text (arch_keyword a) p.0 (arch_keyword b) q.0 p.2 q.2 in
     let f = ParsesTestName-unique q.0 n p.1 m q.1 (subst (λ x. ParsesTestName x n p.1) e.1 p.3) q.3 in
     (arch_keyword-unique a b e.0, f.0, Notes-unique (subst (λ x. Notes x r) f.1 p.4) q.4)
+
+-- Bytes whose first is neither a blank nor another are none.
+neither_blank : (bytes : Bytes)
+    → first_byte_is is_blank bytes ≡ false
+    → first_byte_is (λ b. not (is_blank b)) bytes ≡ false
+    → bytes ≡ []
+neither_blank [] p q = refl
+neither_blank (b ∷ bytes) p q = absurd (false≢true (sym p ∙ not-false (is_blank b) q))
+
+-- An empty front is none.
+pub no_front : (bytes front rest : Bytes) → bytes ≡ front ++ rest → length front ≡ 0 → bytes ≡ rest
+no_front bytes front rest parts none = parts ∙ ap (λ x. x ++ rest) (nil_from_length front none)
+
+-- If no name follows the blanks, the text is blanks.
+pub all_blank : (bytes blanks after name rest : Bytes)
+    → bytes ≡ blanks ++ after
+    → AllByRecursion (λ b. is_blank b ≡ true) blanks
+    → first_byte_is is_blank after ≡ false
+    → after ≡ name ++ rest
+    → first_byte_is (λ b. not (is_blank b)) rest ≡ false
+    → length name ≡ 0
+    → AllByRecursion (λ b. is_blank b ≡ true) bytes
+all_blank bytes blanks after name rest parts all longest rest_is other none =
+    let same = no_front after name rest rest_is none in
+    let end = neither_blank after longest (ap (first_byte_is (λ b. not (is_blank b))) same ∙ other) in
+    subst (AllByRecursion (λ b. is_blank b ≡ true)) (sym (parts ∙ ap (λ x. blanks ++ x) end ∙ append-nil blanks)) all

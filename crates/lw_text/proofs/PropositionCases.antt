@@ -23,6 +23,10 @@ use Rattle.lw_text.proofs.PropositionReadings.{state_after_terminals, said_at, d
 use Rattle.lw_text.proofs.Readings.{with_sites-append}
 use Rattle.lw_text.proofs.Texts.{is_text}
 use Rattle.lw_text.proofs.TerminalLists.{Terminals-peel, Terminals-unique, IsTerminal-unique}
+use Rattle.lw_text.proofs.PropositionPlaces.{next_place-state}
+use Rattle.lw_text.specs.Failures.{FailsInProposition, after_terminal}
+use Rattle.lw_text.specs.inner.ReaderStates.{place_of}
+use Rattle.lw_text.specs.declared.fault.TextCause.{TextCause}
 use Rattle.lw_text.specs.declared.terminal.Terminal.TheVariants as made
 use Rattle.lw_text.specs.declared.terminal.Atom.TheVariants as atoms
 
@@ -240,6 +244,21 @@ module _ {arch : Arch} {threads : ℕ} {before behind : Cursor} {names after : N
         few = few;
         leads = ap (state_after_terminals (Some initial_reader_state)) made_more ∙ lead_on read (terminal_of s ∷ []) ∙ step;
       }
+
+  -- If a proposition fails after the terminal read, it fails before it.
+  pub Fails-after_terminal : {A : Type 0} (reader reader_after : PropositionReader A) {nodes nodes_after : ℕ} {rest : TokenList} {cause : TextCause}
+      → next_state (state_of reader) (terminal_of s) ≡ Some (state_of reader_after)
+      → nodes_after ≡ nodes + (if is_node (terminal_of s) then 1 else 0)
+      → FailsInProposition arch threads rest cause (place_of (state_of reader_after)) nodes_after after (remaining_texts behind)
+      → FailsInProposition arch threads rest cause (place_of (state_of reader)) nodes names (remaining_texts before)
+  Fails-after_terminal reader reader_after {nodes} {nodes_after} {rest} {cause} step counts w =
+      let t = named_terminal after s in
+      let one = one_node (is_node (terminal_of s)) t (node_named after s) in
+      let same : nodes_after ≡ nodes + count (t ∷ []) = counts ∙ ap (λ (n : ℕ). nodes + n) (sym one) in
+      after_terminal t (remaining_texts behind) _ taken.is
+      (next_place-state (state_of reader) after s ∙ ap (option_map place_of) step)
+      (subst (λ table. FailsInProposition arch threads rest cause (place_of (state_of reader_after)) (nodes + count (t ∷ [])) table (remaining_texts behind)) taken.names_are
+      (subst (λ (n : ℕ). FailsInProposition arch threads rest cause (place_of (state_of reader_after)) n after (remaining_texts behind)) same w))
 
   -- If the terminal read is not allowed next, no terminal of the same tokens is.
   pub terminal_refused : {A : Type 0} (reader : PropositionReader A)

@@ -21,6 +21,11 @@ pub allowed_thread : (threads : Option ℕ) (t r : ℕ) → is_allowed threads t
 allowed_thread None t r e = tt
 allowed_thread (Some threads) t r e = ltb-true t threads e
 
+-- A register of a thread that is not allowed is not allowed.
+pub refused_thread : (threads : Option ℕ) (t r : ℕ) → is_allowed threads t ≡ false → ThreadAllowed threads (InThread t r) → ⊥
+refused_thread None t r e there = absurd (true≢false e)
+refused_thread (Some threads) t r e there = omega (arith, there, ltb-false t threads e)
+
 -- If a location's name was inserted, and is next with or without brackets, its site was read.
 pub entered : {arch : Arch} {threads : Option ℕ} {before after : Cursor} {names table : NameTable} {loc : ℕ} {t : Bytes}
     → IsLocationName t × (slice_get table loc ≡ Some t) × (table ≡ insert_name names t)

@@ -4,6 +4,7 @@ use Rattle.lw_text.proofs.Common.{subst, arith, length-append, HoldsOfNothing, P
 use Rattle.lw_text.proofs.Common.{TokenList, Token, ParsesMany, begins_trivia, Trivia, IsToken, IsFirstToken}
 use Rattle.lw_text.proofs.Common.{Tokens, PlacedToken, texts_of_tokens, PlacedTokens, token_texts, with_spans}
 use Rattle.lw_text.proofs.api.Places.{texts_placed}
+use Rattle.lw_text.specs.PlacedTokens.{IsPlacedToken}
 use Rattle.lw_text.proofs.TriviaLemmas.{Trivia-unique, Trivia-shorter}
 use Rattle.lw_text.proofs.NameRuns.{token-unique, token_no_trivia, token_nonempty}
 
@@ -32,13 +33,9 @@ Tokens-unique (t ∷ ts) (u ∷ us) text p q =
 
 -- ---- tokens that have been read
 
--- A token with its position in a text of this length.
-abbrev pub Placed : ℕ → Bytes → PlacedToken → Bytes → Type 0
-Placed len text t mid = IsFirstToken text t.text mid × (t.at + length t.text + length mid ≡ len)
-
 -- These tokens have been read, with their positions, and `rest` remains.
 abbrev pub Read : ℕ → Bytes → List PlacedToken → Bytes → Type 0
-Read len text ts rest = ParsesMany (Placed len) text ts rest
+Read len text ts rest = ParsesMany (IsPlacedToken len) text ts rest
 
 -- If only trivia remains, the tokens read are all of the text.
 pub Read-done : (len : ℕ) (ts : List PlacedToken) (text rest : Bytes)

@@ -1,7 +1,8 @@
 -- The parse of a test's parts is unique. If one of them is absent, the tokens are no test, and the text has no frame.
 use Rattle.lw_text.proofs.Common.{◌≡◌, ℕ, zero, suc, ◌≤◌, true, false, List, [], ◌∷◌, ◌++◌, length, map, refl}
 use Rattle.lw_text.proofs.Common.{sym, ap, ◌∙◌, subst, arith, Option, Some, None, MatchOption, IfNone, codes}
-use Rattle.lw_text.proofs.Common.{All, AllByRecursion, list_all, length-map, All-from_recursion}
+use Rattle.lw_text.proofs.Common.{All, AllByRecursion, list_all, length-map, ltb-false, All-from_recursion}
+use Rattle.std.specs.Prelude.{Contains}
 use Rattle.lw_text.proofs.Common.{HoldsOfNothing, ParsesNothing, Bytes, NameTable, TokenList, CellGrid, Arch}
 use Rattle.lw_text.proofs.Common.{Quant, Exists, NotExists, Forall, all_map, All-mono, insert_names-longer}
 use Rattle.lw_text.proofs.Common.{Cell, Cursor, Token, Tokens, PlacedTokens, token_texts, Preamble}
@@ -253,3 +254,18 @@ pub no_quantifier : (ts : TokenList)
 no_quantifier ts no_tilde no_first no_second Exists rest f = no_first rest f
 no_quantifier ts no_tilde no_first no_second NotExists rest f = token_not_next (codes "~") ts _ no_tilde f
 no_quantifier ts no_tilde no_first no_second Forall rest f = no_second rest f
+
+-- The site of a thread that does not exist is a register.
+pub missing_thread : (site : MadeSite) (threads : ℕ)
+    → thread_exists threads site ≡ false
+    → (t r : ℕ) × (site ≡ made.Register t r) × (threads ≤ t)
+missing_thread (made.Location loc) threads e = absurd cc
+missing_thread (made.Register t r) threads e = (t, r, refl, ltb-false t threads e)
+
+-- What holds of all initializers holds of each.
+pub initializer_at : (P : MadeInitializer → Type 0) (es : List MadeInitializer)
+    → AllByRecursion P es
+    → (e : MadeInitializer)
+    → Contains es e
+    → P e
+initializer_at P es all e found = subst P found.2 (All-from_recursion P es all found.0 e found.1)

@@ -14,4 +14,6 @@ pub mod Causes
 pub mod Spans
 pub mod Places
 pub mod Views
+pub mod Failures
+pub mod TextFailures
 pub mod laws

@@ -12,6 +12,10 @@ pub record PlacedToken : Type 0 where
 abbrev pub texts_of_tokens : List PlacedToken → TokenList
 texts_of_tokens ts = map (λ t. t.text) ts
 
+-- The rest of a text of length `len` begins with this token, at its offset, and then rest.
+abbrev pub IsPlacedToken : ℕ → Bytes → PlacedToken → Bytes → Type 0
+IsPlacedToken len text t rest = IsFirstToken text t.text rest × (t.at + length t.text + length rest ≡ len)
+
 -- The rest of a text of length `len` is these tokens, each at its offset, with blanks and comments between and around them.
 abbrev pub PlacedTokens : ℕ → Bytes → List PlacedToken → Type 0
 PlacedTokens len text [] = Trivia text []

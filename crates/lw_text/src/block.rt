@@ -1,10 +1,12 @@
 //! The initial block of a test: its initializers.
-ghost use Rattle.std.specs.Prelude.{◌≡◌, true, false, MatchResult, OnOk, OnErr};
+ghost use Rattle.std.specs.Prelude.{◌≡◌, ◌≢◌, List, true, false, Contains, MatchResult, IfErr, OnOk, OnErr};
 ghost use Rattle.std.specs.List.{list_all};
-ghost use Rattle.lw_base.specs.NoParse.{ParsesNothingWithOrOutOfMemory};
-ghost use Rattle.lw_text.specs.Frames.{sites_of, Block};
+ghost use Rattle.lw_base.specs.Types.{TokenList};
+ghost use Rattle.lw_text.specs.Failures.{FailsInBlock};
+ghost use Rattle.lw_text.specs.Frames.{InitializerSyntax, sites_of, Block};
 ghost use Rattle.lw_text.specs.Sites.{HasRoomFor};
-ghost use Rattle.lw_text.specs.declared.fault.TextCause.TheVariants.{Memory};
+ghost use Rattle.lw_text.specs.declared.fault.TextCause.TheVariants.{Memory, Name};
+ghost use Rattle.lw_text.specs.declared.block.Initializer.{Initializer};
 ghost use Rattle.lw_text.specs.inner.Resolved.{thread_exists};
 ghost use Rattle.lw_text.specs.inner.Parsed.{ParsedBlock};
 
@@ -14,16 +16,16 @@ use crate::site::Site;
 use lw_base::{Arch, LocNames, Sequence, Word};
 use std::alloc::Allocator;
 
-/// An initializer of the block: the index of its first token, a site, and the site's initial word.
+/// An initializer of the block: the offset of its first token, a site, and the site's initial word.
 #[derive(Clone, Copy)]
 pub(crate) struct Initializer {
-    pub(crate) token: usize,
+    pub(crate) at: Option<usize>,
     pub(crate) site: Site,
     pub(crate) word: Word,
 }
 
 impl<'t, 'a> Cursor<'t, 'a> {
-    ghost use Rattle.lw_text.specs.Views.{remaining_texts};
+    ghost use Rattle.lw_text.specs.Views.{remaining_texts, Fails};
 
     /// Parses the block. Inserts the names of its locations into the table. The threads of its initializers are
     /// checked after the header, which determines their number.
@@ -34,7 +36,10 @@ impl<'t, 'a> Cursor<'t, 'a> {
         locs: &mut LocNames<A>,
     ) -> Result<Sequence<Initializer, A>, Refusal>
         ensures { MatchResult result (λ es. ParsedBlock arch self.old self.new locs.old locs.new es)
-            (λ f. ParsesNothingWithOrOutOfMemory Memory f.cause (Block arch (remaining_texts self.old)) (λ es. HasRoomFor locs.old (sites_of es))) }
+            (λ f. f.cause ≢ Memory
+            → ((es : List InitializerSyntax) (rest : TokenList) → Block arch (remaining_texts self.old) es rest
+            → HasRoomFor locs.old (sites_of es) → ⊥)
+            × Fails self.old (FailsInBlock arch locs.old) f) }
     {
         self.expect("{", TextCause::Unexpected)?;
         let mut initializers = Sequence::new(alloc);
@@ -42,10 +47,10 @@ impl<'t, 'a> Cursor<'t, 'a> {
             if self.accept("}") {
                 return Ok(initializers);
             }
-            let token = self.next;
+            let at = self.place();
             let site = self.parse_site(arch, locs, None, TextCause::Unexpected)?;
             let word = self.parse_value(TextCause::Unexpected)?;
-            initializers.push(Initializer { token, site, word })?;
+            initializers.push(Initializer { at, site, word })?;
             if self.expect_either("}", ";", TextCause::Unexpected)? {
                 return Ok(initializers);
             }
@@ -57,11 +62,13 @@ impl<'t, 'a> Cursor<'t, 'a> {
 pub(crate) fn check_threads(initializers: &[Initializer], threads: usize) -> Result<(), Refusal>
     ensures ok { OnOk result (list_all (λ e. thread_exists threads e.site) initializers.now ≡ true) }
     ensures err { OnErr result (list_all (λ e. thread_exists threads e.site) initializers.now ≡ false) }
+    ensures place { IfErr result (λ f. (e : Initializer) × Contains initializers.now e × (thread_exists threads e.site ≡ false)
+        × (f.at ≡ e.at) × (f.cause ≡ Name)) }
 {
     for initializer in initializers {
         if !initializer.site.thread_exists(threads) {
             return Err(Refusal {
-                token: initializer.token,
+                at: initializer.at,
                 cause: TextCause::Name,
             });
         }

@@ -6,6 +6,7 @@ ghost use Rattle.lw_text.specs.Spans.{token_texts};
 ghost use Rattle.lw_text.specs.Places.{with_spans, placed_cells};
 ghost use Rattle.lw_text.specs.PlacedCells.{HasRows};
 ghost use Rattle.lw_text.specs.inner.Resolved.{HasSyntax};
+ghost use Rattle.lw_text.specs.inner.Parsed.{StreamFails};
 
 use crate::block::check_threads;
 use crate::cursor::Cursor;
@@ -16,7 +17,8 @@ use lw_base::{Arch, LocNames};
 use std::alloc::Allocator;
 
 impl<'t, 'a> Cursor<'t, 'a> {
-    ghost use Rattle.lw_text.specs.Views.{remaining, remaining_texts};
+    ghost use Rattle.lw_text.specs.Views.{remaining, remaining_texts, Fails};
+    ghost use Rattle.lw_text.specs.Failures.{FailsInTest};
 
     /// Parses all tokens of a test after its preamble.
     pub(crate) fn parse_body<A: Allocator + Copy>(
@@ -26,7 +28,7 @@ impl<'t, 'a> Cursor<'t, 'a> {
     ) -> Result<ParsedBody<'a, A>, Refusal>
         ensures { MatchResult result (λ b. HasSyntax arch (remaining_texts self.old) b
             × HasRows arch (with_spans (remaining self.old)) b.parts.threads (placed_cells b.rows))
-            (λ f. f.cause ≢ Memory → ParsesNoTest arch (remaining_texts self.old)) }
+            (λ f. f.cause ≢ Memory → ParsesNoTest arch (remaining_texts self.old) × Fails self.old (FailsInTest arch) f) }
     {
         let mut locs = LocNames::new(alloc);
         let initializers = self.parse_block(alloc, arch, &mut locs)?;
@@ -59,7 +61,8 @@ impl<'a, A: Allocator + Copy> TokenStream<'a, A> {
         requires fault { IfSome self.now.fault (λ f. f.at ≤ len) }
         ensures { MatchResult result (λ b. (self.now.fault ≡ None) × HasSyntax arch (token_texts self.now.tokens) b
             × HasRows arch (with_spans self.now.tokens) b.parts.threads (placed_cells b.rows))
-            (λ f. (f.cause ≢ Memory → IfNone self.now.fault (ParsesNoTest arch (token_texts self.now.tokens))) × (f.at ≤ len)) }
+            (λ f. (f.cause ≢ Memory → IfNone self.now.fault (ParsesNoTest arch (token_texts self.now.tokens))) × (f.at ≤ len)
+            × (f.cause ≢ Memory → StreamFails arch len (with_spans self.now.tokens) self.now.fault f.at f.cause)) }
     {
         let mut cursor = Cursor::new(self.tokens.as_slice());
         match cursor.parse_body(alloc, arch) {

@@ -17,7 +17,8 @@ use lw_base::{Arch, LocNames, MAX_THREADS, Prop, Quant, Sequence};
 use std::alloc::Allocator;
 
 impl<'t, 'a> Cursor<'t, 'a> {
-    ghost use Rattle.lw_text.specs.Views.{remaining_texts};
+    ghost use Rattle.lw_text.specs.Views.{remaining_texts, AdvancesTo, Fails};
+    ghost use Rattle.lw_text.specs.Failures.{FailsInCondition, FailsInQuantifier};
 
     /// Parses the list of names, the quantifier and the proposition, which ends the text. Inserts the names of their
     /// locations into the table.
@@ -32,7 +33,8 @@ impl<'t, 'a> Cursor<'t, 'a> {
         requires once { IsDuplicateFree locs.old }
         ensures { MatchResult result
             (λ x. ParsedCondition arch threads (remaining_texts self.old) locs.old locs.new x.0 x.1 x.2)
-            (λ f. f.cause ≢ Memory → NoCondition arch threads (remaining_texts self.old) locs.old) }
+            (λ f. f.cause ≢ Memory → NoCondition arch threads (remaining_texts self.old) locs.old
+            × Fails self.old (FailsInCondition arch threads locs.old) f) }
     {
         let listed = self.parse_listed(alloc, arch, threads, locs)?;
         let quant = self.parse_quantifier()?;
@@ -44,8 +46,8 @@ impl<'t, 'a> Cursor<'t, 'a> {
 
     /// Parses the quantifier.
     fn parse_quantifier(&mut self) -> Result<Quant, Refusal>
-        ensures { MatchResult result (λ q. Quantified (remaining_texts self.old) q (remaining_texts self.new))
-            (λ _. ParsesNothing (Quantified (remaining_texts self.old))) }
+        ensures { MatchResult result (λ q. Quantified (remaining_texts self.old) q (remaining_texts self.new) × AdvancesTo self.old self.new)
+            (λ f. ParsesNothing (Quantified (remaining_texts self.old)) × Fails self.old FailsInQuantifier f) }
     {
         if self.accept("~") {
             self.expect("exists", TextCause::Condition)?;

@@ -1,8 +1,9 @@
 //! The cursor of the parser.
-ghost use Rattle.std.specs.Prelude.{◌≡◌, ◌≤◌, ◌<◌, ◌+◌, true, false, if◌then◌else◌, [], ◌∷◌, length, drop, MatchOption, MatchResult, OnOk, OnErr, IfOk};
+ghost use Rattle.std.specs.Prelude.{◌≡◌, ◌≤◌, ◌<◌, ◌+◌, true, false, if◌then◌else◌, [], ◌∷◌, length, drop, None, MatchOption, MatchResult, OnOk, OnErr, IfOk, IfErr};
 ghost use Rattle.lw_base.specs.Types.{TokenList};
 ghost use Rattle.lw_text.specs.Causes.{IsOfReader};
 ghost use Rattle.lw_text.specs.Conditions.{begins_token};
+ghost use Rattle.lw_text.specs.Failures.{FailsBefore};
 ghost use Rattle.lw_text.specs.Spans.{token_texts};
 
 use crate::fault::{Refusal, TextCause};
@@ -17,7 +18,7 @@ pub(crate) struct Cursor<'t, 'a> {
 }
 
 impl<'t, 'a> Cursor<'t, 'a> {
-    ghost use Rattle.lw_text.specs.Views.{remaining, remaining_texts, AdvancesTo};
+    ghost use Rattle.lw_text.specs.Views.{remaining, remaining_texts, AdvancesTo, BeginsAt, Fails};
 
     /// Creates a cursor before all of these tokens.
     pub(crate) fn new(tokens: &'t [Token<'a>]) -> Cursor<'t, 'a>
@@ -29,10 +30,22 @@ impl<'t, 'a> Cursor<'t, 'a> {
     /// Returns the refusal of the next token.
     pub(crate) fn refusal(&self, cause: TextCause) -> Refusal
         requires { IsOfReader cause }
+        ensures place { BeginsAt (remaining self.now) result.at }
+        ensures cause { result.cause ≡ cause }
     {
         Refusal {
-            token: self.next,
+            at: self.place(),
             cause,
+        }
+    }
+
+    /// Returns the offset of the next token, or `None` at the end.
+    pub(crate) fn place(&self) -> Option<usize>
+        ensures { BeginsAt (remaining self.now) result }
+    {
+        match self.peek() {
+            Some(token) => Some(token.at),
+            None => None,
         }
     }
 
@@ -53,6 +66,7 @@ impl<'t, 'a> Cursor<'t, 'a> {
         ensures token { IfOk result (λ t. remaining self.old ≡ t ∷ remaining self.new) }
         ensures ok { IfOk result (λ t. remaining_texts self.old ≡ t.text.now ∷ remaining_texts self.new) }
         ensures err { OnErr result (remaining_texts self.old ≡ []) }
+        ensures fails { IfErr result (λ f. (remaining self.old ≡ []) × (f.at ≡ None)) }
     {
         match self.peek() {
             Some(token) => {
@@ -69,6 +83,7 @@ impl<'t, 'a> Cursor<'t, 'a> {
         ensures ok { OnOk result (remaining_texts self.old ≡ text.now ∷ remaining_texts self.new) }
         ensures err { OnErr result ((rest : TokenList) → remaining_texts self.old ≡ text.now ∷ rest → ⊥) }
         ensures leaves { OnOk result (AdvancesTo self.old self.new) }
+        ensures fails { IfErr result (Fails self.old (FailsBefore (text.now ∷ []) cause)) }
     {
         if self.accept(text) {
             return Ok(());
@@ -110,8 +125,9 @@ impl<'t, 'a> Cursor<'t, 'a> {
         requires { IsOfReader cause }
         ensures { MatchResult result
             (λ b. (remaining_texts self.old ≡ (if b then first.now else second.now) ∷ remaining_texts self.new) × AdvancesTo self.old self.new)
-            (λ _. ((rest : TokenList) → remaining_texts self.old ≡ first.now ∷ rest → ⊥)
-            × ((rest : TokenList) → remaining_texts self.old ≡ second.now ∷ rest → ⊥)) }
+            (λ f. ((rest : TokenList) → remaining_texts self.old ≡ first.now ∷ rest → ⊥)
+            × ((rest : TokenList) → remaining_texts self.old ≡ second.now ∷ rest → ⊥)
+            × Fails self.old (FailsBefore (first.now ∷ second.now ∷ []) cause) f) }
     {
         if self.accept(first) {
             return Ok(true);

@@ -1,5 +1,5 @@
 //! Why a text is rejected, and where.
-ghost use Rattle.std.specs.Prelude.{◌≡◌};
+ghost use Rattle.std.specs.Prelude.{◌≡◌, None};
 ghost use Rattle.lw_text.specs.Causes.{text_cause_code, text_cause_name, IsOfReader};
 ghost use Rattle.lw_text.specs.declared.fault.TextCause.TheVariants as text;
 
@@ -106,34 +106,34 @@ impl From<AllocError> for Fault {
     }
 }
 
-/// The token that the parser rejects, by its index, and why. If the tokens ended too early, the index is past the
-/// last one, and the cause means nothing.
+/// The offset of the token that the parser rejects, and why. If the tokens ended too early, there is no offset, and
+/// the cause means nothing.
 #[derive(Clone, Copy)]
 pub(crate) struct Refusal {
-    pub(crate) token: usize,
+    pub(crate) at: Option<usize>,
     pub(crate) cause: TextCause,
     ghost reader: { IsOfReader cause },
 }
 
 impl From<AllocError> for Refusal {
-    ghost from_gives = { λ _ r. (r.token ≡ 0) × (r.cause ≡ text.Memory) };
+    ghost from_gives = { λ _ r. (r.at ≡ None) × (r.cause ≡ text.Memory) };
 
-    /// Converts a refused allocation to a refusal of the first token.
+    /// Converts a refused allocation to a refusal without an offset.
     fn from(_error: AllocError) -> Refusal {
         Refusal {
-            token: 0,
+            at: None,
             cause: TextCause::Memory,
         }
     }
 }
 
 impl<T: Drop> From<AllocFailed<T>> for Refusal {
-    ghost from_gives = { λ _ r. (r.token ≡ 0) × (r.cause ≡ text.Memory) };
+    ghost from_gives = { λ _ r. (r.at ≡ None) × (r.cause ≡ text.Memory) };
 
-    /// Converts a value that could not be moved into memory to a refusal of the first token.
+    /// Converts a value that could not be moved into memory to a refusal without an offset.
     fn from(_error: AllocFailed<T>) -> Refusal {
         Refusal {
-            token: 0,
+            at: None,
             cause: TextCause::Memory,
         }
     }

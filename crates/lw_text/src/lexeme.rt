@@ -1,10 +1,12 @@
 //! The tokens: names, numbers and symbols.
-ghost use Rattle.std.specs.Prelude.{◌≡◌, ◌≢◌, ℕ, ◌<◌, ◌≤◌, ◌^◌, [], ◌∷◌, ◌++◌, IfSome, IfNone, IfOk, IfErr, OnErr, MatchOption, true, false, IsTrue, ◌↔◌};
+ghost use Rattle.std.specs.Prelude.{◌≡◌, ◌≢◌, ℕ, ◌<◌, ◌≤◌, ◌^◌, if◌then◌else◌, [], ◌∷◌, ◌++◌, IfSome, IfNone, IfOk, IfErr, OnErr, MatchOption, true, false, IsTrue, ◌↔◌};
 ghost use Rattle.std.specs.List.{AllByRecursion};
 ghost use Rattle.lw_base.specs.Characters.{is_name_byte};
 ghost use Rattle.lw_base.specs.NoParse.{HoldsOfNothing};
 ghost use Rattle.lw_base.specs.Types.{Bytes};
-ghost use Rattle.lw_text.specs.declared.fault.TextCause.TheVariants.{Memory};
+ghost use Rattle.lw_text.specs.declared.fault.TextCause.TheVariants.{Memory, Number, Name};
+ghost use Rattle.std.specs.Char.{is_ascii_digit};
+ghost use Rattle.lw_text.specs.TextFailures.{FailsInToken};
 ghost use Rattle.lw_text.specs.Causes.{IsOfReader};
 ghost use Rattle.lw_text.specs.Tokens.{opens_comment, Digits, IsNumber, IsNameOrNumber, IsToken};
 ghost use Rattle.lw_text.specs.TokenKinds.{IsOfKind};
@@ -108,7 +110,8 @@ fn kind_of_run(run: &str) -> Option<TokenKind>
 
 /// Returns the cause of a run that is neither a name nor a number.
 fn fault_of_run(first: u8) -> TextCause
-    ensures { (result ≢ Memory) × IsOfReader result }
+    ensures reader { (result ≢ Memory) × IsOfReader result }
+    ensures cause { result ≡ (if is_ascii_digit first then Number else Name) }
 {
     if first.is_ascii_digit() {
         TextCause::Number
@@ -130,6 +133,7 @@ pub(crate) fn token(bytes: &[u8]) -> Result<Lexeme<'_>, TextCause>
         × IsOfKind x.kind x.text.now) }
     ensures none { OnErr result ((t rest : Bytes) → bytes.now ≡ t ++ rest → IsToken t rest → ⊥) }
     ensures cause { IfErr result (λ cause. (cause ≢ Memory) × IsOfReader cause) }
+    ensures fails { IfErr result (λ cause. bytes.now ≢ [] → FailsInToken bytes.now cause) }
 {
     let Some((first, _)) = split(bytes) else {
         return Err(TextCause::Unterminated);

@@ -17,6 +17,8 @@ pub(crate) struct Lexer<'a> {
 
 impl<'a> Lexer<'a> {
     ghost use Rattle.lw_text.specs.Tokens.{Trivia, IsFirstToken};
+    ghost use Rattle.lw_text.specs.TextFailures.{FailsInFirstToken};
+    ghost use Rattle.lw_text.specs.Views.{FailsFrom};
 
     /// Creates a lexer at the start of a text.
     pub(crate) fn new(text: &'a [u8]) -> Lexer<'a>
@@ -32,7 +34,8 @@ impl<'a> Lexer<'a> {
             (λ o. MatchOption o (Trivia self.old.rest.now []) (λ t. IsFirstToken self.old.rest.now t.text.now self.new.rest.now
             × (t.at + length t.text.now + length self.new.rest.now ≡ length self.old.text.now)))
             (λ f. (Trivia self.old.rest.now [] → ⊥) × ((t rest : Bytes) → IsFirstToken self.old.rest.now t rest → ⊥)
-            × (f.at ≤ length self.old.text.now)) }
+            × (f.at ≤ length self.old.text.now)
+            × FailsFrom (length self.old.text.now) self.old.rest.now FailsInFirstToken f.at f.cause) }
         ensures same { self.new.text.now ≡ self.old.text.now }
     {
         let Some(start) = after_trivia(self.rest) else {

@@ -14,7 +14,8 @@ use lw_base::{Arch, LocNames, Sequence};
 use std::alloc::Allocator;
 
 impl<'t, 'a> Cursor<'t, 'a> {
-    ghost use Rattle.lw_text.specs.Views.{remaining_texts};
+    ghost use Rattle.lw_text.specs.Views.{remaining_texts, Fails};
+    ghost use Rattle.lw_text.specs.Failures.{FailsInList};
 
     /// Parses the list of names, if there is one. Inserts the names of its locations into the table.
     pub(crate) fn parse_listed<A: Allocator + Copy>(
@@ -25,8 +26,9 @@ impl<'t, 'a> Cursor<'t, 'a> {
         locs: &mut LocNames<A>,
     ) -> Result<Sequence<Site, A>, Refusal>
         ensures { MatchResult result (λ ss. ParsedNameList arch threads self.old self.new locs.old locs.new ss)
-            (λ f. f.cause ≢ Memory → (ss : List SiteSyntax) (rest : TokenList) → Listed arch (remaining_texts self.old) ss rest
-            → AllByRecursion (ThreadExists threads) ss → HasRoomFor locs.old ss → ⊥) }
+            (λ f. f.cause ≢ Memory → ((ss : List SiteSyntax) (rest : TokenList) → Listed arch (remaining_texts self.old) ss rest
+            → AllByRecursion (ThreadExists threads) ss → HasRoomFor locs.old ss → ⊥)
+            × Fails self.old (FailsInList arch threads locs.old) f) }
     {
         if !self.accept("locations") {
             return Ok(Sequence::new(alloc));

@@ -7,6 +7,8 @@ ghost use Rattle.lw_base.specs.NoParse.{HoldsOfNothing};
 ghost use Rattle.lw_text.specs.declared.fault.TextCause.TheVariants.{Memory};
 ghost use Rattle.lw_text.specs.Causes.{IsOfReader};
 ghost use Rattle.lw_text.specs.Preambles.{KeyLine, Note, Notes};
+ghost use Rattle.lw_text.specs.TextFailures.{FailsInKeyLine, FailsInNote, FailsInNotes, IsNoteCause};
+ghost use Rattle.lw_text.specs.Views.{FailsFrom};
 
 use crate::byte_prefix::{split, strip_byte};
 use crate::fault::{Fault, TextCause};
@@ -17,7 +19,7 @@ use lw_base::{ByteKind, prefix_of_kind};
 /// Skips a line `Key=value`.
 fn after_key_line(bytes: &[u8]) -> Result<&[u8], &[u8]>
     ensures { MatchResult result (λ rest. KeyLine bytes.now rest.now)
-        (λ left. HoldsOfNothing (KeyLine bytes.now) × (length left.now ≤ length bytes.now)) }
+        (λ left. HoldsOfNothing (KeyLine bytes.now) × (length left.now ≤ length bytes.now) × FailsInKeyLine bytes.now left.now) }
 {
     let (key, rest) = prefix_of_kind(bytes, ByteKind::Key);
     if key.is_empty() {
@@ -33,7 +35,7 @@ fn after_key_line(bytes: &[u8]) -> Result<&[u8], &[u8]>
 /// Skips a note.
 fn after_note(bytes: &[u8]) -> Result<&[u8], &[u8]>
     ensures { MatchResult result (λ rest. Note bytes.now rest.now)
-        (λ left. HoldsOfNothing (Note bytes.now) × (length left.now ≤ length bytes.now)) }
+        (λ left. HoldsOfNothing (Note bytes.now) × (length left.now ≤ length bytes.now) × FailsInNote bytes.now left.now) }
 {
     let Some(inside) = strip_byte(bytes, b'"') else {
         return after_key_line(bytes);
@@ -48,7 +50,7 @@ fn after_note(bytes: &[u8]) -> Result<&[u8], &[u8]>
 /// Skips the notes, up to the `{`.
 fn after_notes(bytes: &[u8]) -> Result<&[u8], &[u8]>
     ensures { MatchResult result (λ rest. Notes bytes.now rest.now)
-        (λ left. HoldsOfNothing (Notes bytes.now) × (length left.now ≤ length bytes.now)) }
+        (λ left. HoldsOfNothing (Notes bytes.now) × (length left.now ≤ length bytes.now) × FailsInNotes left.now bytes.now) }
 {
     let mut rest = bytes;
     'notes: loop {
@@ -66,7 +68,9 @@ impl<'a> Lexer<'a> {
     /// Skips the notes, up to the `{`.
     pub(crate) fn skip_notes(&mut self) -> Result<(), Fault>
         ensures reads { MatchResult result (λ _. Notes self.old.rest.now self.new.rest.now)
-            (λ f. HoldsOfNothing (Notes self.old.rest.now) × (f.at ≤ length self.old.text.now)) }
+            (λ f. HoldsOfNothing (Notes self.old.rest.now) × (f.at ≤ length self.old.text.now)
+            × FailsFrom (length self.old.text.now) self.old.rest.now
+            (λ text rest cause. FailsInNotes rest text × IsNoteCause rest cause) f.at f.cause) }
         ensures same { self.new.text.now ≡ self.old.text.now }
     {
         match after_notes(self.rest) {
@@ -84,7 +88,8 @@ impl<'a> Lexer<'a> {
 
 /// Returns the cause of a fault in the notes, from the rest of the text at the fault.
 fn note_cause(left: &[u8]) -> TextCause
-    ensures { (result ≢ Memory) × IsOfReader result }
+    ensures reader { (result ≢ Memory) × IsOfReader result }
+    ensures cause { IsNoteCause left.now result }
 {
     if left.is_empty() {
         TextCause::Unterminated

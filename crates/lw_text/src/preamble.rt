@@ -5,6 +5,8 @@ ghost use Rattle.lw_base.specs.Names.{IsTestName};
 ghost use Rattle.lw_base.specs.Languages.{arch_keyword};
 ghost use Rattle.lw_text.specs.Preambles.{ParsesTestName};
 ghost use Rattle.lw_text.specs.Preambles as wanted;
+ghost use Rattle.lw_text.specs.TextFailures.{FailsInPreamble, FailsInTestName};
+ghost use Rattle.lw_text.specs.Views.{FailsFrom};
 
 use crate::fault::{Fault, TextCause};
 use crate::lexer::Lexer;
@@ -21,7 +23,8 @@ impl<'a> Lexer<'a> {
     /// Parses the keyword of a language, the blanks after it, the test's name, and the notes up to a `{`.
     pub(crate) fn parse_preamble(&mut self) -> Result<Preamble<'a>, Fault>
         ensures reads { MatchResult result (λ h. wanted.Preamble self.old.rest.now h.arch h.name.now self.new.rest.now)
-            (λ f. ((arch : Arch) → ParsesNothing (wanted.Preamble self.old.rest.now arch)) × (f.at ≤ length self.old.text.now)) }
+            (λ f. ((arch : Arch) → ParsesNothing (wanted.Preamble self.old.rest.now arch)) × (f.at ≤ length self.old.text.now)
+            × FailsFrom (length self.old.text.now) self.old.rest.now FailsInPreamble f.at f.cause) }
         ensures same { self.new.text.now ≡ self.old.text.now }
     {
         let Some(token) = self.next()? else {
@@ -46,7 +49,8 @@ impl<'a> Lexer<'a> {
     /// Parses the blanks after the keyword, and the test's name.
     fn parse_test_name(&mut self) -> Result<&'a str, Fault>
         ensures reads { MatchResult result (λ name. ParsesTestName self.old.rest.now name.now self.new.rest.now)
-            (λ f. ParsesNothing (ParsesTestName self.old.rest.now) × (f.at ≤ length self.old.text.now)) }
+            (λ f. ParsesNothing (ParsesTestName self.old.rest.now) × (f.at ≤ length self.old.text.now)
+            × FailsFrom (length self.old.text.now) self.old.rest.now FailsInTestName f.at f.cause) }
         ensures same { self.new.text.now ≡ self.old.text.now }
     {
         let (space, after) = prefix_of_kind(self.rest, ByteKind::Blank);

@@ -6,7 +6,7 @@ ghost use Rattle.lw_base.specs.Lists.{IsDuplicateFree};
 ghost use Rattle.lw_text.specs.Propositions.{Terminal as TerminalSyntax, is_node};
 ghost use Rattle.lw_text.specs.Sites.{HasRoomFor, with_sites};
 ghost use Rattle.lw_text.specs.declared.fault.TextCause.TheVariants.{Memory};
-ghost use Rattle.lw_text.specs.inner.ReaderStates.{state_of, next_state};
+ghost use Rattle.lw_text.specs.inner.ReaderStates.{state_of, next_state, place_of};
 ghost use Rattle.lw_text.specs.inner.Terminals.{terminal_of};
 ghost use Rattle.lw_text.specs.Conditions.{AtomSyntax, begins_token, IsTerminal, Terminals, sites_in, resolved};
 ghost use Rattle.lw_text.specs.inner.Parsed.{ParsedTerminal, ParsedProposition, NoProposition};
@@ -19,7 +19,8 @@ use lw_base::{Arch, LocNames, MAX_NODES, MAX_THREADS, Prop};
 use std::alloc::Allocator;
 
 impl<'t, 'a> Cursor<'t, 'a> {
-    ghost use Rattle.lw_text.specs.Views.{remaining_texts};
+    ghost use Rattle.lw_text.specs.Views.{remaining_texts, Fails};
+    ghost use Rattle.lw_text.specs.Failures.{FailsInProposition, first_place};
 
     /// Parses the proposition, which ends the text. Inserts the names of its locations into the table.
     pub(crate) fn parse_proposition<A: Allocator + Copy>(
@@ -32,7 +33,8 @@ impl<'t, 'a> Cursor<'t, 'a> {
         requires threads { threads ≤ MAX_THREADS }
         requires once { IsDuplicateFree locs.old }
         ensures { MatchResult result (λ p. ParsedProposition arch threads (remaining_texts self.old) locs.old locs.new p)
-            (λ f. f.cause ≢ Memory → NoProposition arch threads (remaining_texts self.old) locs.old) }
+            (λ f. f.cause ≢ Memory → NoProposition arch threads (remaining_texts self.old) locs.old
+            × Fails self.old (λ ts rest cause. FailsInProposition arch threads rest cause first_place 0 locs.old ts) f) }
     {
         let mut reader = PropositionReader::new(alloc);
         let mut nodes = 0;
@@ -69,11 +71,12 @@ impl<'t, 'a> Cursor<'t, 'a> {
             × ((not (nodes == MAX_NODES) ||
             (begins_token (codes "(") (remaining_texts self.old) || begins_token (codes ")") (remaining_texts self.old))) ≡ true))
             (λ f. f.cause ≢ Memory
-            → (s : TerminalSyntax AtomSyntax) (rest : TokenList)
+            → ((s : TerminalSyntax AtomSyntax) (rest : TokenList)
             → IsTerminal arch threads (remaining_texts self.old) s rest
             → next_state (state_of reader.old) (resolved (with_sites locs.old (sites_in (s ∷ []))) s) ≢ None
             → HasRoomFor locs.old (sites_in (s ∷ []))
-            → nodes + length (filter is_node (s ∷ [])) ≤ MAX_NODES → ⊥) }
+            → nodes + length (filter is_node (s ∷ [])) ≤ MAX_NODES → ⊥)
+            × Fails self.old (λ ts rest cause. FailsInProposition arch threads rest cause (place_of (state_of reader.old)) nodes locs.old ts) f) }
     {
         let misfit = self.refusal(TextCause::Condition);
         if !self.has_room(nodes) {

@@ -116,7 +116,7 @@ impl<A: Allocator + Copy> PropositionReader<A> {
     /// used again.
     pub(crate) fn finish(&mut self, open: Refusal) -> Result<Prop<A>, Refusal>
         ensures { MatchResult result (λ prop. state_result (state_of self.old) ≡ Some (formula_of prop))
-            (λ f. f.cause ≢ Memory → state_result (state_of self.old) ≡ None) }
+            (λ f. f.cause ≢ Memory → (state_result (state_of self.old) ≡ None) × (f.at ≡ open.at)) }
     {
         if !self.outer.is_empty() {
             return Err(open);

@@ -1,5 +1,5 @@
 //! Reading a text's frame, and the laws of frames.
-ghost use Rattle.std.specs.Prelude.{◌≡◌, ◌<◌, ◌≤◌, List, length, Err, MatchResult, IfOk, IfErr};
+ghost use Rattle.std.specs.Prelude.{◌≡◌, ◌≢◌, ◌<◌, ◌≤◌, List, length, Err, MatchResult, IfOk, IfErr};
 ghost use Rattle.std.specs.Str.{IsUtf8, IsValidUpTo};
 ghost use Rattle.std.specs.Str.Lossy.{utf8_valid_len};
 ghost use Rattle.lw_base.specs.Limits.{most_text_bytes};
@@ -11,6 +11,7 @@ ghost use Rattle.lw_text.specs.Views.{frame_of};
 ghost use Rattle.lw_text.specs.Places.{placed_cells};
 ghost use Rattle.lw_text.specs.PlacedCells.{PlacedCell, HasCells};
 ghost use Rattle.lw_text.specs.Spans.{Spans};
+ghost use Rattle.lw_text.specs.TextFailures.{FailsAt};
 
 use crate::fault::{Fault, TextCause, TextFault};
 use crate::frame::Frame;
@@ -46,6 +47,9 @@ pub fn read_frame<'a, A: Allocator + Copy>(
         ≡ Err (record { at = utf8_valid_len text.now; cause = TextCause.NotUtf8 }) }
     ensures only_not_utf8 { IfErr result (λ f. f.cause ≡ TextCause.NotUtf8
         → (length text.now ≤ most_text_bytes) × (¬ IsUtf8 text.now) × IsValidUpTo text.now f.at) }
+    // Any other fault is at the byte at which the text first fails to be a frame's, for the reason that its cause means.
+    ensures fails { IfErr result (λ f. f.cause ≢ TextCause.TooLong → f.cause ≢ TextCause.NotUtf8 → f.cause ≢ TextCause.Memory
+        → FailsAt text.now f.at f.cause) }
 {
     if text.len() > MAX_TEXT_BYTES {
         return Err(TextFault {
@@ -92,7 +96,8 @@ fn read_text<'a, A: Allocator + Copy>(alloc: A, text: &'a [u8]) -> Result<Frame<
     requires utf8 { IsUtf8 text.now }
     ensures { MatchResult result (λ f. HasFrame text.now (frame_of f)
         × HasCells text.now (placed_cells f.cells) × (f.len ≡ length text.now))
-        (λ f. HoldsOfNothingOrOutOfMemory TextCause.Memory f.cause (HasFrame text.now) × (f.at ≤ length text.now)) }
+        (λ f. HoldsOfNothingOrOutOfMemory TextCause.Memory f.cause (HasFrame text.now) × (f.at ≤ length text.now)
+        × (f.cause ≢ TextCause.Memory → FailsAt text.now f.at f.cause)) }
 {
     let mut lexer = Lexer::new(text);
     let preamble = lexer.parse_preamble()?;

@@ -1,7 +1,8 @@
 //! The header and the rows of a test.
-ghost use Rattle.std.specs.Prelude.{◌≡◌, ◌≢◌, ◌+◌, ◌<◌, true, false, [], ◌∷◌, ◌++◌, MatchResult};
+ghost use Rattle.std.specs.Prelude.{◌≡◌, ◌≢◌, ◌+◌, ◌<◌, true, false, None, [], ◌∷◌, ◌++◌, MatchResult};
 ghost use Rattle.std.specs.List.{AllByRecursion};
-ghost use Rattle.lw_base.specs.NoParse.{ParsesNothing, ParsesNothingOrOutOfMemory};
+ghost use Rattle.lw_base.specs.NoParse.{ParsesNothing};
+ghost use Rattle.lw_text.specs.Failures.{FailsInHeader, FailsInRow, FailsInRows};
 ghost use Rattle.lw_text.specs.Rows.{thread_name, Header, Row, Rows, begins_stop};
 ghost use Rattle.lw_text.specs.declared.fault.TextCause.TheVariants.{Memory};
 ghost use Rattle.lw_text.specs.inner.Parsed.{ParsedCell};
@@ -20,12 +21,13 @@ use std::alloc::Allocator;
 pub(crate) type CellSequence<'a, A> = Sequence<Cell<'a, A>, A>;
 
 impl<'t, 'a> Cursor<'t, 'a> {
-    ghost use Rattle.lw_text.specs.Views.{remaining, remaining_texts, AdvancesTo};
+    ghost use Rattle.lw_text.specs.Views.{remaining, remaining_texts, AdvancesTo, Fails};
 
     /// Parses the header, and returns the number of threads.
     pub(crate) fn parse_header(&mut self) -> Result<usize, Refusal>
         ensures { MatchResult result (λ n. Header (remaining_texts self.old) n (remaining_texts self.new) × AdvancesTo self.old self.new)
-            (λ _. ParsesNothing (Header (remaining_texts self.old))) }
+            (λ f. ParsesNothing (Header (remaining_texts self.old))
+            × Fails self.old (λ ts rest cause. FailsInHeader rest cause 0 ts) f) }
     {
         for thread in 0..MAX_THREADS {
             self.expect(thread_name(thread), TextCause::Unexpected)?;
@@ -46,8 +48,9 @@ impl<'t, 'a> Cursor<'t, 'a> {
         threads: usize,
     ) -> Result<Sequence<CellSequence<'a, A>, A>, Refusal>
         ensures { MatchResult result (λ v. Rows threads (remaining_texts self.old) (all_texts v) (remaining_texts self.new)
-            × RowsFrom (with_spans (remaining self.old)) (placed_cells v) (with_spans (remaining self.new)))
-            (λ f. ParsesNothingOrOutOfMemory Memory f.cause (Rows threads (remaining_texts self.old))) }
+            × RowsFrom (with_spans (remaining self.old)) (placed_cells v) (with_spans (remaining self.new)) × AdvancesTo self.old self.new)
+            (λ f. f.cause ≢ Memory → ParsesNothing (Rows threads (remaining_texts self.old))
+            × Fails self.old (λ ts rest cause. FailsInRows threads rest cause 0 ts) f) }
     {
         let mut rows = Sequence::new(alloc);
         'rows: loop {
@@ -78,13 +81,14 @@ impl<'t, 'a> Cursor<'t, 'a> {
         threads: usize,
     ) -> Result<CellSequence<'a, A>, Refusal>
         ensures { MatchResult result (λ v. Row threads (remaining_texts self.old) (cells_texts v) (remaining_texts self.new)
-            × CellsFrom (with_spans (remaining self.old)) (placed_row v) (with_spans (remaining self.new)))
-            (λ f. ParsesNothingOrOutOfMemory Memory f.cause (Row threads (remaining_texts self.old))) }
+            × CellsFrom (with_spans (remaining self.old)) (placed_row v) (with_spans (remaining self.new)) × AdvancesTo self.old self.new)
+            (λ f. f.cause ≢ Memory → ParsesNothing (Row threads (remaining_texts self.old))
+            × Fails self.old (FailsInRow threads) f) }
     {
         let mut cells = Sequence::new(alloc);
         'cells: loop {
             let mut tokens = Sequence::new(alloc);
-            let (mark, index) = self.parse_cell(&mut tokens)?;
+            let mark = self.parse_cell(&mut tokens)?;
             cells.push(Cell {
                 tokens,
                 end: mark.at,
@@ -94,27 +98,26 @@ impl<'t, 'a> Cursor<'t, 'a> {
                     return Ok(cells);
                 }
                 return Err(Refusal {
-                    token: index,
+                    at: Some(mark.at),
                     cause: TextCause::Ragged,
                 });
             }
         }
     }
 
-    /// Appends tokens to an empty cell, up to a `|` or `;`, and returns that token and its index.
+    /// Appends tokens to an empty cell, up to a `|` or `;`, and returns that token.
     fn parse_cell<A: Allocator>(
         &mut self,
         cell: &mut Sequence<Token<'a>, A>,
-    ) -> Result<(Token<'a>, usize), Refusal>
+    ) -> Result<Token<'a>, Refusal>
         requires { cell.old ≡ [] }
-        ensures { MatchResult result (λ x. ParsedCell self.old self.new cell.new x.0)
-            (λ f. f.cause ≢ Memory → AllByRecursion (λ t. words.ends_cell t ≡ false) (remaining_texts self.old)) }
+        ensures { MatchResult result (ParsedCell self.old self.new cell.new)
+            (λ f. f.cause ≢ Memory → AllByRecursion (λ t. words.ends_cell t ≡ false) (remaining_texts self.old) × (f.at ≡ None)) }
     {
         'cell: loop {
-            let index = self.next;
             let token = self.take()?;
             if ends_cell(&token) {
-                return Ok((token, index));
+                return Ok(token);
             }
             cell.push(token)?;
         }

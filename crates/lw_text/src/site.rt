@@ -6,6 +6,7 @@ ghost use Rattle.lw_base.specs.Names.{IsLocationName};
 ghost use Rattle.lw_base.specs.Registers.{IsRegisterName};
 ghost use Rattle.lw_base.specs.Tables.{insert_name};
 ghost use Rattle.lw_text.specs.Causes.{IsOfReader};
+ghost use Rattle.lw_text.specs.Failures.{IsMisfitCause, IsNoNewLocation};
 ghost use Rattle.lw_text.specs.Sites.{HasRoomFor, HasRoomForName, SiteSyntax, IsSite, ThreadAllowed, Value};
 ghost use Rattle.lw_text.specs.declared.fault.TextCause.TheVariants.{Memory};
 ghost use Rattle.lw_text.specs.declared.site.Site.TheVariants.{Register};
@@ -57,7 +58,8 @@ impl Site {
 }
 
 impl<'t, 'a> Cursor<'t, 'a> {
-    ghost use Rattle.lw_text.specs.Views.{remaining_texts, AdvancesTo};
+    ghost use Rattle.lw_text.specs.Views.{remaining_texts, AdvancesTo, Fails};
+    ghost use Rattle.lw_text.specs.Failures.{FailsInSite, FailsInBrackets, FailsInRegister, FailsInValue};
 
     /// Parses a site: a location, whose name is inserted into the table, or a register of the language, whose thread
     /// must be below `threads`, if their number is known yet. Tokens that do not fit are rejected with the cause.
@@ -70,11 +72,12 @@ impl<'t, 'a> Cursor<'t, 'a> {
     ) -> Result<Site, Refusal>
         requires { IsOfReader cause }
         ensures { MatchResult result (λ s. ParsedSite arch threads self.old self.new locs.old locs.new s)
-            (λ f. f.cause ≢ Memory → (s : SiteSyntax) (rest : TokenList) → IsSite arch (remaining_texts self.old) s rest
-            → ThreadAllowed threads s → HasRoomFor locs.old (s ∷ []) → ⊥) }
+            (λ f. f.cause ≢ Memory → ((s : SiteSyntax) (rest : TokenList) → IsSite arch (remaining_texts self.old) s rest
+            → ThreadAllowed threads s → HasRoomFor locs.old (s ∷ []) → ⊥)
+            × Fails self.old (FailsInSite arch threads locs.old cause) f) }
     {
-        let token = self.next;
         let first = self.take()?;
+        let at = Some(first.at);
         if first.text == "[" {
             let inside = self.parse_bracketed(locs, cause)?;
             return Ok(Site::Location(inside));
@@ -82,13 +85,13 @@ impl<'t, 'a> Cursor<'t, 'a> {
         if let Some(thread) = first.number() {
             if !is_allowed(thread, threads) {
                 return Err(Refusal {
-                    token,
+                    at,
                     cause: TextCause::Name,
                 });
             }
             return self.parse_register(arch, thread, cause);
         }
-        match enter(first.text, locs, Refusal { token, cause }) {
+        match enter(first.text, locs, Refusal { at, cause }) {
             Ok(loc) => Ok(Site::Location(loc)),
             Err(refusal) => Err(refusal),
         }
@@ -105,8 +108,9 @@ impl<'t, 'a> Cursor<'t, 'a> {
             (λ loc. (x : Bytes) × (remaining_texts self.old ≡ x ∷ codes "]" ∷ remaining_texts self.new)
             × (IsLocationName x × (slice_get locs.new loc ≡ Some x) × (locs.new ≡ insert_name locs.old x))
             × AdvancesTo self.old self.new)
-            (λ f. f.cause ≢ Memory → (x : Bytes) (rest : TokenList) → remaining_texts self.old ≡ x ∷ codes "]" ∷ rest
-            → IsLocationName x → HasRoomForName locs.old x → ⊥) }
+            (λ f. f.cause ≢ Memory → ((x : Bytes) (rest : TokenList) → remaining_texts self.old ≡ x ∷ codes "]" ∷ rest
+            → IsLocationName x → HasRoomForName locs.old x → ⊥)
+            × Fails self.old (FailsInBrackets locs.old cause) f) }
     {
         let misfit = self.refusal(cause);
         let name = self.take()?;
@@ -126,8 +130,9 @@ impl<'t, 'a> Cursor<'t, 'a> {
         ensures { MatchResult result
             (λ s. (q : Bytes) × (r : ℕ) × (remaining_texts self.old ≡ codes ":" ∷ q ∷ remaining_texts self.new) × IsRegisterName arch q r
             × (s ≡ Register thread r) × AdvancesTo self.old self.new)
-            (λ _. (q : Bytes) (r : ℕ) (rest : TokenList) → remaining_texts self.old ≡ codes ":" ∷ q ∷ rest
-            → IsRegisterName arch q r → ⊥) }
+            (λ f. ((q : Bytes) (r : ℕ) (rest : TokenList) → remaining_texts self.old ≡ codes ":" ∷ q ∷ rest
+            → IsRegisterName arch q r → ⊥)
+            × Fails self.old (FailsInRegister arch cause) f) }
     {
         self.expect(":", cause)?;
         let misfit = self.refusal(cause);
@@ -142,7 +147,7 @@ impl<'t, 'a> Cursor<'t, 'a> {
     pub(crate) fn parse_value(&mut self, cause: TextCause) -> Result<Word, Refusal>
         requires { IsOfReader cause }
         ensures { MatchResult result (λ v. Value (remaining_texts self.old) v (remaining_texts self.new) × AdvancesTo self.old self.new)
-            (λ _. ParsesNothing (Value (remaining_texts self.old))) }
+            (λ f. ParsesNothing (Value (remaining_texts self.old)) × Fails self.old (FailsInValue cause) f) }
     {
         self.expect("=", cause)?;
         let misfit = self.refusal(cause);
@@ -180,7 +185,8 @@ fn enter<A: Allocator + Copy>(
 ) -> Result<Loc, Refusal>
     ensures { MatchResult result
         (λ loc. IsLocationName name.now × (slice_get locs.new loc ≡ Some name.now) × (locs.new ≡ insert_name locs.old name.now))
-        (λ f. f.cause ≢ Memory → IsLocationName name.now → HasRoomForName locs.old name.now → ⊥) }
+        (λ f. f.cause ≢ Memory → (IsLocationName name.now → HasRoomForName locs.old name.now → ⊥)
+        × (f.at ≡ misfit.at) × IsNoNewLocation misfit.cause locs.old name.now f.cause) }
 {
     if !is_location(name) {
         return Err(no_name(name, misfit));
@@ -188,7 +194,7 @@ fn enter<A: Allocator + Copy>(
     match locs.find_or_add(name)? {
         Some(loc) => Ok(loc),
         None => Err(Refusal {
-            token: misfit.token,
+            at: misfit.at,
             cause: TextCause::TooManyLocations,
         }),
     }
@@ -196,10 +202,13 @@ fn enter<A: Allocator + Copy>(
 
 /// Returns the refusal of a token in place of a location's name. A reserved name has a cause of its own; any other
 /// token is a misfit.
-fn no_name(text: &str, misfit: Refusal) -> Refusal {
+fn no_name(text: &str, misfit: Refusal) -> Refusal
+    ensures place { result.at ≡ misfit.at }
+    ensures cause { IsMisfitCause misfit.cause text.now result.cause }
+{
     if is_name(text) {
         return Refusal {
-            token: misfit.token,
+            at: misfit.at,
             cause: TextCause::Name,
         };
     }

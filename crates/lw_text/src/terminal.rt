@@ -1,5 +1,6 @@
 //! The terminals of a proposition's grammar: parentheses, connectives and atoms.
 ghost use Rattle.std.specs.Prelude.{◌≡◌, if◌then◌else◌, ◌≢◌, ℕ, ◌+◌, ◌≤◌, not, true, false, [], ◌∷◌, IfSome, IfNone, None, MatchResult};
+ghost use Rattle.std.specs.List.{AllByRecursion};
 ghost use Rattle.lw_base.specs.Types.{NameTable, TokenList};
 ghost use Rattle.lw_base.specs.Propositions.{formula_of};
 ghost use Rattle.lw_text.specs.Sites.{HasRoomFor, SiteSyntax};
@@ -65,7 +66,8 @@ impl Terminal {
 }
 
 impl<'t, 'a> Cursor<'t, 'a> {
-    ghost use Rattle.lw_text.specs.Views.{remaining_texts};
+    ghost use Rattle.lw_text.specs.Views.{remaining_texts, Fails};
+    ghost use Rattle.lw_text.specs.Failures.{IfFirst, FailsInTerminal, opening_words};
 
     /// Parses a terminal: one that begins a part if `part` is set, and one of the others otherwise. Inserts the name
     /// of its location into the table.
@@ -79,9 +81,10 @@ impl<'t, 'a> Cursor<'t, 'a> {
         requires { threads ≤ MAX_THREADS }
         ensures { MatchResult result (λ s. ParsedTerminal arch threads self.old self.new locs.old locs.new s)
             (λ f. f.cause ≢ Memory
-            → (s : TerminalSyntax AtomSyntax) (rest : TokenList)
+            → ((s : TerminalSyntax AtomSyntax) (rest : TokenList)
             → IsTerminal arch threads (remaining_texts self.old) s rest → begins_part s ≡ part
-            → HasRoomFor locs.old (sites_in (s ∷ [])) → ⊥) }
+            → HasRoomFor locs.old (sites_in (s ∷ [])) → ⊥)
+            × Fails self.old (FailsInTerminal arch threads part locs.old) f) }
     {
         if part {
             self.parse_opening(arch, threads, locs)
@@ -100,9 +103,10 @@ impl<'t, 'a> Cursor<'t, 'a> {
         requires { threads ≤ MAX_THREADS }
         ensures { MatchResult result (λ s. ParsedTerminal arch threads self.old self.new locs.old locs.new s)
             (λ f. f.cause ≢ Memory
-            → (s : TerminalSyntax AtomSyntax) (rest : TokenList)
+            → ((s : TerminalSyntax AtomSyntax) (rest : TokenList)
             → IsTerminal arch threads (remaining_texts self.old) s rest → begins_part s ≡ true
-            → HasRoomFor locs.old (sites_in (s ∷ [])) → ⊥) }
+            → HasRoomFor locs.old (sites_in (s ∷ [])) → ⊥)
+            × Fails self.old (FailsInTerminal arch threads true locs.old) f) }
     {
         if let Some(terminal) = self.parse_opening_keyword() {
             return Ok(terminal);
@@ -120,6 +124,7 @@ impl<'t, 'a> Cursor<'t, 'a> {
             → IsTerminal arch threads (remaining_texts self.old) s rest → begins_part s ≡ true
             → (site : SiteSyntax) × (n : ℕ) × (s ≡ Claims (Holds site n))) }
         ensures kept { result ≡ None → self.new ≡ self.old }
+        ensures words { IfNone result (IfFirst (λ t. AllByRecursion (λ w. t ≢ w) opening_words) (remaining_texts self.old)) }
     {
         if self.accept("(") {
             return Some(Terminal::Open);
@@ -143,8 +148,9 @@ impl<'t, 'a> Cursor<'t, 'a> {
     fn parse_joint(&mut self) -> Result<Terminal, Refusal>
         ensures { MatchResult result (λ s. (arch : Arch) (threads : ℕ) (names : NameTable)
             → ParsedTerminal arch threads self.old self.new names names s)
-            (λ _. (arch : Arch) (threads : ℕ) (s : TerminalSyntax AtomSyntax) (rest : TokenList)
-            → IsTerminal arch threads (remaining_texts self.old) s rest → begins_part s ≡ false → ⊥) }
+            (λ f. ((arch : Arch) (threads : ℕ) (s : TerminalSyntax AtomSyntax) (rest : TokenList)
+            → IsTerminal arch threads (remaining_texts self.old) s rest → begins_part s ≡ false → ⊥)
+            × ((arch : Arch) (threads : ℕ) (names : NameTable) → Fails self.old (FailsInTerminal arch threads false names) f)) }
     {
         if self.accept(")") {
             return Ok(Terminal::Close);

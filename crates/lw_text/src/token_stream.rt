@@ -1,10 +1,11 @@
 //! The token stream of a text: all tokens after its preamble, up to the first lexical fault.
-ghost use Rattle.std.specs.Prelude.{◌≡◌, ◌≤◌, length, None, All, IfOk, IfSome, MatchOption};
+ghost use Rattle.std.specs.Prelude.{◌≡◌, ◌≢◌, ◌≤◌, length, None, All, IfOk, IfSome, IfNone, MatchOption};
 ghost use Rattle.lw_base.specs.NoParse.{HoldsOfNothing};
 ghost use Rattle.lw_text.specs.Tokens.{Tokens};
 ghost use Rattle.lw_text.specs.PlacedTokens.{PlacedTokens};
+ghost use Rattle.lw_text.specs.inner.Parsed.{StopsAt};
 ghost use Rattle.lw_text.specs.Places.{with_spans};
-ghost use Rattle.lw_text.specs.declared.fault.TextCause.TheVariants.{Memory};
+ghost use Rattle.lw_text.specs.declared.fault.TextCause.TheVariants.{Memory, Unterminated};
 
 use crate::fault::{Fault, Refusal, TextCause};
 use crate::lexer::Lexer;
@@ -23,10 +24,13 @@ impl<'a, A: Allocator> TokenStream<'a, A> {
     /// Returns the fault that a refusal of the parser means, in a text of length `len`. If the tokens ended too
     /// early, it is the lexical fault that ends them, or the text's end.
     pub(crate) fn fault_of(&self, refusal: Refusal, len: usize) -> Fault
-        requires places { All (λ t. t.at ≤ len) self.now.tokens }
+        requires place { refusal.cause ≢ Memory → IfSome refusal.at (λ at. at ≤ len) }
         requires fault { IfSome self.now.fault (λ f. f.at ≤ len) }
         ensures memory { refusal.cause ≡ Memory → result.cause ≡ Memory }
         ensures place { result.at ≤ len }
+        ensures token { refusal.cause ≢ Memory → IfSome refusal.at (λ at. (result.at ≡ at) × (result.cause ≡ refusal.cause)) }
+        ensures end { refusal.cause ≢ Memory → IfNone refusal.at (MatchOption self.now.fault ((result.at ≡ len)
+            × (result.cause ≡ Unterminated)) (λ f. (result.at ≡ f.at) × (result.cause ≡ f.cause))) }
     {
         if matches!(refusal.cause, TextCause::Memory) {
             return Fault {
@@ -34,15 +38,18 @@ impl<'a, A: Allocator> TokenStream<'a, A> {
                 cause: TextCause::Memory,
             };
         }
-        match self.tokens.get(refusal.token) {
-            Some(token) => Fault {
-                at: token.at,
+        if let Some(at) = refusal.at {
+            return Fault {
+                at,
                 cause: refusal.cause,
-            },
-            None => self.fault.unwrap_or(Fault {
+            };
+        }
+        match self.fault {
+            Some(fault) => fault,
+            None => Fault {
                 at: len,
                 cause: TextCause::Unterminated,
-            }),
+            },
         }
     }
 
@@ -50,7 +57,8 @@ impl<'a, A: Allocator> TokenStream<'a, A> {
     pub(crate) fn read(alloc: A, mut lexer: Lexer<'a>) -> Result<Self, AllocError>
         ensures { IfOk result (λ r. MatchOption r.fault
             (PlacedTokens (length lexer.entry.text.now) lexer.entry.rest.now (with_spans r.tokens))
-            (λ f. HoldsOfNothing (Tokens lexer.entry.rest.now) × (f.at ≤ length lexer.entry.text.now))
+            (λ f. HoldsOfNothing (Tokens lexer.entry.rest.now) × (f.at ≤ length lexer.entry.text.now)
+            × StopsAt (length lexer.entry.text.now) lexer.entry.rest.now (with_spans r.tokens) f.at f.cause)
             × All (λ t. t.at ≤ length lexer.entry.text.now) r.tokens) }
     {
         let mut tokens = Sequence::new(alloc);

@@ -1,7 +1,7 @@
 -- What the parser has parsed between two positions, with the names that it inserted into the table. Used only within the crate.
-use Rattle.std.specs.Prelude.{◌≡◌, ℕ, Option, true, false, List, [], ◌∷◌, ◌++◌, map, All}
+use Rattle.std.specs.Prelude.{◌≡◌, ◌⊎◌, ℕ, Option, Some, None, true, false, List, [], ◌∷◌, ◌++◌, map, All}
 use Rattle.std.specs.List.{AllByRecursion}
-use Rattle.lw_base.specs.Types.{NameTable, TokenList}
+use Rattle.lw_base.specs.Types.{Bytes, NameTable, TokenList}
 use Rattle.lw_base.specs.declared.head.Arch.{Arch}
 use Rattle.lw_base.specs.declared.head.Quant.{Quant}
 use Rattle.lw_base.specs.declared.proposition.Prop.{Prop}
@@ -9,17 +9,25 @@ use Rattle.lw_base.specs.Formula.{Formula}
 use Rattle.lw_base.specs.Propositions.{formula_of}
 use Rattle.lw_text.specs.declared.cursor.Cursor.{Cursor}
 use Rattle.lw_text.specs.declared.token.Token.{Token}
-use Rattle.lw_text.specs.Spans.{token_texts}
+use Rattle.lw_text.specs.Spans.{token_texts, IsSuffix}
 use Rattle.lw_text.specs.Rows.{ends_cell}
 use Rattle.lw_text.specs.declared.site.Site.{Site}
+use Rattle.lw_text.specs.declared.site.Site.TheVariants.{Register}
 use Rattle.lw_text.specs.declared.block.Initializer.{Initializer}
 use Rattle.lw_text.specs.declared.terminal.Terminal.{Terminal}
-use Rattle.lw_text.specs.Sites.{SiteSyntax, IsSite, ThreadExists, ThreadAllowed, HasRoomFor, with_sites}
+use Rattle.lw_text.specs.Sites.{SiteSyntax, InThread, IsSite, ThreadExists, ThreadAllowed, HasRoomFor, with_sites}
 use Rattle.lw_text.specs.Propositions as syntax
 use Rattle.lw_text.specs.Propositions.{HasFewNodes, IsProposition}
 use Rattle.lw_text.specs.Conditions.{AtomSyntax, IsTerminal, Terminals, Listed, Condition, sites_in, resolved}
-use Rattle.lw_text.specs.Frames.{Block}
-use Rattle.lw_text.specs.Views.{remaining, remaining_texts, AdvancesTo}
+use Rattle.lw_text.specs.Frames.{Block, IsInitializer, TestSyntax, ParsesTest, location_table}
+use Rattle.lw_text.specs.Views.{remaining, remaining_texts, AdvancesTo, BeginsAt, FailsFrom}
+use Rattle.lw_text.specs.Combinators.{ParsesMany}
+use Rattle.lw_text.specs.PlacedTokens.{PlacedToken, IsPlacedToken, texts_of_tokens}
+use Rattle.lw_text.specs.Failures.{FailsInTest}
+use Rattle.lw_text.specs.declared.fault.Fault.{Fault}
+use Rattle.lw_text.specs.declared.fault.TextCause.TheVariants.{Unterminated}
+use Rattle.lw_text.specs.TextFailures.{FailsInFirstToken}
+use Rattle.lw_text.specs.declared.fault.TextCause.{TextCause}
 use Rattle.lw_text.specs.inner.Resolved.{site_by_name, named_initializer, named_terminal, IsIn, TerminalIn}
 
 -- The tokens of a cell were parsed, and the `|` or `;` after them.
@@ -41,6 +49,15 @@ pub record ParsedTerminal (arch : Arch) (threads : ℕ) (before after : Cursor) 
   pub is : IsTerminal arch threads (remaining_texts before) (named_terminal table s) (remaining_texts after)
   pub names_are : table ≡ with_sites names (sites_in (named_terminal table s ∷ []))
   pub within : TerminalIn table s
+  pub leaves : AdvancesTo before after
+
+-- The initializer begins at its place among the remaining tokens, if its site is a register.
+pub record BeginsInitializer (arch : Arch) (before : Cursor) (e : Initializer) : Type 0 where
+  pub rest : List Token
+  pub behind : TokenList
+  pub suffix : IsSuffix (remaining before) rest
+  pub place : BeginsAt rest e.at
+  pub is : (t r : ℕ) → e.site ≡ Register t r → IsInitializer arch (token_texts rest) (record { site = InThread t r; word = e.word }) behind
 
 -- The initial block was parsed; its sites' names were inserted into the table.
 pub record ParsedBlock (arch : Arch) (before after : Cursor) (names table : NameTable) (es : List Initializer) : Type 0 where
@@ -48,6 +65,7 @@ pub record ParsedBlock (arch : Arch) (before after : Cursor) (names table : Name
   pub names_are : table ≡ with_sites names (map (λ e. site_by_name table e.site) es)
   pub within : All (λ e. IsIn table e.site) es
   pub leaves : AdvancesTo before after
+  pub places : AllByRecursion (BeginsInitializer arch before) es
 
 -- The list of names was parsed, or none: the threads of its sites exist, and its locations' names were inserted into the table.
 pub record ParsedNameList (arch : Arch) (threads : ℕ) (before after : Cursor) (names table : NameTable) (ss : List Site) : Type 0 where
@@ -55,6 +73,7 @@ pub record ParsedNameList (arch : Arch) (threads : ℕ) (before after : Cursor) 
   pub there : AllByRecursion (ThreadExists threads) (map (site_by_name table) ss)
   pub names_are : table ≡ with_sites names (map (site_by_name table) ss)
   pub within : All (IsIn table) ss
+  pub leaves : AdvancesTo before after
 
 -- The terminals are a proposition with the formula p, of not too many nodes, and the table has room for their names.
 pub record Fits (names : NameTable) (ss : List (syntax.Terminal AtomSyntax)) (p : Formula) : Type 0 where
@@ -90,3 +109,21 @@ pub record ParsedCondition {A : Type 0} (arch : Arch) (threads : ℕ) (before : 
   pub few : HasFewNodes terminals
   pub says : IsProposition (map (resolved table) terminals) (formula_of p)
   pub within : All (IsIn table) ss
+
+-- The rest of a text of this length is these tokens, and then the next token fails, at this offset in the text and for this cause.
+pub record StopsAt (len : ℕ) (text : Bytes) (tokens : List PlacedToken) (at : ℕ) (cause : TextCause) : Type 0 where
+  pub end : Bytes
+  pub read : ParsesMany (IsPlacedToken len) text tokens end
+  pub fails : FailsFrom len end FailsInFirstToken at cause
+
+-- The tokens of a stream, which this fault ends or none, fail to be the body of a test in a text of this length: at one of them; at the end of
+-- the text; or at the fault, since the tokens before it need more, or are a test already.
+pub data StreamFails (arch : Arch) (len : ℕ) (tokens : List PlacedToken) (fault : Option Fault) (at : ℕ) (cause : TextCause) : Type 0 where
+  at_stream_token : (before behind : List PlacedToken) (token : PlacedToken) → tokens ≡ before ++ token ∷ behind → at ≡ token.at
+      → FailsInTest arch (texts_of_tokens tokens) (texts_of_tokens (token ∷ behind)) cause → StreamFails arch len tokens fault at cause
+  at_stream_end : (c : TextCause) → fault ≡ None → FailsInTest arch (texts_of_tokens tokens) [] c → at ≡ len → cause ≡ Unterminated
+      → StreamFails arch len tokens fault at cause
+  at_stream_fault : (g : Fault) (c : TextCause) → fault ≡ Some g → at ≡ g.at → cause ≡ g.cause
+      → FailsInTest arch (texts_of_tokens tokens) [] c
+      ⊎ ((s : TestSyntax) × (p : Formula) × ParsesTest arch (texts_of_tokens tokens) s × IsProposition (map (resolved (location_table s)) s.terminals) p)
+      → StreamFails arch len tokens fault at cause

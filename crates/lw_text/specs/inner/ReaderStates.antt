@@ -1,9 +1,10 @@
 -- The states of the parser of propositions, and its transitions by terminals. Used only within the crate.
-use Rattle.std.specs.Prelude.{ℕ, zero, suc, Bool, true, false, List, [], ◌∷◌, map, reverse, Option, Some, None, option_map}
+use Rattle.std.specs.Prelude.{ℕ, zero, suc, Bool, true, false, List, [], ◌∷◌, length, map, reverse, Option, Some, None, option_map}
 use Rattle.lw_base.specs.Formula.{Formula, Not, And, Or}
 use Rattle.lw_base.specs.Propositions.{formula_of}
 use Rattle.lw_text.specs.declared.open_group.OpenGroup.{OpenGroup}
 use Rattle.lw_text.specs.declared.proposition_reader.PropositionReader.{PropositionReader}
+use Rattle.lw_text.specs.Failures.{PropositionPlace}
 use Rattle.lw_text.specs.Propositions.{Terminal, Open, Close, Negation, Conjunction, Disjunction, Atom}
 
 -- The open part inside one pair of parentheses: the left operand of a `\/`, the left operand of a `/\`, and the number of `~` before the
@@ -97,6 +98,11 @@ next_state (BehindPart e p os) Close = close_group (after_or e p) os
 next_state (BehindPart e p os) Conjunction = Some (BeforePart (record { either = e; both = Some p; nots = 0 }) os)
 next_state (BehindPart e p os) Disjunction = Some (BeforePart (record { either = Some (after_or e p); both = None; nots = 0 }) os)
 next_state _ _ = None
+
+-- The place of a state in the proposition.
+abbrev pub place_of : ReaderState → PropositionPlace
+place_of (BeforePart l os) = (true, length os)
+place_of (BehindPart e p os) = (false, length os)
 
 -- The formula of the terminals up to a state, or `None` if they are no proposition.
 abbrev pub state_result : ReaderState → Option Formula

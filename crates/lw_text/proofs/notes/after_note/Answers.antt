@@ -1,12 +1,13 @@
 use Rattle.lw_text.proofs.Common.{ℕ, inl, inr, ap, length, length-append, arith, ◌==◌, MatchResult-weaker}
-use Rattle.lw_text.proofs.Common.{first_byte_is}
+use Rattle.lw_text.proofs.Common.{first_byte_is, ◌≡◌, ◌++◌, ◌∙◌, false, sym, subst, AllByRecursion, All-mono, append-nil, not-true}
+use Rattle.lw_text.specs.TextFailures.{in_key_line, open_quote}
 use Rattle.lw_text.proofs.NoteRows.{no_note, no_quote, Quoted-made, Quoted-open}
 use Rattle.lw_text.proofs.notes.after_note.Goals as goal
 
 pub returns-in_default : goal.returns-in_default
 returns-in_default c =
     MatchResult-weaker c.after_key_line.result c.after_key_line.ensures (λ rest k. inr k)
-    (λ left h. (no_note c.args.bytes.now c.in_default.ensures h.0, h.1))
+    (λ left h. (no_note c.args.bytes.now c.in_default.ensures h.0, h.1, in_key_line c.in_default.ensures h.2))
 
 pub returns-in-Some-split : goal.returns-in-Some-split
 returns-in-Some-split c =
@@ -19,4 +20,8 @@ returns-in-None c =
       no_quote c.args.bytes.now (ap (first_byte_is (λ b. b == 34)) c.in-Some.ensures)
           (Quoted-open c.args.bytes.now c.in-Some.inside.now _ _ c.in-Some.ensures u.parts u.all u.longest c.in-None.ensures),
       omega (arith, ap length c.in-Some.ensures, ap length u.parts, length-append {A = ℕ}),
+      open_quote c.in-Some.inside.now c.in-Some.ensures
+          (subst (AllByRecursion (λ b. (b == 34) ≡ false))
+          (sym (u.parts ∙ ap (λ x. c.prefix_of_kind.result.0.now ++ x) c.in-None.ensures ∙ append-nil c.prefix_of_kind.result.0.now))
+          (All-mono _ _ (λ b. not-true (b == 34)) _ u.all)) c.in-None.ensures,
     )

@@ -1,4 +1,5 @@
-use Rattle.lw_text.proofs.Common.{NotUtf8, TooLong, arith, ◌∙◌, ◌≢◌}
+use Rattle.lw_text.proofs.Common.{NotUtf8, TooLong, arith, subst, sym, ◌∙◌, ◌≢◌}
+use Rattle.lw_text.specs.TextFailures.{FailsAt}
 use Rattle.lw_text.proofs.read.read_frame.Goals as goal
 
 -- The two causes that concern a whole text differ.
@@ -26,3 +27,10 @@ read_text-requires-clause-utf8 g c = c.in_default.ensures.cases.1
 
 pub returns-in-Err-read_text-clause-fault : goal.returns-in-Err-read_text-clause-fault
 returns-in-Err-read_text-clause-fault g c = λ ne. c.in-Err-read_text.ensures.0 (λ memory. ne (c.from.ensures.1 ∙ memory))
+
+pub returns-in-Err-read_text-clause-fails : goal.returns-in-Err-read_text-clause-fails
+returns-in-Err-read_text-clause-fails g c =
+    λ long encoded memory.
+    subst (λ cause. FailsAt c.args.text.now c.from.result.at cause) (sym c.from.ensures.1)
+    (subst (λ at. FailsAt c.args.text.now at c.in-Err-read_text.fault.cause) (sym c.from.ensures.0)
+    (c.in-Err-read_text.ensures.2 (λ e. memory (c.from.ensures.1 ∙ e))))

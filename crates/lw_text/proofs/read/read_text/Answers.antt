@@ -3,6 +3,11 @@ use Rattle.lw_text.proofs.Common.{None, Some, MatchOption, Result, IsErrAnd, Mat
 use Rattle.lw_text.proofs.Common.{MatchOption-at_none, token_texts, PlacedTokens, head_of, columns, Preamble}
 use Rattle.lw_text.proofs.Common.{formula_of, head_of_syntax, syntax_of, cell_texts, all_texts, with_spans}
 use Rattle.lw_text.proofs.Common.{placed_cells, CellGrid, TestFrame, TestHead}
+use Rattle.lw_text.proofs.Common.{HoldsOfNothing, Tokens}
+use Rattle.lw_text.proofs.StreamFailures.{body_fails}
+use Rattle.lw_text.specs.TextFailures.{FailsInPreamble, in_preamble, in_body}
+use Rattle.lw_text.specs.Views.{FailsFrom}
+use Rattle.lw_text.specs.inner.Parsed.{StopsAt}
 use Rattle.lw_text.proofs.TokenRows.{read_whole}
 use Rattle.lw_text.proofs.CellPlaces.{HasRows-within}
 use Rattle.lw_text.proofs.RowColumns.{columns-map}
@@ -15,10 +20,17 @@ some_within : {F : Type 0} (P : Type 0) (Q R : F → Type 0) (o : Option F) → 
 some_within P Q R None p h = tt
 some_within P Q R (Some f) q h = h f q
 
-no_memory : {T : Type 0} (P : T → Type 0) (X : Type 0) (len : ℕ) (r : Result T Fault)
+-- The first two of what holds of a fault.
+first_two : {F : Type 0} (P : Type 0) (A B C : F → Type 0) (o : Option F)
+    → MatchOption o P (λ f. A f × B f × C f)
+    → MatchOption o P (λ f. A f × B f)
+first_two P A B C None p = p
+first_two P A B C (Some f) p = (p.0, p.1)
+
+no_memory : {T : Type 0} (P : T → Type 0) (X : Type 0) (Y : Fault → Type 0) (len : ℕ) (r : Result T Fault)
     → IsErrAnd r (λ f. (f.at ≡ 0) × (f.cause ≡ Memory))
-    → MatchResult r P (λ f. (f.cause ≢ Memory → X) × (f.at ≤ len))
-no_memory P X len r h = exits P _ r h (λ f k. (λ other. absurd (other k.1), omega (arith, k.0)))
+    → MatchResult r P (λ f. (f.cause ≢ Memory → X) × (f.at ≤ len) × (f.cause ≢ Memory → Y f))
+no_memory P X Y len r h = exits P _ r h (λ f k. (λ other. absurd (other k.1), omega (arith, k.0), λ other. absurd (other k.1)))
 
 pub returns-in_err-preamble : goal.returns-in_err-preamble
 returns-in_err-preamble g c = Err-clause_known _ _ _ c.from_residual.ensures.1 (
@@ -26,6 +38,11 @@ returns-in_err-preamble g c = Err-clause_known _ _ _ c.from_residual.ensures.1 (
       c.in_err-preamble.ensures.reads.0 h.arch h.name h.rest
       (subst (λ t. Preamble t h.arch h.name h.rest) (sym c.new-lexer.ensures.rest) h.preamble),
   omega (arith, c.in_err-preamble.ensures.reads.1, ap length c.new-lexer.ensures.text),
+  λ ne.
+      let fails =
+      subst (λ t. FailsFrom (length c.new-lexer.result.text.now) t FailsInPreamble c.in_err-preamble.field-0.0.at c.in_err-preamble.field-0.0.cause) c.new-lexer.ensures.rest
+      c.in_err-preamble.ensures.reads.2 in
+      in_preamble fails.rest fails.way (fails.place ∙ ap length c.new-lexer.ensures.text),
 )
 
 pub body-read-requires-clause-places : goal.body-read-requires-clause-places
@@ -48,8 +65,22 @@ returns-in_err-body g c = Err-clause_known _ _ _ c.from_residual-in_err-body.ens
       no_frame c.args.text.now c.in_ok-preamble.preamble.arch c.in_ok-preamble.preamble.name.now
       c.parse_preamble.new.self.rest.now preamble
       (no_test c.in_ok-preamble.preamble.arch stream.fault _ _ c.parse_preamble.new.self.rest.now stream.tokens
-      c.in_ok-stream.ensures.0 (c.in_err-body.ensures.0 ne))),
+      (first_two _ _ _ _ stream.fault c.in_ok-stream.ensures.0) (c.in_err-body.ensures.0 ne))),
   c.in_err-body.ensures.1,
+  λ ne.
+      let whole = c.in_ok-preamble.ensures.same ∙ c.new-lexer.ensures.text in
+      in_body c.in_ok-preamble.preamble.arch c.in_ok-preamble.preamble.name.now c.parse_preamble.new.self.rest.now
+      (subst (λ t. Preamble t c.in_ok-preamble.preamble.arch c.in_ok-preamble.preamble.name.now c.parse_preamble.new.self.rest.now)
+      c.new-lexer.ensures.rest c.in_ok-preamble.ensures.reads)
+      (body_fails
+      (subst
+      (λ t.
+      MatchOption c.in_ok-stream.stream.fault
+      (PlacedTokens (length t) c.parse_preamble.new.self.rest.now (with_spans c.in_ok-stream.stream.tokens))
+      (λ g.
+      HoldsOfNothing (Tokens c.parse_preamble.new.self.rest.now) × (g.at ≤ length t)
+      × StopsAt (length t) c.parse_preamble.new.self.rest.now (with_spans c.in_ok-stream.stream.tokens) g.at g.cause)) whole
+      c.in_ok-stream.ensures.0) (c.in_err-body.ensures.2 ne)),
 )
 
 pub finish-requires-clause-within : goal.finish-requires-clause-within
@@ -112,10 +143,10 @@ returns g c =
     )
 
 pub returns-in_err-stream : goal.returns-in_err-stream
-returns-in_err-stream g c = no_memory _ _ _ _ c.from_residual-in_err-stream.ensures.1
+returns-in_err-stream g c = no_memory _ _ _ _ _ c.from_residual-in_err-stream.ensures.1
 
 pub returns-in_err-finish : goal.returns-in_err-finish
-returns-in_err-finish g c = no_memory _ _ _ _ c.from_residual-in_err-finish.ensures.1
+returns-in_err-finish g c = no_memory _ _ _ _ _ c.from_residual-in_err-finish.ensures.1
 
 pub finish-requires-clause-name : goal.finish-requires-clause-name
 finish-requires-clause-name g c = c.in_ok-preamble.ensures.reads.3.is_name

@@ -1,9 +1,15 @@
-use Rattle.lw_text.proofs.Common.{arith, refl}
+use Rattle.lw_text.proofs.Common.{arith, refl, inr}
 use Rattle.lw_text.proofs.NameTables.{appeared_at}
 use Rattle.lw_text.proofs.site.enter.Goals as goal
 
 pub returns-in-None : goal.returns-in-None
-returns-in-None g c = let many = rw c.in-None.is at c.in_ok-loc.ensures.index in λ _ _ few. absurd (omega (arith, many, few))
+returns-in-None g c =
+    let many = rw c.in-None.is at c.in_ok-loc.ensures.index in
+    λ _. (
+      λ _ few. absurd (omega (arith, many, few)),
+      refl,
+      inr (c.if-not-is_location.ensures.0 refl, λ few. absurd (omega (arith, many, few)), refl),
+    )
 
 pub returns-in-Some : goal.returns-in-Some
 returns-in-Some g c =

@@ -1,21 +1,32 @@
-use Rattle.lw_text.proofs.Common.{ℕ, ◌≡◌, ◌<◌, ap, arith, remaining_texts, remaining, IsSuffix}
+use Rattle.lw_text.proofs.Common.{ℕ, ◌≡◌, ◌<◌, [], None, refl, subst, ap, arith, remaining_texts, remaining, IsSuffix}
+use Rattle.lw_text.proofs.Common.{IsSite, IsInitializer, TokenList, Unexpected, named_initializer, site_by_name}
 use Rattle.lw_text.proofs.Faults.{Err-clause_known, ran_out, unexpected}
 use Rattle.lw_text.proofs.Lists.{IsSuffix-join, shorter_behind}
 use Rattle.lw_text.proofs.Atoms.{IsSite-shorter, Value-shorter, value_missing}
 use Rattle.lw_text.proofs.SiteLists.{initializers, initializers_fault}
-use Rattle.lw_text.proofs.Readings.{read_none, read_end, read_more, read_last, read_no_mark, More}
+use Rattle.lw_text.proofs.Failures.{Fails-later}
+use Rattle.lw_text.specs.Failures.{FailsInAssignment, FailsInInitializers, FailsInBlock, no_brace, in_initializers, in_element, no_mark}
+use Rattle.lw_text.specs.Failures.{in_elements_after, in_site, in_value}
+use Rattle.lw_text.specs.declared.fault.TextCause.{TextCause}
+use Rattle.lw_text.specs.inner.Parsed.{BeginsInitializer}
+use Rattle.lw_text.proofs.Readings.{all_push, read_none, read_end, read_more, read_last, read_no_mark, More}
 use Rattle.lw_text.proofs.cursor.Cursor.parse_block.Given.{Over}
 use Rattle.lw_text.proofs.cursor.Cursor.parse_block.Goals.{After-parse_site, In_ok-word, In_ok-expect_either}
 use Rattle.lw_text.proofs.cursor.Cursor.parse_block.Goals as goal
 
 pub returns-in_err-expect : goal.returns-in_err-expect
 returns-in_err-expect g c =
-    Err-clause_known _ _ _ c.from_residual.ensures.1 (λ _ es rest block few. c.in_err-expect.ensures.err block.0 block.1)
+    Err-clause_known _ _ _ c.from_residual.ensures.1 (λ _. (
+      λ es rest block few. c.in_err-expect.ensures.err block.0 block.1,
+      Fails-later ([], refl) (λ rest cause w. no_brace w) c.in_err-expect.ensures.fails,
+    ))
 
 pub initializers-init : goal.initializers-init
 initializers-init g c = rw c.new-initializers.ensures (record {
   read = read_none (initializers c.args.arch) c.args.locs.now (remaining_texts c.args.self.now) _ c.in_ok-expect.ensures.ok;
   leaves = c.in_ok-expect.ensures.leaves;
+  places = tt;
+  fails = λ rest cause w. in_initializers c.in_ok-expect.ensures.ok w;
 })
 
 pub returns-then-accept : goal.returns-then-accept
@@ -26,6 +37,7 @@ returns-then-accept g c =
       names_are = whole.names_are;
       within = whole.within;
       leaves = IsSuffix-join c.initializers.invariant.leaves c.accept.ensures.leaves;
+      places = c.initializers.invariant.places;
     }
 
 -- If no `}` is next, a site is read at the same position.
@@ -36,7 +48,7 @@ kept g c = ap remaining_texts (c.accept.ensures.kept c.if-accept.false)
 entry_read : (g : Over) (c : In_ok-word g)
     → More (initializers c.args.arch) c.initializers.locs c.parse_site.new.locs (remaining_texts c.initializers.self)
     (remaining_texts c.parse_value.new.self)
-    (record { token = c.accept.new.self.next; site = c.in_ok-site.site; word = c.in_ok-word.word })
+    (record { at = c.place-at.result; site = c.in_ok-site.site; word = c.in_ok-word.word })
 entry_read g c = record {
   grows = c.in_ok-site.ensures.names_are;
   is_in = c.in_ok-site.ensures.within;
@@ -53,29 +65,76 @@ leaves g c =
     (IsSuffix-join c.accept.ensures.leaves
     (IsSuffix-join c.in_ok-site.ensures.leaves (IsSuffix-join c.in_ok-word.ensures.1 c.in_ok-expect_either.ensures.1)))
 
+-- An initializer that fails makes the block fail.
+element_fails : (g : Over) (c : After-parse_site g) (rest : TokenList) (cause : TextCause)
+    → FailsInAssignment c.args.arch None c.initializers.locs Unexpected (remaining_texts c.accept.new.self) rest cause
+    → FailsInBlock c.args.arch c.args.locs.now (remaining_texts c.args.self.now) rest cause
+element_fails g c rest cause w =
+    c.initializers.invariant.fails rest cause
+    (in_element (c.accept.ensures.other c.if-accept.false)
+    (subst (λ ts. FailsInAssignment c.args.arch None c.initializers.locs Unexpected ts rest cause) (kept g c) w))
+
+-- What remains before an initializer is a suffix of the text.
+leaves_before : (g : Over) (c : After-parse_site g) → IsSuffix (remaining c.args.self.now) (remaining c.accept.new.self)
+leaves_before g c = IsSuffix-join c.initializers.invariant.leaves c.accept.ensures.leaves
+
+-- The initializer that was read begins at its place.
+begins : (g : Over) (c : In_ok-word g)
+    → BeginsInitializer c.args.arch c.args.self.now
+    (record { at = c.place-at.result; site = c.in_ok-site.site; word = c.in_ok-word.word })
+begins g c = record {
+  rest = remaining c.accept.new.self;
+  behind = remaining_texts c.parse_value.new.self;
+  suffix = IsSuffix-join c.initializers.invariant.leaves c.accept.ensures.leaves;
+  place = c.place-at.ensures;
+  is =
+      λ t r e. (
+        remaining_texts c.parse_site.new.self,
+        subst (λ s.
+            IsSite c.args.arch (remaining_texts c.accept.new.self) (site_by_name c.parse_site.new.locs s)
+            (remaining_texts c.parse_site.new.self)) e c.in_ok-site.ensures.is,
+        c.in_ok-word.ensures.0,
+      );
+}
+
 pub returns-in_err-site : goal.returns-in_err-site
 returns-in_err-site g c =
-    let same = kept g (goal.at.returns-in_err-site g c).After-parse_site in
-    Err-clause_known _ _ _ c.from_residual-in_err-site.ensures.1
-    (λ ne.
-    initializers_fault c.args.arch c.initializers.invariant.read (c.accept.ensures.other c.if-accept.false)
-    (λ e back initializer some. (rw same at (c.in_err-site.ensures ne)) e.site initializer.0 initializer.1 tt some))
+    let d = (goal.at.returns-in_err-site g c).After-parse_site in
+    let same = kept g d in
+    Err-clause_known _ _ _ c.from_residual-in_err-site.ensures.1 (λ ne.
+    let lost = c.in_err-site.ensures ne in (
+      initializers_fault c.args.arch c.initializers.invariant.read (c.accept.ensures.other c.if-accept.false)
+          (λ e back initializer some. (rw same at lost.0) e.site initializer.0 initializer.1 tt some),
+      Fails-later (leaves_before g d) (λ rest cause w. element_fails g d rest cause (in_site w)) lost.1,
+    ))
 
 pub returns-in_err-word : goal.returns-in_err-word
 returns-in_err-word g c =
-    let same = kept g (goal.at.returns-in_err-word g c).After-parse_site in
-    Err-clause_known _ _ _ c.from_residual-in_err-word.ensures.1
-    (λ ne.
-    initializers_fault c.args.arch c.initializers.invariant.read (c.accept.ensures.other c.if-accept.false)
-    (λ e back initializer some.
-    value_missing c.args.arch _ _ _ (rw same at c.in_ok-site.ensures.is) c.in_err-word.ensures e back initializer))
+    let d = (goal.at.returns-in_err-word g c).After-parse_site in
+    let same = kept g d in
+    Err-clause_known _ _ _ c.from_residual-in_err-word.ensures.1 (λ ne. (
+      initializers_fault c.args.arch c.initializers.invariant.read (c.accept.ensures.other c.if-accept.false)
+          (λ e back initializer some.
+          value_missing c.args.arch _ _ _ (rw same at c.in_ok-site.ensures.is) c.in_err-word.ensures.0 e back initializer),
+      Fails-later (IsSuffix-join (leaves_before g d) c.in_ok-site.ensures.leaves)
+          (λ rest cause w. element_fails g d rest cause (in_value _ c.in_ok-site.ensures.is w)) c.in_err-word.ensures.1,
+    ))
 
 pub returns-in_err-expect_either : goal.returns-in_err-expect_either
 returns-in_err-expect_either g c =
-    let initializer = entry_read g (goal.at.returns-in_err-expect_either g c).In_ok-word in
-    Err-clause_known _ _ _ c.from_residual-in_err-expect_either.ensures.1 (λ ne es rest block few.
-    read_no_mark c.initializers.invariant.read _ _ initializer.stands c.in_err-expect_either.ensures.1
-    c.in_err-expect_either.ensures.0 es rest block)
+    let d = goal.at.returns-in_err-expect_either g c in
+    let initializer = entry_read g d.In_ok-word in
+    Err-clause_known _ _ _ c.from_residual-in_err-expect_either.ensures.1 (λ ne. (
+      λ es rest block few.
+          read_no_mark c.initializers.invariant.read _ _ initializer.stands c.in_err-expect_either.ensures.1
+          c.in_err-expect_either.ensures.0 es rest block,
+      Fails-later
+          (IsSuffix-join (leaves_before g d.After-parse_site)
+          (IsSuffix-join c.in_ok-site.ensures.leaves c.in_ok-word.ensures.1))
+          (λ rest cause w.
+          c.initializers.invariant.fails rest cause
+          (no_mark (c.accept.ensures.other c.if-accept.false) initializer.stands w)) c.in_err-expect_either.ensures.2,
+    ))
 
 pub returns-then-branch : goal.returns-then-branch
 returns-then-branch g c =
@@ -84,7 +143,13 @@ returns-then-branch g c =
     let whole =
     read_last c.initializers.invariant.read (entry_read g d.In_ok-word) (remaining_texts c.expect_either.new.self) mark in
     rw c.in_ok-push.ensures.ok
-    (record { is = whole.whole; names_are = whole.names_are; within = whole.within; leaves = leaves g d.In_ok-expect_either })
+    (record {
+      is = whole.whole;
+      names_are = whole.names_are;
+      within = whole.within;
+      leaves = leaves g d.In_ok-expect_either;
+      places = all_push _ _ _ c.initializers.invariant.places (begins g d.In_ok-word);
+    })
 
 -- The order of numbers is transitive.
 less : (k m n : ℕ) → k < m → m < n → k < n
@@ -105,6 +170,19 @@ initializers-preserved g c =
     rw c.in_ok-push.ensures.ok (record {
       read = read_more c.initializers.invariant.read (entry_read g d.In_ok-word) (remaining_texts c.expect_either.new.self) mark;
       leaves = leaves g d.In_ok-expect_either;
+      places = all_push _ _ _ c.initializers.invariant.places (begins g d.In_ok-word);
+      fails =
+          λ rest cause w.
+          c.initializers.invariant.fails rest cause
+          (in_elements_after (c.accept.ensures.other c.if-accept.false)
+          (subst
+          (λ mid.
+          IsInitializer c.args.arch (remaining_texts c.initializers.self)
+          (named_initializer c.parse_site.new.locs
+          (record { at = c.place-at.result; site = c.in_ok-site.site; word = c.in_ok-word.word })) mid) mark
+          (entry_read g d.In_ok-word).stands)
+          (subst (λ names. FailsInInitializers c.args.arch rest cause names (remaining_texts c.expect_either.new.self))
+          (entry_read g d.In_ok-word).grows w));
     })
 
 pub returns-in_err-push : goal.returns-in_err-push

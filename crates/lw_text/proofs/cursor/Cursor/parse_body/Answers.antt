@@ -1,39 +1,85 @@
-use Rattle.lw_text.proofs.Common.{refl, sym, map, arith, subst, length-map, Header, Block, named_initializer}
+use Rattle.lw_text.proofs.Common.{[], refl, sym, map, arith, subst, length-map, Header, Block, named_initializer}
 use Rattle.lw_text.proofs.Common.{cells_texts, with_spans, remaining, remaining_texts}
 use Rattle.lw_text.proofs.CellPlaces.{rows_placed, front_placed}
 use Rattle.lw_text.proofs.Lists.{IsSuffix-join}
 use Rattle.lw_text.proofs.api.Places.{texts_placed}
 use Rattle.lw_text.proofs.Bodies.{taken_body}
 use Rattle.lw_text.proofs.Whole.{first_names, few_first, no_header, no_thread, no_rows, no_condition}
-use Rattle.lw_text.proofs.Whole.{header_some, Rows-even}
+use Rattle.lw_text.proofs.Whole.{header_some, Rows-even, all_there, missing_thread, initializer_at}
+use Rattle.lw_text.proofs.Failures.{Fails-later}
+use Rattle.lw_text.specs.Failures.{FailsInCondition, in_block, in_header, no_such_thread, in_rows, in_condition}
+use Rattle.lw_text.specs.Views.{BeginsAt}
+use Rattle.lw_text.specs.inner.Parsed.{BeginsInitializer}
 use Rattle.lw_text.proofs.Faults.{Err-clause_known}
 use Rattle.lw_text.proofs.cursor.Cursor.parse_body.Goals as goal
 
 pub returns-in_err-initializers : goal.returns-in_err-initializers
-returns-in_err-initializers g c = Err-clause_known _ _ _ c.from_residual.ensures.1 (λ ne s f p whole.
-    (rw c.new-locs.ensures at (c.in_err-initializers.ensures ne)) s.initializers p.behind_block p.block
-    (few_first c.args.arch (remaining_texts c.args.self.now) s p))
+returns-in_err-initializers g c = Err-clause_known _ _ _ c.from_residual.ensures.1 (λ ne.
+    let lost = rw c.new-locs.ensures at (c.in_err-initializers.ensures ne) in (
+      λ s f p whole.
+          lost.0 s.initializers p.behind_block p.block (few_first c.args.arch (remaining_texts c.args.self.now) s p),
+      Fails-later ([], refl) (λ rest cause w. in_block w) lost.1,
+    ))
 
 pub returns-in_err-threads : goal.returns-in_err-threads
-returns-in_err-threads g c = Err-clause_known _ _ _ c.from_residual-in_err-threads.ensures.1 (λ ne s f p whole.
-    no_header c.args.arch (remaining_texts c.args.self.now) _ _ c.in_ok-initializers.ensures.is c.in_err-threads.ensures s p)
+returns-in_err-threads g c = Err-clause_known _ _ _ c.from_residual-in_err-threads.ensures.1 (λ ne. (
+  λ s f p whole.
+      no_header c.args.arch (remaining_texts c.args.self.now) _ _ c.in_ok-initializers.ensures.is c.in_err-threads.ensures.0 s p,
+  Fails-later c.in_ok-initializers.ensures.leaves (λ rest cause w. in_header _ _ c.in_ok-initializers.ensures.is w)
+      c.in_err-threads.ensures.1,
+))
 
 pub returns-in_err-check_threads : goal.returns-in_err-check_threads
-returns-in_err-check_threads g c = Err-clause_known _ _ _ c.from_residual-in_err-check_threads.ensures.1 (λ ne s f p whole.
-    no_thread c.args.arch _ _ _ c.in_ok-initializers.ensures.is _ _ c.in_ok-threads.ensures.0 c.parse_block.new.locs _ refl
-    (rw c.as_slice.ensures at c.in_err-check_threads.ensures.err) s p)
+returns-in_err-check_threads g c =
+    let lost = rw c.as_slice.ensures at c.in_err-check_threads.ensures.place in
+    let begins : BeginsInitializer c.args.arch c.args.self.now lost.0 =
+    initializer_at (BeginsInitializer c.args.arch c.args.self.now) _ c.in_ok-initializers.ensures.places lost.0 lost.1 in
+    let thread = missing_thread lost.0.site c.in_ok-threads.threads lost.2 in
+    Err-clause_known _ _ _ c.from_residual-in_err-check_threads.ensures.1 (λ ne. (
+      λ s f p whole.
+          no_thread c.args.arch _ _ _ c.in_ok-initializers.ensures.is _ _ c.in_ok-threads.ensures.0 c.parse_block.new.locs _ refl
+          (rw c.as_slice.ensures at c.in_err-check_threads.ensures.err) s p,
+      record {
+        rest = begins.rest;
+        suffix = begins.suffix;
+        place = subst (BeginsAt begins.rest) (sym lost.3) begins.place;
+        way =
+            no_such_thread _ _ thread.0 thread.1 lost.0.word _ _ _ c.in_ok-initializers.ensures.is c.in_ok-threads.ensures.0
+            (begins.is thread.0 thread.1 thread.2) thread.3 lost.4;
+      },
+    ))
 
 pub returns-in_err-rows : goal.returns-in_err-rows
-returns-in_err-rows g c = Err-clause_known _ _ _ c.from_residual-in_err-rows.ensures.1 (λ ne s f p whole.
-    no_rows c.args.arch _ _ _ c.in_ok-initializers.ensures.is _ _ c.in_ok-threads.ensures.0 (c.in_err-rows.ensures ne) s p)
+returns-in_err-rows g c = Err-clause_known _ _ _ c.from_residual-in_err-rows.ensures.1 (λ ne.
+    let lost = c.in_err-rows.ensures ne in (
+      λ s f p whole.
+          no_rows c.args.arch _ _ _ c.in_ok-initializers.ensures.is _ _ c.in_ok-threads.ensures.0 lost.0 s p,
+      Fails-later (IsSuffix-join c.in_ok-initializers.ensures.leaves c.in_ok-threads.ensures.1)
+          (λ rest cause w.
+          in_rows _ _ _ _ c.in_ok-initializers.ensures.is c.in_ok-threads.ensures.0
+          (all_there _ _ _ (rw c.as_slice.ensures at c.in_ok-check_threads.ensures.ok)) w) lost.1,
+    ))
 
 pub returns : goal.returns
 returns g c = λ ne.
-    no_condition c.args.arch (remaining_texts c.args.self.now) (remaining_texts c.parse_block.new.self) _
-    c.in_ok-initializers.ensures.is c.in_ok-threads.threads (remaining_texts c.parse_header.new.self) c.in_ok-threads.ensures.0 _
-    _ c.in_ok-rows.ensures.0 c.parse_block.new.locs
-    (first_names c.parse_block.new.locs c.in_ok-initializers.initializers
-    (rw c.new-locs.ensures at c.in_ok-initializers.ensures.names_are)) (c.in-Err.ensures ne)
+    let lost = c.in-Err.ensures ne in
+    let names =
+    first_names c.parse_block.new.locs c.in_ok-initializers.initializers
+    (rw c.new-locs.ensures at c.in_ok-initializers.ensures.names_are) in (
+      no_condition c.args.arch (remaining_texts c.args.self.now) (remaining_texts c.parse_block.new.self) _
+          c.in_ok-initializers.ensures.is c.in_ok-threads.threads (remaining_texts c.parse_header.new.self)
+          c.in_ok-threads.ensures.0 _ _ c.in_ok-rows.ensures.0 c.parse_block.new.locs names lost.0,
+      Fails-later
+          (IsSuffix-join c.in_ok-initializers.ensures.leaves
+          (IsSuffix-join c.in_ok-threads.ensures.1 c.in_ok-rows.ensures.2))
+          (λ rest cause w.
+          in_condition _ _ _ _ _ _ c.in_ok-initializers.ensures.is c.in_ok-threads.ensures.0
+          (all_there _ _ _ (rw c.as_slice.ensures at c.in_ok-check_threads.ensures.ok)) c.in_ok-rows.ensures.0
+          (subst
+          (λ table.
+          FailsInCondition c.args.arch c.in_ok-threads.threads table (remaining_texts c.parse_rows.new.self) rest cause) names w))
+          lost.1,
+    )
 
 pub invariant_of-result : goal.invariant_of-result
 invariant_of-result g c =

@@ -1,6 +1,9 @@
-use Rattle.lw_text.proofs.Common.{◌≡◌, ◌∷◌, ◌∙◌, inl, inr, refl, ap, sym, codes, All-nil, IsIn}
-use Rattle.lw_text.proofs.Common.{remaining_texts}
-use Rattle.lw_text.proofs.Lists.{same_behind, shorter_behind}
+use Rattle.lw_text.proofs.Common.{◌≡◌, ◌∷◌, ◌∙◌, inl, inr, refl, ap, subst, sym, codes, All-nil, IsIn, Some}
+use Rattle.lw_text.proofs.Common.{IsSite, IsSuffix, site_by_name, remaining, remaining_texts}
+use Rattle.lw_text.proofs.Failures.{Fails-later}
+use Rattle.lw_text.specs.Failures.{FailsInSite, FailsInSites, no_list_bracket, in_sites, in_element, no_mark, in_elements_after}
+use Rattle.lw_text.specs.declared.fault.TextCause.TheVariants.{Condition}
+use Rattle.lw_text.proofs.Lists.{IsSuffix-join, same_behind, shorter_behind}
 use Rattle.lw_text.proofs.Atoms.{IsSite-shorter, bracket}
 use Rattle.lw_text.proofs.Faults.{Err-clause_known, ran_out}
 use Rattle.lw_text.proofs.SiteLists.{sites, list_behind, syntax_same}
@@ -22,25 +25,38 @@ returns-then-not-accept g c = rw c.new.ensures (record {
   there = tt;
   names_are = refl;
   within = All-nil (IsIn c.args.locs.now);
+  leaves = c.accept.ensures.leaves;
 })
 
 pub returns-in_err-expect : goal.returns-in_err-expect
-returns-in_err-expect g c = Err-clause_known _ _ _ c.from_residual.ensures.1 (λ _ ss rest listed there few.
+returns-in_err-expect g c =
     let word = c.accept.ensures.taken c.if-not-accept.false in
-    let whole = list_behind c.args.arch c.args.threads (remaining_texts c.args.self.now) _ word ss rest listed in
-    c.in_err-expect.ensures.err whole.0 (same_behind _ word whole.1))
+    Err-clause_known _ _ _ c.from_residual.ensures.1 (λ _. (
+      λ ss rest listed there few.
+          let whole = list_behind c.args.arch c.args.threads (remaining_texts c.args.self.now) _ word ss rest listed in
+          c.in_err-expect.ensures.err whole.0 (same_behind _ word whole.1),
+      Fails-later c.accept.ensures.leaves (λ rest cause w. no_list_bracket word w) c.in_err-expect.ensures.fails,
+    ))
 
 pub sites-init : goal.sites-init
-sites-init g c = rw c.new-sites.ensures (record {
-  read =
-      read_none _ c.args.locs.now (remaining_texts c.args.self.now) (remaining_texts c.expect.new.self)
-      (c.accept.ensures.taken c.if-not-accept.false ∙ ap (λ l. codes "locations" ∷ l) c.in_ok-expect.ensures.ok);
-})
+sites-init g c =
+    let begins = c.accept.ensures.taken c.if-not-accept.false ∙ ap (λ l. codes "locations" ∷ l) c.in_ok-expect.ensures.ok in
+    rw c.new-sites.ensures (record {
+      read = read_none _ c.args.locs.now (remaining_texts c.args.self.now) (remaining_texts c.expect.new.self) begins;
+      leaves = IsSuffix-join c.accept.ensures.leaves c.in_ok-expect.ensures.leaves;
+      fails = λ rest cause w. in_sites begins w;
+    })
 
 pub returns-then-accept : goal.returns-then-accept
 returns-then-accept g c =
     let whole = read_end c.sites.invariant.read _ (c.accept-in-sites.ensures.taken c.if-accept.true) in
-    record { is = inl whole.whole; there = whole.there; names_are = whole.names_are; within = whole.within }
+    record {
+      is = inl whole.whole;
+      there = whole.there;
+      names_are = whole.names_are;
+      within = whole.within;
+      leaves = IsSuffix-join c.sites.invariant.leaves c.accept-in-sites.ensures.leaves;
+    }
 
 -- If no `]` is next, a site is read at the same position.
 kept : (g : Over) (c : After-parse_site g) → remaining_texts c.accept-in-sites.new.self ≡ remaining_texts c.sites.self
@@ -59,30 +75,61 @@ site_read g c = record {
       rw same at c.in_ok-parse_site.ensures.is);
 }
 
+-- What remains before a site is a suffix of the text.
+leaves_before : (g : Over) (c : After-parse_site g) → IsSuffix (remaining c.args.self.now) (remaining c.accept-in-sites.new.self)
+leaves_before g c = IsSuffix-join c.sites.invariant.leaves c.accept-in-sites.ensures.leaves
+
 pub returns-in_err-parse_site : goal.returns-in_err-parse_site
 returns-in_err-parse_site g c =
-    let same = kept g (goal.at.returns-in_err-parse_site g c).After-parse_site in
-    Err-clause_known _ _ _ c.from_residual-in_err-parse_site.ensures.1 (λ ne all rest listed there few.
-    read_none_here c.sites.invariant.read
-    (λ l. token_not_next bracket (remaining_texts c.sites.self) l (c.accept-in-sites.ensures.other c.if-accept.false))
-    (rw same at (c.in_err-parse_site.ensures ne)) all rest
-    (list_behind _ c.args.threads (remaining_texts c.args.self.now) (codes "[" ∷ c.sites.invariant.read.start)
-    c.sites.invariant.read.begun all rest listed) there (syntax_same c.args.locs.now all few))
+    let d = (goal.at.returns-in_err-parse_site g c).After-parse_site in
+    let same = kept g d in
+    Err-clause_known _ _ _ c.from_residual-in_err-parse_site.ensures.1 (λ ne.
+    let lost = c.in_err-parse_site.ensures ne in (
+      λ all rest listed there few.
+          read_none_here c.sites.invariant.read
+          (λ l. token_not_next bracket (remaining_texts c.sites.self) l (c.accept-in-sites.ensures.other c.if-accept.false))
+          (rw same at lost.0) all rest
+          (list_behind _ c.args.threads (remaining_texts c.args.self.now) (codes "[" ∷ c.sites.invariant.read.start)
+          c.sites.invariant.read.begun all rest listed) there (syntax_same c.args.locs.now all few),
+      Fails-later (leaves_before g d)
+          (λ rest cause w.
+          c.sites.invariant.fails rest cause
+          (in_element (c.accept-in-sites.ensures.other c.if-accept.false)
+          (subst (λ ts. FailsInSite c.args.arch (Some c.args.threads) c.sites.locs Condition ts rest cause) same w))) lost.1,
+    ))
 
 pub returns-in_err-expect_either : goal.returns-in_err-expect_either
 returns-in_err-expect_either g c =
-    let site = site_read g (goal.at.returns-in_err-expect_either g c).In_ok-parse_site in
-    Err-clause_known _ _ _ c.from_residual-in_err-expect_either.ensures.1 (λ ne all rest listed there few.
-    read_no_mark c.sites.invariant.read _ _ site.stands c.in_err-expect_either.ensures.1 c.in_err-expect_either.ensures.0 all rest
-    (list_behind c.args.arch c.args.threads (remaining_texts c.args.self.now) _ c.sites.invariant.read.begun all rest listed))
+    let d = goal.at.returns-in_err-expect_either g c in
+    let site = site_read g d.In_ok-parse_site in
+    Err-clause_known _ _ _ c.from_residual-in_err-expect_either.ensures.1 (λ ne. (
+      λ all rest listed there few.
+          read_no_mark c.sites.invariant.read _ _ site.stands c.in_err-expect_either.ensures.1 c.in_err-expect_either.ensures.0 all
+          rest
+          (list_behind c.args.arch c.args.threads (remaining_texts c.args.self.now) _ c.sites.invariant.read.begun all rest listed),
+      Fails-later (IsSuffix-join (leaves_before g d.After-parse_site) c.in_ok-parse_site.ensures.leaves)
+          (λ rest cause w.
+          c.sites.invariant.fails rest cause
+          (no_mark (c.accept-in-sites.ensures.other c.if-accept.false) (site.stands, site.fits) w))
+          c.in_err-expect_either.ensures.2,
+    ))
 
 pub returns-then-branch : goal.returns-then-branch
 returns-then-branch g c =
-    let site = site_read g (goal.at.returns-then-branch g c).In_ok-parse_site in
+    let d = goal.at.returns-then-branch g c in
+    let site = site_read g d.In_ok-parse_site in
     let mark = rw c.if-branch.true at c.in_ok-expect_either.ensures.0 in
     let whole = read_last c.sites.invariant.read site (remaining_texts c.expect_either.new.self) mark in
     rw c.in_ok-push.ensures.ok
-    (record { is = inl whole.whole; there = whole.there; names_are = whole.names_are; within = whole.within })
+    (record {
+      is = inl whole.whole;
+      there = whole.there;
+      names_are = whole.names_are;
+      within = whole.within;
+      leaves =
+          IsSuffix-join (leaves_before g d.After-parse_site)
+          (IsSuffix-join c.in_ok-parse_site.ensures.leaves c.in_ok-expect_either.ensures.1);
+    })
 
 pub sites-smaller : goal.sites-smaller
 sites-smaller g c =
@@ -92,10 +139,25 @@ sites-smaller g c =
 
 pub sites-preserved : goal.sites-preserved
 sites-preserved g c =
-    let site = site_read g (goal.at.sites-preserved g c).In_ok-parse_site in
+    let d = goal.at.sites-preserved g c in
+    let site = site_read g d.In_ok-parse_site in
     let mark = rw c.if-branch.false at c.in_ok-expect_either.ensures.0 in
-    rw c.in_ok-push.ensures.ok
-    (record { read = read_more c.sites.invariant.read site (remaining_texts c.expect_either.new.self) mark })
+    rw c.in_ok-push.ensures.ok (record {
+      read = read_more c.sites.invariant.read site (remaining_texts c.expect_either.new.self) mark;
+      leaves =
+          IsSuffix-join (leaves_before g d.After-parse_site)
+          (IsSuffix-join c.in_ok-parse_site.ensures.leaves c.in_ok-expect_either.ensures.1);
+      fails =
+          λ rest cause w.
+          c.sites.invariant.fails rest cause
+          (in_elements_after (c.accept-in-sites.ensures.other c.if-accept.false)
+          (subst
+          (λ mid.
+          IsSite c.args.arch (remaining_texts c.sites.self)
+          (site_by_name c.parse_site.new.locs c.in_ok-parse_site.field-0) mid) mark site.stands, site.fits)
+          (subst (λ names. FailsInSites c.args.arch c.args.threads rest cause names (remaining_texts c.expect_either.new.self))
+          site.grows w));
+    })
 
 pub returns-in_err-push : goal.returns-in_err-push
 returns-in_err-push g c = ran_out _ _ _ c.from_residual-in_err-push.ensures.1

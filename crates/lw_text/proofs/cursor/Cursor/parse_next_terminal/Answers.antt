@@ -1,4 +1,8 @@
-use Rattle.lw_text.proofs.Common.{◌∙◌, sym}
+use Rattle.lw_text.proofs.Common.{◌∙◌, [], refl, sym, ap, subst, option_map, remaining_texts, state_of}
+use Rattle.lw_text.proofs.Failures.{Fails-here, Fails-later}
+use Rattle.lw_text.proofs.PropositionPlaces.{next_place-state, wants_part-place, no_room-first}
+use Rattle.lw_text.specs.Failures.{FailsInTerminal, impossible_terminal, too_many_nodes, in_terminal}
+use Rattle.lw_text.specs.inner.ReaderStates.{place_of}
 use Rattle.lw_text.proofs.PropositionCases.{terminal_refused, no_room, begins_right}
 use Rattle.lw_text.proofs.Faults.{ran_out, Err-clause_known}
 use Rattle.lw_text.proofs.cursor.Cursor.parse_next_terminal.Goals as goal
@@ -6,16 +10,36 @@ use Rattle.lw_text.proofs.cursor.Cursor.parse_next_terminal.Goals as goal
 pub returns-then-not-branch : goal.returns-then-not-branch
 returns-then-not-branch g c =
     let refused = rw c.if-not-branch.true at c.in_ok-take.ensures in
-    λ ne s rest is left few fits.
-    left (terminal_refused c.in_ok-terminal.ensures c.args.reader.now c.requires.once refused s rest is)
+    λ ne. (
+      λ s rest is left few fits.
+          left (terminal_refused c.in_ok-terminal.ensures c.args.reader.now c.requires.once refused s rest is),
+      Fails-here c.args.self.now _ c.refusal-misfit.ensures.place
+          (impossible_terminal _ _ c.in_ok-terminal.ensures.is
+          (next_place-state (state_of c.args.reader.now) c.parse_terminal.new.locs c.in_ok-terminal.terminal
+          ∙ ap (option_map place_of) refused) refl c.refusal-misfit.ensures.cause),
+    )
 
 pub returns-then-not-has_room : goal.returns-then-not-has_room
-returns-then-not-has_room g c = λ ne s rest is left few fits.
-    no_room c.args.arch c.args.threads c.args.nodes _ rest s (sym c.has_room.ensures ∙ c.if-not-has_room.true) is fits
+returns-then-not-has_room g c =
+    let full = sym c.has_room.ensures ∙ c.if-not-has_room.true in
+    let room = no_room-first c.args.nodes _ full in
+    λ ne. (
+      λ s rest is left few fits. no_room c.args.arch c.args.threads c.args.nodes _ rest s full is fits,
+      Fails-here c.args.self.now _ c.refusal-misfit.ensures.place
+          (too_many_nodes room.0 refl room.1 c.refusal-misfit.ensures.cause),
+    )
 
 pub returns-in_err-terminal : goal.returns-in_err-terminal
-returns-in_err-terminal g c = Err-clause_known _ _ _ c.from_residual.ensures.1 (λ ne s rest is left few fits.
-    c.in_err-terminal.ensures ne s rest is (begins_right c.args.reader.now _ c.wants_part.ensures _ s left) few)
+returns-in_err-terminal g c = Err-clause_known _ _ _ c.from_residual.ensures.1 (λ ne.
+    let lost = c.in_err-terminal.ensures ne in (
+      λ s rest is left few fits. lost.0 s rest is (begins_right c.args.reader.now _ c.wants_part.ensures _ s left) few,
+      Fails-later ([], refl)
+          (λ rest cause w.
+          in_terminal
+          (subst
+          (λ part. FailsInTerminal c.args.arch c.args.threads part c.args.locs.now (remaining_texts c.args.self.now) rest cause)
+          (sym (wants_part-place c.args.reader.now _ c.wants_part.ensures)) w)) lost.1,
+    ))
 
 pub returns-in_err-take : goal.returns-in_err-take
 returns-in_err-take g c = ran_out _ _ _ c.from_residual-in_err-take.ensures.1

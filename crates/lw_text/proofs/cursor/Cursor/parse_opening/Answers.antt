@@ -1,28 +1,48 @@
-use Rattle.lw_text.proofs.Common.{◌≡◌, ◌∷◌, [], sym, ap, subst, with_sites, Atom, IsAtom, sites_in}
-use Rattle.lw_text.proofs.Common.{remaining_texts}
+use Rattle.lw_text.proofs.Common.{◌≡◌, ◌∷◌, [], Some, refl, sym, ap, subst, with_sites, Atom, IsAtom, sites_in}
+use Rattle.lw_text.proofs.Common.{IsSuffix, remaining, remaining_texts}
+use Rattle.lw_text.proofs.Lists.{IsSuffix-join}
+use Rattle.lw_text.proofs.Failures.{Fails-later}
+use Rattle.lw_text.specs.Failures.{FailsInSite, in_site, in_value}
+use Rattle.lw_text.specs.declared.fault.TextCause.TheVariants.{Condition}
 use Rattle.lw_text.proofs.TerminalLists.{site_alone}
 use Rattle.lw_text.proofs.Faults.{Err-clause_known}
 use Rattle.lw_text.proofs.cursor.Cursor.parse_opening.Goals as goal
 
 pub returns-in_err-site : goal.returns-in_err-site
 returns-in_err-site g c =
-    let kept = ap remaining_texts (c.parse_opening_keyword.ensures.kept c.in_default.is) in
-    Err-clause_known _ _ _ c.from_residual.ensures.1 (λ ne s rest terminal begins few.
-    let claim = c.in_default.ensures.none c.args.arch c.args.threads s rest terminal begins in
-    let says = rw claim.2 at terminal in
-    (rw kept at c.in_err-site.ensures) ne claim.0 says.0 says.1 says.2 (rw claim.2 at few))
+    let same = c.parse_opening_keyword.ensures.kept c.in_default.is in
+    let kept = ap remaining_texts same in
+    Err-clause_known _ _ _ c.from_residual.ensures.1 (λ ne.
+    let lost = c.in_err-site.ensures ne in (
+      λ s rest terminal begins few.
+          let claim = c.in_default.ensures.none c.args.arch c.args.threads s rest terminal begins in
+          let says = rw claim.2 at terminal in
+          (rw kept at lost.0) claim.0 says.0 says.1 says.2 (rw claim.2 at few),
+      Fails-later (subst (λ x. IsSuffix (remaining x) (remaining c.parse_opening_keyword.new.self)) same ([], refl))
+          (λ rest cause w. (
+            c.in_default.ensures.words,
+            in_site (subst
+                (λ ts. FailsInSite c.args.arch (Some c.args.threads) c.args.locs.now Condition ts rest cause) kept w),
+          )) lost.1,
+    ))
 
 pub returns-in_err-word : goal.returns-in_err-word
 returns-in_err-word g c =
-    let kept = ap remaining_texts (c.parse_opening_keyword.ensures.kept c.in_default.is) in
+    let same = c.parse_opening_keyword.ensures.kept c.in_default.is in
+    let kept = ap remaining_texts same in
     let stands = rw kept at c.in_ok-site.ensures.is in
-    Err-clause_known _ _ _ c.from_residual-in_err-word.ensures.1 (λ ne s rest terminal begins few.
-    site_alone c.args.arch c.args.threads _ (remaining_texts c.parse_site.new.self) _ stands c.in_err-word.ensures s rest
-    terminal)
+    let leaves = subst (λ x. IsSuffix (remaining x) (remaining c.parse_site.new.self)) same c.in_ok-site.ensures.leaves in
+    Err-clause_known _ _ _ c.from_residual-in_err-word.ensures.1 (λ ne. (
+      λ s rest terminal begins few.
+          site_alone c.args.arch c.args.threads _ (remaining_texts c.parse_site.new.self) _ stands c.in_err-word.ensures.0 s rest
+          terminal,
+      Fails-later leaves (λ rest cause w. (c.in_default.ensures.words, in_value _ stands w)) c.in_err-word.ensures.1,
+    ))
 
 pub returns : goal.returns
 returns g c =
-    let kept = ap remaining_texts (c.parse_opening_keyword.ensures.kept c.in_default.is) in
+    let same = c.parse_opening_keyword.ensures.kept c.in_default.is in
+    let kept = ap remaining_texts same in
     let table = c.parse_site.new.locs in
     let taken = c.in_ok-site.ensures in
     let syntax = sym (c.atom_at.ensures.syntax table) in
@@ -33,6 +53,9 @@ returns g c =
           syntax (remaining_texts c.parse_site.new.self, rw kept at taken.is, taken.there, c.in_ok-word.ensures.0);
       names_are = subst (λ claim. table ≡ with_sites c.args.locs.now (sites_in (Atom claim ∷ []))) syntax taken.names_are;
       within = c.atom_at.ensures.within table taken.within;
+      leaves =
+          IsSuffix-join (subst (λ x. IsSuffix (remaining x) (remaining c.parse_site.new.self)) same taken.leaves)
+          c.in_ok-word.ensures.1;
     }
 
 pub returns-in-Some : goal.returns-in-Some

@@ -1,23 +1,46 @@
-use Rattle.lw_text.proofs.Common.{◌∷◌, ◌∙◌, ap, sym, length, arith, length-append, length-map, RowCells}
+use Rattle.lw_text.proofs.Common.{◌≡◌, [], ◌∷◌, ◌∙◌, append-nil, refl, ap, sym, length, arith, length-append, length-map, RowCells}
 use Rattle.lw_text.proofs.Common.{cell_texts, cells_texts, remaining, remaining_texts}
+use Rattle.lw_text.proofs.Lists.{IsSuffix-join}
+use Rattle.lw_text.proofs.Texts.{is_text}
+use Rattle.lw_text.specs.Failures.{no_end, ragged}
 use Rattle.lw_text.proofs.Faults.{Err-clause_known, ran_out}
 use Rattle.lw_text.proofs.Cells.{Cells-open, Row-ragged}
 use Rattle.lw_text.proofs.CellPlaces.{cells_more, cells_closed}
 use Rattle.lw_text.proofs.cursor.Cursor.parse_row.Goals as goal
 
 pub returns-in_err-mark : goal.returns-in_err-mark
-returns-in_err-mark g c = Err-clause_known _ _ _ c.from_residual.ensures.1 (λ ne all rest line.
+returns-in_err-mark g c = Err-clause_known _ _ _ c.from_residual.ensures.1 (λ ne.
+    let lost = c.in_err-mark.ensures ne in
+    let none =
     Cells-open (remaining_texts c.args.self.now) (remaining_texts c.cells.self) (cells_texts c.cells.cells)
-    c.cells.invariant.read.before (c.in_err-mark.ensures ne) all rest line.0)
+    c.cells.invariant.read.before lost.0 in (
+      λ all rest line. none all rest line.0,
+      record {
+        rest = [];
+        suffix = (remaining c.args.self.now, sym (append-nil (remaining c.args.self.now)));
+        place = lost.1;
+        way = no_end refl none;
+      },
+    ))
 
 pub returns-then-eq : goal.returns-then-eq
 returns-then-eq g c =
     let closed = cells_closed c.cells.invariant.read c.in_ok-mark.ensures (sym c.eq.ensures ∙ c.if-eq.true) in
     let line : RowCells (remaining_texts c.args.self.now) (cells_texts c.push.new.self) (remaining_texts c.parse_cell.new.self) =
     rw c.in_ok-push.ensures.ok closed.0 in
-    λ _.
-    Row-ragged (remaining_texts c.args.self.now) (remaining_texts c.parse_cell.new.self) _ line c.args.threads
-    (λ e. c.if-len-threads.false (omega (arith, c.len.ensures, length-map c.push.new.self cell_texts, e)))
+    let other : length (cells_texts c.push.new.self) ≡ c.args.threads → ⊥ =
+    λ e. c.if-len-threads.false (omega (arith, c.len.ensures, length-map c.push.new.self cell_texts, e)) in
+    λ _. (
+      Row-ragged (remaining_texts c.args.self.now) (remaining_texts c.parse_cell.new.self) _ line c.args.threads other,
+      record {
+        rest = c.in_ok-mark.mark ∷ remaining c.parse_cell.new.self;
+        suffix = IsSuffix-join c.cells.invariant.leaves (c.parse_cell.new.cell, c.in_ok-mark.ensures.parts);
+        place = refl;
+        way =
+            ragged _ line
+            (ap (λ x. x ∷ remaining_texts c.parse_cell.new.self) (is_text _ _ (sym c.eq.ensures ∙ c.if-eq.true))) other refl;
+      },
+    )
 
 pub returns-then-len-threads : goal.returns-then-len-threads
 returns-then-len-threads g c =
@@ -27,6 +50,8 @@ returns-then-len-threads g c =
         omega (arith, c.if-len-threads.true, c.len.ensures, length-map c.push.new.self cell_texts),
       ),
       rw c.in_ok-push.ensures.ok closed.1,
+      IsSuffix-join c.cells.invariant.leaves
+          (IsSuffix-join (c.parse_cell.new.cell, c.in_ok-mark.ensures.parts) (c.in_ok-mark.mark ∷ [], refl)),
     )
 
 pub cells-smaller : goal.cells-smaller
@@ -39,7 +64,12 @@ cells-smaller g c = omega (
 pub cells-preserved : goal.cells-preserved
 cells-preserved g c =
     rw c.in_ok-push.ensures.ok
-    (record { read = cells_more c.cells.invariant.read c.in_ok-mark.ensures (sym c.eq.ensures ∙ c.if-eq.false) })
+    (record {
+      read = cells_more c.cells.invariant.read c.in_ok-mark.ensures (sym c.eq.ensures ∙ c.if-eq.false);
+      leaves =
+          IsSuffix-join c.cells.invariant.leaves
+          (IsSuffix-join (c.parse_cell.new.cell, c.in_ok-mark.ensures.parts) (c.in_ok-mark.mark ∷ [], refl));
+    })
 
 pub parse_cell-requires : goal.parse_cell-requires
 parse_cell-requires g c = c.new-tokens.ensures

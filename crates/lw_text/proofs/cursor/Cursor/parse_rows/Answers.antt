@@ -1,5 +1,8 @@
-use Rattle.lw_text.proofs.Common.{◌∷◌, [], ◌∙◌, ap, sym, length, arith, length-append, map_push, length-map}
+use Rattle.lw_text.proofs.Common.{◌≡◌, ◌<◌, ◌∷◌, [], ◌∙◌, refl, subst, ap, sym, length, arith, length-append, map_push, length-map}
 use Rattle.lw_text.proofs.Common.{cells_texts, remaining_texts}
+use Rattle.lw_text.proofs.Lists.{IsSuffix-join}
+use Rattle.lw_text.proofs.Failures.{Fails-here, Fails-later}
+use Rattle.lw_text.specs.Failures.{FailsInRows, too_many_rows, in_row, in_rows_after}
 use Rattle.lw_text.proofs.Faults.{Err-clause_known, ran_out}
 use Rattle.lw_text.proofs.Cells.{Row-shorter, Rows-found, Rows-more, Rows-fault, Rows-many}
 use Rattle.lw_text.proofs.CellPlaces.{rows_more}
@@ -10,18 +13,29 @@ returns-then-at_stop g c = (
   Rows-found c.args.threads _ (remaining_texts c.rows.self) _ c.rows.invariant.passed (sym c.at_stop.ensures ∙ c.if-at_stop.true)
       (omega (arith, c.rows.invariant.few, length-map c.rows.rows cells_texts)),
   c.rows.invariant.cut,
+  c.rows.invariant.leaves,
 )
 
 pub returns-then-len-eq-MAX_ROWS : goal.returns-then-len-eq-MAX_ROWS
 returns-then-len-eq-MAX_ROWS g c =
-    λ _.
-    Rows-many c.args.threads _ _ _ c.rows.invariant.passed (sym c.at_stop.ensures ∙ c.if-at_stop.false)
-    (omega (arith, c.if-len-eq-MAX_ROWS.true, c.len.ensures, length-map c.rows.rows cells_texts))
+    let full : length c.rows.rows ≡ 64 = omega (arith, c.if-len-eq-MAX_ROWS.true, c.len.ensures) in
+    let more = sym c.at_stop.ensures ∙ c.if-at_stop.false in
+    λ _. (
+      Rows-many c.args.threads _ _ _ c.rows.invariant.passed more
+          (omega (arith, c.if-len-eq-MAX_ROWS.true, c.len.ensures, length-map c.rows.rows cells_texts)),
+      Fails-later {Later = λ ts rest cause. FailsInRows c.args.threads rest cause (length c.rows.rows) ts} c.rows.invariant.leaves
+          c.rows.invariant.fails
+          (Fails-here c.rows.self _ c.refusal.ensures.place (too_many_rows full more refl c.refusal.ensures.cause)),
+    )
 
 pub returns-in_err-parse_row : goal.returns-in_err-parse_row
 returns-in_err-parse_row g c = Err-clause_known _ _ _ c.from_residual.ensures.1 (λ ne.
-    Rows-fault c.args.threads _ _ _ c.rows.invariant.passed (sym c.at_stop.ensures ∙ c.if-at_stop.false)
-    (c.in_err-parse_row.ensures ne))
+    let lost = c.in_err-parse_row.ensures ne in
+    let more = sym c.at_stop.ensures ∙ c.if-at_stop.false in
+    let few : length c.rows.rows < 64 = omega (arith, c.if-len-eq-MAX_ROWS.false, c.len.ensures, c.rows.invariant.few) in (
+      Rows-fault c.args.threads _ _ _ c.rows.invariant.passed more lost.0,
+      Fails-later c.rows.invariant.leaves (λ rest cause w. c.rows.invariant.fails rest cause (in_row few more w)) lost.1,
+    ))
 
 pub rows-smaller : goal.rows-smaller
 rows-smaller g c = Row-shorter c.args.threads _ _ _ c.in_ok-parse_row.ensures.0
@@ -41,6 +55,13 @@ rows-preserved g c = record {
     c.len.ensures,
     c.rows.invariant.few,
   );
+  leaves = IsSuffix-join c.rows.invariant.leaves c.in_ok-parse_row.ensures.2;
+  fails =
+      λ rest cause w.
+      c.rows.invariant.fails rest cause
+      (in_rows_after _ (sym c.at_stop.ensures ∙ c.if-at_stop.false) c.in_ok-parse_row.ensures.0
+      (subst (λ k. FailsInRows c.args.threads rest cause k (remaining_texts c.parse_row.new.self))
+      (omega (arith, ap length c.in_ok-push.ensures.ok, length-append c.rows.rows (c.in_ok-parse_row.field-0 ∷ []))) w));
 }
 
 pub returns-in_err-push : goal.returns-in_err-push

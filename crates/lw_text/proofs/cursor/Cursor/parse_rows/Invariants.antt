@@ -1,5 +1,7 @@
 use Rattle.lw_text.proofs.Common.{◌≤◌, length, Row, begins_stop, all_texts, with_spans, placed_cells}
-use Rattle.lw_text.proofs.Common.{RowsFrom, remaining, remaining_texts}
+use Rattle.lw_text.proofs.Common.{RowsFrom, IsSuffix, TokenList, remaining, remaining_texts}
+use Rattle.lw_text.specs.Failures.{FailsInRows}
+use Rattle.lw_text.specs.declared.fault.TextCause.{TextCause}
 use Rattle.lw_text.proofs.Lists.{Passed}
 use Rattle.lw_text.proofs.cursor.Cursor.parse_rows.Given as goal
 
@@ -8,6 +10,9 @@ invariant-rows g l = record {
   passed : Passed begins_stop (Row l.threads) (remaining_texts l.fn.self) (all_texts l.rows) (remaining_texts l.self);
   cut : RowsFrom (with_spans (remaining l.fn.self)) (placed_cells l.rows) (with_spans (remaining l.self));
   few : length l.rows ≤ 64;
+  leaves : IsSuffix (remaining l.fn.self) (remaining l.self);
+  fails : (rest : TokenList) (cause : TextCause) → FailsInRows l.threads rest cause (length l.rows) (remaining_texts l.self)
+      → FailsInRows l.threads rest cause 0 (remaining_texts l.fn.self);
 }
 
 abbrev pub decreases-rows : goal.decreases-rows

@@ -1,27 +1,46 @@
 use Rattle.lw_text.proofs.Common.{◌∷◌, [], ◌∙◌, inl, inr, refl, sym, ap, subst, arith, codes}
-use Rattle.lw_text.proofs.Common.{MatchResult-weaker, remaining_texts, ParsedSite}
+use Rattle.lw_text.proofs.Common.{MatchResult-weaker, remaining, remaining_texts, ParsedSite}
 use Rattle.lw_text.proofs.Atoms.{site_none}
 use Rattle.lw_text.proofs.Lists.{IsSuffix-join}
 use Rattle.lw_text.proofs.Texts.{is_text, is_no_text}
-use Rattle.lw_text.proofs.Sites.{entered, allowed_thread, brackets_none, thread_refused, register_none}
+use Rattle.lw_text.proofs.Sites.{entered, allowed_thread, refused_thread, brackets_none, thread_refused, register_none}
 use Rattle.lw_text.proofs.Sites.{location_none}
 use Rattle.lw_text.proofs.Faults.{Err-clause_known}
+use Rattle.lw_text.proofs.Failures.{Fails-here, Fails-later, IfFirst-cons, IfFirst-nil, BeginsAt-cons, BeginsAt-nil}
+use Rattle.lw_text.specs.Failures.{in_name, in_brackets, no_thread, in_register}
+use Rattle.lw_text.specs.Views.{BeginsAt}
 use Rattle.lw_text.proofs.cursor.Cursor.parse_site.Goals as goal
 
 pub returns-in-Err : goal.returns-in-Err
-returns-in-Err g c = λ ne s rest site there few.
-    location_none c.args.arch _ c.in_ok-first.ensures.ok (is_no_text _ _ (sym c.eq.ensures ∙ c.if-eq.false)) c.in_default.ensures
-    (c.in-Err.ensures ne) s rest site few
+returns-in-Err g c = λ ne.
+    let lost = c.in-Err.ensures ne in
+    let plain = is_no_text _ _ (sym c.eq.ensures ∙ c.if-eq.false) in (
+      λ s rest site there few.
+          location_none c.args.arch _ c.in_ok-first.ensures.ok plain c.in_default.ensures lost.0 s rest site few,
+      Fails-here c.args.self.now _
+          (subst (BeginsAt (remaining c.args.self.now)) (sym lost.1) (BeginsAt-cons _ _ _ c.in_ok-first.ensures.token))
+          (in_name (IfFirst-cons _ _ _ _ c.in_ok-first.ensures.ok (plain, c.in_default.ensures))
+          (refl, IfFirst-cons _ _ _ _ c.in_ok-first.ensures.ok lost.2)),
+    )
 
 pub returns-in_err-first : goal.returns-in_err-first
 returns-in_err-first g c =
-    Err-clause_known _ _ _ c.from_residual.ensures.1
-    (λ ne s rest p there few. site_none c.args.arch (remaining_texts c.args.self.now) rest s c.in_err-first.ensures.err p)
+    let none = c.in_err-first.ensures.err in
+    Err-clause_known _ _ _ c.from_residual.ensures.1 (λ ne. (
+      λ s rest p there few. site_none c.args.arch (remaining_texts c.args.self.now) rest s none p,
+      Fails-here c.args.self.now _ (BeginsAt-nil _ _ c.in_err-first.ensures.fails.0 c.in_err-first.ensures.fails.1)
+          (in_name (IfFirst-nil _ _ none) (refl, IfFirst-nil _ _ none)),
+    ))
 
 pub returns-in_err-inside : goal.returns-in_err-inside
-returns-in_err-inside g c = Err-clause_known _ _ _ c.from_residual-in_err-inside.ensures.1 (λ ne s rest p there few.
-    brackets_none c.args.arch c.args.locs.now c.in_ok-first.ensures.ok (is_text _ _ (sym c.eq.ensures ∙ c.if-eq.true))
-    (c.in_err-inside.ensures ne) s rest p few)
+returns-in_err-inside g c = Err-clause_known _ _ _ c.from_residual-in_err-inside.ensures.1 (λ ne.
+    let lost = c.in_err-inside.ensures ne in
+    let bracket = is_text _ _ (sym c.eq.ensures ∙ c.if-eq.true) in (
+      λ s rest p there few. brackets_none c.args.arch c.args.locs.now c.in_ok-first.ensures.ok bracket lost.0 s rest p few,
+      Fails-later (c.in_ok-first.first ∷ [], c.in_ok-first.ensures.token)
+          (λ rest cause w.
+          in_brackets (c.in_ok-first.ensures.ok ∙ ap (λ y. y ∷ remaining_texts c.take.new.self) bracket) w) lost.1,
+    ))
 
 pub returns-then-eq : goal.returns-then-eq
 returns-then-eq g c =
@@ -32,9 +51,13 @@ returns-then-eq g c =
     ∙ ap (λ l. codes "[" ∷ l) inside.1))
 
 pub returns-then-not-is_allowed : goal.returns-then-not-is_allowed
-returns-then-not-is_allowed g c = λ ne s rest p there few.
-    thread_refused c.args.arch c.args.locs.now c.in_ok-first.ensures.ok _ c.in-Some.ensures c.args.threads
-    (sym c.is_allowed.ensures ∙ c.if-not-is_allowed.true) s rest p there
+returns-then-not-is_allowed g c = λ ne.
+    let refused = sym c.is_allowed.ensures ∙ c.if-not-is_allowed.true in (
+      λ s rest p there few.
+          thread_refused c.args.arch c.args.locs.now c.in_ok-first.ensures.ok _ c.in-Some.ensures c.args.threads refused s rest p there,
+      Fails-here c.args.self.now _ (BeginsAt-cons _ _ _ c.in_ok-first.ensures.token)
+          (no_thread _ _ c.in_ok-first.ensures.ok refl c.in-Some.ensures (λ r. refused_thread c.args.threads _ r refused) refl),
+    )
 
 pub returns-in-Some : goal.returns-in-Some
 returns-in-Some g c =
@@ -52,8 +75,12 @@ returns-in-Some g c =
       names_are = refl;
       within = omega arith;
       leaves = IsSuffix-join (c.in_ok-first.first ∷ [], c.in_ok-first.ensures.token) reg.5;
-    })) (λ f never ne s rest p there few.
-    register_none c.args.arch c.args.locs.now c.in_ok-first.ensures.ok c.in-Some.thread c.in-Some.ensures never s rest p)
+    })) (λ f lost ne. (
+      λ s rest p there few.
+          register_none c.args.arch c.args.locs.now c.in_ok-first.ensures.ok c.in-Some.thread c.in-Some.ensures lost.0 s rest p,
+      Fails-later (c.in_ok-first.first ∷ [], c.in_ok-first.ensures.token)
+          (λ rest cause w. in_register _ _ c.in_ok-first.ensures.ok c.in-Some.ensures w) lost.1,
+    ))
 
 pub returns-in-Ok : goal.returns-in-Ok
 returns-in-Ok g c = entered c.in-Ok.ensures (c.in_ok-first.first ∷ [], c.in_ok-first.ensures.token) (inl c.in_ok-first.ensures.ok)

@@ -1,6 +1,8 @@
-use Rattle.lw_text.proofs.Common.{codes, ◌∷◌, [], ◌∙◌, ap}
+use Rattle.lw_text.proofs.Common.{codes, ◌∷◌, [], ◌∙◌, ap, remaining}
 use Rattle.lw_text.proofs.Lists.{IsSuffix-join}
 use Rattle.lw_text.proofs.Atoms.{value_none}
+use Rattle.lw_text.proofs.Failures.{IfFirst-cons}
+use Rattle.lw_text.specs.Failures.{no_number}
 use Rattle.lw_text.proofs.cursor.Cursor.parse_value.Goals as goal
 
 pub returns-in-Some : goal.returns-in-Some
@@ -10,4 +12,14 @@ returns-in-Some c = (
 )
 
 pub returns-in-None : goal.returns-in-None
-returns-in-None c = value_none _ _ _ _ c.in_ok-expect.ensures.ok c.in_ok-token.ensures.ok c.in-None.ensures
+returns-in-None c = (
+  value_none _ _ _ _ c.in_ok-expect.ensures.ok c.in_ok-token.ensures.ok c.in-None.ensures,
+  record {
+    rest = remaining c.expect.new.self;
+    suffix = c.in_ok-expect.ensures.leaves;
+    place = c.refusal-misfit.ensures.place;
+    way =
+        no_number c.in_ok-expect.ensures.ok
+        (IfFirst-cons _ _ _ _ c.in_ok-token.ensures.ok (c.in-None.ensures, c.refusal-misfit.ensures.cause));
+  },
+)

@@ -1,6 +1,8 @@
 use Rattle.lw_text.proofs.Common.{◌≡◌, arith, ap, subst, length, length-append, false≢true, nat_tests}
 use Rattle.lw_text.proofs.Common.{IsTestName, ◌∙◌, sym, ◌++◌, name_ascii, refl}
-use Rattle.lw_text.proofs.Preambles.{ParsesTestName-parts}
+use Rattle.lw_text.proofs.Common.{[], ◌<◌, All-mono, not-true, first_byte_is, is_blank}
+use Rattle.lw_text.proofs.Preambles.{ParsesTestName-parts, all_blank, no_front}
+use Rattle.lw_text.specs.TextFailures.{no_name, no_blank, bad_name}
 use Rattle.lw_text.proofs.lexer.Lexer.parse_test_name.Goals as goal
 
 pub returns-then-is_empty-clause-reads : goal.returns-then-is_empty-clause-reads
@@ -12,6 +14,11 @@ returns-then-is_empty-clause-reads c =
           let k = ParsesTestName-parts c.args.self.now.rest.now _ _ _ _ b.parts b.all b.longest u.parts u.all u.longest n r p in
           omega (arith, none, p.is_name.some, ap length k.1),
       omega arith,
+      record {
+        rest = [];
+        place = omega arith;
+        way = no_name (all_blank _ _ _ _ _ b.parts b.all b.longest u.parts u.longest none) refl refl;
+      },
     )
 
 pub returns-then-is_empty-2-clause-reads : goal.returns-then-is_empty-2-clause-reads
@@ -23,6 +30,26 @@ returns-then-is_empty-2-clause-reads c =
           let k = ParsesTestName-parts _ _ _ _ _ b.parts b.all b.longest u.parts u.all u.longest n r p in
           omega (arith, none, p.apart, ap length k.0),
       omega arith,
+      record {
+        rest = c.args.self.now.rest.now;
+        place = omega (
+          arith,
+          none,
+          c.args.self.now.within,
+          ap length b.parts,
+          length-append c.prefix_of_kind.result.0.now c.prefix_of_kind.result.1.now,
+        );
+        way =
+            (let same = no_front _ _ _ b.parts none in
+            let some : 0 < length c.prefix_of_kind-2.result.0.now = grind (arith, nat_tests) in
+            no_blank (omega (
+              arith,
+              some,
+              ap length same,
+              ap length u.parts,
+              length-append c.prefix_of_kind-2.result.0.now c.prefix_of_kind-2.result.1.now,
+            )) (ap (first_byte_is is_blank) same ∙ b.longest) refl refl);
+      },
     )
 
 pub returns-then-not-is_test_name-clause-reads : goal.returns-then-not-is_test_name-clause-reads
@@ -33,6 +60,19 @@ returns-then-not-is_test_name-clause-reads c =
           let k = ParsesTestName-parts _ _ _ _ _ b.parts b.all b.longest u.parts u.all u.longest n r p in
           false≢true (c.if-not-is_test_name.ensures.1 (subst IsTestName k.1 p.is_name)),
       omega arith,
+      record {
+        rest = c.prefix_of_kind.result.1.now;
+        place = omega (
+          arith,
+          c.args.self.now.within,
+          ap length b.parts,
+          length-append c.prefix_of_kind.result.0.now c.prefix_of_kind.result.1.now,
+        );
+        way =
+            bad_name c.prefix_of_kind.result.0.now c.prefix_of_kind-2.result.0.now c.prefix_of_kind-2.result.1.now b.parts u.parts
+            (grind (arith, nat_tests)) b.all (All-mono _ _ (λ x. not-true (is_blank x)) _ u.all) (grind (arith, nat_tests)) u.longest
+            (λ name. false≢true (c.if-not-is_test_name.ensures.1 name)) refl;
+      },
     )
 
 pub overflow_sub-at : goal.overflow_sub-at

@@ -2,7 +2,9 @@ use Rattle.lw_text.proofs.Common.{◌≤◌, ◌∙◌, ap, length, arith, map_p
 use Rattle.lw_text.proofs.Common.{with_spans}
 use Rattle.lw_text.proofs.Lists.{ParsesMany-push}
 use Rattle.lw_text.proofs.Readings.{all_push}
-use Rattle.lw_text.proofs.TokenRows.{Placed, Read-done, Read-fault, Tokens-none, IsFirstToken-shorter}
+use Rattle.lw_text.proofs.TokenRows.{Read-done, Read-fault, Tokens-none, IsFirstToken-shorter}
+use Rattle.lw_text.specs.PlacedTokens.{IsPlacedToken}
+use Rattle.lw_text.proofs.Failures.{FailsFrom-later}
 use Rattle.lw_text.proofs.token_stream.TokenStream.read.Goals as goal
 
 pub tokens-preserved : goal.tokens-preserved
@@ -17,7 +19,7 @@ tokens-preserved g c =
       same = c.in-Ok-Some.ensures.same ∙ same;
       row =
           rw (c.in_ok-push-in-Ok-Some.ensures.ok, map_push with_span before t)
-          (ParsesMany-push (Placed len) _ _ _ next (with_span t) c.tokens.invariant.row
+          (ParsesMany-push (IsPlacedToken len) _ _ _ next (with_span t) c.tokens.invariant.row
           (f.0, omega (arith, f.1, ap length same)));
       within =
           rw c.in_ok-push-in-Ok-Some.ensures.ok
@@ -39,6 +41,11 @@ returns-in-Err g c =
         Read-fault len (with_spans c.tokens.tokens) c.args.lexer.rest.now c.tokens.lexer.rest.now c.tokens.invariant.row
             (Tokens-none _ c.in-Err.ensures.reads.0 c.in-Err.ensures.reads.1),
         omega (arith, c.in-Err.ensures.reads.2, ap length c.tokens.invariant.same),
+        record {
+          end = c.tokens.lexer.rest.now;
+          read = c.tokens.invariant.row;
+          fails = FailsFrom-later (ap length c.tokens.invariant.same) (λ rest cause w. w) c.in-Err.ensures.reads.3;
+        },
       ),
       All-from_recursion (λ (t : Token). t.at ≤ len) c.tokens.tokens c.tokens.invariant.within,
     )

@@ -1,0 +1,79 @@
+-- Where parsing fails: at the next token, or later, after what was parsed.
+use Rattle.lw_text.proofs.Common.{true, false, begins_token, ◌≡◌, ◌≢◌, ℕ, Option, Some, None, List, [], ◌∷◌, refl, sym, subst, drop, ap, ◌∙◌, TokenList, Bytes}
+use Rattle.lw_text.proofs.Common.{Cursor, Refusal, Token, IsSuffix, remaining, remaining_texts, token_texts}
+use Rattle.lw_text.proofs.Lists.{IsSuffix-join}
+use Rattle.lw_text.specs.Views.{BeginsAt, Fails, FailsFrom}
+use Rattle.lw_text.proofs.Texts.{is_text, is_no_text, token_not_next}
+use Rattle.lw_text.specs.Failures.{IfFirst, FailsBefore}
+use Rattle.lw_text.specs.declared.fault.TextCause.{TextCause}
+
+-- Parsing fails at the next token.
+pub Fails-here : {Way : TokenList → TokenList → TextCause → Type 0} (before : Cursor) (f : Refusal)
+    → BeginsAt (remaining before) f.at
+    → Way (remaining_texts before) (remaining_texts before) f.cause
+    → Fails before Way f
+Fails-here before f place way = record { rest = remaining before; suffix = ([], refl); place = place; way = way }
+
+-- Parsing fails later, at a token of what remains after something was parsed.
+pub Fails-later : {Way Later : TokenList → TokenList → TextCause → Type 0} {before after : Cursor} {f : Refusal}
+    → IsSuffix (remaining before) (remaining after)
+    → ((rest : TokenList) (cause : TextCause) → Later (remaining_texts after) rest cause → Way (remaining_texts before) rest cause)
+    → Fails after Later f
+    → Fails before Way f
+Fails-later leaves way h =
+    record { rest = h.rest; suffix = IsSuffix-join leaves h.suffix; place = h.place; way = way (token_texts h.rest) _ h.way }
+
+-- P holds of the first of the tokens, which is this one.
+pub IfFirst-cons : (P : Bytes → Type 0) (ts l : TokenList) (t : Bytes) → ts ≡ t ∷ l → P t → IfFirst P ts
+IfFirst-cons P ts l t e p = subst (IfFirst P) (sym e) p
+
+-- There is no first token.
+pub IfFirst-nil : (P : Bytes → Type 0) (ts : TokenList) → ts ≡ [] → IfFirst P ts
+IfFirst-nil P ts e = subst (IfFirst P) (sym e) tt
+
+-- Equal lists have equal first items.
+pub same_head : {X : Type 0} {a b : X} {l m : List X} → a ∷ l ≡ b ∷ m → a ≡ b
+same_head e = cc
+
+-- Equal lists have equal items after the first.
+pub same_tail : {X : Type 0} {a b : X} {l m : List X} → a ∷ l ≡ b ∷ m → l ≡ m
+same_tail e = ap (drop 1) e
+
+-- The place of a list of tokens is that of its first.
+pub BeginsAt-cons : (ts l : List Token) (t : Token) → ts ≡ t ∷ l → BeginsAt ts (Some t.at)
+BeginsAt-cons ts l t e = subst (λ x. BeginsAt x (Some t.at)) (sym e) refl
+
+-- The place of no tokens is none.
+pub BeginsAt-nil : (ts : List Token) (at : Option ℕ) → ts ≡ [] → at ≡ None → BeginsAt ts at
+BeginsAt-nil ts at e p = subst (λ x. BeginsAt x at) (sym e) p
+
+-- What holds of each token that has P holds of the first that has P.
+pub IfFirst-map : (P Q : Bytes → Type 0) (ts : TokenList) → ((t : Bytes) → P t → Q t) → IfFirst P ts → IfFirst Q ts
+IfFirst-map P Q [] f p = tt
+IfFirst-map P Q (t ∷ ts) f p = f t p
+
+-- Tokens that begin with a text have it first.
+pub IfFirst-begins : (w : Bytes) (ts : TokenList) → begins_token w ts ≡ true → IfFirst (λ t. t ≡ w) ts
+IfFirst-begins w [] e = tt
+IfFirst-begins w (t ∷ ts) e = is_text t w e
+
+-- Tokens that do not begin with a text have another first.
+pub IfFirst-begins_not : (w : Bytes) (ts : TokenList) → begins_token w ts ≡ false → IfFirst (λ t. t ≢ w) ts
+IfFirst-begins_not w [] e = tt
+IfFirst-begins_not w (t ∷ ts) e = is_no_text t w e
+
+-- If the tokens do not begin with a text either, it is one more of those that are not next.
+pub FailsBefore-more : (w : Bytes) (words : List Bytes) (c : TextCause) (ts rest : TokenList) (cause : TextCause)
+    → begins_token w ts ≡ false
+    → FailsBefore words c ts rest cause
+    → FailsBefore (w ∷ words) c ts rest cause
+FailsBefore-more w words c ts [] cause e f = (f.0, tt)
+FailsBefore-more w words c ts (t ∷ rest) cause e f = (f.0, ((λ same. token_not_next w ts rest e (f.0 ∙ ap (λ x. x ∷ rest) same), f.1.0), f.1.1))
+
+-- Parsing a text fails where it fails later in it, in the same text.
+pub FailsFrom-later : {Way Later : Bytes → Bytes → TextCause → Type 0} {len whole : ℕ} {text after : Bytes} {at : ℕ} {cause : TextCause}
+    → len ≡ whole
+    → ((rest : Bytes) (cause : TextCause) → Later after rest cause → Way text rest cause)
+    → FailsFrom len after Later at cause
+    → FailsFrom whole text Way at cause
+FailsFrom-later same way h = record { rest = h.rest; place = h.place ∙ same; way = way h.rest _ h.way }

@@ -1,0 +1,72 @@
+-- The places of a proposition are those of the reader's states.
+use Rattle.lw_text.proofs.Common.{◌≡◌, ◌≢◌, ℕ, Bool, true, false, not, List, [], ◌∷◌, Option, Some, None, refl, sym, ap, ◌∙◌, is_some}
+use Rattle.lw_text.proofs.Common.{option_map, or_parts, not-false, eqb-true, codes, begins_token, ◌==◌, ◌||◌, Bytes, TokenList, NameTable}
+use Rattle.lw_text.proofs.Common.{AllByRecursion, Formula, formula_of, group_of, reader_state_in, state_of, next_state, state_result}
+use Rattle.lw_text.proofs.Common.{PropositionReader, Pending, ReaderState, BeforePart, BehindPart, named_terminal, terminal_of}
+use Rattle.lw_text.proofs.Texts.{is_no_text}
+use Rattle.lw_text.specs.Failures.{PropositionPlace, IfFirst, next_place}
+use Rattle.lw_text.specs.inner.ReaderStates.{place_of}
+use Rattle.lw_text.specs.declared.terminal.Terminal.{Terminal as Made}
+use Rattle.lw_text.specs.declared.terminal.Terminal.TheVariants as made
+
+-- The place after a terminal is that of the state after it.
+pub next_place-state : (state : ReaderState) (names : NameTable) (s : Made)
+    → next_place (place_of state) (named_terminal names s) ≡ option_map place_of (next_state state (terminal_of s))
+next_place-state (BeforePart l os) names made.Open = refl
+next_place-state (BeforePart l os) names made.Close = refl
+next_place-state (BeforePart l os) names made.Negation = refl
+next_place-state (BeforePart l os) names made.Conjunction = refl
+next_place-state (BeforePart l os) names made.Disjunction = refl
+next_place-state (BeforePart l os) names (made.Atom a) = refl
+next_place-state (BehindPart e p []) names made.Open = refl
+next_place-state (BehindPart e p []) names made.Close = refl
+next_place-state (BehindPart e p []) names made.Negation = refl
+next_place-state (BehindPart e p []) names made.Conjunction = refl
+next_place-state (BehindPart e p []) names made.Disjunction = refl
+next_place-state (BehindPart e p []) names (made.Atom a) = refl
+next_place-state (BehindPart e p (o ∷ os)) names made.Open = refl
+next_place-state (BehindPart e p (o ∷ os)) names made.Close = refl
+next_place-state (BehindPart e p (o ∷ os)) names made.Negation = refl
+next_place-state (BehindPart e p (o ∷ os)) names made.Conjunction = refl
+next_place-state (BehindPart e p (o ∷ os)) names made.Disjunction = refl
+next_place-state (BehindPart e p (o ∷ os)) names (made.Atom a) = refl
+
+-- Where no proposition is complete, the place is not one after a part outside of all parentheses.
+pub incomplete_place : (state : ReaderState) → state_result state ≡ None → place_of state ≢ (false, 0)
+incomplete_place (BeforePart l os) e p = let k = ap (λ x. x.0) p in cc
+incomplete_place (BehindPart x p []) e q = cc
+incomplete_place (BehindPart x p (o ∷ os)) e q = let k = ap (λ x. x.1) q in cc
+
+-- A reader that must read a part next is at a place where one must begin.
+pub wants_part-place : {A : Type 0} (reader : PropositionReader A) (part : Bool)
+    → is_some reader.part ≡ not part
+    → (place_of (state_of reader)).0 ≡ part
+wants_part-place reader part e = at _ _ (option_map formula_of reader.part) part (same_some formula_of reader.part ∙ e)
+  where
+    same_some : {X Y : Type 0} (f : X → Y) (o : Option X) → is_some (option_map f o) ≡ is_some o
+    same_some f None = refl
+    same_some f (Some x) = refl
+
+    at : (l : Pending) (os : List Pending) (o : Option Formula) (part : Bool)
+        → is_some o ≡ not part
+        → (place_of (reader_state_in o l os)).0 ≡ part
+    at l os None true e = refl
+    at l os None false e = absurd cc
+    at l os (Some p) true e = absurd cc
+    at l os (Some p) false e = refl
+
+-- If there is no room for one more node, 256 have been read, and no parenthesis is next.
+pub no_room-first : (nodes : ℕ) (ts : TokenList)
+    → (not (nodes == 256) || (begins_token (codes "(") ts || begins_token (codes ")") ts)) ≡ false
+    → (nodes ≡ 256) × IfFirst (λ t. AllByRecursion (λ w. t ≢ w) (codes "(" ∷ codes ")" ∷ [])) ts
+no_room-first nodes ts e =
+    let p = or_parts (not (nodes == 256)) (begins_token (codes "(") ts || begins_token (codes ")") ts) e in
+    let q = or_parts (begins_token (codes "(") ts) (begins_token (codes ")") ts) p.1 in
+    (eqb-true nodes 256 (not-false (nodes == 256) p.0), at ts q.0 q.1)
+  where
+    at : (ts : TokenList)
+        → begins_token (codes "(") ts ≡ false
+        → begins_token (codes ")") ts ≡ false
+        → IfFirst (λ t. AllByRecursion (λ w. t ≢ w) (codes "(" ∷ codes ")" ∷ [])) ts
+    at [] a b = tt
+    at (t ∷ ts) a b = (is_no_text t (codes "(") a, (is_no_text t (codes ")") b, tt))
