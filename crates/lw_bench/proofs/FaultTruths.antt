@@ -83,6 +83,7 @@ module _ (input bytes : List ℕ) (is : (rest : List ℕ) × (input ≡ bytes ++
         not_utf8 = λ short other. absurd (omega (arith, short, total, long));
         only_not_utf8 = λ same. absurd (omega (arith, (told.only_not_utf8 same).0, long));
         in_memory = told.in_memory;
+        fails = λ short. absurd (short (ap (λ (g : TextFault). g.cause) (told.too_long (omega (arith, long)))));
       }
 
   -- If a text's fault is true of the bytes read, it is true of the whole input.

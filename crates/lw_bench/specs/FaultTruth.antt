@@ -15,6 +15,7 @@ use Rattle.lw_text.specs.declared.fault.TextFault.{TextFault}
 use Rattle.lw_base.specs.declared.head.Arch.{Arch}
 use Rattle.lw_base.specs.declared.head.Arch.TheVariants.{Source, X86}
 use Rattle.lw_text.specs.Frames.{TestFrame, HasFrame}
+use Rattle.lw_text.specs.TextFailures.{FailsAt}
 use Rattle.lw_text.specs.PlacedCells.{PlacedCell, texts_of_grid, HasCells}
 use Rattle.lw_statements.specs.Faults.{CellFaultIsTrue}
 use Rattle.lw_source.specs.Grammar.{source_grammar}
@@ -42,6 +43,8 @@ pub record TextFaultIsTrue (bytes : Bytes) (f : TextFault) : Type 0 where
   pub only_not_utf8 : f.cause ≡ text.NotUtf8
       → (length bytes ≤ most_text_bytes) × (¬ IsUtf8 bytes) × IsValidUpTo bytes f.at
   pub in_memory : f.cause ≢ text.Memory
+  -- Any other fault is at the byte at which the text first fails to be a frame's, for the reason that its cause means.
+  pub fails : f.cause ≢ text.TooLong → f.cause ≢ text.NotUtf8 → FailsAt bytes f.at f.cause
 
 -- What a fault of a cell states, by the rules of the language, of the cells with their offsets.
 abbrev pub CellFaultIsTrueIn : Arch → NameTable → List (List PlacedCell) → CellFault → Type 0

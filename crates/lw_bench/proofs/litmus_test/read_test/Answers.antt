@@ -15,6 +15,7 @@ returns-in_err-frame-clause-told g c =
       not_utf8 = λ short other. err_is (f.ensures.not_utf8 short other);
       only_not_utf8 = f.ensures.only_not_utf8;
       in_memory = known;
+      fails = λ short encoded. f.ensures.fails short encoded known;
     }))
 
 pub returns-in_err-frame-clause-device : goal.returns-in_err-frame-clause-device
