@@ -1,10 +1,13 @@
 -- Where parsing fails: at the next token, or later, after what was parsed.
 use Rattle.lw_text.proofs.Common.{true, false, begins_token, ◌≡◌, ◌≢◌, ℕ, Option, Some, None, List, [], ◌∷◌, refl, sym, subst, drop, ap, ◌∙◌, TokenList, Bytes}
 use Rattle.lw_text.proofs.Common.{Cursor, Refusal, Token, IsSuffix, remaining, remaining_texts, token_texts}
-use Rattle.lw_text.proofs.Lists.{IsSuffix-join}
+use Rattle.lw_text.proofs.Common.{ParsesMany}
+use Rattle.lw_text.proofs.Lists.{IsSuffix-join, Listing}
 use Rattle.lw_text.specs.Views.{BeginsAt, Fails, FailsFrom}
 use Rattle.lw_text.proofs.Texts.{is_text, is_no_text, token_not_next}
 use Rattle.lw_text.specs.Failures.{IfFirst, FailsBefore}
+use Rattle.lw_text.proofs.Common.{Arch, Initializer, ◌++◌, append-nil, append_assoc, slice_get, take, zero, suc}
+use Rattle.lw_text.specs.inner.Parsed.{BeginsInitializer, BeginInitializers}
 use Rattle.lw_text.specs.declared.fault.TextCause.{TextCause}
 
 -- Parsing fails at the next token.
@@ -77,3 +80,37 @@ pub FailsFrom-later : {Way Later : Bytes → Bytes → TextCause → Type 0} {le
     → FailsFrom len after Later at cause
     → FailsFrom whole text Way at cause
 FailsFrom-later same way h = record { rest = h.rest; place = h.place ∙ same; way = way h.rest _ h.way }
+
+-- One more initializer begins after those before.
+pub BeginInitializers-push : (arch : Arch) (before : Cursor) (front es : List Initializer) (e : Initializer)
+    → BeginInitializers arch before front es
+    → BeginsInitializer arch before (front ++ es) e
+    → BeginInitializers arch before front (es ++ e ∷ [])
+BeginInitializers-push arch before front [] e all more = (subst (λ l. BeginsInitializer arch before l e) (append-nil front) more, tt)
+BeginInitializers-push arch before front (x ∷ es) e all more = (
+  all.0,
+  BeginInitializers-push arch before (front ++ x ∷ []) es e all.1
+      (subst (λ l. BeginsInitializer arch before l e) (sym (append_assoc front (x ∷ []) es)) more),
+)
+
+-- Each of the initializers begins after those before it.
+pub BeginInitializers-at : (arch : Arch) (before : Cursor) (front es : List Initializer) (k : ℕ) (e : Initializer)
+    → BeginInitializers arch before front es
+    → slice_get es k ≡ Some e
+    → BeginsInitializer arch before (front ++ take k es) e
+BeginInitializers-at arch before front [] k e all is = absurd cc
+BeginInitializers-at arch before front (x ∷ es) zero e all is =
+    let same : x ≡ e = cc in
+    subst (λ l. BeginsInitializer arch before l e) (sym (append-nil front))
+    (subst (BeginsInitializer arch before front) same all.0)
+BeginInitializers-at arch before front (x ∷ es) (suc k) e all is =
+    subst (λ l. BeginsInitializer arch before l e) (append_assoc front (x ∷ []) (take k es))
+    (BeginInitializers-at arch before (front ++ x ∷ []) es k e all.1 is)
+
+-- Initializers, each with its separator, one after another.
+pub Listing-joined : {X : Type 0} (P : TokenList → X → TokenList → Type 0) (sep close : Bytes) (xs : List X) (ts rest : TokenList)
+    → Listing P sep close ts xs rest
+    → ParsesMany (λ ts x next. P ts x (sep ∷ next)) ts xs rest
+Listing-joined P sep close [] ts rest read = read
+Listing-joined P sep close (x ∷ xs) ts rest read =
+    (read.0, subst (P ts x) read.1.2 read.1.1, Listing-joined P sep close xs read.0 rest read.2)

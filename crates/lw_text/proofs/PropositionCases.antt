@@ -24,7 +24,7 @@ use Rattle.lw_text.proofs.Readings.{with_sites-append}
 use Rattle.lw_text.proofs.Texts.{is_text}
 use Rattle.lw_text.proofs.TerminalLists.{Terminals-peel, Terminals-unique, IsTerminal-unique}
 use Rattle.lw_text.proofs.PropositionPlaces.{next_place-state}
-use Rattle.lw_text.specs.Failures.{FailsInProposition, after_terminal}
+use Rattle.lw_text.specs.Failures.{FailsInProposition, HasRoomForNode, after_terminal}
 use Rattle.lw_text.specs.inner.ReaderStates.{place_of}
 use Rattle.lw_text.specs.declared.fault.TextCause.{TextCause}
 use Rattle.lw_text.specs.declared.terminal.Terminal.TheVariants as made
@@ -247,15 +247,17 @@ module _ {arch : Arch} {threads : ℕ} {before behind : Cursor} {names after : N
 
   -- If a proposition fails after the terminal read, it fails before it.
   pub Fails-after_terminal : {A : Type 0} (reader reader_after : PropositionReader A) {nodes nodes_after : ℕ} {rest : TokenList} {cause : TextCause}
+      → HasRoomForNode nodes (remaining_texts before)
       → next_state (state_of reader) (terminal_of s) ≡ Some (state_of reader_after)
       → nodes_after ≡ nodes + (if is_node (terminal_of s) then 1 else 0)
+      → length after ≤ 8
       → FailsInProposition arch threads rest cause (place_of (state_of reader_after)) nodes_after after (remaining_texts behind)
       → FailsInProposition arch threads rest cause (place_of (state_of reader)) nodes names (remaining_texts before)
-  Fails-after_terminal reader reader_after {nodes} {nodes_after} {rest} {cause} step counts w =
+  Fails-after_terminal reader reader_after {nodes} {nodes_after} {rest} {cause} room step counts few w =
       let t = named_terminal after s in
       let one = one_node (is_node (terminal_of s)) t (node_named after s) in
       let same : nodes_after ≡ nodes + count (t ∷ []) = counts ∙ ap (λ (n : ℕ). nodes + n) (sym one) in
-      after_terminal t (remaining_texts behind) _ taken.is
+      after_terminal t (remaining_texts behind) _ room taken.is (subst (λ (table : NameTable). length table ≤ 8) taken.names_are few)
       (next_place-state (state_of reader) after s ∙ ap (option_map place_of) step)
       (subst (λ table. FailsInProposition arch threads rest cause (place_of (state_of reader_after)) (nodes + count (t ∷ [])) table (remaining_texts behind)) taken.names_are
       (subst (λ (n : ℕ). FailsInProposition arch threads rest cause (place_of (state_of reader_after)) n after (remaining_texts behind)) same w))

@@ -1,7 +1,7 @@
 -- When tokens start with a site, and when they do not.
 use Rattle.lw_text.proofs.Common.{◌≡◌, ◌⊎◌, ℕ, ◌<◌, inl, inr, [], ◌∷◌, Option, None, Some, true, false}
 use Rattle.lw_text.proofs.Common.{slice_get, subst, sym, ap, ◌∙◌, arith, codes, true≢false, ltb-false}
-use Rattle.lw_text.proofs.Common.{ltb-true, slice_get_within, HoldsOfNothing, ParsesNothing, Bytes, NameTable}
+use Rattle.lw_text.proofs.Common.{ltb-true, length, ◌≤◌, slice_get_within, HoldsOfNothing, ParsesNothing, Bytes, NameTable}
 use Rattle.lw_text.proofs.Common.{TokenList, Arch, IsName, IsLocationName, IsRegisterName, insert_name}
 use Rattle.lw_text.proofs.Common.{Cursor, IsNumber, with_sites, HasRoomFor, HasRoomForName, SiteSyntax}
 use Rattle.lw_text.proofs.Common.{InMemory, InThread, IsSite, ThreadExists, ThreadAllowed, remaining_texts}
@@ -28,7 +28,7 @@ refused_thread (Some threads) t r e there = omega (arith, there, ltb-false t thr
 
 -- If a location's name was inserted, and is next with or without brackets, its site was read.
 pub entered : {arch : Arch} {threads : Option ℕ} {before after : Cursor} {names table : NameTable} {loc : ℕ} {t : Bytes}
-    → IsLocationName t × (slice_get table loc ≡ Some t) × (table ≡ insert_name names t)
+    → IsLocationName t × (slice_get table loc ≡ Some t) × (table ≡ insert_name names t) × (length table ≤ 8)
     → AdvancesTo before after
     → (remaining_texts before ≡ t ∷ remaining_texts after)
     ⊎ (remaining_texts before ≡ codes "[" ∷ t ∷ codes "]" ∷ remaining_texts after)
@@ -41,6 +41,7 @@ entered {arch} {threads} {before} {after} {names} {table} {loc} {t} made leaves 
       names_are = made.2 ∙ ap (λ s. with_sites names (s ∷ [])) same;
       within = slice_get_within table loc t made.1;
       leaves = leaves;
+      few = made.3;
     }
 
 module _ (arch : Arch) (names : NameTable) {ts l : TokenList} {t : Bytes} (e : ts ≡ t ∷ l) where

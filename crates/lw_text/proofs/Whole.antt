@@ -2,7 +2,8 @@
 use Rattle.lw_text.proofs.Common.{◌≡◌, ℕ, zero, suc, ◌≤◌, true, false, List, [], ◌∷◌, ◌++◌, length, map, refl}
 use Rattle.lw_text.proofs.Common.{sym, ap, ◌∙◌, subst, arith, Option, Some, None, MatchOption, IfNone, codes}
 use Rattle.lw_text.proofs.Common.{All, AllByRecursion, list_all, length-map, ltb-false, All-from_recursion}
-use Rattle.std.specs.Prelude.{Contains}
+use Rattle.lw_text.proofs.Common.{ParsedBlock}
+use Rattle.lw_text.specs.Failures.{ReadsBlock}
 use Rattle.lw_text.proofs.Common.{HoldsOfNothing, ParsesNothing, Bytes, NameTable, TokenList, CellGrid, Arch}
 use Rattle.lw_text.proofs.Common.{Quant, Exists, NotExists, Forall, all_map, All-mono, insert_names-longer}
 use Rattle.lw_text.proofs.Common.{Cell, Cursor, Token, Tokens, PlacedTokens, token_texts, Preamble}
@@ -262,10 +263,11 @@ pub missing_thread : (site : MadeSite) (threads : ℕ)
 missing_thread (made.Location loc) threads e = absurd cc
 missing_thread (made.Register t r) threads e = (t, r, refl, ltb-false t threads e)
 
--- What holds of all initializers holds of each.
-pub initializer_at : (P : MadeInitializer → Type 0) (es : List MadeInitializer)
-    → AllByRecursion P es
-    → (e : MadeInitializer)
-    → Contains es e
-    → P e
-initializer_at P es all e found = subst P found.2 (All-from_recursion P es all found.0 e found.1)
+-- The block that was read into an empty table has room for its locations.
+pub block_read : {arch : Arch} {before after : Cursor} {first table : NameTable} {es : List MadeInitializer}
+    → first ≡ []
+    → ParsedBlock arch before after first table es
+    → ReadsBlock arch (remaining_texts before) (map (named_initializer table) es) (remaining_texts after)
+block_read {table = table} {es} none block =
+    let names = first_names table es (rw none at block.names_are) in
+    (block.is, subst (λ (names : NameTable). length names ≤ 8) names block.few)

@@ -10,11 +10,12 @@ use Rattle.lw_base.specs.declared.head.Arch.{Arch}
 use Rattle.lw_base.specs.declared.head.Quant.{Quant}
 use Rattle.lw_text.specs.declared.fault.TextCause.{TextCause}
 use Rattle.lw_text.specs.declared.fault.TextCause.TheVariants.{Unexpected, Name, Ragged, TooManyThreads, TooManyRows, TooManyLocations, Condition}
+use Rattle.lw_text.specs.Combinators.{ParsesMany}
 use Rattle.lw_text.specs.Propositions.{Terminal, Open, Close, Negation, Conjunction, Disjunction, Atom, is_node}
 use Rattle.lw_text.specs.Conditions.{AtomSyntax, IsTerminal, Listed, Quantified, begins_token, sites_in}
 use Rattle.lw_text.specs.Frames.{InitializerSyntax, IsInitializer, Block, sites_of}
 use Rattle.lw_text.specs.Rows.{thread_name, begins_stop, Header, Row, RowCells, Rows}
-use Rattle.lw_text.specs.Sites.{SiteSyntax, IsSite, ThreadExists, ThreadAllowed, InThread, HasRoomForName, Value, with_sites}
+use Rattle.lw_text.specs.Sites.{SiteSyntax, IsSite, ThreadExists, ThreadAllowed, InThread, HasRoomFor, HasRoomForName, Value, with_sites}
 use Rattle.lw_text.specs.Tokens.{IsNumber}
 
 -- There is no first token, or P holds of it.
@@ -45,7 +46,7 @@ FailsInName names c ts rest cause = (ts ≡ rest) × IfFirst (λ t. IsNoNewLocat
 -- After a `[`, the name of a location fails, or no `]` follows it.
 pub data FailsInBrackets (names : NameTable) (c : TextCause) (ts rest : TokenList) (cause : TextCause) : Type 0 where
   in_bracketed_name : FailsInName names c ts rest cause → FailsInBrackets names c ts rest cause
-  no_bracket : {x : Bytes} {mid : TokenList} → ts ≡ x ∷ mid → IsLocationName x → FailsBefore (codes "]" ∷ []) c mid rest cause
+  no_bracket : {x : Bytes} {mid : TokenList} → ts ≡ x ∷ mid → IsLocationName x → HasRoomForName names x → FailsBefore (codes "]" ∷ []) c mid rest cause
       → FailsInBrackets names c ts rest cause
 
 -- After the number of a thread, no `:` follows, or no name of a register after it.
@@ -64,7 +65,7 @@ pub data FailsInSite
       → FailsInSite arch threads names c ts rest cause
   no_thread : (p : Bytes) (t : ℕ) {after : TokenList} → ts ≡ p ∷ after → ts ≡ rest → IsNumber p t
       → ((r : ℕ) → ThreadAllowed threads (InThread t r) → ⊥) → cause ≡ Name → FailsInSite arch threads names c ts rest cause
-  in_register : (p : Bytes) (t : ℕ) {after : TokenList} → ts ≡ p ∷ after → IsNumber p t
+  in_register : (p : Bytes) (t : ℕ) {after : TokenList} → ts ≡ p ∷ after → IsNumber p t → ((r : ℕ) → ThreadAllowed threads (InThread t r))
       → FailsInRegister arch c after rest cause → FailsInSite arch threads names c ts rest cause
 
 -- No `=` follows, or no number after it.
@@ -76,8 +77,8 @@ pub data FailsInValue (c : TextCause) (ts rest : TokenList) (cause : TextCause) 
 pub data FailsInAssignment
     (arch : Arch) (threads : Option ℕ) (names : NameTable) (c : TextCause) (ts rest : TokenList) (cause : TextCause) : Type 0 where
   in_site : FailsInSite arch threads names c ts rest cause → FailsInAssignment arch threads names c ts rest cause
-  in_value : (site : SiteSyntax) {mid : TokenList} → IsSite arch ts site mid → FailsInValue c mid rest cause
-      → FailsInAssignment arch threads names c ts rest cause
+  in_value : (site : SiteSyntax) {mid : TokenList} → IsSite arch ts site mid → ThreadAllowed threads site → HasRoomFor names (site ∷ [])
+      → FailsInValue c mid rest cause → FailsInAssignment arch threads names c ts rest cause
 
 -- Elements fail, each of which names a site and is followed by a `;`, which is optional after the last, and then `close`: an element fails;
 -- or neither mark follows it; or what follows it and its `;` fails.
@@ -87,9 +88,9 @@ pub data FailsInElements {X : Type 0}
   in_element : {names : NameTable} {ts : TokenList} → begins_token close ts ≡ false → Way names ts rest cause
       → FailsInElements Parses site_by Way close c rest cause names ts
   no_mark : {names : NameTable} {ts mid : TokenList} {x : X} → begins_token close ts ≡ false → Parses ts x mid
-      → FailsBefore (close ∷ codes ";" ∷ []) c mid rest cause → FailsInElements Parses site_by Way close c rest cause names ts
+      → HasRoomFor names (site_by x ∷ []) → FailsBefore (close ∷ codes ";" ∷ []) c mid rest cause → FailsInElements Parses site_by Way close c rest cause names ts
   in_elements_after : {names : NameTable} {ts next : TokenList} {x : X} → begins_token close ts ≡ false → Parses ts x (codes ";" ∷ next)
-      → FailsInElements Parses site_by Way close c rest cause (with_sites names (site_by x ∷ [])) next
+      → HasRoomFor names (site_by x ∷ []) → FailsInElements Parses site_by Way close c rest cause (with_sites names (site_by x ∷ [])) next
       → FailsInElements Parses site_by Way close c rest cause names ts
 
 -- Initializers fail.
@@ -185,6 +186,10 @@ FailsInTerminal arch threads true names ts rest cause =
 FailsInTerminal arch threads false names ts rest cause =
     FailsBefore (codes ")" ∷ codes "/\\" ∷ codes "\\/" ∷ []) Condition ts rest cause
 
+-- There is room for one more node, or a parenthesis is next.
+abbrev pub HasRoomForNode : ℕ → TokenList → Type 0
+HasRoomForNode nodes ts = nodes ≡ most_nodes → IfFirst (λ t. (t ≡ codes "(") ⊎ (t ≡ codes ")")) ts
+
 -- The proposition fails, at a place, after this number of nodes: the tokens end, and it is not complete; 256 nodes precede what is no
 -- parenthesis; a terminal fails, or is not possible there; or the proposition fails after a terminal.
 pub data FailsInProposition (arch : Arch) (threads : ℕ) (rest : TokenList) (cause : TextCause)
@@ -194,38 +199,47 @@ pub data FailsInProposition (arch : Arch) (threads : ℕ) (rest : TokenList) (ca
   too_many_nodes : {place : PropositionPlace} {nodes : ℕ} {names : NameTable} {ts : TokenList} → nodes ≡ most_nodes → ts ≡ rest
       → IfFirst (λ t. AllByRecursion (λ w. t ≢ w) (codes "(" ∷ codes ")" ∷ [])) rest → cause ≡ Condition
       → FailsInProposition arch threads rest cause place nodes names ts
-  in_terminal : {place : PropositionPlace} {nodes : ℕ} {names : NameTable} {ts : TokenList}
+  in_terminal : {place : PropositionPlace} {nodes : ℕ} {names : NameTable} {ts : TokenList} → HasRoomForNode nodes ts
       → FailsInTerminal arch threads place.0 names ts rest cause
       → FailsInProposition arch threads rest cause place nodes names ts
   impossible_terminal : {place : PropositionPlace} {nodes : ℕ} {names : NameTable} {ts : TokenList} (s : Terminal AtomSyntax) (mid : TokenList)
-      → IsTerminal arch threads ts s mid → next_place place s ≡ None → ts ≡ rest → cause ≡ Condition
+      → HasRoomForNode nodes ts → IsTerminal arch threads ts s mid → next_place place s ≡ None → ts ≡ rest → cause ≡ Condition
       → FailsInProposition arch threads rest cause place nodes names ts
   after_terminal : {place : PropositionPlace} {nodes : ℕ} {names : NameTable} {ts : TokenList} (s : Terminal AtomSyntax) (mid : TokenList)
-      (next : PropositionPlace) → IsTerminal arch threads ts s mid → next_place place s ≡ Some next
+      (next : PropositionPlace) → HasRoomForNode nodes ts → IsTerminal arch threads ts s mid → HasRoomFor names (sites_in (s ∷ []))
+      → next_place place s ≡ Some next
       → FailsInProposition arch threads rest cause next (nodes + length (filter is_node (s ∷ []))) (with_sites names (sites_in (s ∷ []))) mid
       → FailsInProposition arch threads rest cause place nodes names ts
 
 -- The condition fails: its list of names, its quantifier or its proposition.
 pub data FailsInCondition (arch : Arch) (threads : ℕ) (names : NameTable) (ts rest : TokenList) (cause : TextCause) : Type 0 where
   in_list : FailsInList arch threads names ts rest cause → FailsInCondition arch threads names ts rest cause
-  in_quantifier : (listed : List SiteSyntax) {mid : TokenList} → Listed arch ts listed mid → FailsInQuantifier mid rest cause
+  in_quantifier : (listed : List SiteSyntax) {mid : TokenList} → Listed arch ts listed mid → AllByRecursion (ThreadExists threads) listed
+      → HasRoomFor names listed → FailsInQuantifier mid rest cause
       → FailsInCondition arch threads names ts rest cause
-  in_proposition : (listed : List SiteSyntax) (quant : Quant) {mid after : TokenList} → Listed arch ts listed mid → Quantified mid quant after
+  in_proposition : (listed : List SiteSyntax) (quant : Quant) {mid after : TokenList} → Listed arch ts listed mid → AllByRecursion (ThreadExists threads) listed
+      → HasRoomFor names listed → Quantified mid quant after
       → FailsInProposition arch threads rest cause first_place 0 (with_sites names listed) after
       → FailsInCondition arch threads names ts rest cause
 
 -- ---- The whole.
 
--- The tokens fail to be a test's: its block, its header, a thread of its block, its rows or its condition.
+-- The initial block was read, on locations of which there are not too many.
+abbrev pub ReadsBlock : Arch → TokenList → List InitializerSyntax → TokenList → Type 0
+ReadsBlock arch ts es rest = Block arch ts es rest × HasRoomFor [] (sites_of es)
+
+-- The tokens fail to be a test's: its block; its header; the first initializer whose thread does not exist; its rows; or its condition.
 pub data FailsInTest (arch : Arch) (ts rest : TokenList) (cause : TextCause) : Type 0 where
   in_block : FailsInBlock arch [] ts rest cause → FailsInTest arch ts rest cause
-  in_header : (es : List InitializerSyntax) (mid : TokenList) → Block arch ts es mid → FailsInHeader rest cause 0 mid
+  in_header : (es : List InitializerSyntax) (mid : TokenList) → ReadsBlock arch ts es mid → FailsInHeader rest cause 0 mid
       → FailsInTest arch ts rest cause
-  no_such_thread : (es : List InitializerSyntax) (threads t r word : ℕ) (mid after behind : TokenList) → Block arch ts es mid
-      → Header mid threads after → IsInitializer arch rest (record { site = InThread t r; word = word }) behind → threads ≤ t → cause ≡ Name
-      → FailsInTest arch ts rest cause
-  in_rows : (es : List InitializerSyntax) (threads : ℕ) (mid after : TokenList) → Block arch ts es mid → Header mid threads after
+  no_such_thread : (es front : List InitializerSyntax) (threads t r word : ℕ) (inside mid after behind : TokenList) → ReadsBlock arch ts es mid
+      → Header mid threads after → ts ≡ codes "{" ∷ inside
+      → ParsesMany (λ ts e next. IsInitializer arch ts e (codes ";" ∷ next)) inside front rest
+      → AllByRecursion (λ e. ThreadExists threads e.site) front
+      → IsInitializer arch rest (record { site = InThread t r; word = word }) behind → threads ≤ t → cause ≡ Name → FailsInTest arch ts rest cause
+  in_rows : (es : List InitializerSyntax) (threads : ℕ) (mid after : TokenList) → ReadsBlock arch ts es mid → Header mid threads after
       → AllByRecursion (λ e. ThreadExists threads e.site) es → FailsInRows threads rest cause 0 after → FailsInTest arch ts rest cause
-  in_condition : (es : List InitializerSyntax) (threads : ℕ) (rows : CellGrid) (mid after behind : TokenList) → Block arch ts es mid
+  in_condition : (es : List InitializerSyntax) (threads : ℕ) (rows : CellGrid) (mid after behind : TokenList) → ReadsBlock arch ts es mid
       → Header mid threads after → AllByRecursion (λ e. ThreadExists threads e.site) es → Rows threads after rows behind
       → FailsInCondition arch threads (with_sites [] (sites_of es)) behind rest cause → FailsInTest arch ts rest cause

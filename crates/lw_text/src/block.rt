@@ -1,5 +1,5 @@
 //! The initial block of a test: its initializers.
-ghost use Rattle.std.specs.Prelude.{◌≡◌, ◌≢◌, List, true, false, Contains, MatchResult, IfErr, OnOk, OnErr};
+ghost use Rattle.std.specs.Prelude.{◌≡◌, ◌≢◌, ℕ, List, Some, slice_get, take, true, false, MatchResult, IfErr, OnOk, OnErr};
 ghost use Rattle.std.specs.List.{list_all};
 ghost use Rattle.lw_base.specs.Types.{TokenList};
 ghost use Rattle.lw_text.specs.Failures.{FailsInBlock};
@@ -41,6 +41,7 @@ impl<'t, 'a> Cursor<'t, 'a> {
             → HasRoomFor locs.old (sites_of es) → ⊥)
             × Fails self.old (FailsInBlock arch locs.old) f) }
     {
+        let _known = locs.len();
         self.expect("{", TextCause::Unexpected)?;
         let mut initializers = Sequence::new(alloc);
         'initializers: loop {
@@ -62,8 +63,9 @@ impl<'t, 'a> Cursor<'t, 'a> {
 pub(crate) fn check_threads(initializers: &[Initializer], threads: usize) -> Result<(), Refusal>
     ensures ok { OnOk result (list_all (λ e. thread_exists threads e.site) initializers.now ≡ true) }
     ensures err { OnErr result (list_all (λ e. thread_exists threads e.site) initializers.now ≡ false) }
-    ensures place { IfErr result (λ f. (e : Initializer) × Contains initializers.now e × (thread_exists threads e.site ≡ false)
-        × (f.at ≡ e.at) × (f.cause ≡ Name)) }
+    ensures place { IfErr result (λ f. (k : ℕ) × (e : Initializer) × (slice_get initializers.now k ≡ Some e)
+        × (list_all (λ e. thread_exists threads e.site) (take k initializers.now) ≡ true)
+        × (thread_exists threads e.site ≡ false) × (f.at ≡ e.at) × (f.cause ≡ Name)) }
 {
     for initializer in initializers {
         if !initializer.site.thread_exists(threads) {

@@ -30,6 +30,7 @@ impl<'t, 'a> Cursor<'t, 'a> {
             → AllByRecursion (ThreadExists threads) ss → HasRoomFor locs.old ss → ⊥)
             × Fails self.old (FailsInList arch threads locs.old) f) }
     {
+        let _known = locs.len();
         if !self.accept("locations") {
             return Ok(Sequence::new(alloc));
         }

@@ -1,5 +1,6 @@
 //! Parsing the proposition of a condition, terminal by terminal up to the end of the text.
 ghost use Rattle.std.specs.Prelude.{◌≡◌, ◌≢◌, ◌+◌, ◌≤◌, ◌==◌, ◌||◌, not, true, codes, List, [], ◌∷◌, length, map, filter, Some, None, MatchResult};
+ghost use Rattle.lw_base.specs.Limits.{most_locations};
 ghost use Rattle.lw_base.specs.Types.{TokenList};
 ghost use Rattle.lw_base.specs.Formula.{Formula};
 ghost use Rattle.lw_base.specs.Lists.{IsDuplicateFree};
@@ -68,6 +69,7 @@ impl<'t, 'a> Cursor<'t, 'a> {
         requires once { IsDuplicateFree locs.old }
         ensures { MatchResult result (λ s. ParsedTerminal arch threads self.old self.new locs.old locs.new s
             × (next_state (state_of reader.old) (terminal_of s) ≡ Some (state_of reader.new))
+            × (length locs.new ≤ most_locations)
             × ((not (nodes == MAX_NODES) ||
             (begins_token (codes "(") (remaining_texts self.old) || begins_token (codes ")") (remaining_texts self.old))) ≡ true))
             (λ f. f.cause ≢ Memory
@@ -86,6 +88,7 @@ impl<'t, 'a> Cursor<'t, 'a> {
         if !reader.take(terminal)? {
             return Err(misfit);
         }
+        let _known = locs.len();
         Ok(terminal)
     }
 

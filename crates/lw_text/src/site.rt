@@ -1,5 +1,6 @@
 //! Sites: the locations and registers that the block, the list of names and atoms name.
-ghost use Rattle.std.specs.Prelude.{◌≡◌, ◌≢◌, ℕ, [], ◌∷◌, codes, nat_lt, Some, slice_get, MatchResult};
+ghost use Rattle.std.specs.Prelude.{◌≡◌, ◌≢◌, ℕ, ◌≤◌, [], ◌∷◌, codes, length, nat_lt, Some, slice_get, MatchResult};
+ghost use Rattle.lw_base.specs.Limits.{most_locations};
 ghost use Rattle.lw_base.specs.NoParse.{ParsesNothing};
 ghost use Rattle.lw_base.specs.Types.{Bytes, TokenList};
 ghost use Rattle.lw_base.specs.Names.{IsLocationName};
@@ -76,6 +77,7 @@ impl<'t, 'a> Cursor<'t, 'a> {
             → ThreadAllowed threads s → HasRoomFor locs.old (s ∷ []) → ⊥)
             × Fails self.old (FailsInSite arch threads locs.old cause) f) }
     {
+        let _known = locs.len();
         let first = self.take()?;
         let at = Some(first.at);
         if first.text == "[" {
@@ -106,7 +108,8 @@ impl<'t, 'a> Cursor<'t, 'a> {
         requires { IsOfReader cause }
         ensures { MatchResult result
             (λ loc. (x : Bytes) × (remaining_texts self.old ≡ x ∷ codes "]" ∷ remaining_texts self.new)
-            × (IsLocationName x × (slice_get locs.new loc ≡ Some x) × (locs.new ≡ insert_name locs.old x))
+            × (IsLocationName x × (slice_get locs.new loc ≡ Some x) × (locs.new ≡ insert_name locs.old x)
+            × (length locs.new ≤ most_locations))
             × AdvancesTo self.old self.new)
             (λ f. f.cause ≢ Memory → ((x : Bytes) (rest : TokenList) → remaining_texts self.old ≡ x ∷ codes "]" ∷ rest
             → IsLocationName x → HasRoomForName locs.old x → ⊥)
@@ -184,7 +187,8 @@ fn enter<A: Allocator + Copy>(
     misfit: Refusal,
 ) -> Result<Loc, Refusal>
     ensures { MatchResult result
-        (λ loc. IsLocationName name.now × (slice_get locs.new loc ≡ Some name.now) × (locs.new ≡ insert_name locs.old name.now))
+        (λ loc. IsLocationName name.now × (slice_get locs.new loc ≡ Some name.now) × (locs.new ≡ insert_name locs.old name.now)
+        × (length locs.new ≤ most_locations))
         (λ f. f.cause ≢ Memory → (IsLocationName name.now → HasRoomForName locs.old name.now → ⊥)
         × (f.at ≡ misfit.at) × IsNoNewLocation misfit.cause locs.old name.now f.cause) }
 {

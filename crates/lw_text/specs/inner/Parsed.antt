@@ -1,6 +1,7 @@
 -- What the parser has parsed between two positions, with the names that it inserted into the table. Used only within the crate.
-use Rattle.std.specs.Prelude.{◌≡◌, ◌⊎◌, ℕ, Option, Some, None, true, false, List, [], ◌∷◌, ◌++◌, map, All}
+use Rattle.std.specs.Prelude.{◌≡◌, ◌⊎◌, ℕ, Option, Some, None, true, false, ◌≤◌, List, [], ◌∷◌, ◌++◌, codes, length, map, All}
 use Rattle.std.specs.List.{AllByRecursion}
+use Rattle.lw_base.specs.Limits.{most_locations}
 use Rattle.lw_base.specs.Types.{Bytes, NameTable, TokenList}
 use Rattle.lw_base.specs.declared.head.Arch.{Arch}
 use Rattle.lw_base.specs.declared.head.Quant.{Quant}
@@ -43,6 +44,7 @@ pub record ParsedSite (arch : Arch) (threads : Option ℕ) (before after : Curso
   pub names_are : table ≡ with_sites names (site_by_name table s ∷ [])
   pub within : IsIn table s
   pub leaves : AdvancesTo before after
+  pub few : length table ≤ most_locations
 
 -- A terminal of a proposition was parsed; its site's name was inserted into the table.
 pub record ParsedTerminal (arch : Arch) (threads : ℕ) (before after : Cursor) (names table : NameTable) (s : Terminal) : Type 0 where
@@ -51,13 +53,24 @@ pub record ParsedTerminal (arch : Arch) (threads : ℕ) (before after : Cursor) 
   pub within : TerminalIn table s
   pub leaves : AdvancesTo before after
 
--- The initializer begins at its place among the remaining tokens, if its site is a register.
-pub record BeginsInitializer (arch : Arch) (before : Cursor) (e : Initializer) : Type 0 where
+-- After the initializers in front, each with its `;`, the initializer begins at its place among the remaining tokens, if its site is a
+-- register.
+pub record BeginsInitializer (arch : Arch) (before : Cursor) (front : List Initializer) (e : Initializer) : Type 0 where
+  pub names : NameTable
+  pub inside : TokenList
   pub rest : List Token
   pub behind : TokenList
+  pub opens : remaining_texts before ≡ codes "{" ∷ inside
+  pub read : ParsesMany (λ ts e next. IsInitializer arch ts e (codes ";" ∷ next)) inside (map (named_initializer names) front) (token_texts rest)
   pub suffix : IsSuffix (remaining before) rest
   pub place : BeginsAt rest e.at
   pub is : (t r : ℕ) → e.site ≡ Register t r → IsInitializer arch (token_texts rest) (record { site = InThread t r; word = e.word }) behind
+
+-- After the initializers in front, each initializer begins at its place.
+abbrev pub BeginInitializers : Arch → Cursor → List Initializer → List Initializer → Type 0
+BeginInitializers arch before front [] = Unit {0}
+BeginInitializers arch before front (e ∷ es) =
+    BeginsInitializer arch before front e × BeginInitializers arch before (front ++ e ∷ []) es
 
 -- The initial block was parsed; its sites' names were inserted into the table.
 pub record ParsedBlock (arch : Arch) (before after : Cursor) (names table : NameTable) (es : List Initializer) : Type 0 where
@@ -65,7 +78,8 @@ pub record ParsedBlock (arch : Arch) (before after : Cursor) (names table : Name
   pub names_are : table ≡ with_sites names (map (λ e. site_by_name table e.site) es)
   pub within : All (λ e. IsIn table e.site) es
   pub leaves : AdvancesTo before after
-  pub places : AllByRecursion (BeginsInitializer arch before) es
+  pub places : BeginInitializers arch before [] es
+  pub few : length table ≤ most_locations
 
 -- The list of names was parsed, or none: the threads of its sites exist, and its locations' names were inserted into the table.
 pub record ParsedNameList (arch : Arch) (threads : ℕ) (before after : Cursor) (names table : NameTable) (ss : List Site) : Type 0 where
@@ -74,6 +88,7 @@ pub record ParsedNameList (arch : Arch) (threads : ℕ) (before after : Cursor) 
   pub names_are : table ≡ with_sites names (map (site_by_name table) ss)
   pub within : All (IsIn table) ss
   pub leaves : AdvancesTo before after
+  pub few : length table ≤ most_locations
 
 -- The terminals are a proposition with the formula p, of not too many nodes, and the table has room for their names.
 pub record Fits (names : NameTable) (ss : List (syntax.Terminal AtomSyntax)) (p : Formula) : Type 0 where

@@ -18,4 +18,5 @@ returns-in-Some g c =
       c.if-not-is_location.ensures.0 refl,
       appeared_at c.args.locs.now c.find_or_add.new.self c.in-Some.loc c.args.name.now names index,
       names,
+      c.in_ok-loc.ensures.table.few,
     )

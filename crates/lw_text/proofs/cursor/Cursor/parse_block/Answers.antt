@@ -1,15 +1,16 @@
-use Rattle.lw_text.proofs.Common.{ℕ, ◌≡◌, ◌<◌, [], None, refl, subst, ap, arith, remaining_texts, remaining, IsSuffix}
+use Rattle.lw_text.proofs.Common.{ℕ, ◌≡◌, ◌<◌, ◌≤◌, length, NameTable, ParsesMany, sym, [], None, refl, subst, ap, arith, remaining_texts, remaining, IsSuffix}
 use Rattle.lw_text.proofs.Common.{IsSite, IsInitializer, TokenList, Unexpected, named_initializer, site_by_name}
 use Rattle.lw_text.proofs.Faults.{Err-clause_known, ran_out, unexpected}
 use Rattle.lw_text.proofs.Lists.{IsSuffix-join, shorter_behind}
-use Rattle.lw_text.proofs.Atoms.{IsSite-shorter, Value-shorter, value_missing}
+use Rattle.lw_text.proofs.Common.{◌∷◌, codes, map}
+use Rattle.lw_text.proofs.Atoms.{brace, semicolon, IsSite-shorter, Value-shorter, value_missing}
 use Rattle.lw_text.proofs.SiteLists.{initializers, initializers_fault}
-use Rattle.lw_text.proofs.Failures.{Fails-later}
+use Rattle.lw_text.proofs.Failures.{Fails-later, BeginInitializers-push, Listing-joined}
 use Rattle.lw_text.specs.Failures.{FailsInAssignment, FailsInInitializers, FailsInBlock, no_brace, in_initializers, in_element, no_mark}
 use Rattle.lw_text.specs.Failures.{in_elements_after, in_site, in_value}
 use Rattle.lw_text.specs.declared.fault.TextCause.{TextCause}
 use Rattle.lw_text.specs.inner.Parsed.{BeginsInitializer}
-use Rattle.lw_text.proofs.Readings.{all_push, read_none, read_end, read_more, read_last, read_no_mark, More}
+use Rattle.lw_text.proofs.Readings.{read_none, read_end, read_more, read_last, read_no_mark, More}
 use Rattle.lw_text.proofs.cursor.Cursor.parse_block.Given.{Over}
 use Rattle.lw_text.proofs.cursor.Cursor.parse_block.Goals.{After-parse_site, In_ok-word, In_ok-expect_either}
 use Rattle.lw_text.proofs.cursor.Cursor.parse_block.Goals as goal
@@ -26,6 +27,7 @@ initializers-init g c = rw c.new-initializers.ensures (record {
   read = read_none (initializers c.args.arch) c.args.locs.now (remaining_texts c.args.self.now) _ c.in_ok-expect.ensures.ok;
   leaves = c.in_ok-expect.ensures.leaves;
   places = tt;
+  few = c.len-known.ensures.table.few;
   fails = λ rest cause w. in_initializers c.in_ok-expect.ensures.ok w;
 })
 
@@ -38,6 +40,7 @@ returns-then-accept g c =
       within = whole.within;
       leaves = IsSuffix-join c.initializers.invariant.leaves c.accept.ensures.leaves;
       places = c.initializers.invariant.places;
+      few = c.initializers.invariant.few;
     }
 
 -- If no `}` is next, a site is read at the same position.
@@ -78,24 +81,35 @@ element_fails g c rest cause w =
 leaves_before : (g : Over) (c : After-parse_site g) → IsSuffix (remaining c.args.self.now) (remaining c.accept.new.self)
 leaves_before g c = IsSuffix-join c.initializers.invariant.leaves c.accept.ensures.leaves
 
--- The initializer that was read begins at its place.
+-- The initializer that was read begins at its place, after those before.
 begins : (g : Over) (c : In_ok-word g)
-    → BeginsInitializer c.args.arch c.args.self.now
+    → BeginsInitializer c.args.arch c.args.self.now c.initializers.initializers
     (record { at = c.place-at.result; site = c.in_ok-site.site; word = c.in_ok-word.word })
-begins g c = record {
-  rest = remaining c.accept.new.self;
-  behind = remaining_texts c.parse_value.new.self;
-  suffix = IsSuffix-join c.initializers.invariant.leaves c.accept.ensures.leaves;
-  place = c.place-at.ensures;
-  is =
-      λ t r e. (
-        remaining_texts c.parse_site.new.self,
-        subst (λ s.
-            IsSite c.args.arch (remaining_texts c.accept.new.self) (site_by_name c.parse_site.new.locs s)
-            (remaining_texts c.parse_site.new.self)) e c.in_ok-site.ensures.is,
-        c.in_ok-word.ensures.0,
-      );
-}
+begins g c =
+    let read = c.initializers.invariant.read in
+    let same = ap remaining_texts (c.accept.ensures.kept c.if-accept.false) in
+    record {
+      names = c.initializers.locs;
+      inside = read.start;
+      rest = remaining c.accept.new.self;
+      behind = remaining_texts c.parse_value.new.self;
+      opens = read.begun;
+      read =
+          subst
+          (ParsesMany (λ ts e next. IsInitializer c.args.arch ts e (codes ";" ∷ next)) read.start
+          (map (named_initializer c.initializers.locs) c.initializers.initializers)) (sym same)
+          (Listing-joined (IsInitializer c.args.arch) semicolon brace _ read.start _ read.listing);
+      suffix = IsSuffix-join c.initializers.invariant.leaves c.accept.ensures.leaves;
+      place = c.place-at.ensures;
+      is =
+          λ t r e. (
+            remaining_texts c.parse_site.new.self,
+            subst (λ s.
+                IsSite c.args.arch (remaining_texts c.accept.new.self) (site_by_name c.parse_site.new.locs s)
+                (remaining_texts c.parse_site.new.self)) e c.in_ok-site.ensures.is,
+            c.in_ok-word.ensures.0,
+          );
+    }
 
 pub returns-in_err-site : goal.returns-in_err-site
 returns-in_err-site g c =
@@ -117,7 +131,8 @@ returns-in_err-word g c =
           (λ e back initializer some.
           value_missing c.args.arch _ _ _ (rw same at c.in_ok-site.ensures.is) c.in_err-word.ensures.0 e back initializer),
       Fails-later (IsSuffix-join (leaves_before g d) c.in_ok-site.ensures.leaves)
-          (λ rest cause w. element_fails g d rest cause (in_value _ c.in_ok-site.ensures.is w)) c.in_err-word.ensures.1,
+          (λ rest cause w. element_fails g d rest cause (in_value _ c.in_ok-site.ensures.is c.in_ok-site.ensures.there
+          (subst (λ (table : NameTable). length table ≤ 8) c.in_ok-site.ensures.names_are c.in_ok-site.ensures.few) w)) c.in_err-word.ensures.1,
     ))
 
 pub returns-in_err-expect_either : goal.returns-in_err-expect_either
@@ -133,7 +148,8 @@ returns-in_err-expect_either g c =
           (IsSuffix-join c.in_ok-site.ensures.leaves c.in_ok-word.ensures.1))
           (λ rest cause w.
           c.initializers.invariant.fails rest cause
-          (no_mark (c.accept.ensures.other c.if-accept.false) initializer.stands w)) c.in_err-expect_either.ensures.2,
+          (no_mark (c.accept.ensures.other c.if-accept.false) initializer.stands
+          (subst (λ (table : NameTable). length table ≤ 8) initializer.grows c.in_ok-site.ensures.few) w)) c.in_err-expect_either.ensures.2,
     ))
 
 pub returns-then-branch : goal.returns-then-branch
@@ -148,7 +164,8 @@ returns-then-branch g c =
       names_are = whole.names_are;
       within = whole.within;
       leaves = leaves g d.In_ok-expect_either;
-      places = all_push _ _ _ c.initializers.invariant.places (begins g d.In_ok-word);
+      places = BeginInitializers-push _ _ [] _ _ c.initializers.invariant.places (begins g d.In_ok-word);
+      few = c.in_ok-site.ensures.few;
     })
 
 -- The order of numbers is transitive.
@@ -170,7 +187,8 @@ initializers-preserved g c =
     rw c.in_ok-push.ensures.ok (record {
       read = read_more c.initializers.invariant.read (entry_read g d.In_ok-word) (remaining_texts c.expect_either.new.self) mark;
       leaves = leaves g d.In_ok-expect_either;
-      places = all_push _ _ _ c.initializers.invariant.places (begins g d.In_ok-word);
+      places = BeginInitializers-push _ _ [] _ _ c.initializers.invariant.places (begins g d.In_ok-word);
+      few = c.in_ok-site.ensures.few;
       fails =
           λ rest cause w.
           c.initializers.invariant.fails rest cause
@@ -181,6 +199,7 @@ initializers-preserved g c =
           (named_initializer c.parse_site.new.locs
           (record { at = c.place-at.result; site = c.in_ok-site.site; word = c.in_ok-word.word })) mid) mark
           (entry_read g d.In_ok-word).stands)
+          (subst (λ (table : NameTable). length table ≤ 8) (entry_read g d.In_ok-word).grows c.in_ok-site.ensures.few)
           (subst (λ names. FailsInInitializers c.args.arch rest cause names (remaining_texts c.expect_either.new.self))
           (entry_read g d.In_ok-word).grows w));
     })

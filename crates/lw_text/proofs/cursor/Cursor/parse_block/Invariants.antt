@@ -1,16 +1,17 @@
-use Rattle.lw_text.proofs.Common.{length, AllByRecursion, IsSuffix, TokenList, remaining, remaining_texts}
+use Rattle.lw_text.proofs.Common.{◌≤◌, [], length, IsSuffix, TokenList, remaining, remaining_texts}
 use Rattle.lw_text.proofs.SiteLists.{initializers}
 use Rattle.lw_text.proofs.Readings.{Read}
 use Rattle.lw_text.specs.Failures.{FailsInInitializers, FailsInBlock}
 use Rattle.lw_text.specs.declared.fault.TextCause.{TextCause}
-use Rattle.lw_text.specs.inner.Parsed.{BeginsInitializer}
+use Rattle.lw_text.specs.inner.Parsed.{BeginInitializers}
 use Rattle.lw_text.proofs.cursor.Cursor.parse_block.Given as goal
 
 abbrev pub invariant-initializers : goal.invariant-initializers
 invariant-initializers g l = record {
   read : Read (initializers l.arch) l.fn.locs l.locs (remaining_texts l.fn.self) (remaining_texts l.self) l.initializers;
   leaves : IsSuffix (remaining l.fn.self) (remaining l.self);
-  places : AllByRecursion (BeginsInitializer l.arch l.fn.self) l.initializers;
+  places : BeginInitializers l.arch l.fn.self [] l.initializers;
+  few : length l.locs ≤ 8;
   fails : (rest : TokenList) (cause : TextCause) → FailsInInitializers l.arch rest cause l.locs (remaining_texts l.self)
       → FailsInBlock l.arch l.fn.locs (remaining_texts l.fn.self) rest cause;
 }

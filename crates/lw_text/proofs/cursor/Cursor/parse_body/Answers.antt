@@ -5,11 +5,10 @@ use Rattle.lw_text.proofs.Lists.{IsSuffix-join}
 use Rattle.lw_text.proofs.api.Places.{texts_placed}
 use Rattle.lw_text.proofs.Bodies.{taken_body}
 use Rattle.lw_text.proofs.Whole.{first_names, few_first, no_header, no_thread, no_rows, no_condition}
-use Rattle.lw_text.proofs.Whole.{header_some, Rows-even, all_there, missing_thread, initializer_at}
-use Rattle.lw_text.proofs.Failures.{Fails-later}
+use Rattle.lw_text.proofs.Whole.{header_some, Rows-even, all_there, missing_thread, block_read}
+use Rattle.lw_text.proofs.Failures.{Fails-later, BeginInitializers-at}
 use Rattle.lw_text.specs.Failures.{FailsInCondition, in_block, in_header, no_such_thread, in_rows, in_condition}
 use Rattle.lw_text.specs.Views.{BeginsAt}
-use Rattle.lw_text.specs.inner.Parsed.{BeginsInitializer}
 use Rattle.lw_text.proofs.Faults.{Err-clause_known}
 use Rattle.lw_text.proofs.cursor.Cursor.parse_body.Goals as goal
 
@@ -25,16 +24,17 @@ pub returns-in_err-threads : goal.returns-in_err-threads
 returns-in_err-threads g c = Err-clause_known _ _ _ c.from_residual-in_err-threads.ensures.1 (λ ne. (
   λ s f p whole.
       no_header c.args.arch (remaining_texts c.args.self.now) _ _ c.in_ok-initializers.ensures.is c.in_err-threads.ensures.0 s p,
-  Fails-later c.in_ok-initializers.ensures.leaves (λ rest cause w. in_header _ _ c.in_ok-initializers.ensures.is w)
+  Fails-later c.in_ok-initializers.ensures.leaves (λ rest cause w. in_header _ _ (block_read c.new-locs.ensures c.in_ok-initializers.ensures) w)
       c.in_err-threads.ensures.1,
 ))
 
 pub returns-in_err-check_threads : goal.returns-in_err-check_threads
 returns-in_err-check_threads g c =
     let lost = rw c.as_slice.ensures at c.in_err-check_threads.ensures.place in
-    let begins : BeginsInitializer c.args.arch c.args.self.now lost.0 =
-    initializer_at (BeginsInitializer c.args.arch c.args.self.now) _ c.in_ok-initializers.ensures.places lost.0 lost.1 in
-    let thread = missing_thread lost.0.site c.in_ok-threads.threads lost.2 in
+    let begins =
+    BeginInitializers-at c.args.arch c.args.self.now [] c.in_ok-initializers.initializers lost.0 lost.1
+    c.in_ok-initializers.ensures.places lost.2 in
+    let thread = missing_thread lost.1.site c.in_ok-threads.threads lost.4 in
     Err-clause_known _ _ _ c.from_residual-in_err-check_threads.ensures.1 (λ ne. (
       λ s f p whole.
           no_thread c.args.arch _ _ _ c.in_ok-initializers.ensures.is _ _ c.in_ok-threads.ensures.0 c.parse_block.new.locs _ refl
@@ -42,10 +42,11 @@ returns-in_err-check_threads g c =
       record {
         rest = begins.rest;
         suffix = begins.suffix;
-        place = subst (BeginsAt begins.rest) (sym lost.3) begins.place;
+        place = subst (BeginsAt begins.rest) (sym lost.5) begins.place;
         way =
-            no_such_thread _ _ thread.0 thread.1 lost.0.word _ _ _ c.in_ok-initializers.ensures.is c.in_ok-threads.ensures.0
-            (begins.is thread.0 thread.1 thread.2) thread.3 lost.4;
+            no_such_thread _ _ _ thread.0 thread.1 lost.1.word _ _ _ _ (block_read c.new-locs.ensures c.in_ok-initializers.ensures)
+            c.in_ok-threads.ensures.0 begins.opens begins.read (all_there _ begins.names _ lost.3)
+            (begins.is thread.0 thread.1 thread.2) thread.3 lost.6;
       },
     ))
 
@@ -56,7 +57,7 @@ returns-in_err-rows g c = Err-clause_known _ _ _ c.from_residual-in_err-rows.ens
           no_rows c.args.arch _ _ _ c.in_ok-initializers.ensures.is _ _ c.in_ok-threads.ensures.0 lost.0 s p,
       Fails-later (IsSuffix-join c.in_ok-initializers.ensures.leaves c.in_ok-threads.ensures.1)
           (λ rest cause w.
-          in_rows _ _ _ _ c.in_ok-initializers.ensures.is c.in_ok-threads.ensures.0
+          in_rows _ _ _ _ (block_read c.new-locs.ensures c.in_ok-initializers.ensures) c.in_ok-threads.ensures.0
           (all_there _ _ _ (rw c.as_slice.ensures at c.in_ok-check_threads.ensures.ok)) w) lost.1,
     ))
 
@@ -73,7 +74,7 @@ returns g c = λ ne.
           (IsSuffix-join c.in_ok-initializers.ensures.leaves
           (IsSuffix-join c.in_ok-threads.ensures.1 c.in_ok-rows.ensures.2))
           (λ rest cause w.
-          in_condition _ _ _ _ _ _ c.in_ok-initializers.ensures.is c.in_ok-threads.ensures.0
+          in_condition _ _ _ _ _ _ (block_read c.new-locs.ensures c.in_ok-initializers.ensures) c.in_ok-threads.ensures.0
           (all_there _ _ _ (rw c.as_slice.ensures at c.in_ok-check_threads.ensures.ok)) c.in_ok-rows.ensures.0
           (subst
           (λ table.

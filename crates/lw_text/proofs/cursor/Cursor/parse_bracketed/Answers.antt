@@ -1,4 +1,4 @@
-use Rattle.lw_text.proofs.Common.{◌∷◌, [], ◌∙◌, ap, refl, sym, subst, IsLocationName, HasRoomForName, remaining}
+use Rattle.lw_text.proofs.Common.{◌≤◌, length, NameTable, ◌∷◌, [], ◌∙◌, ap, refl, sym, subst, IsLocationName, HasRoomForName, remaining}
 use Rattle.lw_text.proofs.Lists.{IsSuffix-join}
 use Rattle.lw_text.proofs.Faults.{Err-clause_known}
 use Rattle.lw_text.proofs.Failures.{Fails-here, Fails-later, IfFirst-cons, same_head, same_tail}
@@ -35,5 +35,7 @@ returns-in_err-expect g c =
     Err-clause_known _ _ _ c.from_residual-in_err-expect.ensures.1 (λ ne. (
       λ x rest e loc room. c.in_err-expect.ensures.err rest (same_tail (sym c.in_ok-name.ensures.ok ∙ e)),
       Fails-later (c.in_ok-name.name ∷ [], c.in_ok-name.ensures.token)
-          (λ rest cause w. no_bracket c.in_ok-name.ensures.ok c.in_ok-loc.ensures.0 w) c.in_err-expect.ensures.fails,
+          (λ rest cause w.
+          no_bracket c.in_ok-name.ensures.ok c.in_ok-loc.ensures.0
+          (subst (λ (table : NameTable). length table ≤ 8) c.in_ok-loc.ensures.2 c.in_ok-loc.ensures.3) w) c.in_err-expect.ensures.fails,
     ))

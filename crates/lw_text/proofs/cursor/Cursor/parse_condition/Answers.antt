@@ -1,4 +1,4 @@
-use Rattle.lw_text.proofs.Common.{[], map, refl, sym, subst, arith, IsDuplicateFree, once-along, insert_names-longer}
+use Rattle.lw_text.proofs.Common.{◌≤◌, length, NameTable, [], map, refl, sym, subst, arith, IsDuplicateFree, once-along, insert_names-longer}
 use Rattle.lw_text.proofs.Common.{site_names, with_sites, sites_in, site_by_name, remaining_texts}
 use Rattle.lw_text.proofs.Bodies.{taken_condition}
 use Rattle.lw_text.proofs.SiteLists.{Listed-unique}
@@ -27,7 +27,8 @@ returns-in_err-quant g c = Err-clause_known _ _ _ c.from_residual-in_err-quant.e
       Listed-unique c.args.arch (remaining_texts c.args.self.now) all _ condition.behind_list
       (remaining_texts c.parse_listed.new.self) condition.lists c.in_ok-listed.ensures.is in
       c.in_err-quant.ensures.0 q condition.behind_quant (rw u.1 at condition.quantifies),
-  Fails-later c.in_ok-listed.ensures.leaves (λ rest cause w. in_quantifier _ c.in_ok-listed.ensures.is w) c.in_err-quant.ensures.1,
+  Fails-later c.in_ok-listed.ensures.leaves (λ rest cause w. in_quantifier _ c.in_ok-listed.ensures.is c.in_ok-listed.ensures.there
+      (subst (λ (table : NameTable). length table ≤ 8) c.in_ok-listed.ensures.names_are c.in_ok-listed.ensures.few) w) c.in_err-quant.ensures.1,
 ))
 
 pub parse_proposition-requires-clause-once : goal.parse_proposition-requires-clause-once
@@ -41,7 +42,9 @@ returns-in-Err g c = λ ne.
       no_terminals c.in_ok-listed.ensures _ _ c.in_ok-quant.ensures.0 lost.0,
       Fails-later (IsSuffix-join c.in_ok-listed.ensures.leaves c.in_ok-quant.ensures.1)
           (λ rest cause w.
-          in_proposition _ _ c.in_ok-listed.ensures.is c.in_ok-quant.ensures.0
+          in_proposition _ _ c.in_ok-listed.ensures.is c.in_ok-listed.ensures.there
+          (subst (λ (table : NameTable). length table ≤ 8) c.in_ok-listed.ensures.names_are c.in_ok-listed.ensures.few)
+          c.in_ok-quant.ensures.0
           (subst
           (λ names.
           FailsInProposition c.args.arch c.args.threads rest cause first_place 0 names (remaining_texts c.parse_quantifier.new.self))

@@ -1,4 +1,4 @@
-use Rattle.lw_text.proofs.Common.{◌≡◌, ◌∷◌, ◌∙◌, inl, inr, refl, ap, subst, sym, codes, All-nil, IsIn, Some}
+use Rattle.lw_text.proofs.Common.{◌≤◌, length, NameTable, ◌≡◌, ◌∷◌, ◌∙◌, inl, inr, refl, ap, subst, sym, codes, All-nil, IsIn, Some}
 use Rattle.lw_text.proofs.Common.{IsSite, IsSuffix, site_by_name, remaining, remaining_texts}
 use Rattle.lw_text.proofs.Failures.{Fails-later}
 use Rattle.lw_text.specs.Failures.{FailsInSite, FailsInSites, no_list_bracket, in_sites, in_element, no_mark, in_elements_after}
@@ -26,6 +26,7 @@ returns-then-not-accept g c = rw c.new.ensures (record {
   names_are = refl;
   within = All-nil (IsIn c.args.locs.now);
   leaves = c.accept.ensures.leaves;
+  few = c.len-known.ensures.table.few;
 })
 
 pub returns-in_err-expect : goal.returns-in_err-expect
@@ -43,6 +44,7 @@ sites-init g c =
     let begins = c.accept.ensures.taken c.if-not-accept.false ∙ ap (λ l. codes "locations" ∷ l) c.in_ok-expect.ensures.ok in
     rw c.new-sites.ensures (record {
       read = read_none _ c.args.locs.now (remaining_texts c.args.self.now) (remaining_texts c.expect.new.self) begins;
+      few = c.len-known.ensures.table.few;
       leaves = IsSuffix-join c.accept.ensures.leaves c.in_ok-expect.ensures.leaves;
       fails = λ rest cause w. in_sites begins w;
     })
@@ -56,6 +58,7 @@ returns-then-accept g c =
       names_are = whole.names_are;
       within = whole.within;
       leaves = IsSuffix-join c.sites.invariant.leaves c.accept-in-sites.ensures.leaves;
+      few = c.sites.invariant.few;
     }
 
 -- If no `]` is next, a site is read at the same position.
@@ -110,7 +113,8 @@ returns-in_err-expect_either g c =
       Fails-later (IsSuffix-join (leaves_before g d.After-parse_site) c.in_ok-parse_site.ensures.leaves)
           (λ rest cause w.
           c.sites.invariant.fails rest cause
-          (no_mark (c.accept-in-sites.ensures.other c.if-accept.false) (site.stands, site.fits) w))
+          (no_mark (c.accept-in-sites.ensures.other c.if-accept.false) (site.stands, site.fits)
+          (subst (λ (table : NameTable). length table ≤ 8) site.grows c.in_ok-parse_site.ensures.few) w))
           c.in_err-expect_either.ensures.2,
     ))
 
@@ -129,6 +133,7 @@ returns-then-branch g c =
       leaves =
           IsSuffix-join (leaves_before g d.After-parse_site)
           (IsSuffix-join c.in_ok-parse_site.ensures.leaves c.in_ok-expect_either.ensures.1);
+      few = c.in_ok-parse_site.ensures.few;
     })
 
 pub sites-smaller : goal.sites-smaller
@@ -147,6 +152,7 @@ sites-preserved g c =
       leaves =
           IsSuffix-join (leaves_before g d.After-parse_site)
           (IsSuffix-join c.in_ok-parse_site.ensures.leaves c.in_ok-expect_either.ensures.1);
+      few = c.in_ok-parse_site.ensures.few;
       fails =
           λ rest cause w.
           c.sites.invariant.fails rest cause
@@ -155,6 +161,7 @@ sites-preserved g c =
           (λ mid.
           IsSite c.args.arch (remaining_texts c.sites.self)
           (site_by_name c.parse_site.new.locs c.in_ok-parse_site.field-0) mid) mark site.stands, site.fits)
+          (subst (λ (table : NameTable). length table ≤ 8) site.grows c.in_ok-parse_site.ensures.few)
           (subst (λ names. FailsInSites c.args.arch c.args.threads rest cause names (remaining_texts c.expect_either.new.self))
           site.grows w));
     })

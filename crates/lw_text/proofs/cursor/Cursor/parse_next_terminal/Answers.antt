@@ -1,6 +1,6 @@
 use Rattle.lw_text.proofs.Common.{◌∙◌, [], refl, sym, ap, subst, option_map, remaining_texts, state_of}
 use Rattle.lw_text.proofs.Failures.{Fails-here, Fails-later}
-use Rattle.lw_text.proofs.PropositionPlaces.{next_place-state, wants_part-place, no_room-first}
+use Rattle.lw_text.proofs.PropositionPlaces.{next_place-state, wants_part-place, no_room-first, room-first}
 use Rattle.lw_text.specs.Failures.{FailsInTerminal, impossible_terminal, too_many_nodes, in_terminal}
 use Rattle.lw_text.specs.inner.ReaderStates.{place_of}
 use Rattle.lw_text.proofs.PropositionCases.{terminal_refused, no_room, begins_right}
@@ -14,7 +14,7 @@ returns-then-not-branch g c =
       λ s rest is left few fits.
           left (terminal_refused c.in_ok-terminal.ensures c.args.reader.now c.requires.once refused s rest is),
       Fails-here c.args.self.now _ c.refusal-misfit.ensures.place
-          (impossible_terminal _ _ c.in_ok-terminal.ensures.is
+          (impossible_terminal _ _ (room-first _ _ (sym c.has_room.ensures ∙ c.if-not-has_room.false)) c.in_ok-terminal.ensures.is
           (next_place-state (state_of c.args.reader.now) c.parse_terminal.new.locs c.in_ok-terminal.terminal
           ∙ ap (option_map place_of) refused) refl c.refusal-misfit.ensures.cause),
     )
@@ -35,7 +35,7 @@ returns-in_err-terminal g c = Err-clause_known _ _ _ c.from_residual.ensures.1 (
       λ s rest is left few fits. lost.0 s rest is (begins_right c.args.reader.now _ c.wants_part.ensures _ s left) few,
       Fails-later ([], refl)
           (λ rest cause w.
-          in_terminal
+          in_terminal (room-first _ _ (sym c.has_room.ensures ∙ c.if-not-has_room.false))
           (subst
           (λ part. FailsInTerminal c.args.arch c.args.threads part c.args.locs.now (remaining_texts c.args.self.now) rest cause)
           (sym (wants_part-place c.args.reader.now _ c.wants_part.ensures)) w)) lost.1,
@@ -46,4 +46,9 @@ returns-in_err-take g c = ran_out _ _ _ c.from_residual-in_err-take.ensures.1
 
 pub returns : goal.returns
 returns g c =
-    (c.in_ok-terminal.ensures, rw c.if-not-branch.false at c.in_ok-take.ensures, sym c.has_room.ensures ∙ c.if-not-has_room.false)
+    (
+      c.in_ok-terminal.ensures,
+      rw c.if-not-branch.false at c.in_ok-take.ensures,
+      c.len-known.ensures.table.few,
+      sym c.has_room.ensures ∙ c.if-not-has_room.false,
+    )

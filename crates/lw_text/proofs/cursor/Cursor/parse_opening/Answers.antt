@@ -1,4 +1,4 @@
-use Rattle.lw_text.proofs.Common.{◌≡◌, ◌∷◌, [], Some, refl, sym, ap, subst, with_sites, Atom, IsAtom, sites_in}
+use Rattle.lw_text.proofs.Common.{◌≤◌, length, NameTable, ◌≡◌, ◌∷◌, [], Some, refl, sym, ap, subst, with_sites, Atom, IsAtom, sites_in}
 use Rattle.lw_text.proofs.Common.{IsSuffix, remaining, remaining_texts}
 use Rattle.lw_text.proofs.Lists.{IsSuffix-join}
 use Rattle.lw_text.proofs.Failures.{Fails-later}
@@ -36,7 +36,8 @@ returns-in_err-word g c =
       λ s rest terminal begins few.
           site_alone c.args.arch c.args.threads _ (remaining_texts c.parse_site.new.self) _ stands c.in_err-word.ensures.0 s rest
           terminal,
-      Fails-later leaves (λ rest cause w. (c.in_default.ensures.words, in_value _ stands w)) c.in_err-word.ensures.1,
+      Fails-later leaves (λ rest cause w. (c.in_default.ensures.words, in_value _ stands c.in_ok-site.ensures.there
+          (subst (λ (table : NameTable). length table ≤ 8) c.in_ok-site.ensures.names_are c.in_ok-site.ensures.few) w)) c.in_err-word.ensures.1,
     ))
 
 pub returns : goal.returns

@@ -2,7 +2,7 @@ use Rattle.lw_text.proofs.Common.{ℕ, ◌+◌, ◌≤◌, ◌∙◌, [], append
 use Rattle.lw_text.proofs.Common.{remaining, remaining_texts, state_of}
 use Rattle.lw_text.proofs.Lists.{IsSuffix-join}
 use Rattle.lw_text.proofs.Failures.{Fails-later}
-use Rattle.lw_text.proofs.PropositionPlaces.{incomplete_place}
+use Rattle.lw_text.proofs.PropositionPlaces.{incomplete_place, room-first}
 use Rattle.lw_text.specs.Failures.{FailsInProposition, incomplete}
 use Rattle.lw_text.specs.Views.{BeginsAt}
 use Rattle.lw_text.specs.inner.ReaderStates.{place_of}
@@ -69,18 +69,19 @@ terminals-init g c =
 pub terminals-preserved : goal.terminals-preserved
 terminals-preserved g c =
     let counts = ap (λ (n : ℕ). c.terminals.nodes + n) c.nodes-nodes.ensures in
-    let room = room_left c.in-Ok.ensures.0 c.terminals.nodes c.terminals.invariant.read.few c.in-Ok.ensures.2 in
+    let room = room_left c.in-Ok.ensures.0 c.terminals.nodes c.terminals.invariant.read.few c.in-Ok.ensures.3 in
     record {
       read =
           terminals_more c.in-Ok.ensures.0 c.terminals.invariant.read c.requires.once c.in-Ok.ensures.1 _ counts
           (subst (λ (n : ℕ). n ≤ 256) (sym counts) room);
       leaves = IsSuffix-join c.terminals.invariant.leaves c.in-Ok.ensures.0.leaves;
-      fails = λ rest cause w. c.terminals.invariant.fails rest cause (Fails-after_terminal c.in-Ok.ensures.0 c.terminals.reader c.parse_next_terminal.new.reader c.in-Ok.ensures.1 counts w);
+      fails = λ rest cause w. c.terminals.invariant.fails rest cause (Fails-after_terminal c.in-Ok.ensures.0 c.terminals.reader c.parse_next_terminal.new.reader
+          (room-first _ _ c.in-Ok.ensures.3) c.in-Ok.ensures.1 counts c.in-Ok.ensures.2 w);
     }
 
 pub overflow_add-nodes : goal.overflow_add-nodes
 overflow_add-nodes g c =
-    let room = room_left c.in-Ok.ensures.0 _ c.terminals.invariant.read.few c.in-Ok.ensures.2 in
+    let room = room_left c.in-Ok.ensures.0 _ c.terminals.invariant.read.few c.in-Ok.ensures.3 in
     omega (arith, (ap (λ (n : ℕ). c.terminals.nodes + n) c.nodes-nodes.ensures), room)
 
 pub terminals-smaller : goal.terminals-smaller

@@ -75,11 +75,13 @@ returns-in-Some g c =
       names_are = refl;
       within = omega arith;
       leaves = IsSuffix-join (c.in_ok-first.first ∷ [], c.in_ok-first.ensures.token) reg.5;
+      few = c.len-known.ensures.table.few;
     })) (λ f lost ne. (
       λ s rest p there few.
           register_none c.args.arch c.args.locs.now c.in_ok-first.ensures.ok c.in-Some.thread c.in-Some.ensures lost.0 s rest p,
       Fails-later (c.in_ok-first.first ∷ [], c.in_ok-first.ensures.token)
-          (λ rest cause w. in_register _ _ c.in_ok-first.ensures.ok c.in-Some.ensures w) lost.1,
+          (λ rest cause w. in_register _ _ c.in_ok-first.ensures.ok c.in-Some.ensures
+          (λ r. allowed_thread c.args.threads _ r (sym c.is_allowed.ensures ∙ c.if-not-is_allowed.false)) w) lost.1,
     ))
 
 pub returns-in-Ok : goal.returns-in-Ok
