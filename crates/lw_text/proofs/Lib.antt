@@ -27,6 +27,7 @@ pub mod PropositionCases
 pub mod PropositionPlaces
 pub mod Whole
 pub mod StreamFailures
+pub mod FailureUniqueness
 pub mod Bodies
 pub mod WellFormedHeads
 pub mod PropositionReadings

@@ -2,7 +2,7 @@
 use Rattle.lw_text.proofs.Common.{◌≡◌, ◌≢◌, ℕ, Bool, true, false, not, List, [], ◌∷◌, Option, Some, None, refl, sym, ap, ◌∙◌, is_some}
 use Rattle.lw_text.proofs.Common.{option_map, bytes_eq, inl, inr, or_cases, or_parts, not-false, not-true, eqb-true, eqb-false, codes, begins_token, ◌==◌, ◌||◌, Bytes, TokenList, NameTable}
 use Rattle.lw_text.proofs.Common.{AllByRecursion, Formula, formula_of, group_of, reader_state_in, state_of, next_state, state_result}
-use Rattle.lw_text.proofs.Common.{PropositionReader, Pending, ReaderState, BeforePart, BehindPart, named_terminal, terminal_of}
+use Rattle.lw_text.proofs.Common.{PropositionReader, Pending, ReaderState, BeforePart, BehindPart, begins_part, named_terminal, terminal_of}
 use Rattle.lw_text.proofs.Texts.{is_text, is_no_text}
 use Rattle.lw_text.specs.Failures.{PropositionPlace, IfFirst, HasRoomForNode, next_place}
 use Rattle.lw_text.specs.inner.ReaderStates.{place_of}
@@ -84,3 +84,27 @@ room-first nodes (t ∷ ts) e full =
           | inr closes ↦ inr (is_text t (codes ")") closes)
         ]
     ]
+
+-- A terminal that is not possible in a state, though it begins a part if and only if one must begin there, is a `)` that closes nothing.
+pub closes_nothing : (state : ReaderState) (s : Made)
+    → next_state state (terminal_of s) ≡ None
+    → begins_part (terminal_of s) ≡ (place_of state).0
+    → (place_of state ≡ (false, 0)) × (s ≡ made.Close)
+closes_nothing (BeforePart l os) made.Open e b = absurd cc
+closes_nothing (BeforePart l os) made.Close e b = absurd cc
+closes_nothing (BeforePart l os) made.Negation e b = absurd cc
+closes_nothing (BeforePart l os) made.Conjunction e b = absurd cc
+closes_nothing (BeforePart l os) made.Disjunction e b = absurd cc
+closes_nothing (BeforePart l os) (made.Atom a) e b = absurd cc
+closes_nothing (BehindPart x p []) made.Open e b = absurd cc
+closes_nothing (BehindPart x p []) made.Close e b = (refl, refl)
+closes_nothing (BehindPart x p []) made.Negation e b = absurd cc
+closes_nothing (BehindPart x p []) made.Conjunction e b = absurd cc
+closes_nothing (BehindPart x p []) made.Disjunction e b = absurd cc
+closes_nothing (BehindPart x p []) (made.Atom a) e b = absurd cc
+closes_nothing (BehindPart x p (o ∷ os)) made.Open e b = absurd cc
+closes_nothing (BehindPart x p (o ∷ os)) made.Close e b = absurd cc
+closes_nothing (BehindPart x p (o ∷ os)) made.Negation e b = absurd cc
+closes_nothing (BehindPart x p (o ∷ os)) made.Conjunction e b = absurd cc
+closes_nothing (BehindPart x p (o ∷ os)) made.Disjunction e b = absurd cc
+closes_nothing (BehindPart x p (o ∷ os)) (made.Atom a) e b = absurd cc

@@ -127,7 +127,7 @@ pub data FailsInHeader (rest : TokenList) (cause : TextCause) : ℕ → TokenLis
       → FailsInHeader rest cause k ts
   no_thread_mark : {k : ℕ} {ts mid : TokenList} → k < most_threads → ts ≡ thread_name k ∷ mid
       → FailsBefore (codes ";" ∷ codes "|" ∷ []) Unexpected mid rest cause → FailsInHeader rest cause k ts
-  in_next_thread : {k : ℕ} {ts next : TokenList} → ts ≡ thread_name k ∷ codes "|" ∷ next → FailsInHeader rest cause (suc k) next
+  in_next_thread : {k : ℕ} {ts next : TokenList} → k < most_threads → ts ≡ thread_name k ∷ codes "|" ∷ next → FailsInHeader rest cause (suc k) next
       → FailsInHeader rest cause k ts
   too_many_threads : {k : ℕ} {ts : TokenList} → k ≡ most_threads → ts ≡ rest
       → IfFirst (λ t. ((t ≡ thread_name most_threads) × (cause ≡ TooManyThreads)) ⊎ ((t ≢ thread_name most_threads) × (cause ≡ Unexpected))) rest
@@ -145,7 +145,7 @@ pub data FailsInRows (threads : ℕ) (rest : TokenList) (cause : TextCause) : �
       → FailsInRows threads rest cause k ts
   in_row : {k : ℕ} {ts : TokenList} → k < most_rows → begins_stop ts ≡ false → FailsInRow threads ts rest cause
       → FailsInRows threads rest cause k ts
-  in_rows_after : {k : ℕ} {ts next : TokenList} (cells : Cells) → begins_stop ts ≡ false → Row threads ts cells next
+  in_rows_after : {k : ℕ} {ts next : TokenList} (cells : Cells) → k < most_rows → begins_stop ts ≡ false → Row threads ts cells next
       → FailsInRows threads rest cause (suc k) next → FailsInRows threads rest cause k ts
 
 -- ---- The quantifier and the proposition.
@@ -191,20 +191,19 @@ abbrev pub HasRoomForNode : ℕ → TokenList → Type 0
 HasRoomForNode nodes ts = nodes ≡ most_nodes → IfFirst (λ t. (t ≡ codes "(") ⊎ (t ≡ codes ")")) ts
 
 -- The proposition fails, at a place, after this number of nodes: the tokens end, and it is not complete; 256 nodes precede what is no
--- parenthesis; a terminal fails, or is not possible there; or the proposition fails after a terminal.
+-- parenthesis; a terminal fails; a `)` closes nothing; or the proposition fails after a terminal.
 pub data FailsInProposition (arch : Arch) (threads : ℕ) (rest : TokenList) (cause : TextCause)
     : PropositionPlace → ℕ → NameTable → TokenList → Type 0 where
   incomplete : {place : PropositionPlace} {nodes : ℕ} {names : NameTable} {ts : TokenList} → place ≢ (false, 0) → ts ≡ [] → rest ≡ []
       → FailsInProposition arch threads rest cause place nodes names ts
-  too_many_nodes : {place : PropositionPlace} {nodes : ℕ} {names : NameTable} {ts : TokenList} → nodes ≡ most_nodes → ts ≡ rest
+  too_many_nodes : {place : PropositionPlace} {nodes : ℕ} {names : NameTable} {ts : TokenList} → ts ≢ [] → nodes ≡ most_nodes → ts ≡ rest
       → IfFirst (λ t. AllByRecursion (λ w. t ≢ w) (codes "(" ∷ codes ")" ∷ [])) rest → cause ≡ Condition
       → FailsInProposition arch threads rest cause place nodes names ts
-  in_terminal : {place : PropositionPlace} {nodes : ℕ} {names : NameTable} {ts : TokenList} → HasRoomForNode nodes ts
+  in_terminal : {place : PropositionPlace} {nodes : ℕ} {names : NameTable} {ts : TokenList} → ts ≢ [] → HasRoomForNode nodes ts
       → FailsInTerminal arch threads place.0 names ts rest cause
       → FailsInProposition arch threads rest cause place nodes names ts
-  impossible_terminal : {place : PropositionPlace} {nodes : ℕ} {names : NameTable} {ts : TokenList} (s : Terminal AtomSyntax) (mid : TokenList)
-      → HasRoomForNode nodes ts → IsTerminal arch threads ts s mid → next_place place s ≡ None → ts ≡ rest → cause ≡ Condition
-      → FailsInProposition arch threads rest cause place nodes names ts
+  unopened : {place : PropositionPlace} {nodes : ℕ} {names : NameTable} {ts after : TokenList} → place ≡ (false, 0) → ts ≡ codes ")" ∷ after
+      → ts ≡ rest → cause ≡ Condition → FailsInProposition arch threads rest cause place nodes names ts
   after_terminal : {place : PropositionPlace} {nodes : ℕ} {names : NameTable} {ts : TokenList} (s : Terminal AtomSyntax) (mid : TokenList)
       (next : PropositionPlace) → HasRoomForNode nodes ts → IsTerminal arch threads ts s mid → HasRoomFor names (sites_in (s ∷ []))
       → next_place place s ≡ Some next

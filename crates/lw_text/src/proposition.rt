@@ -67,6 +67,7 @@ impl<'t, 'a> Cursor<'t, 'a> {
     ) -> Result<Terminal, Refusal>
         requires threads { threads ≤ MAX_THREADS }
         requires once { IsDuplicateFree locs.old }
+        requires some { remaining_texts self.old ≢ [] }
         ensures { MatchResult result (λ s. ParsedTerminal arch threads self.old self.new locs.old locs.new s
             × (next_state (state_of reader.old) (terminal_of s) ≡ Some (state_of reader.new))
             × (length locs.new ≤ most_locations)

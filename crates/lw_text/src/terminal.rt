@@ -79,7 +79,8 @@ impl<'t, 'a> Cursor<'t, 'a> {
         locs: &mut LocNames<A>,
     ) -> Result<Terminal, Refusal>
         requires { threads ≤ MAX_THREADS }
-        ensures { MatchResult result (λ s. ParsedTerminal arch threads self.old self.new locs.old locs.new s)
+        ensures { MatchResult result
+            (λ s. ParsedTerminal arch threads self.old self.new locs.old locs.new s × (begins_part (terminal_of s) ≡ part))
             (λ f. f.cause ≢ Memory
             → ((s : TerminalSyntax AtomSyntax) (rest : TokenList)
             → IsTerminal arch threads (remaining_texts self.old) s rest → begins_part s ≡ part
@@ -101,7 +102,8 @@ impl<'t, 'a> Cursor<'t, 'a> {
         locs: &mut LocNames<A>,
     ) -> Result<Terminal, Refusal>
         requires { threads ≤ MAX_THREADS }
-        ensures { MatchResult result (λ s. ParsedTerminal arch threads self.old self.new locs.old locs.new s)
+        ensures { MatchResult result
+            (λ s. ParsedTerminal arch threads self.old self.new locs.old locs.new s × (begins_part (terminal_of s) ≡ true))
             (λ f. f.cause ≢ Memory
             → ((s : TerminalSyntax AtomSyntax) (rest : TokenList)
             → IsTerminal arch threads (remaining_texts self.old) s rest → begins_part s ≡ true
@@ -123,6 +125,7 @@ impl<'t, 'a> Cursor<'t, 'a> {
         ensures none { IfNone result ((arch : Arch) (threads : ℕ) (s : TerminalSyntax AtomSyntax) (rest : TokenList)
             → IsTerminal arch threads (remaining_texts self.old) s rest → begins_part s ≡ true
             → (site : SiteSyntax) × (n : ℕ) × (s ≡ Claims (Holds site n))) }
+        ensures part { IfSome result (λ s. begins_part (terminal_of s) ≡ true) }
         ensures kept { result ≡ None → self.new ≡ self.old }
         ensures words { IfNone result (IfFirst (λ t. AllByRecursion (λ w. t ≢ w) opening_words) (remaining_texts self.old)) }
     {
@@ -146,8 +149,8 @@ impl<'t, 'a> Cursor<'t, 'a> {
 
     /// Parses a `)`, a `/\` or a `\/`.
     fn parse_joint(&mut self) -> Result<Terminal, Refusal>
-        ensures { MatchResult result (λ s. (arch : Arch) (threads : ℕ) (names : NameTable)
-            → ParsedTerminal arch threads self.old self.new names names s)
+        ensures { MatchResult result (λ s. ((arch : Arch) (threads : ℕ) (names : NameTable)
+            → ParsedTerminal arch threads self.old self.new names names s) × (begins_part (terminal_of s) ≡ false))
             (λ f. ((arch : Arch) (threads : ℕ) (s : TerminalSyntax AtomSyntax) (rest : TokenList)
             → IsTerminal arch threads (remaining_texts self.old) s rest → begins_part s ≡ false → ⊥)
             × ((arch : Arch) (threads : ℕ) (names : NameTable) → Fails self.old (FailsInTerminal arch threads false names) f)) }

@@ -18,7 +18,7 @@ loop-thread-preserved c = record {
   fails =
       λ rest cause w.
       c.loop-thread.invariant.fails rest cause
-      (in_next_thread
+      (in_next_thread (omega (arith, c.loop-thread-test.true))
       (c.in_ok-expect.ensures.ok
       ∙ ap (λ x. x ∷ remaining_texts c.expect.new.self) c.thread_name.ensures
       ∙ ap (λ l. thread_name c.loop-thread.thread ∷ l) (rw c.if-branch.false at c.in_ok-expect_either.ensures.0)) (rw add-one at w));

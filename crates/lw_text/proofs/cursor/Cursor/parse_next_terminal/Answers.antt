@@ -1,8 +1,7 @@
-use Rattle.lw_text.proofs.Common.{◌∙◌, [], refl, sym, ap, subst, option_map, remaining_texts, state_of}
+use Rattle.lw_text.proofs.Common.{◌∙◌, [], refl, sym, ap, subst, remaining_texts, state_of}
 use Rattle.lw_text.proofs.Failures.{Fails-here, Fails-later}
-use Rattle.lw_text.proofs.PropositionPlaces.{next_place-state, wants_part-place, no_room-first, room-first}
-use Rattle.lw_text.specs.Failures.{FailsInTerminal, impossible_terminal, too_many_nodes, in_terminal}
-use Rattle.lw_text.specs.inner.ReaderStates.{place_of}
+use Rattle.lw_text.proofs.PropositionPlaces.{closes_nothing, wants_part-place, no_room-first, room-first}
+use Rattle.lw_text.specs.Failures.{FailsInTerminal, unopened, too_many_nodes, in_terminal}
 use Rattle.lw_text.proofs.PropositionCases.{terminal_refused, no_room, begins_right}
 use Rattle.lw_text.proofs.Faults.{ran_out, Err-clause_known}
 use Rattle.lw_text.proofs.cursor.Cursor.parse_next_terminal.Goals as goal
@@ -12,11 +11,11 @@ returns-then-not-branch g c =
     let refused = rw c.if-not-branch.true at c.in_ok-take.ensures in
     λ ne. (
       λ s rest is left few fits.
-          left (terminal_refused c.in_ok-terminal.ensures c.args.reader.now c.requires.once refused s rest is),
+          left (terminal_refused c.in_ok-terminal.ensures.0 c.args.reader.now c.requires.once refused s rest is),
       Fails-here c.args.self.now _ c.refusal-misfit.ensures.place
-          (impossible_terminal _ _ (room-first _ _ (sym c.has_room.ensures ∙ c.if-not-has_room.false)) c.in_ok-terminal.ensures.is
-          (next_place-state (state_of c.args.reader.now) c.parse_terminal.new.locs c.in_ok-terminal.terminal
-          ∙ ap (option_map place_of) refused) refl c.refusal-misfit.ensures.cause),
+          (let closes = closes_nothing (state_of c.args.reader.now) c.in_ok-terminal.terminal refused
+          (c.in_ok-terminal.ensures.1 ∙ sym (wants_part-place c.args.reader.now _ c.wants_part.ensures)) in
+          unopened closes.0 (rw closes.1 at c.in_ok-terminal.ensures.0.is) refl c.refusal-misfit.ensures.cause),
     )
 
 pub returns-then-not-has_room : goal.returns-then-not-has_room
@@ -26,7 +25,7 @@ returns-then-not-has_room g c =
     λ ne. (
       λ s rest is left few fits. no_room c.args.arch c.args.threads c.args.nodes _ rest s full is fits,
       Fails-here c.args.self.now _ c.refusal-misfit.ensures.place
-          (too_many_nodes room.0 refl room.1 c.refusal-misfit.ensures.cause),
+          (too_many_nodes c.requires.some room.0 refl room.1 c.refusal-misfit.ensures.cause),
     )
 
 pub returns-in_err-terminal : goal.returns-in_err-terminal
@@ -35,7 +34,7 @@ returns-in_err-terminal g c = Err-clause_known _ _ _ c.from_residual.ensures.1 (
       λ s rest is left few fits. lost.0 s rest is (begins_right c.args.reader.now _ c.wants_part.ensures _ s left) few,
       Fails-later ([], refl)
           (λ rest cause w.
-          in_terminal (room-first _ _ (sym c.has_room.ensures ∙ c.if-not-has_room.false))
+          in_terminal c.requires.some (room-first _ _ (sym c.has_room.ensures ∙ c.if-not-has_room.false))
           (subst
           (λ part. FailsInTerminal c.args.arch c.args.threads part c.args.locs.now (remaining_texts c.args.self.now) rest cause)
           (sym (wants_part-place c.args.reader.now _ c.wants_part.ensures)) w)) lost.1,
@@ -47,7 +46,7 @@ returns-in_err-take g c = ran_out _ _ _ c.from_residual-in_err-take.ensures.1
 pub returns : goal.returns
 returns g c =
     (
-      c.in_ok-terminal.ensures,
+      c.in_ok-terminal.ensures.0,
       rw c.if-not-branch.false at c.in_ok-take.ensures,
       c.len-known.ensures.table.few,
       sym c.has_room.ensures ∙ c.if-not-has_room.false,

@@ -47,17 +47,20 @@ returns g c =
     let table = c.parse_site.new.locs in
     let taken = c.in_ok-site.ensures in
     let syntax = sym (c.atom_at.ensures.syntax table) in
-    record {
-      is =
-          subst (λ claim.
-          IsAtom c.args.arch c.args.threads (remaining_texts c.args.self.now) claim (remaining_texts c.parse_value.new.self))
-          syntax (remaining_texts c.parse_site.new.self, rw kept at taken.is, taken.there, c.in_ok-word.ensures.0);
-      names_are = subst (λ claim. table ≡ with_sites c.args.locs.now (sites_in (Atom claim ∷ []))) syntax taken.names_are;
-      within = c.atom_at.ensures.within table taken.within;
-      leaves =
-          IsSuffix-join (subst (λ x. IsSuffix (remaining x) (remaining c.parse_site.new.self)) same taken.leaves)
-          c.in_ok-word.ensures.1;
-    }
+    (
+      record {
+        is =
+            subst (λ claim.
+            IsAtom c.args.arch c.args.threads (remaining_texts c.args.self.now) claim (remaining_texts c.parse_value.new.self))
+            syntax (remaining_texts c.parse_site.new.self, rw kept at taken.is, taken.there, c.in_ok-word.ensures.0);
+        names_are = subst (λ claim. table ≡ with_sites c.args.locs.now (sites_in (Atom claim ∷ []))) syntax taken.names_are;
+        within = c.atom_at.ensures.within table taken.within;
+        leaves =
+            IsSuffix-join (subst (λ x. IsSuffix (remaining x) (remaining c.parse_site.new.self)) same taken.leaves)
+            c.in_ok-word.ensures.1;
+      },
+      refl,
+    )
 
 pub returns-in-Some : goal.returns-in-Some
-returns-in-Some g c = c.in-Some.ensures.found c.args.arch c.args.threads c.args.locs.now
+returns-in-Some g c = (c.in-Some.ensures.found c.args.arch c.args.threads c.args.locs.now, c.in-Some.ensures.part)

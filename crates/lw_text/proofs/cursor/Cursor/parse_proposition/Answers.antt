@@ -86,3 +86,7 @@ overflow_add-nodes g c =
 
 pub terminals-smaller : goal.terminals-smaller
 terminals-smaller g c = IsTerminal-shorter c.args.arch c.args.threads _ _ _ c.in-Ok.ensures.0.is
+
+pub parse_next_terminal-requires-clause-some : goal.parse_next_terminal-requires-clause-some
+parse_next_terminal-requires-clause-some g c =
+    some_left c.terminals.self.tokens.now c.terminals.self.next c.terminals.self.within c.if-self.false

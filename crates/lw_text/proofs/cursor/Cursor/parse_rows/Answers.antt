@@ -59,7 +59,7 @@ rows-preserved g c = record {
   fails =
       λ rest cause w.
       c.rows.invariant.fails rest cause
-      (in_rows_after _ (sym c.at_stop.ensures ∙ c.if-at_stop.false) c.in_ok-parse_row.ensures.0
+      (in_rows_after _ (omega (arith, c.if-len-eq-MAX_ROWS.false, c.len.ensures, c.rows.invariant.few)) (sym c.at_stop.ensures ∙ c.if-at_stop.false) c.in_ok-parse_row.ensures.0
       (subst (λ k. FailsInRows c.args.threads rest cause k (remaining_texts c.parse_row.new.self))
       (omega (arith, ap length c.in_ok-push.ensures.ok, length-append c.rows.rows (c.in_ok-parse_row.field-0 ∷ []))) w));
 }
