@@ -20,7 +20,7 @@ FailsUniquely {X} Way =
     (ts rest other : List X) (cause because : TextCause) → Way ts rest cause → Way ts other because → IsSameFailure rest cause other because
 
 -- A failure at the first token is unique if its cause is.
-at_once : (P : Bytes → TextCause → Type 0)
+pub at_once : (P : Bytes → TextCause → Type 0)
     → ((t : Bytes) (cause because : TextCause) → P t cause → P t because → cause ≡ because)
     → FailsUniquely (λ ts rest cause. (ts ≡ rest) × IfFirst (λ t. P t cause) rest)
 at_once P one ts rest other cause because p q = (sym p.0 ∙ q.0, at rest other (sym p.0 ∙ q.0) p.1 q.1)
@@ -35,7 +35,7 @@ at_once P one ts rest other cause because p q = (sym p.0 ∙ q.0, at rest other 
     at (t ∷ rest) other e x y some = one t cause because x (subst (IfFirst (λ t. P t because)) (sym e) y)
 
 -- What holds of the first of tokens holds of this one.
-first_holds : (P : Bytes → Type 0) (ts l : TokenList) (t : Bytes) → ts ≡ t ∷ l → IfFirst P ts → P t
+pub first_holds : (P : Bytes → Type 0) (ts l : TokenList) (t : Bytes) → ts ≡ t ∷ l → IfFirst P ts → P t
 first_holds P ts l t e h = subst (IfFirst P) e h
 
 -- Failing before some words is unique.

@@ -28,6 +28,7 @@ pub mod PropositionPlaces
 pub mod Whole
 pub mod StreamFailures
 pub mod FailureUniqueness
+pub mod TestFailures
 pub mod Bodies
 pub mod WellFormedHeads
 pub mod PropositionReadings
