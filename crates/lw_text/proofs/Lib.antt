@@ -29,6 +29,8 @@ pub mod Whole
 pub mod StreamFailures
 pub mod FailureUniqueness
 pub mod TestFailures
+pub mod ConditionFailures
+pub mod WholeFailures
 pub mod Bodies
 pub mod WellFormedHeads
 pub mod PropositionReadings

@@ -76,7 +76,7 @@ begins_resolved names Open = refl
 begins_resolved names _ = refl
 
 -- The table after the names of `a ++ b` is that after the names of a and then of b.
-with_sites_in-append : (names : NameTable) (a b : List (Terminal AtomSyntax))
+pub with_sites_in-append : (names : NameTable) (a b : List (Terminal AtomSyntax))
     → with_sites names (sites_in (a ++ b)) ≡ with_sites (with_sites names (sites_in a)) (sites_in b)
 with_sites_in-append names a b =
     ap (with_sites names) (filter_map-append site_of a b) ∙ with_sites-append names (sites_in a) (sites_in b)
@@ -199,7 +199,7 @@ module _ {A : Type 0} {arch : Arch} {threads : ℕ} {first names start here : To
   once_here once = subst IsDuplicateFree (sym read.names_are) (once-along first (site_names (sites_in read.terminals)) once)
 
 -- A terminal counts as one node if it is one, and as none otherwise.
-one_node : (b : Bool) (t : Terminal AtomSyntax) → is_node t ≡ b → count (t ∷ []) ≡ (if b then 1 else 0)
+pub one_node : (b : Bool) (t : Terminal AtomSyntax) → is_node t ≡ b → count (t ∷ []) ≡ (if b then 1 else 0)
 one_node true t e = rw e refl
 one_node false t e = rw e refl
 

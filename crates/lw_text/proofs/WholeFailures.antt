@@ -1,0 +1,228 @@
+-- Tokens fail to be a test at one place only, and for one cause, and tests do not fail.
+use Rattle.lw_text.proofs.Common.{inl, inr, ◌≡◌, ◌≢◌, ℕ, ◌+◌, ◌<◌, ◌≤◌, None, List, [], ◌∷◌, length, refl, sym, ap, ◌∙◌, subst, arith, codes}
+use Rattle.lw_text.proofs.Common.{AllByRecursion, Arch, NameTable, TokenList, CellGrid, Formula, HasRoomFor, ThreadExists, InThread, with_sites}
+use Rattle.lw_text.proofs.Common.{InitializerSyntax, IsInitializer, sites_of, Block, Header, Names, Rows, ParsesMany, ParsesSepEndBy, ParsesNoTest, ParsesTest}
+use Rattle.lw_text.proofs.Atoms.{no_site, IsInitializer-unique}
+use Rattle.lw_text.proofs.Cells.{Rows-unique}
+use Rattle.lw_text.proofs.ConditionFailures.{FailsInCondition-unique, FailsInCondition-not}
+use Rattle.lw_text.proofs.Failures.{same_head, same_tail}
+use Rattle.lw_text.proofs.FailureUniqueness.{IsSameFailure, FailsUniquely}
+use Rattle.lw_text.proofs.Headers.{Names-unique}
+use Rattle.lw_text.proofs.SiteLists.{Block-unique}
+use Rattle.lw_text.proofs.TestFailures.{FailsInBlock-unique, FailsInBlock-not, FailsInHeader-unique, FailsInHeader-not}
+use Rattle.lw_text.proofs.TestFailures.{FailsInRows-unique, FailsInRows-not}
+use Rattle.lw_text.proofs.Texts.{is_no_text}
+use Rattle.lw_text.proofs.Whole.{few_first, no_header, no_rows, no_condition}
+use Rattle.lw_text.specs.Failures.{ReadsBlock, FailsInCondition, FailsInHeader, FailsInRows, FailsInTest, in_block, in_header, no_such_thread}
+use Rattle.lw_text.specs.Failures.{in_rows, in_condition}
+use Rattle.lw_text.specs.declared.fault.TextCause.{TextCause}
+
+module _ (arch : Arch) where
+  -- An initializer with its `;`.
+  abbrev Entry : TokenList → InitializerSyntax → TokenList → Type 0
+  Entry ts e next = IsInitializer arch ts e (codes ";" ∷ next)
+
+  entry_one : (ts r s : TokenList) (x y : InitializerSyntax) → Entry ts x r → Entry ts y s → (x ≡ y) × (r ≡ s)
+  entry_one ts r s x y p q =
+      let u = IsInitializer-unique arch ts x y (codes ";" ∷ r) (codes ";" ∷ s) p q in
+      (u.0, same_tail u.1)
+
+  -- The thread of an initializer that is not one of the threads does not exist.
+  no_thread_here : (threads t r word : ℕ) (ts behind after : TokenList) (e : InitializerSyntax)
+      → IsInitializer arch ts (record { site = InThread t r; word = word }) behind
+      → threads ≤ t
+      → IsInitializer arch ts e after
+      → ThreadExists threads e.site
+      → ⊥
+  no_thread_here threads t r word ts behind after e is high also there =
+      let u = IsInitializer-unique arch ts (record { site = InThread t r; word = word }) e behind after is also in
+      let low : t < threads = subst (λ (x : InitializerSyntax). ThreadExists threads x.site) (sym u.0) there in
+      omega (arith, high, low)
+
+  -- The first initializer whose thread does not exist is at one place.
+  first_one : (threads : ℕ) (front other : List InitializerSyntax) (inside rest place : TokenList)
+      (t r word u v more : ℕ) (behind after : TokenList)
+      → ParsesMany Entry inside front rest
+      → AllByRecursion (λ e. ThreadExists threads e.site) front
+      → IsInitializer arch rest (record { site = InThread t r; word = word }) behind
+      → threads ≤ t
+      → ParsesMany Entry inside other place
+      → AllByRecursion (λ e. ThreadExists threads e.site) other
+      → IsInitializer arch place (record { site = InThread u v; word = more }) after
+      → threads ≤ u
+      → rest ≡ place
+  first_one threads [] [] inside rest place t r word u v more behind after p all is high q each also above = sym p ∙ q
+  first_one threads [] (y ∷ other) inside rest place t r word u v more behind after p all is high q each also above =
+      absurd (no_thread_here threads t r word inside behind (codes ";" ∷ q.0) y
+      (subst (λ l. IsInitializer arch l (record { site = InThread t r; word = word }) behind) (sym p) is) high q.1 each.0)
+  first_one threads (x ∷ front) [] inside rest place t r word u v more behind after p all is high q each also above =
+      absurd (no_thread_here threads u v more inside after (codes ";" ∷ p.0) x
+      (subst (λ l. IsInitializer arch l (record { site = InThread u v; word = more }) after) (sym q) also) above p.1 all.0)
+  first_one threads (x ∷ front) (y ∷ other) inside rest place t r word u v more behind after p all is high q each also above =
+      first_one threads front other p.0 rest place t r word u v more behind after p.2 all.1 is high
+      (subst (λ l. ParsesMany Entry l other place) (sym (entry_one inside p.0 q.0 x y p.1 q.1).1) q.2) each.1 also above
+
+  -- Where all threads of a block exist, none of its initializers has another.
+  none_first : (threads : ℕ) (front es : List InitializerSyntax) (inside rest end : TokenList) (t r word : ℕ) (behind : TokenList)
+      → ParsesMany Entry inside front rest
+      → IsInitializer arch rest (record { site = InThread t r; word = word }) behind
+      → threads ≤ t
+      → ParsesSepEndBy (IsInitializer arch) (codes ";") (codes "}") inside es end
+      → AllByRecursion (λ e. ThreadExists threads e.site) es
+      → ⊥
+  none_first threads [] [] inside rest end t r word behind p is high block all =
+      no_site (codes "}") refl arch rest end is.0 (InThread t r) (sym p ∙ block) is.1
+  none_first threads [] (y ∷ es) inside rest end t r word behind p is high block all =
+      no_thread_here threads t r word inside behind block.0 y
+      (subst (λ l. IsInitializer arch l (record { site = InThread t r; word = word }) behind) (sym p) is) high block.1 all.0
+  none_first threads (x ∷ front) [] inside rest end t r word behind p is high block all =
+      no_site (codes "}") refl arch inside end p.1.0 x.site block p.1.1
+  none_first threads (x ∷ front) (y ∷ es) inside rest end t r word behind p is high block all =
+      let u = IsInitializer-unique arch inside x y (codes ";" ∷ p.0) block.0 p.1 block.1 in
+      elim block.2 [
+        | inl close ↦ is_no_text (codes ";") (codes "}") refl (same_head (u.1 ∙ close.1))
+        | inr more ↦
+            none_first threads front es p.0 rest end t r word behind p.2 is high
+            (subst (λ l. ParsesSepEndBy (IsInitializer arch) (codes ";") (codes "}") l es end) (sym (same_tail (u.1 ∙ more.1))) more.2) all.1
+      ]
+
+  -- What a block and a header say is unique.
+  header_one : (ts mid end after behind : TokenList) (es fs : List InitializerSyntax) (n k : ℕ)
+      → Block arch ts es mid
+      → Block arch ts fs end
+      → Header mid n after
+      → Header end k behind
+      → (es ≡ fs) × (n ≡ k) × (after ≡ behind)
+  header_one ts mid end after behind es fs n k block also header too =
+      let u = Block-unique arch ts es fs mid end block also in
+      let v = Names-unique 0 n k mid after behind header.0 (subst (λ l. Names 0 k l behind) (sym u.1) too.0) in
+      (u.0, v.0, v.1)
+
+  -- After a block with this end, a header that is there does not fail.
+  header_not : (ts mid end rest after : TokenList) (cause : TextCause) (es fs : List InitializerSyntax) (n : ℕ)
+      → Block arch ts es mid
+      → FailsInHeader rest cause 0 mid
+      → Block arch ts fs end
+      → Header end n after
+      → ⊥
+  header_not ts mid end rest after cause es fs n block fails also header =
+      FailsInHeader-not rest cause 0 n mid after fails
+      (subst (λ l. Names 0 n l after) (sym (Block-unique arch ts es fs mid end block also).1) header.0) (omega (arith, header.1))
+
+  -- Where a thread of a block does not exist, not all of its threads do.
+  thread_not : (ts mid end rest after behind inside later : TokenList) (es fs front : List InitializerSyntax) (n k t r word : ℕ)
+      → Block arch ts es mid
+      → Header mid n after
+      → ts ≡ codes "{" ∷ inside
+      → ParsesMany Entry inside front rest
+      → IsInitializer arch rest (record { site = InThread t r; word = word }) behind
+      → n ≤ t
+      → Block arch ts fs end
+      → Header end k later
+      → AllByRecursion (λ e. ThreadExists k e.site) fs
+      → ⊥
+  thread_not ts mid end rest after behind inside later es fs front n k t r word block header begins read is high also too all =
+      let u = header_one ts mid end after later es fs n k block also header too in
+      none_first n front fs inside rest end t r word behind read is high
+      (subst (λ l. ParsesSepEndBy (IsInitializer arch) (codes ";") (codes "}") l fs end) (sym (same_tail (sym begins ∙ also.1))) also.2)
+      (subst (λ (k : ℕ). AllByRecursion (λ e. ThreadExists k e.site) fs) (sym u.1) all)
+
+  -- Tokens fail to be a test uniquely.
+  pub FailsInTest-unique : FailsUniquely (FailsInTest arch)
+  FailsInTest-unique ts r s d e (in_block p) (in_block q) = FailsInBlock-unique arch [] ts r s d e p q
+  FailsInTest-unique ts r s d e (in_block p) (in_header es mid block q) =
+      absurd (FailsInBlock-not arch [] ts r mid d es p block.0 block.1)
+  FailsInTest-unique ts r s d e (in_block p) (no_such_thread es front n t i w inside mid after behind block header begins read all is high c) =
+      absurd (FailsInBlock-not arch [] ts r mid d es p block.0 block.1)
+  FailsInTest-unique ts r s d e (in_block p) (in_rows es n mid after block header all q) =
+      absurd (FailsInBlock-not arch [] ts r mid d es p block.0 block.1)
+  FailsInTest-unique ts r s d e (in_block p) (in_condition es n rows mid after behind block header all are q) =
+      absurd (FailsInBlock-not arch [] ts r mid d es p block.0 block.1)
+  FailsInTest-unique ts r s d e (in_header es mid block q) (in_block p) =
+      absurd (FailsInBlock-not arch [] ts s mid e es p block.0 block.1)
+  FailsInTest-unique ts r s d e (in_header es mid block p) (in_header fs end also q) =
+      FailsInHeader-unique r s d e 0 mid p
+      (subst (FailsInHeader s e 0) (sym (Block-unique arch ts es fs mid end block.0 also.0).1) q)
+  FailsInTest-unique ts r s d e (in_header es mid block p)
+      (no_such_thread fs front n t i w inside end after behind also header begins read all is high c) =
+      absurd (header_not ts mid end r after d es fs n block.0 p also.0 header)
+  FailsInTest-unique ts r s d e (in_header es mid block p) (in_rows fs n end after also header all q) =
+      absurd (header_not ts mid end r after d es fs n block.0 p also.0 header)
+  FailsInTest-unique ts r s d e (in_header es mid block p) (in_condition fs n rows end after behind also header all are q) =
+      absurd (header_not ts mid end r after d es fs n block.0 p also.0 header)
+  FailsInTest-unique ts r s d e (no_such_thread es front n t i w inside mid after behind block header begins read all is high c) (in_block p) =
+      absurd (FailsInBlock-not arch [] ts s mid e es p block.0 block.1)
+  FailsInTest-unique ts r s d e (no_such_thread fs front n t i w inside end after behind also header begins read all is high c)
+      (in_header es mid block p) =
+      absurd (header_not ts mid end s after e es fs n block.0 p also.0 header)
+  FailsInTest-unique ts r s d e (no_such_thread es front n t i w inside mid after behind block header begins read all is high c)
+      (no_such_thread fs other k u j v within end later beyond also too again reads each that above b) =
+      let same = header_one ts mid end after later es fs n k block.0 also.0 header too in
+      (
+        first_one n front other inside r s t i w u j v behind beyond read all is high
+            (subst (λ l. ParsesMany Entry l other s) (sym (same_tail (sym begins ∙ again))) reads)
+            (subst (λ (k : ℕ). AllByRecursion (λ e. ThreadExists k e.site) other) (sym same.1) each) that
+            (subst (λ (k : ℕ). k ≤ u) (sym same.1) above),
+        λ some. c ∙ sym b,
+      )
+  FailsInTest-unique ts r s d e (no_such_thread es front n t i w inside mid after behind block header begins read all is high c)
+      (in_rows fs k end later also too every q) =
+      absurd (thread_not ts mid end r after behind inside later es fs front n k t i w block.0 header begins read is high also.0 too every)
+  FailsInTest-unique ts r s d e (no_such_thread es front n t i w inside mid after behind block header begins read all is high c)
+      (in_condition fs k rows end later beyond also too every are q) =
+      absurd (thread_not ts mid end r after behind inside later es fs front n k t i w block.0 header begins read is high also.0 too every)
+  FailsInTest-unique ts r s d e (in_rows es n mid after block header all p) (in_block q) =
+      absurd (FailsInBlock-not arch [] ts s mid e es q block.0 block.1)
+  FailsInTest-unique ts r s d e (in_rows fs n end after also header all q) (in_header es mid block p) =
+      absurd (header_not ts mid end s after e es fs n block.0 p also.0 header)
+  FailsInTest-unique ts r s d e (in_rows fs k end later also too every q)
+      (no_such_thread es front n t i w inside mid after behind block header begins read all is high c) =
+      absurd (thread_not ts mid end s after behind inside later es fs front n k t i w block.0 header begins read is high also.0 too every)
+  FailsInTest-unique ts r s d e (in_rows es n mid after block header all p) (in_rows fs k end later also too every q) =
+      let same = header_one ts mid end after later es fs n k block.0 also.0 header too in
+      FailsInRows-unique n r s d e 0 after p
+      (subst (λ (k : ℕ). FailsInRows k s e 0 after) (sym same.1) (subst (FailsInRows k s e 0) (sym same.2) q))
+  FailsInTest-unique ts r s d e (in_rows es n mid after block header all p) (in_condition fs k rows end later beyond also too every are q) =
+      let same = header_one ts mid end after later es fs n k block.0 also.0 header too in
+      let read : Rows n after rows beyond =
+      subst (λ (k : ℕ). Rows k after rows beyond) (sym same.1) (subst (λ l. Rows k l rows beyond) (sym same.2) are) in
+      absurd (FailsInRows-not n r d 0 after beyond rows p read.0 (omega (arith, read.1)))
+  FailsInTest-unique ts r s d e (in_condition es n rows mid after behind block header all are p) (in_block q) =
+      absurd (FailsInBlock-not arch [] ts s mid e es q block.0 block.1)
+  FailsInTest-unique ts r s d e (in_condition fs n rows end after behind also header all are q) (in_header es mid block p) =
+      absurd (header_not ts mid end s after e es fs n block.0 p also.0 header)
+  FailsInTest-unique ts r s d e (in_condition fs k rows end later beyond also too every are q)
+      (no_such_thread es front n t i w inside mid after behind block header begins read all is high c) =
+      absurd (thread_not ts mid end s after behind inside later es fs front n k t i w block.0 header begins read is high also.0 too every)
+  FailsInTest-unique ts r s d e (in_condition fs k rows end later beyond also too every are q) (in_rows es n mid after block header all p) =
+      let same = header_one ts mid end after later es fs n k block.0 also.0 header too in
+      let read : Rows n after rows beyond =
+      subst (λ (k : ℕ). Rows k after rows beyond) (sym same.1) (subst (λ l. Rows k l rows beyond) (sym same.2) are) in
+      absurd (FailsInRows-not n s e 0 after beyond rows p read.0 (omega (arith, read.1)))
+  FailsInTest-unique ts r s d e (in_condition es n rows mid after behind block header all are p)
+      (in_condition fs k lines end later beyond also too every still q) =
+      let same = header_one ts mid end after later es fs n k block.0 also.0 header too in
+      let read : Rows n after lines beyond =
+      subst (λ (k : ℕ). Rows k after lines beyond) (sym same.1) (subst (λ l. Rows k l lines beyond) (sym same.2) still) in
+      let u = Rows-unique n after behind beyond rows lines are read in
+      FailsInCondition-unique arch n (with_sites [] (sites_of es)) behind r s d e p
+      (subst (λ l. FailsInCondition arch n (with_sites [] (sites_of es)) l s e) (sym u.1)
+      (subst (λ xs. FailsInCondition arch n (with_sites [] (sites_of xs)) beyond s e) (sym same.0)
+      (subst (λ (k : ℕ). FailsInCondition arch k (with_sites [] (sites_of fs)) beyond s e) (sym same.1) q)))
+
+  -- Tests do not fail.
+  pub FailsInTest-not : (ts rest : TokenList) (cause : TextCause) → FailsInTest arch ts rest cause → ParsesNoTest arch ts
+  FailsInTest-not ts rest cause (in_block fails) s f p whole =
+      FailsInBlock-not arch [] ts rest p.behind_block cause s.initializers fails p.block (few_first arch ts s p)
+  FailsInTest-not ts rest cause (in_header es mid block fails) s f p whole =
+      no_header arch ts mid es block.0
+      (λ n after header. FailsInHeader-not rest cause 0 n mid after fails header.0 (omega (arith, header.1))) s p
+  FailsInTest-not ts rest cause (no_such_thread es front n t i w inside mid after behind block header begins read all is high c) s f p whole =
+      thread_not ts mid p.behind_block rest after behind inside p.behind_header es s.initializers front n s.threads t i w block.0 header begins
+      read is high p.block p.header p.there
+  FailsInTest-not ts rest cause (in_rows es n mid after block header all fails) s f p whole =
+      no_rows arch ts mid es block.0 n after header
+      (λ rows end read. FailsInRows-not n rest cause 0 after end rows fails read.0 (omega (arith, read.1))) s p
+  FailsInTest-not ts rest cause (in_condition es n rows mid after behind block header all are fails) s f p whole =
+      no_condition arch ts mid es block.0 n after header rows behind are (with_sites [] (sites_of es)) refl
+      (FailsInCondition-not arch n (with_sites [] (sites_of es)) behind rest cause fails) s f p whole
