@@ -31,6 +31,7 @@ pub mod FailureUniqueness
 pub mod TestFailures
 pub mod ConditionFailures
 pub mod WholeFailures
+pub mod ByteFailures
 pub mod Bodies
 pub mod WellFormedHeads
 pub mod PropositionReadings

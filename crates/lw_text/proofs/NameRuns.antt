@@ -63,12 +63,12 @@ kind_nonempty w (inl name) = name.0.some
 kind_nonempty w (inr (n, m)) = elim m.1 [ inl d ↦ d.0 | inr h ↦ omega (arith, ap length h.1) ]
 
 -- A run of name bytes starts with one.
-run_front : (w rest : Bytes) → IsNameRun w rest → first_byte_is is_name_byte (w ++ rest) ≡ true
+pub run_front : (w rest : Bytes) → IsNameRun w rest → first_byte_is is_name_byte (w ++ rest) ≡ true
 run_front [] rest h = absurd (let n = kind_nonempty [] h.kind in omega arith)
 run_front (b ∷ w) rest h = h.all.0
 
 -- A symbol does not start with a name byte.
-symbol_front : (t rest : Bytes) → IsSymbol t rest → first_byte_is is_name_byte (t ++ rest) ≡ false
+pub symbol_front : (t rest : Bytes) → IsSymbol t rest → first_byte_is is_name_byte (t ++ rest) ≡ false
 symbol_front (b ∷ []) rest h = not-true (is_name_byte b) (single_all (λ x. not (is_name_byte x)) b refl h.0)
 symbol_front (b ∷ c ∷ []) rest h = not-true (is_name_byte b) (pair_all (first_byte_is (λ x. not (is_name_byte x))) b c refl h)
 symbol_front _ rest h = absurd h

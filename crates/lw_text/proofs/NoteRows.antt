@@ -16,7 +16,7 @@ abbrev pub Without : ℕ → Bytes → Type 0
 Without c bytes = AllByRecursion (λ b. not (b == c) ≡ true) bytes
 
 -- Bytes that all differ from c satisfy `Without`.
-without : (c : ℕ) (bytes : Bytes) → AllByRecursion (λ b. (b == c) ≡ false) bytes → Without c bytes
+pub without : (c : ℕ) (bytes : Bytes) → AllByRecursion (λ b. (b == c) ≡ false) bytes → Without c bytes
 without c bytes all = All-mono (λ b. (b == c) ≡ false) _ (λ b e. ap not e) bytes all
 
 -- Bytes that satisfy `Without` all differ from c.
@@ -138,7 +138,7 @@ KeyLine-unique text a b p q =
     (record { parts = ends; all = without 10 q.value q.one_line; longest = q.longest })).1
 
 -- A text that starts with a key starts with a byte of a key.
-key_front : (key more : Bytes) → 0 < length key → Keys key → first_byte_is is_key_byte (key ++ more) ≡ true
+pub key_front : (key more : Bytes) → 0 < length key → Keys key → first_byte_is is_key_byte (key ++ more) ≡ true
 key_front [] more some all = absurd (omega (arith, some))
 key_front (b ∷ key) more some all = all.0
 
@@ -238,7 +238,7 @@ Note-suffix text end (inr p) =
 -- ---- sequences of notes
 
 -- If notes start with trivia and a note, the others follow these.
-at_note : {text mid after rest : Bytes} → Notes text rest → Trivia text mid → Note mid after → Notes after rest
+pub at_note : {text mid after rest : Bytes} → Notes text rest → Trivia text mid → Note mid after → Notes after rest
 at_note {mid = mid} {after} (none {rest = rest} t h) g n =
     absurd (let e : mid ≡ rest = Trivia-unique g t (note_no_trivia mid after n) (block_no_trivia rest h) in
     note_no_block mid after (subst (λ x. first_byte_is (λ b. b == 123) x ≡ true) (sym e) h) n)
@@ -300,7 +300,7 @@ pub Passed_done : {bytes rest start : Bytes}
 Passed_done {start = start} p g h = p.given start (none g h)
 
 -- Notes start with trivia that no more trivia follows.
-first_start : {text rest : Bytes} → Notes text rest → (start : Bytes) × Trivia text start × (begins_trivia start ≡ false)
+pub first_start : {text rest : Bytes} → Notes text rest → (start : Bytes) × Trivia text start × (begins_trivia start ≡ false)
 first_start (none {rest = rest} t h) = (rest, t, block_no_trivia rest h)
 first_start (note {mid = mid} {after = after} t n m) = (mid, t, note_no_trivia mid after n)
 

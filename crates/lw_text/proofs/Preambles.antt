@@ -15,7 +15,7 @@ abbrev Plain : Bytes → Type 0
 Plain name = AllByRecursion (λ b. not (is_blank b) ≡ true) name
 
 -- A visible ASCII character is no blank.
-graphic_no_blank : (b : ℕ) → is_ascii_graphic b ≡ true → is_blank b ≡ false
+pub graphic_no_blank : (b : ℕ) → is_ascii_graphic b ≡ true → is_blank b ≡ false
 graphic_no_blank b h =
     false_from_ne_true (is_blank b)
     (λ e. let k = not-true (is_ascii_graphic b) (blank_all (λ x. not (is_ascii_graphic x)) b refl e) in cc)
@@ -55,7 +55,7 @@ ParsesTestName-unique text n r m s p q =
     (k.1, k.2)
 
 -- The keyword of a language is unique.
-arch_keyword-unique : (a b : Arch) → arch_keyword a ≡ arch_keyword b → a ≡ b
+pub arch_keyword-unique : (a b : Arch) → arch_keyword a ≡ arch_keyword b → a ≡ b
 arch_keyword-unique Source X86 e = absurd (is_no_text (codes "SRC") (codes "X86") refl e)
 arch_keyword-unique X86 Source e = absurd (is_no_text (codes "X86") (codes "SRC") refl e)
 arch_keyword-unique _ _ e = refl
