@@ -32,6 +32,7 @@ pub mod TestFailures
 pub mod ConditionFailures
 pub mod WholeFailures
 pub mod ByteFailures
+pub mod OneFault
 pub mod Bodies
 pub mod WellFormedHeads
 pub mod PropositionReadings

@@ -5,9 +5,11 @@ use Rattle.lw_text.proofs.Common.{Token, Fault, Refusal, IsSuffix, PlacedToken, 
 use Rattle.lw_text.proofs.Common.{resolved, location_table, Trivia, token_texts, texts_of_tokens, with_span, with_spans, Memory, Unterminated}
 use Rattle.std.proofs.lemmas.List.Elements.{recursion_from_All}
 use Rattle.lw_text.proofs.api.Places.{texts_placed}
+use Rattle.lw_text.proofs.ByteFailures.{FailsInFirstToken-not}
+use Rattle.lw_text.proofs.TokenRows.{no_first}
 use Rattle.lw_text.specs.Failures.{FailsInTest}
 use Rattle.lw_text.specs.PlacedTokens.{IsPlacedToken}
-use Rattle.lw_text.specs.TextFailures.{FailsInBody, FailsInFirstToken, at_token, in_next_token, at_end}
+use Rattle.lw_text.specs.TextFailures.{FailsInBody, FailsInFirstToken, HasTokens, at_token, in_next_token, at_end}
 use Rattle.lw_text.specs.Views.{BeginsAt}
 use Rattle.lw_text.specs.declared.fault.TextCause.{TextCause}
 use Rattle.lw_text.specs.inner.Parsed.{StopsAt, StreamFails, at_stream_token, at_stream_end, at_stream_fault}
@@ -56,14 +58,14 @@ stream_fails {arch} {len} tokens fault refusal f (t ∷ rest) suffix place way s
     (subst (λ ts. FailsInTest arch ts (texts_of_tokens (with_spans (t ∷ rest))) refusal.cause) (sym (texts_placed tokens))
     (subst (λ ts. FailsInTest arch (token_texts tokens) ts refusal.cause) (sym (texts_placed (t ∷ rest))) way)))
 
--- The tokens of a whole text are tokens of it up to an end.
-placed_many : (len : ℕ) (text : Bytes) (tokens : List PlacedToken)
+-- The tokens of a whole text are tokens of it up to an end, after which there is only trivia.
+pub placed_many : (len : ℕ) (text : Bytes) (tokens : List PlacedToken)
     → PlacedTokens len text tokens
-    → (end : Bytes) × ParsesMany (IsPlacedToken len) text tokens end
-placed_many len text [] p = (text, refl)
+    → (end : Bytes) × ParsesMany (IsPlacedToken len) text tokens end × Trivia end []
+placed_many len text [] p = (text, refl, p)
 placed_many len text (t ∷ tokens) p =
     let more = placed_many len p.0 tokens p.3 in
-    (more.0, (p.0, (p.1, p.2), more.1))
+    (more.0, (p.0, (p.1, p.2), more.1), more.2)
 
 -- If the stream of a text's tokens fails, its body does.
 pub body_fails : {arch : Arch} {len : ℕ} {text : Bytes} {tokens : List PlacedToken} {fault : Option Fault} {at : ℕ} {cause : TextCause}
@@ -78,9 +80,12 @@ body_fails {arch} {len} {text} {tokens} {fault} {at} {cause} stream (at_stream_t
     many : (o : Option Fault)
         → MatchOption o (PlacedTokens len text tokens)
         (λ g. HoldsOfNothing (Tokens text) × (g.at ≤ len) × StopsAt len text tokens g.at g.cause)
-        → (end : Bytes) × ParsesMany (IsPlacedToken len) text tokens end
-    many None p = placed_many len text tokens p
-    many (Some g) p = (p.2.end, p.2.read)
+        → (end : Bytes) × HasTokens len text tokens end
+    many None p =
+        let read = placed_many len text tokens p in
+        (read.0, (read.1, λ t rest is. no_first read.0 t rest read.2 is))
+    many (Some g) p =
+        (p.2.end, (p.2.read, λ t rest is. FailsInFirstToken-not p.2.end p.2.fails.rest t rest g.cause p.2.fails.way is))
 body_fails stream (at_stream_end c none way place cause) = at_end _ c (rw none at stream) way place cause
 body_fails {arch} {len} {text} {tokens} {fault} {at} {cause} stream (at_stream_fault g c is place because way) =
     let stops = (rw is at stream).2 in

@@ -9,6 +9,7 @@ use Rattle.lw_base.specs.Languages.{arch_keyword}
 use Rattle.lw_base.specs.Characters.{byte, is_blank, is_key_byte, is_name_byte, is_space, first_byte_is}
 use Rattle.lw_base.specs.Formula.{Formula}
 use Rattle.lw_base.specs.Names.{IsName, IsTestName}
+use Rattle.lw_base.specs.NoParse.{ParsesNothing}
 use Rattle.lw_text.specs.declared.fault.TextCause.{TextCause}
 use Rattle.lw_text.specs.declared.fault.TextCause.TheVariants.{Unterminated, Unexpected, Number, Name}
 use Rattle.lw_text.specs.Combinators.{ParsesMany}
@@ -95,11 +96,15 @@ pub data FailsInPreamble (text rest : Bytes) (cause : TextCause) : Type 0 where
 
 -- ---- The whole.
 
+-- The rest of a text of this length is these tokens, and then an end at which no token follows.
+abbrev pub HasTokens : ℕ → Bytes → List PlacedToken → Bytes → Type 0
+HasTokens len text tokens end = ParsesMany (IsPlacedToken len) text tokens end × ParsesNothing (IsFirstToken end)
+
 -- The tokens of a test's body fail, in the rest of a text of this length: at a token; or where the next fails, which the tokens before need or
 -- the end of the text does not allow; or at the end of the text.
 pub data FailsInBody (arch : Arch) (len : ℕ) (text : Bytes) (at : ℕ) (cause : TextCause) : Type 0 where
   at_token : (tokens behind : List PlacedToken) (token : PlacedToken) (before : List PlacedToken) (end : Bytes)
-      → ParsesMany (IsPlacedToken len) text tokens end → tokens ≡ before ++ token ∷ behind → at ≡ token.at
+      → HasTokens len text tokens end → tokens ≡ before ++ token ∷ behind → at ≡ token.at
       → FailsInTest arch (texts_of_tokens tokens) (texts_of_tokens (token ∷ behind)) cause → FailsInBody arch len text at cause
   in_next_token : (tokens : List PlacedToken) (end rest : Bytes) (c : TextCause)
       → ParsesMany (IsPlacedToken len) text tokens end → FailsInFirstToken end rest cause → at + length rest ≡ len

@@ -1,5 +1,5 @@
 //! Reading a text's frame, and the laws of frames.
-ghost use Rattle.std.specs.Prelude.{◌≡◌, ◌≢◌, ◌<◌, ◌≤◌, List, length, Err, MatchResult, IfOk, IfErr};
+ghost use Rattle.std.specs.Prelude.{ℕ, ◌≡◌, ◌≢◌, ◌<◌, ◌≤◌, List, length, Err, MatchResult, IfOk, IfErr};
 ghost use Rattle.std.specs.Str.{IsUtf8, IsValidUpTo};
 ghost use Rattle.std.specs.Str.Lossy.{utf8_valid_len};
 ghost use Rattle.lw_base.specs.Limits.{most_text_bytes};
@@ -72,6 +72,17 @@ pub fn read_frame<'a, A: Allocator + Copy>(
 /// States that a text has at most one frame.
 pub fn a_text_has_one_frame()
     ensures { (text : Bytes) (f g : TestFrame) → HasFrame text f → HasFrame text g → f ≡ g }
+{}
+
+/// States that a text fails to be a frame's at one byte at most, and for one cause.
+pub fn a_text_fails_at_one_place()
+    ensures { (text : Bytes) (at place : ℕ) (cause because : TextCause) → FailsAt text at cause → FailsAt text place because
+        → (at ≡ place) × (cause ≡ because) }
+{}
+
+/// States that a text with a frame does not fail.
+pub fn a_text_with_a_frame_does_not_fail()
+    ensures { (text : Bytes) (at : ℕ) (cause : TextCause) (f : TestFrame) → FailsAt text at cause → HasFrame text f → ⊥ }
 {}
 
 /// States that a text has at most one list of cells with offsets.

@@ -1,0 +1,5 @@
+use Rattle.lw_text.proofs.OneFault.{FailsAt-unique}
+use Rattle.lw_text.proofs.read.a_text_fails_at_one_place.Goals as goal
+
+pub returns : goal.returns
+returns c = FailsAt-unique
