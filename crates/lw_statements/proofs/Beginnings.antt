@@ -1,16 +1,22 @@
--- The tokens with which statements start, and after which tokens a location may follow.
-use Rattle.lw_statements.proofs.Common.{◌≡◌, true, Option, Some, List, [], ◌∷◌, ◌++◌, refl, sym, subst, arith}
-use Rattle.lw_statements.proofs.Common.{codes, Contains, decimal, IsLocationName, register_name, Bytes}
-use Rattle.lw_statements.proofs.Common.{TokenList, name_by_test, decimal_is_number, Operands, Slot, Keyword}
-use Rattle.lw_statements.proofs.Common.{Register, Location, Value, Number, Label, CanBegin, BeforeLocation}
-use Rattle.lw_statements.proofs.Common.{Spelling, SlotValue, Filling, Gives, Fills, grammar_of, name_in}
-use Rattle.lw_statements.proofs.Common.{CanStand, BeginsWith, names_none, names_one, IsSpelling}
+-- The tokens with which statements start, and what may follow them: a location, a register, or another token.
+use Rattle.lw_statements.proofs.Common.{◌≡◌, ℕ, ◌⊎◌, inl, inr, Bool, true, false, true≢false, not, ◌||◌}
+use Rattle.lw_statements.proofs.Common.{Option, Some, List, [], ◌∷◌, ◌++◌, refl, sym, ap, ◌∙◌, subst, arith}
+use Rattle.lw_statements.proofs.Common.{append_assoc, cases_Bool, and_parts, codes, Contains, decimal, name_in}
+use Rattle.lw_statements.proofs.Common.{IsLocationName, IsRegisterName, register_name, Bytes, TokenList}
+use Rattle.lw_statements.proofs.Common.{name_by_test, decimal_is_number, Operands, Slot, Keyword, Register}
+use Rattle.lw_statements.proofs.Common.{Location, Value, Number, Label, BeginsStatement, CanBegin}
+use Rattle.lw_statements.proofs.Common.{IsLocationAfter, IsBeforeRegister, Spelling, SlotValue, Filling}
+use Rattle.lw_statements.proofs.Common.{Gives, Fills, grammar_of, CanStand, BeginsWith, IsSlotAfter}
+use Rattle.lw_statements.proofs.Common.{HasSlotAfter, IsLocationSlot, IsRegisterSlot, are_clear_forms, is_operand_slot}
+use Rattle.lw_statements.proofs.Common.{is_word_slot, is_register_free, tokens_differ, names_register}
+use Rattle.lw_statements.proofs.Common.{names_none, names_one, IsSpelling}
 use Rattle.lw_statements.proofs.api.Forms.{passes}
+use Rattle.lw_statements.proofs.Slots.{differ_apart, location_slot, no_register, register_apart, register_no_number}
 use Rattle.lw_base.specs.declared.operand.Operand.TheVariants as operand
 
 module _ {W Form Stmt : Type 0} (spelling : Spelling W Form Stmt) where
   -- Each slot accepts some token, so any slots accept some tokens.
-  stands : (slot : Slot W) → (t : Bytes) × (g : SlotValue slot) × Gives spelling t slot g
+  pub stands : (slot : Slot W) → (t : Bytes) × (g : SlotValue slot) × Gives spelling t slot g
   stands (Keyword w) = (spelling.text_of w, tt, refl)
   stands Register = (register_name spelling.language.arch 0, 0, (omega arith, refl))
   stands Location = (codes "x", codes "x", (refl, (name_by_test (codes "x") refl, refl)))
@@ -46,44 +52,210 @@ module _ {W Form Stmt : Type 0} (spelling : Spelling W Form Stmt) where
   begun t rest [] f h = absurd h
   begun t rest (slot ∷ slots) f h = (slot, slots, refl, ((f.0, tt), (h.0, tt)))
 
-  -- ---- a location
+  -- ---- a token after others
 
-  none_there : (front back : List (Slot W)) → names_none spelling (front ++ Location ∷ back) ≡ true → ⊥
-  none_there [] back e = absurd cc
-  none_there (Location ∷ front) back e = absurd cc
-  none_there (slot ∷ front) back e = none_there front back e
+  -- Tokens and a further one, accepted by the slot after theirs, begin tokens that fill the slots.
+  filled_after : (slots : List (Slot W)) (slot : Slot W) (ts : TokenList) (t : Bytes)
+      → IsSlotAfter spelling ts slots slot
+      → CanStand spelling (t ∷ []) (slot ∷ [])
+      → (rest : TokenList) × CanStand spelling ((ts ++ t ∷ []) ++ rest) slots
+  filled_after [] slot ts t h here = absurd h
+  filled_after (s ∷ slots) slot [] t h here =
+      let r = filled slots in
+      let at = subst (λ (u : Slot W). CanStand spelling (t ∷ []) (u ∷ [])) (sym h) here in
+      (r.0, ((at.0.0, r.1.0), (at.1.0, r.1.1)))
+  filled_after (s ∷ slots) slot (u ∷ ts) t h here =
+      let r = filled_after slots slot ts t h.1 here in (r.0, ((h.0.0.0, r.1.0), (h.0.1.0, r.1.1)))
 
-  module _ (x : Bytes) (loc : IsLocationName x) (back : List (Slot W)) (us : TokenList) (g : Filling back)
-      (behind : Fills spelling us back g) where
-    abbrev IsAt : TokenList → List (Slot W) → Type 0
-    IsAt ts front = (f : Filling (front ++ Location ∷ back)) × Fills spelling (ts ++ x ∷ us) _ f × (name_in _ f ≡ Some x)
-
-    located : (ts : TokenList) (front : List (Slot W)) (f : Filling front)
-        → Fills spelling ts front f
-        → names_one spelling (front ++ Location ∷ back) ≡ true
-        → IsAt ts front
-    located [] [] f h e = ((x, g), ((refl, loc), behind), refl)
-    located (t ∷ ts) [] f h e = absurd h
-    located [] (slot ∷ front) f h e = absurd h
-    located (t ∷ ts) (Location ∷ front) f h e = absurd (none_there front back e)
-    located (t ∷ ts) (slot ∷ front) f h e = let r = located ts _ f.1 h.1 e in ((f.0, r.0), (h.0, r.1), r.2)
-
-  -- After tokens that the slots before a form's location accept, a location may follow.
-  pub before : (made : Form → Operands → Option Stmt)
-      → IsSpelling spelling made
-      → (form : Form) (front back : List (Slot W)) (ts : TokenList)
+  -- So they begin a statement of the slots' form.
+  pub begins_after : (form : Form) (slot : Slot W) (ts : TokenList) (t : Bytes)
       → Contains spelling.forms form
-      → spelling.slots_of form ≡ front ++ Location ∷ back
-      → CanStand spelling ts front
-      → BeforeLocation (grammar_of spelling) ts
-  before made lawful form front back ts there cut here x loc =
-      let rest = filled back in
-      let one = passes _ spelling.forms there.0 form lawful.names there.1 there.2 in
-      let whole : (f : Filling (spelling.slots_of form))
-      × Fills spelling (ts ++ x ∷ rest.0) _ f
-      × (name_in (spelling.slots_of form) f ≡ Some x) =
-      subst (λ (slots : List (Slot W)).
-      names_one spelling slots ≡ true
-      → (f : Filling slots) × Fills spelling (ts ++ x ∷ rest.0) slots f × (name_in slots f ≡ Some x)) (sym cut)
-      (located x loc back rest.0 rest.1.0 rest.1.1 ts front here.0 here.1) one in
-      (rest.0, record { form = form; filling = whole.0 }, (there, whole.1), whole.2)
+      → IsSlotAfter spelling ts (spelling.slots_of form) slot
+      → CanStand spelling (t ∷ []) (slot ∷ [])
+      → BeginsStatement (grammar_of spelling) (ts ++ t ∷ [])
+  begins_after form slot ts t there after here =
+      let r = filled_after (spelling.slots_of form) slot ts t after here in
+      (r.0, record { form = form; filling = r.1.0 }, (there, r.1.1))
+
+  -- Of tokens that fill slots, each is accepted by the slot after those of the tokens before it.
+  slot_of : (slots : List (Slot W)) (ts rest : TokenList) (t : Bytes) (f : Filling slots)
+      → Fills spelling (ts ++ t ∷ rest) slots f
+      → (slot : Slot W) × IsSlotAfter spelling ts slots slot × CanStand spelling (t ∷ []) (slot ∷ [])
+  slot_of [] [] rest t f h = absurd h
+  slot_of [] (u ∷ ts) rest t f h = absurd h
+  slot_of (s ∷ slots) [] rest t f h = (s, refl, ((f.0, tt), (h.0, tt)))
+  slot_of (s ∷ slots) (u ∷ ts) rest t f h =
+      let r = slot_of slots ts rest t f.1 h.1 in (r.0, (((f.0, tt), (h.0, tt)), r.1), r.2)
+
+  -- If a statement begins with tokens and a further one, some form has a slot for that after those of the others.
+  pub after_beginning : (ts : TokenList) (t : Bytes)
+      → BeginsStatement (grammar_of spelling) (ts ++ t ∷ [])
+      → HasSlotAfter spelling (λ slot. CanStand spelling (t ∷ []) (slot ∷ [])) ts
+  after_beginning ts t (rest, s, says) =
+      let r =
+      slot_of (spelling.slots_of s.form) ts rest t s.filling
+      (subst (λ (us : TokenList). Fills spelling us (spelling.slots_of s.form) s.filling) (append_assoc ts (t ∷ []) rest) says.1) in
+      (s.form, says.0, r)
+
+  -- ---- a location or a register after tokens
+
+  -- After the same tokens, no form has a word where another has a location or a register.
+  clear_after : (ts : TokenList) (first second : List (Slot W)) (a b : Slot W)
+      → are_clear_forms spelling first second ≡ true
+      → IsSlotAfter spelling ts first a
+      → IsSlotAfter spelling ts second b
+      → is_operand_slot a ≡ true
+      → is_word_slot spelling b ≡ false
+  clear_after ts [] second a b clear x y o = absurd x
+  clear_after ts (s ∷ first) [] a b clear x y o = absurd y
+  clear_after [] (s ∷ first) (u ∷ second) a b clear x y o =
+      let here = (and_parts _ (tokens_differ spelling s u || are_clear_forms spelling first second) clear).0 in
+      elim (cases_Bool (is_word_slot spelling b)) [
+        | inl word ↦ absurd (true≢false (sym here ∙ rw (x, y, o, word) refl))
+        | inr none ↦ none
+      ]
+  clear_after (t ∷ ts) (s ∷ first) (u ∷ second) a b clear x y o =
+      let behind = (and_parts _ (tokens_differ spelling s u || are_clear_forms spelling first second) clear).1 in
+      elim (cases_Bool (tokens_differ spelling s u)) [
+        | inl differ ↦ absurd (differ_apart spelling t s u x.0.0.0 y.0.0.0 differ x.0.1.0 y.0.1.0)
+        | inr same ↦
+            clear_after ts first second a b
+            (let h : (false || are_clear_forms spelling first second) ≡ true =
+            subst (λ (z : Bool). (z || are_clear_forms spelling first second) ≡ true) same behind in
+            h) x.1 y.1 o
+      ]
+
+  -- A location's name is accepted after no tokens by a slot that is not a location's, if a form has a location or a register there.
+  module _ (made : Form → Operands → Option Stmt) (lawful : IsSpelling spelling made) (ts : TokenList) (form : Form)
+      (there : Contains spelling.forms form) (slot : Slot W) (after : IsSlotAfter spelling ts (spelling.slots_of form) slot)
+      (operand : is_operand_slot slot ≡ true) where
+    clear : (other : Form) → Contains spelling.forms other → are_clear_forms spelling (spelling.slots_of form) (spelling.slots_of other) ≡ true
+    clear other here =
+        passes _ spelling.forms here.0 other (passes _ spelling.forms there.0 form lawful.clear there.1 there.2) here.1 here.2
+
+    only_location : (other : Form) (b : Slot W) (x : Bytes)
+        → Contains spelling.forms other
+        → IsSlotAfter spelling ts (spelling.slots_of other) b
+        → CanStand spelling (x ∷ []) (b ∷ [])
+        → IsLocationName x
+        → b ≡ Location
+    only_location other b x here behind stand loc =
+        location_slot spelling x b stand.0.0 (clear_after ts _ _ slot b (clear other here) after behind operand) stand.1.0 loc
+
+  -- No slot is a location's after one, in the slots of a form.
+  none_after : (ts : TokenList) (slots : List (Slot W))
+      → names_none spelling slots ≡ true
+      → IsSlotAfter spelling ts slots Location
+      → ⊥
+  none_after ts [] e h = absurd h
+  none_after [] (Location ∷ slots) e h = absurd cc
+  none_after [] (slot ∷ slots) e h = absurd cc
+  none_after (t ∷ ts) (Location ∷ slots) e h = absurd cc
+  none_after (t ∷ ts) (slot ∷ slots) e h = none_after ts slots e h.1
+
+  -- The token in the slot of a location is the name of the statement's location.
+  named_there : (ts rest : TokenList) (x : Bytes) (slots : List (Slot W)) (f : Filling slots)
+      → names_one spelling slots ≡ true
+      → IsSlotAfter spelling ts slots Location
+      → Fills spelling (ts ++ x ∷ rest) slots f
+      → name_in slots f ≡ Some x
+  named_there ts rest x [] f e h fills = absurd h
+  named_there [] rest x (Location ∷ slots) f e h fills = ap Some (sym fills.0.0)
+  named_there [] rest x (slot ∷ slots) f e h fills = absurd cc
+  named_there (t ∷ ts) rest x (Location ∷ slots) f e h fills = absurd (none_after ts slots e h.1)
+  named_there (t ∷ ts) rest x (slot ∷ slots) f e h fills = named_there ts rest x slots f.1 e h.1 fills.1
+
+  -- After tokens that the slots before a form's location accept, a location is that of each statement.
+  pub location_after : (made : Form → Operands → Option Stmt)
+      → IsSpelling spelling made
+      → (form : Form) (ts : TokenList) (x : Bytes)
+      → Contains spelling.forms form
+      → IsSlotAfter spelling ts (spelling.slots_of form) Location
+      → IsLocationName x
+      → IsLocationAfter (grammar_of spelling) ts x
+  location_after made lawful form ts x there after loc = record {
+    begins = begins_after form Location ts x there after ((x, tt), ((refl, loc), tt));
+    only = λ rest s says.
+        let r = slot_of (spelling.slots_of s.form) ts rest x s.filling says.1 in
+        let is = only_location made lawful ts form there Location after refl s.form r.0 x says.0 r.1 r.2 loc in
+        let one = passes _ spelling.forms says.0.0 s.form lawful.names says.0.1 says.0.2 in
+        named_there ts rest x (spelling.slots_of s.form) s.filling one
+        (subst (λ (b : Slot W). IsSlotAfter spelling ts (spelling.slots_of s.form) b) is r.1) says.1;
+  }
+
+  -- No keyword among the slots is a register's name.
+  free_after : (ts : TokenList) (slots : List (Slot W)) (w : W)
+      → is_register_free spelling slots ≡ true
+      → IsSlotAfter spelling ts slots (Keyword w)
+      → not (names_register spelling (spelling.text_of w)) ≡ true
+  free_after ts [] w e h = absurd h
+  free_after [] (Keyword v ∷ slots) w e h =
+      subst (λ (u : W). not (names_register spelling (spelling.text_of u)) ≡ true) (let same : v ≡ w = cc in same)
+      (and_parts _ (is_register_free spelling slots) e).0
+  free_after [] (slot ∷ slots) w e h = absurd cc
+  free_after (t ∷ ts) (Keyword v ∷ slots) w e h = free_after ts slots w (and_parts _ (is_register_free spelling slots) e).1 h.1
+  free_after (t ∷ ts) (slot ∷ slots) w e h = free_after ts slots w e h.1
+
+  -- A slot that accepts a register's name, and is no such keyword, is that of a register.
+  register_slot : (slot : Slot W) (g : SlotValue slot) (q : Bytes) (r : ℕ)
+      → ((w : W) → slot ≡ Keyword w → not (names_register spelling (spelling.text_of w)) ≡ true)
+      → IsRegisterName spelling.language.arch q r
+      → Gives spelling q slot g
+      → IsRegisterSlot slot
+  register_slot (Keyword w) g q r free reg h = absurd (no_register spelling q w r (free w refl) h reg)
+  register_slot Register g q r free reg h = inl refl
+  register_slot Location x q r free reg h = absurd (register_apart _ q r reg (subst IsLocationName (sym h.0) h.1))
+  register_slot Value g q r free reg h = inr refl
+  register_slot Number n q r free reg h = absurd (register_no_number _ q r n reg h)
+  register_slot Label x q r free reg h = absurd (register_apart _ q r reg (subst IsLocationName (sym h.0) h.1))
+
+  module _ (made : Form → Operands → Option Stmt) (lawful : IsSpelling spelling made) (ts : TokenList) where
+    -- If a register may follow the tokens, some form has one there.
+    pub register_after : IsBeforeRegister (grammar_of spelling) ts → HasSlotAfter spelling IsRegisterSlot ts
+    register_after b =
+        let h = after_beginning ts b.name b.begins in
+        let free = passes _ spelling.forms h.1.0 h.0 lawful.words h.1.1 h.1.2 in (
+          h.0,
+          h.1,
+          (
+            h.2.0,
+            h.2.1,
+            register_slot h.2.0 h.2.2.0.0 b.name b.register (λ w is.
+            free_after ts (spelling.slots_of h.0) w free
+            (subst (λ (s : Slot W). IsSlotAfter spelling ts (spelling.slots_of h.0) s) is h.2.1)) b.named h.2.2.1.0,
+          ),
+        )
+
+    -- If some form has a location after the tokens, a location may follow.
+    pub not_before_register : HasSlotAfter spelling IsLocationSlot ts
+        → IsBeforeRegister (grammar_of spelling) ts
+        → ⊥
+    not_before_register (form, there, (slot, after, is)) b =
+        let x = codes "x" in
+        let loc : IsLocationName x = (name_by_test (codes "x") refl, refl) in
+        b.no_location x loc (begins_after form Location ts x there
+        (subst (λ (u : Slot W). IsSlotAfter spelling ts (spelling.slots_of form) u) is after) ((x, tt), ((refl, loc), tt)))
+
+    stand_register : (slot : Slot W) → IsRegisterSlot slot
+        → CanStand spelling (register_name spelling.language.arch 0 ∷ []) (slot ∷ []) × (is_operand_slot slot ≡ true)
+    stand_register Register h = (((0, tt), ((omega arith, refl), tt)), refl)
+    stand_register Value h = (((operand.Register 0, tt), ((omega arith, refl), tt)), refl)
+    stand_register slot (inl e) = absurd cc
+    stand_register slot (inr e) = absurd cc
+
+    -- If some form has a register after the tokens, and none a location, a register may follow and no location.
+    pub before_register : HasSlotAfter spelling IsRegisterSlot ts
+        → (HasSlotAfter spelling IsLocationSlot ts → ⊥)
+        → IsBeforeRegister (grammar_of spelling) ts
+    before_register (form, there, (slot, after, is)) none =
+        let s = stand_register slot is in
+        record {
+          name = register_name spelling.language.arch 0;
+          register = 0;
+          named = (omega arith, refl);
+          begins = begins_after form slot ts _ there after s.0;
+          no_location = λ x loc b.
+              let h = after_beginning ts x b in
+              let is = only_location made lawful ts form there slot after s.1 h.0 h.2.0 x h.1 h.2.1 h.2.2 loc in
+              none (h.0, h.1, (h.2.0, h.2.1, is));
+        }

@@ -1,55 +1,104 @@
 -- What a fault's cause claims of its position, by the table `FaultClaim`: which fact for which cause, and what follows from it.
-use Rattle.lw_statements.proofs.Common.{◌≡◌, ℕ, sym, subst, arith, CellCause, Form, LabelTwice, TooMany}
-use Rattle.lw_statements.proofs.Common.{Memory, CellFault, IsMisfit, FaultClaim, Refused}
+use Rattle.lw_statements.proofs.Common.{◌≡◌, ℕ, refl, sym, subst, arith, inl, inr, ◌⊎◌, CellCause, Form}
+use Rattle.lw_statements.proofs.Common.{LabelMissing, LabelTwice, Backward, TooMany, Memory, CellFault}
+use Rattle.lw_statements.proofs.Common.{IsMisfitCause, FaultClaim, Refused}
 use Rattle.lw_base.specs.declared.fault.CellCause.TheVariants.{Register}
 
--- The causes of a token that does not fit claim nothing of a position.
-pub misfit_tells : {no_label second_label backward one_more : Type 0} (cause : CellCause)
-    → IsMisfit cause
-    → FaultClaim no_label second_label backward one_more cause
-misfit_tells Form m = record { missing = λ e. absurd cc; twice = λ e. absurd cc; back = λ e. absurd cc; many = λ e. absurd cc }
-misfit_tells Register m =
-    record { missing = λ e. absurd cc; twice = λ e. absurd cc; back = λ e. absurd cc; many = λ e. absurd cc }
-misfit_tells cause m = absurd m
+-- A misfit's cause is the same for equivalent readings of what is meant as a register.
+pub misfit_same : {A B : Type 0} (cause : CellCause) → (A → B) → (B → A) → IsMisfitCause A cause → IsMisfitCause B cause
+misfit_same Form f g h = λ b. h (g b)
+misfit_same Register f g h = f h
+misfit_same cause f g h = absurd h
+
+-- A misfit is Form or Register, of which it claims what it is.
+pub wrong_tells : {wrong : CellCause → Type 0} {no_label second_label backward one_more : Type 0} (IsMeant : Type 0) (cause : CellCause)
+    → IsMisfitCause IsMeant cause
+    → wrong cause
+    → FaultClaim wrong no_label second_label backward one_more cause
+wrong_tells IsMeant Form m here = record {
+  form = λ e. here;
+  register = λ e. absurd cc;
+  missing = λ e. absurd cc;
+  twice = λ e. absurd cc;
+  back = λ e. absurd cc;
+  many = λ e. absurd cc;
+}
+wrong_tells IsMeant Register m here = record {
+  form = λ e. absurd cc;
+  register = λ e. here;
+  missing = λ e. absurd cc;
+  twice = λ e. absurd cc;
+  back = λ e. absurd cc;
+  many = λ e. absurd cc;
+}
+wrong_tells IsMeant cause m here = absurd m
 
 -- The cause that memory ran out claims nothing of a position.
-pub memory_tells : {no_label second_label backward one_more : Type 0} → FaultClaim no_label second_label backward one_more Memory
-memory_tells = record { missing = λ e. absurd cc; twice = λ e. absurd cc; back = λ e. absurd cc; many = λ e. absurd cc }
-
--- The cause `LabelTwice` claims a second label, and nothing else.
-pub twice_tells : {no_label second_label backward one_more : Type 0}
-    → second_label
-    → FaultClaim no_label second_label backward one_more LabelTwice
-twice_tells here = record { missing = λ e. absurd cc; twice = λ e. here; back = λ e. absurd cc; many = λ e. absurd cc }
-
--- The cause `TooMany` claims one item too many, and nothing else.
-pub many_tells : {no_label second_label backward one_more : Type 0}
-    → one_more
-    → FaultClaim no_label second_label backward one_more TooMany
-many_tells here = record { missing = λ e. absurd cc; twice = λ e. absurd cc; back = λ e. absurd cc; many = λ e. here }
-
--- A cause that can only claim a second label also claims what follows from it.
-pub twice_further : {here no_label there backward one_more : Type 0} {cause : CellCause}
-    → (here → there)
-    → FaultClaim ⊥ here ⊥ ⊥ cause
-    → FaultClaim no_label there backward one_more cause
-twice_further f t = record {
-  missing = λ e. absurd (t.missing e);
-  twice = λ e. f (t.twice e);
-  back = λ e. absurd (t.back e);
-  many = λ e. absurd (t.many e);
+pub memory_tells : {wrong : CellCause → Type 0} {no_label second_label backward one_more : Type 0}
+    → FaultClaim wrong no_label second_label backward one_more Memory
+memory_tells = record {
+  form = λ e. absurd cc;
+  register = λ e. absurd cc;
+  missing = λ e. absurd cc;
+  twice = λ e. absurd cc;
+  back = λ e. absurd cc;
+  many = λ e. absurd cc;
 }
 
--- A cause that can only claim one item too many also claims what follows from it.
-pub many_further : {here no_label second_label backward there : Type 0} {cause : CellCause}
-    → (here → there)
-    → FaultClaim ⊥ ⊥ ⊥ here cause
-    → FaultClaim no_label second_label backward there cause
-many_further f t = record {
+-- The cause `Form` claims that something is wrong, and nothing else.
+pub form_tells : {wrong : CellCause → Type 0} {no_label second_label backward one_more : Type 0}
+    → wrong Form
+    → FaultClaim wrong no_label second_label backward one_more Form
+form_tells here = record {
+  form = λ e. here;
+  register = λ e. absurd cc;
+  missing = λ e. absurd cc;
+  twice = λ e. absurd cc;
+  back = λ e. absurd cc;
+  many = λ e. absurd cc;
+}
+
+-- The cause `LabelTwice` claims a second label, and nothing else.
+pub twice_tells : {wrong : CellCause → Type 0} {no_label second_label backward one_more : Type 0}
+    → second_label
+    → FaultClaim wrong no_label second_label backward one_more LabelTwice
+twice_tells here = record {
+  form = λ e. absurd cc;
+  register = λ e. absurd cc;
+  missing = λ e. absurd cc;
+  twice = λ e. here;
+  back = λ e. absurd cc;
+  many = λ e. absurd cc;
+}
+
+-- The cause `TooMany` claims one item too many, and nothing else.
+pub many_tells : {wrong : CellCause → Type 0} {no_label second_label backward one_more : Type 0}
+    → one_more
+    → FaultClaim wrong no_label second_label backward one_more TooMany
+many_tells here = record {
+  form = λ e. absurd cc;
+  register = λ e. absurd cc;
+  missing = λ e. absurd cc;
+  twice = λ e. absurd cc;
+  back = λ e. absurd cc;
+  many = λ e. here;
+}
+
+-- A cause that can only claim that something is wrong, a second label or one item too many also claims what follows from these.
+pub further : {wrong wrong_there : CellCause → Type 0} {second second_there one_more one_more_there no_label backward : Type 0}
+    {cause : CellCause}
+    → ((c : CellCause) → wrong c → wrong_there c)
+    → (second → second_there)
+    → (one_more → one_more_there)
+    → FaultClaim wrong ⊥ second ⊥ one_more cause
+    → FaultClaim wrong_there no_label second_there backward one_more_there cause
+further f g h t = record {
+  form = λ e. f Form (t.form e);
+  register = λ e. f Register (t.register e);
   missing = λ e. absurd (t.missing e);
-  twice = λ e. absurd (t.twice e);
+  twice = λ e. g (t.twice e);
   back = λ e. absurd (t.back e);
-  many = λ e. f (t.many e);
+  many = λ e. h (t.many e);
 }
 
 -- A fault because memory ran out rejects whatever was to be read, since its cause claims nothing of a position.

@@ -89,7 +89,8 @@ module _ {Syntax Stmt : Type 0} (grammar : Grammar Syntax Stmt) where
               once = once_fits t fits;
             });
         cause =
-            labels_told grammar front rest cell drafted.read.syntax drafted.read.says f.at f.cause before column.labels
+            labels_told grammar front rest cell drafted.read.syntax drafted.read.says drafted.few before mid drafted.read.names
+            drafted.room f.at f.cause drafted.once column.labels
             (drafted_knows grammar draft_of front before mid column drafted) r.cause;
         place = λ len within. r.place len (all_amid (EndsBefore len) front rest cell within).0;
       }
@@ -99,10 +100,11 @@ module _ {Syntax Stmt : Type 0} (grammar : Grammar Syntax Stmt) where
           → LabelsTaken cell.tokens column.count column.labels next after
           → (phrase : Phrase)
           → phrase.tokens.now ≡ drop next cell.tokens
+          → phrase.end ≡ cell.end
           → ((len : ℕ) → EndsBefore len cell → AllEndBefore len phrase)
           → MaybeRefused grammar column.count mid phrase f
           → ColumnRefused grammar before (front ++ cell ∷ rest) f
-      statement_refused f next after taken phrase behind lies r = record {
+      statement_refused f next after taken phrase behind ends lies r = record {
         none = λ known t fits.
             let y = cut t fits in
             let stops = no_label grammar lawful y.says.0 y.here.stmt y.says.2 in
@@ -116,7 +118,8 @@ module _ {Syntax Stmt : Type 0} (grammar : Grammar Syntax Stmt) where
               room = names_fit t fits;
             });
         cause =
-            statement_told _ front rest cell _ drafted.read.says f.at _ before mid drafted.read.names column.labels after next
-            (rw drafted.counted at taken) (rw (drafted.counted, behind) at r.cause);
+            statement_told grammar front rest cell _ drafted.read.says drafted.few before mid drafted.read.names drafted.room f.at
+            f.cause drafted.once column.labels (drafted_knows grammar draft_of front before mid column drafted) after next
+            (rw drafted.counted at taken) (rw (drafted.counted, behind, ends) at r.cause);
         place = λ len within. r.place len (lies len (all_amid (EndsBefore len) front rest cell within));
       }

@@ -62,18 +62,20 @@ pub use Rattle.lw_text.proofs.api.Spelling.{decimal_is_number, name_by_test}
 pub use Rattle.lw_text.specs.declared.cell.Cell.{Cell}
 pub use Rattle.lw_text.specs.declared.token.Token.{Token}
 pub use Rattle.lw_statements.specs.Bindings.{BeginsWith, CanStand, IsDrafted, IsMade, IsNameAmong}
-pub use Rattle.lw_statements.specs.Bindings.{IsNotDrafted, IsOverflowSlot, IsReach, IsSpelling, all_apart}
-pub use Rattle.lw_statements.specs.Bindings.{are_disjoint_forms, bind_slot, bindings_of, draft_of, draft_on}
-pub use Rattle.lw_statements.specs.Bindings.{is_label_last, is_no_colon, is_statement, names_none, names_one}
+pub use Rattle.lw_statements.specs.Bindings.{AreFront, HasNext, HasSlotAfter, IsLocationSlot, IsFirstRejected, IsLongestFront, IsNotDrafted, IsOverflowSlot, IsReach, IsRegisterSlot, IsSlotAfter, IsSpelling, all_apart}
+pub use Rattle.lw_statements.specs.Bindings.{are_clear_forms, are_disjoint_forms, bind_slot, bindings_of, draft_of, draft_on}
+pub use Rattle.lw_statements.specs.Bindings.{is_label_last, is_no_colon, is_no_location, is_operand_slot, is_register_free, is_statement, is_word_slot, names_none, names_one}
 pub use Rattle.lw_statements.specs.Bindings.{names_register, no_bindings, numbers_in, registers_in}
 pub use Rattle.lw_statements.specs.Bindings.{tokens_differ, with_target}
 pub use Rattle.lw_statements.specs.Cells.{CellSyntax, Column, FrameHasTest, Labels, LabelsLeadForward}
 pub use Rattle.lw_statements.specs.Cells.{MaybeStatement, ParsesCell, code_in, labels_of, location_index}
 pub use Rattle.lw_statements.specs.Cells.{names_in, names_of, resolve_test, resolved_statement}
 pub use Rattle.lw_statements.specs.Cells.{resolved_target, statements, target_in}
-pub use Rattle.lw_statements.specs.Faults.{BeginsWithColon, CellCauseIsTrue, IsBackward, IsJumpLabel}
-pub use Rattle.lw_statements.specs.Faults.{IsMissing, IsNinth, IsSecondLabel, IsSurplus, TokenPosition}
-pub use Rattle.lw_statements.specs.Grammars.{BeforeLocation, CanBegin, Grammar, IsGrammar}
+pub use Rattle.lw_statements.specs.Faults.{AreRead, BeginsFitting, BeginsWithColon, BeginsWithLabel, CellCauseIsTrue}
+pub use Rattle.lw_statements.specs.Faults.{CellPosition, EndsEarly, IsBackward, IsBegun, IsJumpLabel, IsMeantAsRegister}
+pub use Rattle.lw_statements.specs.Faults.{IsMisfit, IsMisfitCause, IsMissing, IsNinth, IsNoLabel, IsReadTo, IsSecondLabel}
+pub use Rattle.lw_statements.specs.Faults.{IsSurplus, IsUnknownRegister, IsWrong, TokenPosition, table_after, table_of}
+pub use Rattle.lw_statements.specs.Grammars.{BeginsStatement, CanBegin, Grammar, IsBeforeRegister, IsGrammar, IsLocationAfter}
 pub use Rattle.lw_statements.specs.Operands.{IsOperand}
 pub use Rattle.lw_statements.specs.Spellings.{Filling, Fills, Gives, ParsesStatement, SlotValue, Spelling}
 pub use Rattle.lw_statements.specs.Spellings.{grammar_of, label_in, name_in}
@@ -88,13 +90,13 @@ pub use Rattle.lw_statements.specs.declared.slot.Slot.TheVariants.{Value}
 pub use Rattle.lw_statements.specs.declared.statement_parser.SlotBindings.{SlotBindings}
 pub use Rattle.lw_statements.specs.inner.Drafts.{ColumnDrafted, IsFresh, LabelMap, MapsLabelsAs, ReadOn}
 pub use Rattle.lw_statements.specs.inner.Drafts.{draft_cell, draft_in, label_target, target_by}
-pub use Rattle.lw_statements.specs.inner.Reading.{AllForward, AtLabel, BeginsAt, ColumnFaultIsTrue}
+pub use Rattle.lw_statements.specs.inner.Reading.{AllForward, BeginsAt, ColumnFaultIsTrue}
 pub use Rattle.lw_statements.specs.inner.Reading.{ColumnFits, ColumnRead, ColumnRefused, ColumnsRead}
 pub use Rattle.lw_statements.specs.inner.Reading.{ColumnsRefused, Fits, FitsBelow, HasDuplicateLabelAt}
-pub use Rattle.lw_statements.specs.inner.Reading.{HasExactlyLabels, HasOverflowIn, IsCellResolved}
+pub use Rattle.lw_statements.specs.inner.Reading.{EndsEarlyIn, HasExactlyLabels, HasMisfitIn, HasNoLabelAt, HasOverflowIn, IsAtLabel, IsCellResolved}
 pub use Rattle.lw_statements.specs.inner.Reading.{IsResolvable, IsResolved, IsUnresolved, JumpCause}
 pub use Rattle.lw_statements.specs.inner.Reading.{LabelsFit, LabelsRead, LabelsRefused, LabelsTaken}
 pub use Rattle.lw_statements.specs.inner.Reading.{LedForward, MaybeRead, MaybeRefused}
-pub use Rattle.lw_statements.specs.inner.Reading.{OptionalStatementFaultIsTrue, StatementRead}
+pub use Rattle.lw_statements.specs.inner.Reading.{OptionalStatementFaultIsTrue, StatementFaultIsTrue, StatementRead, WrongIn}
 pub use Rattle.lw_statements.specs.inner.Reading.{StatementRefused, bare, named_by}
-pub use Rattle.lw_statements.specs.inner.Tokens.{AllEndBefore, FaultClaim, IsMisfit, NameRead, Refused}
+pub use Rattle.lw_statements.specs.inner.Tokens.{AllEndBefore, FaultClaim, IsOverflowName, NameRead, Refused}

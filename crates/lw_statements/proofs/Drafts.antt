@@ -2,14 +2,14 @@
 use Rattle.lw_statements.proofs.Common.{◌≡◌, ℕ, ◌≤◌, ◌+◌, ◌*◌, Option, Some, None, ◌⊎◌, inl, inr, List, []}
 use Rattle.lw_statements.proofs.Common.{◌∷◌, ◌++◌, length, drop, sym, ap, ◌∙◌, arith, refl, is_some}
 use Rattle.lw_statements.proofs.Common.{slice_get, option_map, append-nil, option_len, ForSome, map-append}
-use Rattle.lw_statements.proofs.Common.{CellCause, TooMany, CellFault, insert_names, NameTable, TokenList}
+use Rattle.lw_statements.proofs.Common.{most_locations, CellCause, TooMany, CellFault, insert_names, NameTable, TokenList}
 use Rattle.lw_statements.proofs.Common.{Cell, Token, token_texts, cell_texts, cells_texts, DraftColumn}
 use Rattle.lw_statements.proofs.Common.{DraftCell, Phrase, Grammar, CanBegin, CellSyntax, ParsesCell}
 use Rattle.lw_statements.proofs.Common.{statements, labels_of, names_in, draft_in, draft_cell, IsFresh}
 use Rattle.lw_statements.proofs.Common.{ColumnDrafted, Fits, FitsBelow, OptionalStatementFaultIsTrue}
 use Rattle.lw_statements.proofs.Common.{HasExactlyLabels, LabelsTaken, StatementRead, MaybeRead, bare}
-use Rattle.lw_statements.proofs.Common.{StatementRefused, MaybeRefused, IsMisfit}
-use Rattle.lw_statements.proofs.Causes.{misfit_tells, many_tells, many_further}
+use Rattle.lw_statements.proofs.Common.{StatementRefused, MaybeRefused, HasMisfitIn, EndsEarlyIn, WrongIn, Form}
+use Rattle.lw_statements.proofs.Causes.{further, many_tells, wrong_tells}
 use Rattle.lw_statements.proofs.Elements.{all_at}
 use Rattle.lw_statements.proofs.FrontLabels.{get_text, Labels-whole}
 use Rattle.lw_statements.proofs.Leads.{count-append, labels_of-append, leads_known, leads_more}
@@ -67,28 +67,46 @@ module _ {Syntax Stmt D : Type 0} (grammar : Grammar Syntax Stmt) (draft_of : �
     only_some none None h = not_empty h.says
     only_some none (Some s) h = none s (h.says, h.room)
 
-    surplus_told : (at : ℕ) (cause : CellCause)
-        → above ≡ grammar.language.most
-        → at ≡ t.at
-        → (IsMisfit cause × (CanBegin grammar t.text.now → ⊥)) ⊎ ((cause ≡ TooMany) × CanBegin grammar t.text.now)
-        → OptionalStatementFaultIsTrue grammar above tokens names at cause
-    surplus_told at cause full place (inl m) = misfit_tells cause m.0
-    surplus_told at cause full place (inr (e, begins)) = rw e (many_tells (inl (full, (t, sym first, sym place, begins))))
+    -- The first token begins a statement beyond the limit, or is wrong.
+    abbrev pub IsSurplusFault : CellFault → Type 0
+    IsSurplusFault e =
+        ((e.cause ≡ TooMany) × (e.at ≡ t.at) × CanBegin grammar t.text.now)
+        ⊎ ((m : HasMisfitIn grammar tokens names e.at e.cause) × (m.place ≡ 0))
 
     -- If the thread has the maximal number of statements and tokens follow the labels, the first of them is rejected.
     pub surplus_refused : above ≡ grammar.language.most
+        → IsSurplusFault f
         → f.at ≡ t.at
-        → (IsMisfit f.cause × (CanBegin grammar t.text.now → ⊥)) ⊎ ((f.cause ≡ TooMany) × CanBegin grammar t.text.now)
         → MaybeRefused grammar above names phrase f
-    surplus_refused full place told = record {
+    surplus_refused full told place = record {
       none = λ known. no_room full;
-      cause = surplus_told f.at f.cause full place told;
+      cause = go told;
       place = λ len lies. omega (arith, place, all_at (λ (u : Token). u.at ≤ len) tokens 0 t (sym first) lies.0);
     }
+      where
+        go : IsSurplusFault f → OptionalStatementFaultIsTrue grammar above tokens phrase.end names f.at f.cause
+        go (inl (e, here, begins)) = rw e (many_tells (inl (full, (t, sym first, sym here, begins))))
+        go (inr (m, at_first)) = wrong_tells _ f.cause m.meant (inl (m, inl at_first))
 
     -- If the tokens after the labels are rejected as a statement, so is what follows the labels.
-    pub maybe_refused : StatementRefused grammar names phrase f → MaybeRefused grammar above names phrase f
-    maybe_refused r = record { none = λ known. only_some (r.none known); cause = many_further inr r.cause; place = r.place }
+    pub maybe_refused : (above ≡ grammar.language.most → ⊥)
+        → StatementRefused grammar names phrase f
+        → MaybeRefused grammar above names phrase f
+    maybe_refused free r = record {
+      none = λ known. only_some (r.none known);
+      cause = further wrong (λ none. none) (λ over. inr (free, over)) r.cause;
+      place = r.place;
+    }
+      where
+        wrong : (e : CellCause)
+            → WrongIn grammar tokens phrase.end names f.at e
+            → ((m : HasMisfitIn grammar tokens names f.at e) × ((m.place ≡ 0) ⊎ (above ≡ grammar.language.most → ⊥)))
+            ⊎ ((e ≡ Form)
+            × (above ≡ grammar.language.most → ⊥)
+            × (token_texts tokens ≡ [] → ⊥)
+            × EndsEarlyIn grammar tokens phrase.end names f.at)
+        wrong e (inl m) = inl (m, inr free)
+        wrong e (inr (is, early)) = inr (is, free, not_empty, early)
 
   -- ---- cells
 
@@ -116,13 +134,15 @@ module _ {Syntax Stmt D : Type 0} (grammar : Grammar Syntax Stmt) (draft_of : �
   -- A fresh column is the result of reading no cells.
   pub draft_none : {A : Type 0} (names : NameTable) (column : DraftColumn D A)
       → IsFresh column
+      → length names ≤ most_locations
       → ColumnDrafted grammar draft_of [] names column names
-  draft_none names column fresh = record {
+  draft_none names column fresh few = record {
     read = record { syntax = []; says = tt; names = refl; made = fresh.cells };
     few = omega arith;
     once = tt;
     leads = fresh.labels;
     counted = fresh.count;
+    room = few;
   }
 
   module _ {A : Type 0} (front : List (Cell A)) (before mid : NameTable) (column : DraftColumn D A)
@@ -142,8 +162,9 @@ module _ {Syntax Stmt D : Type 0} (grammar : Grammar Syntax Stmt) (draft_of : �
         → MaybeRead grammar draft_of column.count (token_texts (drop next cell.tokens)) mid stmt after
         → now.cells ≡ column.cells ++ record { start = next; stmt = stmt } ∷ []
         → now.count ≡ column.count + option_len stmt
+        → length after ≤ most_locations
         → ColumnDrafted grammar draft_of (front ++ cell ∷ []) before now after
-    cell_read now cell next after stmt taken maybe pushed counted =
+    cell_read now cell next after stmt taken maybe pushed counted room =
         let ls = taken.read in
         let old = drafted.read.syntax in
         let syntax : CellSyntax Syntax = record { labels = ls.names; stmt = maybe.read.syntax } in
@@ -175,4 +196,5 @@ module _ {Syntax Stmt D : Type 0} (grammar : Grammar Syntax Stmt) (draft_of : �
           once = rw (labels_of-append old (syntax ∷ []), append-nil ls.names) each;
           leads = λ n. rw (ls.made n, leads_more syntax n old each, drafted.counted, drafted.leads n) refl;
           counted = omega (arith, counted, count, held, drafted.counted);
+          room = room;
         }

@@ -1,41 +1,77 @@
 -- The position of a cell's fault among the columns.
-use Rattle.lw_statements.proofs.Common.{◌≡◌, ℕ, suc, ◌+◌, inl, inr, ◌⊎◌, Some, List, [], ◌∷◌, ◌++◌, length}
+use Rattle.lw_statements.proofs.Common.{◌≡◌, ℕ, suc, ◌+◌, ◌≤◌, inl, inr, ◌⊎◌, Some, List, [], ◌∷◌, ◌++◌, length}
 use Rattle.lw_statements.proofs.Common.{take, drop, refl, sym, ap, ◌∙◌, subst, arith, slice_get, Contains}
 use Rattle.lw_statements.proofs.Common.{codes, append_assoc, take-append-drop, AllZip, map-append, drop-map}
-use Rattle.lw_statements.proofs.Common.{CellCause, LabelMissing, LabelTwice, Backward, TooMany, insert_names}
-use Rattle.lw_statements.proofs.Common.{NameTable, insert_names-append, cut_at, drop_at, Cell, Token}
+use Rattle.lw_statements.proofs.Common.{CellCause, Form, LabelMissing, LabelTwice, Backward, TooMany, Memory}
+use Rattle.lw_statements.proofs.Common.{IsDuplicateFree, most_locations, insert_names, Bytes, NameTable}
+use Rattle.lw_statements.proofs.Common.{TokenList, insert_names-append, cut_at, drop_at, Cell, Token}
 use Rattle.lw_statements.proofs.Common.{token_texts, texts_of_tokens, PlacedCell, with_span, with_spans}
 use Rattle.lw_statements.proofs.Common.{placed_cell, placed_row, cells_texts, texts_placed, cells_placed}
-use Rattle.lw_statements.proofs.Common.{Grammar, CellSyntax, ParsesCell, Labels, statements, labels_of}
-use Rattle.lw_statements.proofs.Common.{names_in, names_of, TokenPosition, IsMissing, IsSecondLabel}
-use Rattle.lw_statements.proofs.Common.{IsBackward, IsSurplus, IsNinth, CellCauseIsTrue, BeginsWithColon}
-use Rattle.lw_statements.proofs.Common.{LabelMap, AtLabel, HasExactlyLabels, LabelsTaken, HasDuplicateLabelAt}
+use Rattle.lw_statements.proofs.Common.{Grammar, CellSyntax, Column, ParsesCell, Labels, statements, labels_of}
+use Rattle.lw_statements.proofs.Common.{names_in, names_of, CellPosition, TokenPosition, IsReadTo, IsMissing}
+use Rattle.lw_statements.proofs.Common.{IsSecondLabel, IsBackward, IsSurplus, IsNinth, IsWrong, IsMisfit}
+use Rattle.lw_statements.proofs.Common.{EndsEarly, CellCauseIsTrue, BeginsWithColon, BeginsWithLabel}
+use Rattle.lw_statements.proofs.Common.{BeginsFitting, table_after, LabelMap, HasExactlyLabels, LabelsTaken}
+use Rattle.lw_statements.proofs.Common.{IsAtLabel, HasDuplicateLabelAt, HasNoLabelAt, HasMisfitIn, EndsEarlyIn}
 use Rattle.lw_statements.proofs.Common.{BeginsAt, HasOverflowIn, OptionalStatementFaultIsTrue}
 use Rattle.lw_statements.proofs.Common.{ColumnFaultIsTrue, FaultClaim}
-use Rattle.lw_statements.proofs.Causes.{twice_further, many_further}
-use Rattle.lw_statements.proofs.FrontLabels.{Labels-rest}
+use Rattle.lw_statements.proofs.Causes.{further}
+use Rattle.lw_statements.proofs.FrontLabels.{Labels-rest, Labels-whole}
+use Rattle.lw_base.specs.declared.fault.CellCause.TheVariants.{Register}
+use Rattle.lw_text.specs.PlacedCells.{texts_of_grid}
 
 -- If a `:` follows the first token, the tokens start with a label.
 at_label : (tail front back : List Token) (t : Token)
     → tail ≡ front ++ t ∷ back
     → token_texts front ≡ []
     → BeginsWithColon (token_texts back)
-    → AtLabel (token_texts tail)
+    → BeginsWithLabel (token_texts tail)
 at_label tail [] back t e none colon = rw e colon
 at_label tail (u ∷ front) back t e none colon = absurd cc
 
--- What a cause claims by the table `FaultClaim`, of tokens in the columns, it claims by the rule of cells.
-pub tells_by : {Syntax Stmt : Type 0} (grammar : Grammar Syntax Stmt) (names : NameTable) (columns : List (List PlacedCell))
-    (at : ℕ) (cause : CellCause)
-    → FaultClaim ((p : TokenPosition columns at) × IsMissing grammar p) ((p : TokenPosition columns at) × IsSecondLabel grammar p)
-    ((p : TokenPosition columns at) × IsBackward grammar p)
-    ((p : TokenPosition columns at) × (IsSurplus grammar p ⊎ IsNinth grammar names p)) cause
-    → CellCauseIsTrue grammar names columns at cause
-tells_by grammar names columns at LabelMissing t = t.missing refl
-tells_by grammar names columns at LabelTwice t = t.twice refl
-tells_by grammar names columns at Backward t = t.back refl
-tells_by grammar names columns at TooMany t = t.many refl
-tells_by grammar names columns at cause t = tt
+module _ {Syntax Stmt : Type 0} (grammar : Grammar Syntax Stmt) (names : NameTable) (columns : List (List PlacedCell)) (at : ℕ) where
+  -- A token fits none of the statements, for this cause, or a cell ends too early.
+  abbrev IsWrongAt : CellCause → Type 0
+  IsWrongAt cause =
+      ((p : TokenPosition columns at) × IsWrong grammar names p cause)
+      ⊎ ((cause ≡ Form) × (c : CellPosition columns) × EndsEarly grammar names c at)
+
+  -- What a cause claims by the table `FaultClaim`, of tokens in the columns, it claims by the rule of cells.
+  pub tells_by : (cause : CellCause)
+      → FaultClaim IsWrongAt ((p : TokenPosition columns at) × IsMissing grammar names p)
+      ((p : TokenPosition columns at) × IsSecondLabel grammar names p)
+      ((p : TokenPosition columns at) × IsBackward grammar names p)
+      ((p : TokenPosition columns at) × (IsSurplus grammar names p ⊎ IsNinth grammar names p)) cause
+      → CellCauseIsTrue grammar names columns at cause
+  tells_by Form t = go (t.form refl)
+    where
+      go : IsWrongAt Form → CellCauseIsTrue grammar names columns at Form
+      go (inl wrong) = inl wrong
+      go (inr ends) = inr (ends.1, ends.2)
+  tells_by Register t = go (t.register refl)
+    where
+      go : IsWrongAt Register → CellCauseIsTrue grammar names columns at Register
+      go (inl wrong) = wrong
+      go (inr ends) = absurd (let same : Register ≡ Form = ends.0 in cc)
+  tells_by LabelMissing t = t.missing refl
+  tells_by LabelTwice t = t.twice refl
+  tells_by Backward t = t.back refl
+  tells_by TooMany t = t.many refl
+  tells_by Memory t = tt
+
+-- The position of a cell in its thread between the others.
+abbrev pub cell_standing : {A : Type 0} (others behind : List (List PlacedCell)) (cells above below : List (Cell A)) (cell : Cell A)
+    → cells ≡ above ++ cell ∷ below
+    → CellPosition (others ++ placed_row cells ∷ behind)
+cell_standing others behind cells above below cell whole = record {
+  before = others;
+  above = placed_row above;
+  cell = placed_cell cell;
+  below = placed_row below;
+  behind = behind;
+  in_columns =
+      ap (λ (c : List PlacedCell). others ++ c ∷ behind) (ap placed_row whole ∙ map-append placed_cell above (cell ∷ below));
+}
 
 -- The token t of a cell, as a token of the columns, in its thread between the others.
 abbrev pub standing : {A : Type 0} (others behind : List (List PlacedCell)) (cells above below : List (Cell A)) (cell : Cell A)
@@ -45,130 +81,224 @@ abbrev pub standing : {A : Type 0} (others behind : List (List PlacedCell)) (cel
     → t.at ≡ at
     → TokenPosition (others ++ placed_row cells ∷ behind) at
 standing {A} others behind cells above below cell whole at front back t in_cell begins = record {
-  before = others;
-  above = placed_row above;
-  cell = placed_cell cell;
-  below = placed_row below;
-  behind = behind;
+  place = cell_standing others behind cells above below cell whole;
   front = with_spans front;
   token = with_span t;
   back = with_spans back;
-  in_columns =
-      ap (λ (c : List PlacedCell). others ++ c ∷ behind) (ap placed_row whole ∙ map-append placed_cell above (cell ∷ below));
   in_cell = ap with_spans in_cell ∙ map-append with_span front (t ∷ back);
   begins = begins;
 }
 
 -- A cell of a thread, and what was read above it.
 module _ {Syntax Stmt A : Type 0} (grammar : Grammar Syntax Stmt) (front rest : List (Cell A)) (cell : Cell A)
-    (syntaxes : List (CellSyntax Syntax)) (says : AllZip (ParsesCell grammar) (cells_texts front) syntaxes) (at : ℕ)
+    (syntaxes : List (CellSyntax Syntax)) (says : AllZip (ParsesCell grammar) (cells_texts front) syntaxes)
+    (few : length (statements syntaxes) ≤ grammar.language.most) (before mid : NameTable)
+    (table : mid ≡ insert_names before (names_in grammar syntaxes)) (room : length mid ≤ most_locations) (at : ℕ)
     (cause : CellCause) where
-  -- If a fault in a cell's labels claims a second label, it claims it at that position in the columns.
-  pub labels_told : (before : NameTable) (labels : LabelMap)
-      → HasExactlyLabels labels (labels_of syntaxes)
-      → FaultClaim ⊥ (HasDuplicateLabelAt cell.tokens labels at) ⊥ ⊥ cause
-      → ColumnFaultIsTrue grammar (placed_row (front ++ cell ∷ rest)) before at cause
-  labels_told before labels knows told names others behind threads others_say grown =
-      tells_by grammar names _ at cause (twice_further second told)
-    where
-      second : HasDuplicateLabelAt cell.tokens labels at
-          → (p : TokenPosition (others ++ placed_row (front ++ cell ∷ rest) ∷ behind) at) × IsSecondLabel grammar p
-      second c =
-          let next = drop (suc c.place) cell.tokens in
-          let one : c.place + 1 ≡ suc c.place = omega arith in (
-            standing _ _ _ _ _ _ refl at (take c.place cell.tokens) next c.token (cut_at _ _ _ c.is) c.begins,
-            record {
-              syntaxes = syntaxes;
-              labels = c.names;
-              more = drop (suc (suc c.place)) (token_texts cell.tokens);
-              says = rw (cells_placed front) says;
-              in_front = rw (texts_placed (take c.place cell.tokens)) c.says;
-              is_label =
-                  texts_placed next
-                  ∙ sym (drop-map _ (suc c.place) _)
-                  ∙ drop_at (token_texts cell.tokens) (suc c.place) (codes ":")
-                  (ap (slice_get (token_texts cell.tokens)) (sym one) ∙ c.colon);
-              there = c.there (labels_of syntaxes) knows;
-            },
-          )
+  -- The threads before it, which were read.
+  module _ (names : NameTable) (others behind : List (List PlacedCell)) (threads : List (List (CellSyntax Syntax)))
+      (others_say : AllZip (Column grammar) (texts_of_grid others) threads)
+      (grown : before ≡ insert_names names (names_of grammar threads)) where
+    same : table_after grammar names threads syntaxes ≡ mid
+    same =
+        insert_names-append names (names_of grammar threads) (names_in grammar syntaxes)
+        ∙ ap (λ (ns : NameTable). insert_names ns (names_in grammar syntaxes)) (sym grown)
+        ∙ sym table
 
-  -- If a fault after a cell's labels claims one item too many, it claims it at that position in the columns.
-  pub statement_told : (before mid : NameTable)
-      → mid ≡ insert_names before (names_in grammar syntaxes)
-      → (labels after : LabelMap) (next : ℕ)
-      → LabelsTaken cell.tokens (length (statements syntaxes)) labels next after
-      → OptionalStatementFaultIsTrue grammar (length (statements syntaxes)) (drop next cell.tokens) mid at cause
-      → ColumnFaultIsTrue grammar (placed_row (front ++ cell ∷ rest)) before at cause
-  statement_told before mid table labels after next taken told names others behind threads others_say grown =
-      tells_by grammar names _ at cause (many_further one_more told)
-    where
-      tail : List Token
-      tail = drop next cell.tokens
+    abbrev here : CellPosition (others ++ placed_row (front ++ cell ∷ rest) ∷ behind)
+    here = cell_standing others behind (front ++ cell ∷ rest) front rest cell refl
 
-      stands : (k : ℕ) (t : Token)
-          → slice_get tail k ≡ Some t
-          → t.at ≡ at
-          → TokenPosition (others ++ placed_row (front ++ cell ∷ rest) ∷ behind) at
-      stands k t is begins =
-          standing _ _ _ front rest cell refl at (take next cell.tokens ++ take k tail) (drop (suc k) tail) t
-          (sym (take-append-drop next cell.tokens)
-          ∙ ap (λ ts. take next cell.tokens ++ ts) (cut_at tail k t is)
-          ∙ sym (append_assoc (take next cell.tokens) (take k tail) (t ∷ drop (suc k) tail))) begins
+    -- What precedes is read, with the labels and tokens before the place.
+    abbrev reads : (labels : List Bytes) (ts more : TokenList)
+        → Labels ts labels more
+        → IsDuplicateFree (labels_of syntaxes ++ labels)
+        → IsReadTo grammar names here ts more
+    reads labels ts more in_front once = record {
+      threads = threads;
+      syntaxes = syntaxes;
+      labels = labels;
+      read = record {
+        before_says = others_say;
+        says = rw (cells_placed front) says;
+        few = few;
+        once = once;
+        room = rw same room;
+      };
+      in_front = in_front;
+    }
 
-      in_front : (k : ℕ)
-          → Labels (texts_of_tokens (with_spans (take next cell.tokens ++ take k tail))) taken.read.names
-          (token_texts (take k tail))
-      in_front k =
-          rw (
-            texts_placed (take next cell.tokens ++ take k tail),
-            map-append (λ (t : Token). t.text.now) (take next cell.tokens) (take k tail),
-          ) (Labels-rest _ _ _ taken.read.says)
+  module _ (once : IsDuplicateFree (labels_of syntaxes)) (labels : LabelMap)
+      (knows : HasExactlyLabels labels (labels_of syntaxes)) where
+    -- If a fault in a cell's labels claims a token that is no label or a second one, it claims it at that position in the columns.
+    pub labels_told : FaultClaim (HasNoLabelAt cell.tokens labels at) ⊥ (HasDuplicateLabelAt cell.tokens labels at) ⊥ ⊥ cause
+        → ColumnFaultIsTrue grammar (placed_row (front ++ cell ∷ rest)) before at cause
+    labels_told told names others behind threads others_say grown =
+        tells_by grammar names _ at cause (further wrong second (λ none. absurd none) told)
+      where
+        place : IsAtLabel cell.tokens labels at → TokenPosition (others ++ placed_row (front ++ cell ∷ rest) ∷ behind) at
+        place c =
+            standing others behind (front ++ cell ∷ rest) front rest cell refl at (take c.place cell.tokens)
+            (drop (suc c.place) cell.tokens) c.token (cut_at _ _ _ c.is) c.begins
 
-      no_label : (k : ℕ) (t : Token)
-          → slice_get tail k ≡ Some t
-          → token_texts (take k tail) ≡ []
-          → BeginsWithColon (texts_of_tokens (with_spans (drop (suc k) tail)))
-          → ⊥
-      no_label k t is none colon =
-          taken.stops (at_label tail (take k tail) (drop (suc k) tail) t (cut_at tail k t is) none
-          (subst BeginsWithColon (texts_placed (drop (suc k) tail)) colon))
+        read : (c : IsAtLabel cell.tokens labels at)
+            → IsReadTo grammar names (place c).place (texts_of_tokens (place c).front) []
+        read c =
+            reads names others behind threads others_say grown c.names (texts_of_tokens (with_spans (take c.place cell.tokens))) []
+            (rw (texts_placed (take c.place cell.tokens)) c.says) (c.once (labels_of syntaxes) knows once)
 
-      same : insert_names names (names_of grammar threads ++ names_in grammar syntaxes) ≡ mid
-      same =
-          insert_names-append names (names_of grammar threads) (names_in grammar syntaxes)
-          ∙ ap (λ (ns : NameTable). insert_names ns (names_in grammar syntaxes)) (sym grown)
-          ∙ sym table
+        colon : (c : IsAtLabel cell.tokens labels at) → BeginsWithColon (texts_of_tokens (place c).back)
+        colon c =
+            let one : c.place + 1 ≡ suc c.place = omega arith in
+            ap (λ (ts : TokenList). slice_get ts 0)
+            (texts_placed (drop (suc c.place) cell.tokens)
+            ∙ sym (drop-map _ (suc c.place) _)
+            ∙ drop_at (token_texts cell.tokens) (suc c.place) (codes ":")
+            (ap (slice_get (token_texts cell.tokens)) (sym one) ∙ c.colon))
 
-      one_more :
-          ((length (statements syntaxes) ≡ grammar.language.most) × BeginsAt grammar tail at) ⊎ HasOverflowIn grammar tail mid at
-          → (p : TokenPosition (others ++ placed_row (front ++ cell ∷ rest) ∷ behind) at)
-          × (IsSurplus grammar p ⊎ IsNinth grammar names p)
-      one_more (inl (full, (t, is, begins, can))) = (
-        stands 0 t is begins,
-        inl (record {
-          syntaxes = syntaxes;
-          labels = taken.read.names;
-          says = rw (cells_placed front) says;
-          in_front = in_front 0;
-          begins = can;
-          no_label = no_label 0 t is refl;
-          full = full;
-        }),
-      )
-      one_more (inr c) = (
-        stands c.place c.token c.is c.ninth.0,
-        inr (record {
-          threads = threads;
-          syntaxes = syntaxes;
-          labels = taken.read.names;
-          mid = token_texts (take c.place tail);
-          before_says = others_say;
-          says = rw (cells_placed front) says;
-          in_front = in_front c.place;
-          at_location = c.before;
-          no_label = no_label c.place c.token c.is;
-          is_location = c.ninth.1;
-          full = ap length same ∙ c.ninth.2;
-          new = λ there. c.ninth.3 (subst (λ (ns : NameTable). Contains ns c.token.text.now) same there);
-        }),
-      )
+        wrong : (e : CellCause) → HasNoLabelAt cell.tokens labels at e → IsWrongAt grammar names (others ++ placed_row (front ++ cell ∷ rest) ∷ behind) at e
+        wrong e (c, none, meant) = inl (place c, inl (record { read = read c; colon = colon c; none = none }, meant))
+
+        second : HasDuplicateLabelAt cell.tokens labels at
+            → (p : TokenPosition (others ++ placed_row (front ++ cell ∷ rest) ∷ behind) at) × IsSecondLabel grammar names p
+        second (c, there) = (place c, record { read = read c; colon = colon c; there = there (labels_of syntaxes) knows })
+
+    -- If a fault after a cell's labels claims something wrong or one item too many, it claims it at that position in the columns.
+    pub statement_told : (after : LabelMap) (next : ℕ)
+        → LabelsTaken cell.tokens (length (statements syntaxes)) labels next after
+        → OptionalStatementFaultIsTrue grammar (length (statements syntaxes)) (drop next cell.tokens) cell.end mid at cause
+        → ColumnFaultIsTrue grammar (placed_row (front ++ cell ∷ rest)) before at cause
+    statement_told after next taken told names others behind threads others_say grown =
+        tells_by grammar names _ at cause (further wrong (λ none. absurd none) one_more told)
+      where
+        once_there : IsDuplicateFree (labels_of syntaxes ++ taken.read.names)
+        once_there = taken.read.once (labels_of syntaxes) knows once
+
+        stands : (k : ℕ) (t : Token)
+            → slice_get (drop next cell.tokens) k ≡ Some t
+            → t.at ≡ at
+            → TokenPosition (others ++ placed_row (front ++ cell ∷ rest) ∷ behind) at
+        stands k t is begins =
+            standing others behind (front ++ cell ∷ rest) front rest cell refl at
+            (take next cell.tokens ++ take k (drop next cell.tokens)) (drop (suc k) (drop next cell.tokens)) t
+            (sym (take-append-drop next cell.tokens)
+            ∙ ap (λ ts. take next cell.tokens ++ ts) (cut_at (drop next cell.tokens) k t is)
+            ∙ sym (append_assoc (take next cell.tokens) (take k (drop next cell.tokens)) (t ∷ drop (suc k) (drop next cell.tokens)))) begins
+
+        in_front : (k : ℕ)
+            → Labels (texts_of_tokens (with_spans (take next cell.tokens ++ take k (drop next cell.tokens)))) taken.read.names
+            (token_texts (take k (drop next cell.tokens)))
+        in_front k =
+            rw (
+              texts_placed (take next cell.tokens ++ take k (drop next cell.tokens)),
+              map-append (λ (t : Token). t.text.now) (take next cell.tokens) (take k (drop next cell.tokens)),
+            ) (Labels-rest _ _ _ taken.read.says)
+
+        no_colon : (k : ℕ) (t : Token)
+            → slice_get (drop next cell.tokens) k ≡ Some t
+            → token_texts (take k (drop next cell.tokens)) ≡ []
+            → BeginsWithColon (texts_of_tokens (with_spans (drop (suc k) (drop next cell.tokens))))
+            → ⊥
+        no_colon k t is none colon =
+            taken.stops (at_label _ (take k (drop next cell.tokens)) (drop (suc k) (drop next cell.tokens)) t
+            (cut_at (drop next cell.tokens) k t is) none
+            (subst BeginsWithColon (texts_placed (drop (suc k) (drop next cell.tokens))) colon))
+
+        no_label : (k : ℕ) (t : Token)
+            → slice_get (drop next cell.tokens) k ≡ Some t
+            → BeginsWithLabel (token_texts (take k (drop next cell.tokens))
+            ++ t.text.now ∷ texts_of_tokens (with_spans (drop (suc k) (drop next cell.tokens))))
+            → ⊥
+        no_label k t is label =
+            taken.stops (subst BeginsWithLabel
+            (ap (λ (ts : TokenList). token_texts (take k (drop next cell.tokens)) ++ t.text.now ∷ ts)
+            (texts_placed (drop (suc k) (drop next cell.tokens)))
+            ∙ sym (map-append (λ (u : Token). u.text.now) (take k (drop next cell.tokens)) (t ∷ drop (suc k) (drop next cell.tokens)))
+            ∙ ap token_texts (sym (cut_at (drop next cell.tokens) k t is))) label)
+
+        read : (k : ℕ) (t : Token) (is : slice_get (drop next cell.tokens) k ≡ Some t) (begins : t.at ≡ at)
+            → IsReadTo grammar names (stands k t is begins).place (texts_of_tokens (stands k t is begins).front)
+            (token_texts (take k (drop next cell.tokens)))
+        read k t is begins =
+            reads names others behind threads others_say grown taken.read.names _ (token_texts (take k (drop next cell.tokens)))
+            (in_front k) once_there
+
+        nothing : (k : ℕ) → (token_texts (take k (drop next cell.tokens)) ≡ [] → ⊥) → k ≡ 0 → ⊥
+        nothing k some zero = some (ap (λ (n : ℕ). token_texts (take n (drop next cell.tokens))) zero)
+
+        free : (k : ℕ)
+            → (token_texts (take k (drop next cell.tokens)) ≡ [] → ⊥)
+            → (k ≡ 0) ⊎ (length (statements syntaxes) ≡ grammar.language.most → ⊥)
+            → length (statements syntaxes) ≡ grammar.language.most
+            → ⊥
+        free k some (inl zero) = absurd (nothing k some zero)
+        free k some (inr room) = room
+
+        begins_there : (ts : TokenList)
+            → BeginsFitting grammar mid ts
+            → BeginsFitting grammar (table_after grammar names threads syntaxes) ts
+        begins_there ts =
+            subst (λ (ns : NameTable). BeginsFitting grammar ns ts) (sym (same names others behind threads others_say grown))
+
+        misfit : (e : CellCause) (m : HasMisfitIn grammar (drop next cell.tokens) mid at e)
+            → (m.place ≡ 0) ⊎ (length (statements syntaxes) ≡ grammar.language.most → ⊥)
+            → IsMisfit grammar names (stands m.place m.token m.is m.begins)
+        misfit e m at_first = record {
+          mid = token_texts (take m.place (drop next cell.tokens));
+          read = read m.place m.token m.is m.begins;
+          no_label = no_label m.place m.token m.is;
+          begun = λ some. record {
+            few = free m.place some at_first;
+            begins = begins_there _ (m.begun (nothing m.place some));
+          };
+          none = m.none;
+        }
+
+        wrong : (e : CellCause)
+            → ((m : HasMisfitIn grammar (drop next cell.tokens) mid at e)
+            × ((m.place ≡ 0) ⊎ (length (statements syntaxes) ≡ grammar.language.most → ⊥)))
+            ⊎ ((e ≡ Form)
+            × (length (statements syntaxes) ≡ grammar.language.most → ⊥)
+            × (token_texts (drop next cell.tokens) ≡ [] → ⊥)
+            × EndsEarlyIn grammar (drop next cell.tokens) cell.end mid at)
+            → IsWrongAt grammar names (others ++ placed_row (front ++ cell ∷ rest) ∷ behind) at e
+        wrong e (inl (m, at_first)) = inl (stands m.place m.token m.is m.begins, inr (misfit e m at_first, m.meant))
+        wrong e (inr (is, room_there, some, early)) = inr (
+          is,
+          here names others behind threads others_say grown,
+          record {
+            mid = token_texts (drop next cell.tokens);
+            read =
+                reads names others behind threads others_say grown taken.read.names (texts_of_tokens (with_spans cell.tokens))
+                (token_texts (drop next cell.tokens))
+                (rw (texts_placed cell.tokens) (Labels-whole cell.tokens next taken.read.names taken.read.says)) once_there;
+            no_label = taken.stops;
+            some = some;
+            begun = record { few = room_there; begins = begins_there _ (early.begun some) };
+            none = early.none;
+            ends = early.ends;
+          },
+        )
+
+        one_more :
+            ((length (statements syntaxes) ≡ grammar.language.most) × BeginsAt grammar (drop next cell.tokens) at)
+            ⊎ ((length (statements syntaxes) ≡ grammar.language.most → ⊥) × HasOverflowIn grammar (drop next cell.tokens) mid at)
+            → (p : TokenPosition (others ++ placed_row (front ++ cell ∷ rest) ∷ behind) at)
+            × (IsSurplus grammar names p ⊎ IsNinth grammar names p)
+        one_more (inl (full, (t, is, begins, can))) = (
+          stands 0 t is begins,
+          inl (record { read = read 0 t is begins; begins = can; no_label = no_colon 0 t is refl; full = full }),
+        )
+        one_more (inr (room_there, c)) = (
+          stands c.place c.token c.is c.ninth.0,
+          inr (record {
+            mid = token_texts (take c.place (drop next cell.tokens));
+            read = read c.place c.token c.is c.ninth.0;
+            no_label = no_colon c.place c.token c.is;
+            few = room_there;
+            is_location = c.location;
+            full = ap length (same names others behind threads others_say grown) ∙ c.ninth.2;
+            new = λ there.
+                c.ninth.3 (subst (λ (ns : NameTable). Contains ns c.token.text.now)
+                (same names others behind threads others_say grown) there);
+          }),
+        )

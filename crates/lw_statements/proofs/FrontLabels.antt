@@ -8,8 +8,8 @@ use Rattle.lw_statements.proofs.Common.{slice_get_within, take-map, drop-map, le
 use Rattle.lw_statements.proofs.Common.{list_any-append, Contains-append_right, unsigned_Decides}
 use Rattle.lw_statements.proofs.Common.{pointwise_decides, update, IsDuplicateFree, IsLocationName}
 use Rattle.lw_statements.proofs.Common.{contains_name, Bytes, TokenList, take_one, contains_name-Contains}
-use Rattle.lw_statements.proofs.Common.{once_more, Token, token_texts, Labels, LabelMap, target_by, AtLabel}
-use Rattle.lw_statements.proofs.Common.{HasExactlyLabels, LabelsRead, LabelsFit, HasDuplicateLabelAt}
+use Rattle.lw_statements.proofs.Common.{once_more, Token, token_texts, Labels, LabelMap, target_by, BeginsWithLabel}
+use Rattle.lw_statements.proofs.Common.{HasExactlyLabels, IsAtLabel, LabelsRead, LabelsFit, HasDuplicateLabelAt}
 
 -- ---- tokens and their texts
 
@@ -98,7 +98,7 @@ Labels-whole tokens next ls says =
 Labels-cut : (ts rest mid : TokenList) (ls ks : List Bytes)
     → Labels ts ls rest
     → Labels ts ks mid
-    → (AtLabel mid → ⊥)
+    → (BeginsWithLabel mid → ⊥)
     → (more : List Bytes) × (ks ≡ ls ++ more) × Labels rest more mid
 Labels-cut ts rest mid [] ks h k none = (ks, refl, subst (λ (t : TokenList). Labels t ks mid) h k)
 Labels-cut ts rest mid (l ∷ ls) [] h k none = absurd (none (ap (λ (t : TokenList). slice_get t 1) (sym k ∙ h.1)))
@@ -114,9 +114,9 @@ Labels-next : (rest mid : TokenList) (more : List Bytes) (a : Bytes)
     → slice_get rest 0 ≡ Some a
     → slice_get rest 1 ≡ Some (codes ":")
     → Labels rest more mid
-    → (AtLabel mid → ⊥)
+    → (BeginsWithLabel mid → ⊥)
     → (ks : List Bytes) × (more ≡ a ∷ ks) × IsLocationName a
-Labels-next rest mid [] a first colon h none = absurd (none (subst AtLabel h colon))
+Labels-next rest mid [] a first colon h none = absurd (none (subst BeginsWithLabel h colon))
 Labels-next rest mid (m ∷ ks) a first colon h none =
     let e : slice_get rest 0 ≡ Some m = ap (λ t. slice_get t 0) h.1 in
     let same : m ≡ a = cc in
@@ -126,8 +126,8 @@ Labels-next rest mid (m ∷ ks) a first colon h none =
 pub Labels-unique : (ts m n : TokenList) (ls ks : List Bytes)
     → Labels ts ls m
     → Labels ts ks n
-    → (AtLabel m → ⊥)
-    → (AtLabel n → ⊥)
+    → (BeginsWithLabel m → ⊥)
+    → (BeginsWithLabel n → ⊥)
     → (ls ≡ ks) × (m ≡ n)
 Labels-unique ts m n ls ks h k p q = let cut = Labels-cut ts m n ls ks h k q in go cut.0 cut.1 cut.2
   where
@@ -225,7 +225,7 @@ module _ (tokens : List Token) (to : ℕ) (labels : LabelMap) (next : ℕ) (now 
     -- The labels of the cell continue with this one.
     pub labels_on : (ks : List Bytes) (mid : TokenList)
         → Labels (token_texts tokens) ks mid
-        → (AtLabel mid → ⊥)
+        → (BeginsWithLabel mid → ⊥)
         → (more : List Bytes) × (ks ≡ read.names ++ token.text.now ∷ more) × IsLocationName token.text.now
     labels_on ks mid h none =
         let rest = token_texts (drop next tokens) in
@@ -236,6 +236,19 @@ module _ (tokens : List Token) (to : ℕ) (labels : LabelMap) (next : ℕ) (now 
         (get_behind tokens next 0 ∙ ap (slice_get (token_texts tokens)) (sym here) ∙ get_text tokens next token is)
         (get_behind tokens next 1 ∙ colon) cut.2 none in
         (go.0, cut.1 ∙ ap (λ (ns : List Bytes). read.names ++ ns) go.1, go.2)
+
+    -- The token is in the place of a label.
+    abbrev pub at_label : IsAtLabel tokens labels token.at
+    at_label = record {
+      names = read.names;
+      place = next;
+      token = token;
+      is = is;
+      begins = refl;
+      says = read.says;
+      colon = colon;
+      once = read.once;
+    }
 
     -- A label that the thread has already.
     module _ (led : is_some (target_by now token.text.now) ≡ true) where
@@ -254,13 +267,4 @@ module _ (tokens : List Token) (to : ℕ) (labels : LabelMap) (next : ℕ) (now 
 
       -- A duplicate label is at that position, then.
       pub twice_in : HasDuplicateLabelAt tokens labels token.at
-      twice_in = record {
-        names = read.names;
-        place = next;
-        token = token;
-        is = is;
-        begins = refl;
-        says = read.says;
-        colon = colon;
-        there = label_known;
-      }
+      twice_in = (at_label, label_known)

@@ -1,6 +1,8 @@
 pub mod Common
 pub mod api
 pub mod FrontLabels
+pub mod Fronts
+pub mod FirstFaults
 pub mod Leads
 pub mod OneReading
 pub mod ResolvedNames

@@ -1,13 +1,13 @@
 -- A cell has at most one parse, and so have the cells of a thread.
 use Rattle.lw_statements.proofs.Common.{◌≡◌, Option, Some, None, List, refl, sym, ap, subst, slice_get}
 use Rattle.lw_statements.proofs.Common.{TokenList, Cells, Grammar, IsGrammar, CellSyntax, MaybeStatement}
-use Rattle.lw_statements.proofs.Common.{ParsesCell, Column, AtLabel}
+use Rattle.lw_statements.proofs.Common.{ParsesCell, Column, BeginsWithLabel}
 use Rattle.lw_statements.proofs.FrontLabels.{Labels-unique}
 use Rattle.lw_statements.proofs.api.Zips.{zip_unique}
 
 module _ {Syntax Stmt : Type 0} (grammar : Grammar Syntax Stmt) (lawful : IsGrammar grammar) where
   -- What follows a cell's labels, a statement or nothing, has no `:` after its first token.
-  pub no_label : (ts : TokenList) (o : Option Syntax) → MaybeStatement grammar ts o → AtLabel ts → ⊥
+  pub no_label : (ts : TokenList) (o : Option Syntax) → MaybeStatement grammar ts o → BeginsWithLabel ts → ⊥
   no_label ts None h at = let e : slice_get ts 1 ≡ None = ap (λ (t : TokenList). slice_get t 1) h in absurd cc
   no_label ts (Some s) h at = lawful.no_label ts s h at
 

@@ -15,6 +15,9 @@ use Rattle.lw_statements.proofs.Common.{target_by, ColumnDrafted, JumpCause, IsR
 use Rattle.lw_statements.proofs.Common.{IsUnresolved, AllForward, ColumnRead, ColumnFaultIsTrue}
 use Rattle.lw_statements.proofs.Common.{ColumnRefused, IsResolved, draft_of, IsSpelling, Spelling}
 use Rattle.lw_statements.proofs.Common.{ParsesStatement, grammar_of}
+use Rattle.lw_statements.proofs.Common.{AreRead, table_after, names_in, names_of, insert_names}
+use Rattle.lw_statements.proofs.Common.{insert_names-append, placed_cell}
+use Rattle.lw_statements.specs.Faults.{all_syntaxes}
 use Rattle.lw_statements.proofs.CellsRefused.{column_out_of_memory}
 use Rattle.lw_statements.proofs.Elements.{all_amid, cut_there, item_at, mapped_some, take_further}
 use Rattle.lw_statements.proofs.FaultPlaces.{standing, tells_by}
@@ -253,6 +256,8 @@ module _ {W Form Stmt : Type 0} (spelling : Spelling W Form Stmt) where
           told : ColumnFaultIsTrue grammar (placed_row cells) before f.at f.cause
           told names others others_behind threads others_say grown =
               tells_by grammar names (others ++ placed_row cells ∷ others_behind) f.at f.cause (record {
+                form = λ e. absurd (rw e at because);
+                register = λ e. absurd (rw e at because);
                 missing = λ e. (
                   place,
                   (cut.above, cut.here, cut.below, is_jump, λ there. missing (rw e at because) (rw (← cut.whole) at there)),
@@ -265,17 +270,48 @@ module _ {W Form Stmt : Type 0} (spelling : Spelling W Form Stmt) where
               place : TokenPosition (others ++ placed_row cells ∷ others_behind) f.at
               place = standing others others_behind cells front rest cell whole f.at before_label [] token last begins
 
-              is_jump : IsJumpLabel grammar place cut.above cut.here cut.below
+              all_here : all_syntaxes cut.above cut.here cut.below ≡ syntaxes
+              all_here = sym cut.whole
+
+              table : table_after grammar names threads syntaxes ≡ after
+              table =
+                  insert_names-append names (names_of grammar threads) (names_in grammar syntaxes)
+                  ∙ ap (λ (ns : NameTable). insert_names ns (names_in grammar syntaxes)) (sym grown)
+                  ∙ sym drafted.read.names
+
+              read : AreRead grammar names others (placed_row front ++ placed_cell cell ∷ placed_row rest) threads syntaxes []
+              read = record {
+                before_says = others_say;
+                says =
+                    rw (← map-append placed_cell front (cell ∷ rest), ← ap placed_row whole, cells_placed cells) drafted.read.says;
+                few = drafted.few;
+                once = rw append-nil drafted.once;
+                room = rw table drafted.room;
+              }
+
+              is_jump : IsJumpLabel grammar names place cut.above cut.here cut.below
               is_jump = record {
+                threads = threads;
+                read =
+                    subst (λ (ys : List CellSaid).
+                    AreRead grammar names others (placed_row front ++ placed_cell cell ∷ placed_row rest) threads ys [])
+                    (sym all_here) read;
                 above_says = rw (cells_placed front) cut.above_says;
-                says = rw (texts_placed cell.tokens) cut.says;
-                below_says = rw (cells_placed rest) cut.below_says;
+                ahead =
+                    subst (λ (ys : List CellSaid).
+                    (k : ℕ) (t : ParsesStatement spelling)
+                    → slice_get (statements cut.above) k ≡ Some t
+                    → LabelsLeadForward grammar ys k t) (sym all_here)
+                    (subst (λ (ys : List CellSaid).
+                    (k : ℕ) (t : ParsesStatement spelling)
+                    → slice_get (statements ys) k ≡ Some t
+                    → LabelsLeadForward grammar syntaxes k t) (sym same) r.ahead);
                 last = refl;
                 jump = (s, jump, label);
               }
 
               backward : (to : ℕ) × (target_by column.labels word ≡ Some to) × (to ≤ length code)
-                  → (p : TokenPosition (others ++ placed_row cells ∷ others_behind) f.at) × IsBackward grammar p
+                  → (p : TokenPosition (others ++ placed_row cells ∷ others_behind) f.at) × IsBackward grammar names p
               backward (to, by, less) =
                   let l = found to by in
                   let at : target_in syntaxes word ≤ length (statements cut.above) =

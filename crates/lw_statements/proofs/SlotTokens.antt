@@ -145,36 +145,6 @@ module _ {W Form Stmt : Type 0} (spelling : Spelling W Form Stmt) where
   reach_within (slot ∷ slots) (t ∷ ts) zero h = (omega arith, omega arith)
   reach_within (slot ∷ slots) (t ∷ ts) (suc n) h = let r = reach_within slots ts n h.1 in (omega (arith, r.0), omega (arith, r.1))
 
-  -- The slot at this index is a location's, the slots before it accept the tokens before it, and the token there is a location's name.
-  abbrev pub IsReached : (slots : List (Slot W)) → TokenList → ℕ → Type 0
-  IsReached slots ts k =
-      (front back : List (Slot W))
-      × (slots ≡ front ++ Location ∷ back)
-      × CanStand spelling (take k ts) front
-      × ((t : Bytes) → slice_get ts k ≡ Some t → IsLocationName t)
-
-  -- If tokens reach n slots, each location's slot among these is reached.
-  pub reached : (slots : List (Slot W)) (ts : TokenList) (n k : ℕ)
-      → IsReach spelling ts slots n
-      → k < n
-      → slice_get slots k ≡ Some Location
-      → IsReached slots ts k
-  reached [] ts n k h less e = absurd cc
-  reached (slot ∷ slots) [] n k h less e = absurd (omega (arith, h, less))
-  reached (slot ∷ slots) (t ∷ ts) zero k h less e = absurd (omega (arith, less))
-  reached (slot ∷ slots) (t ∷ ts) (suc n) zero h less e =
-      let same : slot ≡ Location = cc in
-      let here = subst (λ (s : Slot W). CanStand spelling (t ∷ []) (s ∷ [])) same h.0 in (
-        [],
-        slots,
-        ap (λ (s : Slot W). s ∷ slots) same,
-        (tt, tt),
-        λ u is. (let one : t ≡ u = cc in subst IsLocationName (sym here.1.0.0 ∙ one) here.1.0.1),
-      )
-  reached (slot ∷ slots) (t ∷ ts) (suc n) (suc k) h less e =
-      let r = reached slots ts n k h.1 (omega (arith, less)) e in
-      (slot ∷ r.0, r.1, ap (λ (s : List (Slot W)). slot ∷ s) r.2, ((h.0.0.0, r.3.0), (h.0.1.0, r.3.1)), r.4)
-
   -- The number of slots that tokens reach is unique: of two such numbers neither is greater.
   pub at_most : (ts : TokenList) (slots : List (Slot W)) (m n : ℕ)
       → IsReach spelling ts slots m
@@ -198,7 +168,7 @@ module _ {W Form Stmt : Type 0} (spelling : Spelling W Form Stmt) where
 
   -- The form's slots accept at most k of the tokens.
   abbrev pub ReachesTo : TokenList → ℕ → Form → Type 0
-  ReachesTo ts k form = (n : ℕ) → IsReach spelling ts (spelling.slots_of form) n → n ≤ k
+  ReachesTo ts k form = (n : ℕ) × IsReach spelling ts (spelling.slots_of form) n × (n ≤ k)
 
 -- What holds of the first i forms, and of the next one, holds of the first `i + 1`.
 pub form_more : {X : Type 0} (P : X → Type 0) (forms : List X) (i : ℕ) (form : X)

@@ -9,7 +9,10 @@ use Rattle.lw_statements.proofs.Common.{x86_registers, IsRegisterName, register_
 use Rattle.lw_statements.proofs.Common.{register_unique, IsNumber, number-unique, number_first, Slot, Keyword}
 use Rattle.lw_statements.proofs.Common.{Register, Location, Value, Number, Label, IsOperand, Spelling}
 use Rattle.lw_statements.proofs.Common.{SlotValue, Filling, Gives, Fills, names_register, tokens_differ}
-use Rattle.lw_statements.proofs.Common.{are_disjoint_forms, is_no_colon}
+use Rattle.lw_statements.proofs.Common.{are_disjoint_forms, is_no_colon, is_no_location, is_word_slot}
+use Rattle.lw_statements.proofs.Common.{ltb, ltb-true, ltb-false}
+use Rattle.lw_base.specs.Characters.{is_name_byte}
+use Rattle.std.proofs.lemmas.Str.Ascii.{lowercase_is}
 use Rattle.lw_base.specs.declared.operand.Operand.TheVariants as operand
 
 -- ---- registers, numbers and names of locations
@@ -35,7 +38,7 @@ register_reserved X86 w r h =
     (ap (λ v. list_any (λ k. bytes_eq v k) x86_registers) (sym h.1) ∙ x86_register_listed r h.0)
 
 -- A register's name is no location's name.
-register_apart : (arch : Arch) (w : Bytes) (r : ℕ) → IsRegisterName arch w r → IsLocationName w → ⊥
+pub register_apart : (arch : Arch) (w : Bytes) (r : ℕ) → IsRegisterName arch w r → IsLocationName w → ⊥
 register_apart arch w r reg loc = true≢false (sym (register_reserved arch w r reg) ∙ loc.1)
 
 -- A number is no location's name.
@@ -61,7 +64,7 @@ digit_first X86 [] d = absurd cc
 digit_first X86 (c ∷ w) d = digit_lower c d
 
 -- No token is both a register's name and a number.
-register_no_number : (arch : Arch) (w : Bytes) (r n : ℕ) → IsRegisterName arch w r → IsNumber w n → ⊥
+pub register_no_number : (arch : Arch) (w : Bytes) (r n : ℕ) → IsRegisterName arch w r → IsNumber w n → ⊥
 register_no_number arch w r n reg num =
     true≢false (sym (digit_first arch w (number_first w n num))
     ∙ ap (first_byte_is is_ascii_digit) (sym reg.1)
@@ -92,6 +95,53 @@ colon_case X86 = refl
 colon_location : IsLocationName (codes ":") → ⊥
 colon_location loc = true≢false (sym loc.0.0.all.0)
 
+-- If a test's negation fails, the test holds.
+not-false : (b : Bool) → not b ≡ false → b ≡ true
+not-false true e = refl
+not-false false e = absurd (true≢false e)
+
+-- A byte is a name's if and only if it is one in lower case.
+case_same : (b : ℕ) → is_name_byte (to_ascii_lowercase b) ≡ is_name_byte b
+case_same b = elim (cases_Bool (ltb b 128)) [
+  | inl e ↦
+      agree_below_at (λ q. is_name_byte (to_ascii_lowercase q)) is_name_byte 128 b refl (ltb-true b 128 e)
+  | inr e ↦ ap is_name_byte ((lowercase_is b).2 (let most = ltb-false b 128 e in omega (arith, most)))
+]
+
+-- If bytes are equal in lower case, and one is a name's, so is the other.
+name_byte_case : (b c : ℕ) → to_ascii_lowercase b ≡ to_ascii_lowercase c → is_name_byte c ≡ true → is_name_byte b ≡ true
+name_byte_case b c e h = sym (case_same b) ∙ ap is_name_byte e ∙ case_same c ∙ h
+
+-- A location's name is not empty, and its first byte is a name's.
+first_byte : (t : Bytes) → IsLocationName t → first_byte_is is_name_byte t ≡ true
+first_byte [] loc = absurd (omega (arith, loc.0.0.some))
+first_byte (b ∷ t) loc = loc.0.0.all.0
+
+-- What is equal to such a text in lower case begins with a name's byte too.
+first_byte_case : (w t : Bytes)
+    → map to_ascii_lowercase w ≡ map to_ascii_lowercase t
+    → first_byte_is is_name_byte t ≡ true
+    → first_byte_is is_name_byte w ≡ true
+first_byte_case [] [] e h = h
+first_byte_case [] (c ∷ t) e h = absurd cc
+first_byte_case (b ∷ w) [] e h = absurd cc
+first_byte_case (b ∷ w) (c ∷ t) e h = name_byte_case b c (let f : to_ascii_lowercase b ≡ to_ascii_lowercase c = cc in f) h
+
+-- A keyword that is no location's name is not read as one.
+no_word : (arch : Arch) (w t : Bytes)
+    → is_no_location arch w ≡ true
+    → lowercase_if_x86 arch w ≡ lowercase_if_x86 arch t
+    → IsLocationName t
+    → ⊥
+no_word Source w t none same loc = elim (cases_Bool (is_reserved w)) [
+  | inl e ↦ true≢false (sym e ∙ ap is_reserved same ∙ loc.1)
+  | inr e ↦
+      true≢false (sym none
+      ∙ rw (e, ap (first_byte_is is_name_byte) same ∙ first_byte t loc) refl)
+]
+no_word X86 w t none same loc =
+    true≢false (sym none ∙ ap not (first_byte_case w t same (first_byte t loc)))
+
 module _ {W Form Stmt : Type 0} (spelling : Spelling W Form Stmt) where
   -- ---- one token
 
@@ -119,7 +169,7 @@ module _ {W Form Stmt : Type 0} (spelling : Spelling W Form Stmt) where
       bytes_eq (lowercase_if_x86 spelling.language.arch (register_name spelling.language.arch q))
       (lowercase_if_x86 spelling.language.arch w)) all r r h (rw there ((bytes_eq-Decides _ _).1 e))
 
-  no_register : (t : Bytes) (w : W) (r : ℕ)
+  pub no_register : (t : Bytes) (w : W) (r : ℕ)
       → not (names_register spelling (spelling.text_of w)) ≡ true
       → lowercase_if_x86 spelling.language.arch (spelling.text_of w) ≡ lowercase_if_x86 spelling.language.arch t
       → IsRegisterName spelling.language.arch t r
@@ -127,7 +177,7 @@ module _ {W Form Stmt : Type 0} (spelling : Spelling W Form Stmt) where
   no_register t w r none word reg = true≢false (sym none ∙ ap not (named (spelling.text_of w) r reg.0 (reg.1 ∙ sym word)))
 
   -- No token is accepted by two slots that differ.
-  differ_apart : (t : Bytes) (a b : Slot W) (g : SlotValue a) (h : SlotValue b)
+  pub differ_apart : (t : Bytes) (a b : Slot W) (g : SlotValue a) (h : SlotValue b)
       → tokens_differ spelling a b ≡ true
       → Gives spelling t a g
       → Gives spelling t b h
@@ -140,6 +190,19 @@ module _ {W Form Stmt : Type 0} (spelling : Spelling W Form Stmt) where
   differ_apart t Location Value n v d x y = operand_apart _ t v y (subst IsLocationName (sym x.0) x.1)
   differ_apart t Value Location v n d x y = operand_apart _ t v x (subst IsLocationName (sym y.0) y.1)
   differ_apart t a b g h d x y = absurd cc
+
+  -- A slot that accepts the name of a location, and is no word, is a location's.
+  pub location_slot : (t : Bytes) (slot : Slot W) (g : SlotValue slot)
+      → is_word_slot spelling slot ≡ false
+      → Gives spelling t slot g
+      → IsLocationName t
+      → slot ≡ Location
+  location_slot t (Keyword w) g none h loc = absurd (no_word spelling.language.arch (spelling.text_of w) t (not-false _ none) h loc)
+  location_slot t Register r none h loc = absurd (register_apart _ t r h loc)
+  location_slot t Location x none h loc = refl
+  location_slot t Value v none h loc = absurd (operand_apart _ t v h loc)
+  location_slot t Number n none h loc = absurd (number_apart t n h loc)
+  location_slot t Label x none h loc = absurd (true≢false none)
 
   -- A `:` is accepted only by its own slot.
   pub colon_gives : (slot : Slot W) (slots : List (Slot W)) (g : SlotValue slot)

@@ -7,13 +7,13 @@ use Rattle.lw_statements.proofs.Common.{IsLocationName, Bytes, NameTable, TokenL
 use Rattle.lw_statements.proofs.Common.{token_texts, Draft, Operands, Slot, Location, SlotBindings, NameRead}
 use Rattle.lw_statements.proofs.Common.{Spelling, Filling, Fills, ParsesStatement, grammar_of, name_in}
 use Rattle.lw_statements.proofs.Common.{CanStand, bindings_of, draft_on, draft_of, IsNameAmong, IsDrafted}
-use Rattle.lw_statements.proofs.Common.{IsNotDrafted, IsOverflowSlot, IsReach, IsSpelling, Phrase, Fits}
+use Rattle.lw_statements.proofs.Common.{IsNotDrafted, IsOverflowSlot, IsReach, IsSlotAfter, IsSpelling, Phrase, Fits}
 use Rattle.lw_statements.proofs.Common.{StatementRead, StatementRefused, HasOverflowIn}
 use Rattle.lw_statements.proofs.Elements.{all_at}
 use Rattle.lw_statements.proofs.FrontLabels.{get_text}
-use Rattle.lw_statements.proofs.SlotTokens.{reached}
-use Rattle.lw_statements.proofs.Causes.{many_further}
-use Rattle.lw_statements.proofs.Beginnings.{before as before_location}
+use Rattle.lw_statements.proofs.Causes.{further}
+use Rattle.lw_statements.proofs.Beginnings.{location_after}
+use Rattle.lw_statements.proofs.Fronts.{after_cut, slot_at}
 use Rattle.lw_statements.proofs.api.Forms.{is_grammar}
 
 module _ {W Form Stmt : Type 0} (spelling : Spelling W Form Stmt) where
@@ -149,11 +149,13 @@ module _ {W Form Stmt : Type 0} (spelling : Spelling W Form Stmt) where
               let same : s ≡ said = (is_grammar _ _ lawful).one (token_texts tokens) s said fits.0 (there, fills) in
               h.refused.none known (is.1, rw (same, is.0) at fits.1);
           cause =
-              many_further (λ ninth. record {
+              further (λ c none. absurd none) (λ none. absurd none) (λ ninth. record {
                 place = h.index;
                 token = h.token;
                 is = h.is;
-                before = before_location _ made lawful form n.2 n.3 (token_texts (take h.index tokens)) there n.7 front;
+                location =
+                    location_after _ made lawful form (token_texts (take h.index tokens)) h.token.text.now there
+                    (after_cut spelling n.2 n.3 (spelling.slots_of form) (token_texts (take h.index tokens)) n.7 front) is.1;
                 ninth = ninth;
               }) h.refused.cause;
           place = λ len lies. h.refused.place len (all_at (λ t. t.at ≤ len) tokens _ h.token h.is lies.0);
@@ -169,15 +171,18 @@ module _ {W Form Stmt : Type 0} (spelling : Spelling W Form Stmt) where
       → IsOverflowSlot (spelling.slots_of form) tokens front names index
       → HasOverflowIn (grammar_of spelling) tokens names (get_or tokens index default).at
   ninth_in made lawful form there tokens names front index default reach n =
-      let r = reached spelling (spelling.slots_of form) (token_texts tokens) front index reach n.before n.slot in
-      let before = subst (λ ts. CanStand spelling ts r.0) (take-map (λ t. t.text.now) index tokens) r.3 in
+      let r = slot_at spelling (spelling.slots_of form) (token_texts tokens) front index Location reach n.before n.slot in
+      let here = r.1 n.token.text.now (get_text tokens index n.token n.is) in
+      let loc = subst IsLocationName (sym here.1.0.0) here.1.0.1 in
+      let after =
+      subst (λ ts. IsSlotAfter spelling ts (spelling.slots_of form) Location) (take-map (λ t. t.text.now) index tokens) r.0 in
       subst (λ (t : Token). HasOverflowIn (grammar_of spelling) tokens names t.at)
       (sym (get_or_from_slice_get tokens index n.token default n.is)) (record {
         place = index;
         token = n.token;
         is = n.is;
-        before = before_location spelling made lawful form r.0 r.1 _ there r.2 before;
-        ninth = (refl, r.4 n.token.text.now (get_text tokens index n.token n.is), n.full, n.new);
+        location = location_after spelling made lawful form _ n.token.text.now there after loc;
+        ninth = (refl, loc, n.full, n.new);
       })
 
   -- Tokens that fill no form say no statement that fits.

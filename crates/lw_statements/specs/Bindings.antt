@@ -1,26 +1,32 @@
 -- The bindings of a statement's tokens, and the statement that they determine.
-use Rattle.std.specs.Prelude.{◌≡◌, MatchOption, IfSome, ◌<◌, ◌≤◌, ◌+◌, ◌&&◌, ◌||◌, ℕ, zero, suc, Bool, true, false, not, Option, Some, None, List, [], ◌∷◌}
-use Rattle.std.specs.Prelude.{◌^◌, length, codes, slice_get, Contains}
+use Rattle.std.specs.Prelude.{◌≡◌, MatchOption, IfSome, ◌<◌, ◌≤◌, ◌+◌, ◌&&◌, ◌||◌, ◌⊎◌, ℕ, zero, suc, Bool, true, false, not, Option, Some, None, List, [], ◌∷◌}
+use Rattle.std.specs.Prelude.{◌^◌, length, take, codes, slice_get, Contains}
 use Rattle.std.specs.List.{AllByRecursion, list_any, list_all}
 use Rattle.std.specs.Option.{option_map}
 use Rattle.std.specs.Str.{bytes_eq}
 use Rattle.lw_base.specs.WellFormed.{IsRegisterIndex, IsWordNumber}
 use Rattle.lw_base.specs.Limits.{most_locations}
-use Rattle.lw_base.specs.Names.{IsLocationName}
+use Rattle.lw_base.specs.Characters.{is_name_byte, first_byte_is}
+use Rattle.lw_base.specs.Names.{IsLocationName, is_reserved}
 use Rattle.lw_base.specs.Types.{Bytes, NameTable, TokenList}
 use Rattle.lw_base.specs.declared.fault.CellFault.{CellFault}
+use Rattle.lw_base.specs.declared.fault.CellCause.TheVariants as cause
+use Rattle.lw_base.specs.declared.head.Arch.{Arch}
+use Rattle.lw_base.specs.declared.head.Arch.TheVariants.{Source, X86}
 use Rattle.lw_base.specs.declared.operand.Operand.{Operand}
 use Rattle.lw_base.specs.declared.operand.Operand.TheVariants as operand
 use Rattle.lw_base.specs.Registers.{register_name, lowercase_if_x86}
 use Rattle.lw_litmus.specs.Operations.{location_of, branch_target}
 use Rattle.lw_litmus.specs.Operations.{registers_of, numbers_of}
 use Rattle.lw_text.specs.declared.token.Token.{Token}
+use Rattle.lw_text.specs.Spans.{token_texts}
+use Rattle.lw_statements.specs.Faults.{IsMisfitCause, IsMeantAsRegister}
 use Rattle.lw_statements.specs.declared.draft.Operands.{Operands}
 use Rattle.lw_statements.specs.declared.draft.Draft.{Draft}
 use Rattle.lw_statements.specs.declared.statement_parser.SlotBindings.{SlotBindings}
 use Rattle.lw_statements.specs.declared.slot.Slot.{Slot}
 use Rattle.lw_statements.specs.declared.slot.Slot.TheVariants.{Keyword, Register, Location, Value, Number, Label}
-use Rattle.lw_statements.specs.Spellings.{Spelling, SlotValue, Filling, ParsesStatement, name_in, label_in, Fills}
+use Rattle.lw_statements.specs.Spellings.{Spelling, SlotValue, Filling, ParsesStatement, name_in, label_in, Fills, grammar_of}
 use Rattle.lw_statements.specs.inner.Tokens.{NameRead, NameRefused}
 
 -- The bindings of no tokens: no operand, no name and no label.
@@ -146,6 +152,27 @@ pub record IsOverflowSlot {W : Type 0} (slots : List (Slot W)) (tokens : List To
   pub full : length names ≡ most_locations
   pub new : Contains names token.text.now → ⊥
 
+-- Tests whether a keyword of this text is no name of a location: it is a sign, or reserved in the source language, where its letters are
+-- compared as they are.
+abbrev pub is_no_location : Arch → Bytes → Bool
+is_no_location Source w = not (first_byte_is is_name_byte w) || is_reserved w
+is_no_location X86 w = not (first_byte_is is_name_byte w)
+
+-- Tests whether the slot accepts a location or a register.
+abbrev pub is_operand_slot : {W : Type 0} → Slot W → Bool
+is_operand_slot Register = true
+is_operand_slot Location = true
+is_operand_slot Value = true
+is_operand_slot slot = false
+
+-- The slot takes a location.
+abbrev pub IsLocationSlot : {W : Type 0} → Slot W → Type 0
+IsLocationSlot slot = slot ≡ Location
+
+-- The slot takes a register.
+abbrev pub IsRegisterSlot : {W : Type 0} → Slot W → Type 0
+IsRegisterSlot slot = (slot ≡ Register) ⊎ (slot ≡ Value)
+
 module _ {W Form Stmt : Type 0} (spelling : Spelling W Form Stmt) where
   -- The tokens fit these slots, one in each.
   abbrev pub CanStand : TokenList → List (Slot W) → Type 0
@@ -171,11 +198,37 @@ module _ {W Form Stmt : Type 0} (spelling : Spelling W Form Stmt) where
   IsReach (t ∷ ts) (slot ∷ slots) zero = CanStand (t ∷ []) (slot ∷ []) → ⊥
   IsReach (t ∷ ts) (slot ∷ slots) (suc k) = CanStand (t ∷ []) (slot ∷ []) × IsReach ts slots k
 
-  -- At most this number of tokens fit the slots of any form.
+  -- The slots of each form accept at most this number of the tokens.
   abbrev pub AreFront : TokenList → ℕ → Type 0
   AreFront ts k =
       (form : Form) → Contains spelling.forms form
-      → (n : ℕ) → IsReach ts (spelling.slots_of form) n → n ≤ k
+      → (n : ℕ) × IsReach ts (spelling.slots_of form) n × (n ≤ k)
+
+  -- This number of the tokens is the most that the slots of any form accept, 0 if there is no form.
+  pub record IsLongestFront (ts : TokenList) (k : ℕ) : Type 0 where
+    pub reached : (k ≡ 0) ⊎ ((form : Form) × Contains spelling.forms form × IsReach ts (spelling.slots_of form) k)
+    pub front : AreFront ts k
+
+  -- The first of the slots accept the tokens, one each, and this slot follows these.
+  abbrev pub IsSlotAfter : TokenList → List (Slot W) → Slot W → Type 0
+  IsSlotAfter ts [] next = ⊥
+  IsSlotAfter [] (slot ∷ slots) next = slot ≡ next
+  IsSlotAfter (t ∷ ts) (slot ∷ slots) next = CanStand (t ∷ []) (slot ∷ []) × IsSlotAfter ts slots next
+
+  -- After those of the slots that accept the tokens, such a slot follows.
+  abbrev pub HasNext : (Slot W → Type 0) → TokenList → List (Slot W) → Type 0
+  HasNext IsSo ts slots = (slot : Slot W) × IsSlotAfter ts slots slot × IsSo slot
+
+  -- Some form has such a slot after those that accept the tokens.
+  abbrev pub HasSlotAfter : (Slot W → Type 0) → TokenList → Type 0
+  HasSlotAfter IsSo ts = (form : Form) × Contains spelling.forms form × HasNext IsSo ts (spelling.slots_of form)
+
+  -- The fault is that of the first token after which no statement is possible, or of the end of the tokens.
+  pub record IsFirstRejected (tokens : List Token) (end : ℕ) (fault : CellFault) : Type 0 where
+    pub front : ℕ
+    pub longest : IsLongestFront (token_texts tokens) front
+    pub is : MatchOption (slice_get tokens front) ((fault.at ≡ end) × (fault.cause ≡ cause.Form))
+        (λ t. (fault.at ≡ t.at) × IsMisfitCause (IsMeantAsRegister (grammar_of spelling) (token_texts (take front tokens)) t.text.now) fault.cause)
 
   -- ---- Disjoint forms.
 
@@ -241,6 +294,31 @@ module _ {W Form Stmt : Type 0} (spelling : Spelling W Form Stmt) where
   names_one (Location ∷ slots) = names_none slots
   names_one (slot ∷ slots) = names_one slots
 
+  -- ---- Locations and registers among the forms.
+
+  -- Tests whether the slot accepts a name that a location could have, and is no location's.
+  abbrev pub is_word_slot : Slot W → Bool
+  is_word_slot Label = true
+  is_word_slot (Keyword w) = not (is_no_location spelling.language.arch (spelling.text_of w))
+  is_word_slot slot = false
+
+  -- Tests whether no list of slots has a word where the other has a location or a register, after slots that accept the same tokens.
+  abbrev pub are_clear_forms : List (Slot W) → List (Slot W) → Bool
+  are_clear_forms (a ∷ first) (b ∷ second) =
+      not (is_operand_slot a && is_word_slot b) && (tokens_differ a b || are_clear_forms first second)
+  are_clear_forms first second = true
+
+  -- Tests whether each pair of the forms is clear.
+  abbrev pub all_clear : List Form → Bool
+  all_clear forms =
+      list_all (λ form. list_all (λ other. are_clear_forms (spelling.slots_of form) (spelling.slots_of other)) forms) forms
+
+  -- Tests whether no keyword among the slots is the name of a register.
+  abbrev pub is_register_free : List (Slot W) → Bool
+  is_register_free [] = true
+  is_register_free (Keyword w ∷ slots) = not (names_register (spelling.text_of w)) && is_register_free slots
+  is_register_free (slot ∷ slots) = is_register_free slots
+
   -- ---- What the rule of cells requires.
 
   -- The statement of a form results from the operands of its tokens; it accesses the location of its name, jumps to where its label does,
@@ -256,10 +334,13 @@ module _ {W Form Stmt : Type 0} (spelling : Spelling W Form Stmt) where
         → AllByRecursion IsRegisterIndex (registers_of (spelling.language.operation_of (spelling.statement x to form f)))
         × AllByRecursion IsWordNumber (numbers_of (spelling.language.operation_of (spelling.statement x to form f)))
 
-  -- What the rule of cells requires: a language's forms are disjoint, and each begins, names and jumps as the rule demands.
+  -- What the rule of cells requires: a language's forms are disjoint, and each begins, names and jumps as the rule demands; where one has
+  -- a location or a register, no other has a word that is a location's name; and no keyword is a register's name.
   pub record IsSpelling (made : Form → Operands → Option Stmt) : Type 0 where
     pub countable : spelling.language.most < 2 ^ 64
     pub apart : all_apart spelling.forms ≡ true
     pub statements : list_all (λ form. is_statement (spelling.slots_of form) && is_label_last (spelling.slots_of form)) spelling.forms ≡ true
     pub names : list_all (λ form. names_one (spelling.slots_of form)) spelling.forms ≡ true
+    pub clear : all_clear spelling.forms ≡ true
+    pub words : list_all (λ form. is_register_free (spelling.slots_of form)) spelling.forms ≡ true
     pub making : (x to : ℕ) (form : Form) (f : Filling (spelling.slots_of form)) → IsMade made x to form f

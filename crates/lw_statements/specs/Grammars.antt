@@ -4,6 +4,7 @@ use Rattle.std.specs.Prelude.{◌≡◌, ◌<◌, ◌^◌, ℕ, Option, Some, []
 use Rattle.std.specs.Option.{option_map}
 use Rattle.lw_base.specs.WellFormed.{IsRegisterIndex, IsWordNumber}
 use Rattle.lw_base.specs.Names.{IsLocationName}
+use Rattle.lw_base.specs.Registers.{IsRegisterName}
 use Rattle.lw_base.specs.Types.{Bytes, TokenList}
 use Rattle.lw_base.specs.declared.head.Arch.{Arch}
 use Rattle.lw_litmus.specs.Languages.{Language}
@@ -31,13 +32,27 @@ module _ {Syntax Stmt : Type 0} (grammar : Grammar Syntax Stmt) where
   abbrev pub statement_limit : ℕ
   statement_limit = grammar.language.most
 
+  -- Some statement begins with the tokens.
+  abbrev pub BeginsStatement : TokenList → Type 0
+  BeginsStatement ts = (rest : TokenList) × (s : Syntax) × grammar.says (ts ++ rest) s
+
   -- Some statement begins with the token.
   abbrev pub CanBegin : Bytes → Type 0
-  CanBegin t = (rest : TokenList) × (s : Syntax) × grammar.says (t ∷ rest) s
+  CanBegin t = BeginsStatement (t ∷ [])
 
-  -- A location may follow the tokens: any is that of some statement that begins so.
-  abbrev pub BeforeLocation : TokenList → Type 0
-  BeforeLocation ts = (x : Bytes) → IsLocationName x → (rest : TokenList) × (s : Syntax) × grammar.says (ts ++ x ∷ rest) s × (grammar.name_of s ≡ Some x)
+  -- After the tokens, the token x is a location: some statement begins with them and x, and x is the location of every such statement.
+  pub record IsLocationAfter (ts : TokenList) (x : Bytes) : Type 0 where
+    pub begins : BeginsStatement (ts ++ x ∷ [])
+    pub only : (rest : TokenList) (s : Syntax) → grammar.says (ts ++ x ∷ rest) s → grammar.name_of s ≡ Some x
+
+  -- After the tokens a register may follow, and no location may: some statement begins with them and a register's name, and none with them
+  -- and a location's name.
+  pub record IsBeforeRegister (ts : TokenList) : Type 0 where
+    pub name : Bytes
+    pub register : ℕ
+    pub named : IsRegisterName grammar.language.arch name register
+    pub begins : BeginsStatement (ts ++ name ∷ [])
+    pub no_location : (x : Bytes) → IsLocationName x → BeginsStatement (ts ++ x ∷ []) → ⊥
 
   -- What the rule of cells requires.
   pub record IsGrammar : Type 0 where

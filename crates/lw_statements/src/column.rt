@@ -1,5 +1,5 @@
 //! Reading the cells of a thread, from top to bottom, and then resolving its jumps.
-ghost use Rattle.std.specs.Prelude.{◌≡◌, ◌⊎◌, ◌<◌, ◌≤◌, [], ◌∷◌, ◌++◌, Some, length, drop, MatchResult, IfSome, IfOk, IfErr};
+ghost use Rattle.std.specs.Prelude.{◌≡◌, ◌⊎◌, ◌<◌, ◌≤◌, [], ◌∷◌, ◌++◌, Some, length, drop, slice_get, MatchResult, IfSome, IfOk, IfErr};
 ghost use Rattle.std.specs.Option.{option_len};
 ghost use Rattle.lw_base.specs.Types.{NameTable};
 ghost use Rattle.lw_base.specs.declared.fault.CellCause.TheVariants.{TooMany, Memory};
@@ -7,8 +7,7 @@ ghost use Rattle.lw_text.specs.Places.{cells_texts};
 ghost use Rattle.lw_text.specs.Spans.{token_texts};
 ghost use Rattle.lw_statements.specs.Grammars.{statement_limit, CanBegin};
 ghost use Rattle.lw_statements.specs.Spellings.{grammar_of};
-ghost use Rattle.lw_statements.specs.Bindings.{draft_of, IsSpelling};
-ghost use Rattle.lw_statements.specs.inner.Tokens.{IsMisfit};
+ghost use Rattle.lw_statements.specs.Bindings.{draft_of, IsFirstRejected, IsSpelling};
 ghost use Rattle.lw_statements.specs.inner.Drafts.{IsFresh, ColumnDrafted, target_by};
 ghost use Rattle.lw_statements.specs.inner.Reading.{MaybeRead, MaybeRefused, LedForward, LabelLost, JumpCause, ColumnRead, ColumnRefused};
 ghost use Rattle.lw_statements.specs.inner.Reading.{CellRead, CellRefused, IsResolvable, IsResolved, IsCellResolved, IsUnresolved};
@@ -16,9 +15,8 @@ ghost use Rattle.lw_statements.specs.inner.Reading.{CellRead, CellRefused, IsRes
 use crate::draft::{Draft, DraftCell, Operands};
 use crate::labels::read_labels;
 use crate::phrase::Phrase;
-use crate::statement_parser::{can_begin, read_statement};
+use crate::statement_parser::{can_begin, first_rejected, read_statement};
 use crate::statement_reader::StatementReader;
-use crate::token::misfit;
 use lw_base::{CellCause, CellFault, LocNames, Sequence};
 use lw_text::{Cell, Token};
 use std::alloc::{Allocator, Global};
@@ -74,6 +72,7 @@ fn read_cells<'a, L: StatementReader, A: Allocator + Copy>(
         (λ stmts. ColumnRead (grammar_of L.spelling) (cells_texts cells.now) locs.old stmts locs.new)
         (ColumnRefused (grammar_of L.spelling) locs.old cells.now) }
 {
+    let _known = locs.len();
     for cell in cells {
         read_cell::<L, A>(cell, column, locs)?;
     }
@@ -95,6 +94,7 @@ fn read_cell<'a, L: StatementReader, A: Allocator + Copy>(
     let start = read_labels(cell.tokens.as_slice(), column.count, &mut column.labels)?;
     let phrase = Phrase::behind(cell, start);
     let stmt = maybe_statement::<L, A>(&phrase, column.count, locs)?;
+    let _names = locs.len();
     column.count += statement_count(&stmt);
     push(&mut column.cells, DraftCell { start, stmt })
 }
@@ -135,17 +135,19 @@ fn maybe_statement<L: StatementReader, A: Allocator + Copy>(
         return Ok(None);
     };
     if above == L::most() {
-        return Err(too_many_statements::<L>(first));
+        return Err(too_many_statements::<L>(phrase, first));
     }
     Ok(Some(read_statement::<L, A>(phrase, locs)?))
 }
 
 /// Returns the fault of a statement beyond the limit. It is at its first token, unless no statement begins with that
 /// token.
-fn too_many_statements<L: StatementReader>(first: &Token<'_>) -> CellFault
-    ensures place { result.at ≡ first.now.at }
-    ensures cause { (IsMisfit result.cause × (CanBegin (grammar_of L.spelling) first.now.text.now → ⊥))
-        ⊎ ((result.cause ≡ TooMany) × CanBegin (grammar_of L.spelling) first.now.text.now) }
+fn too_many_statements<L: StatementReader>(phrase: &Phrase<'_, '_>, first: &Token<'_>) -> CellFault
+    requires lawful { IsSpelling L.spelling L.made }
+    requires first { Some first.now ≡ slice_get phrase.now.tokens.now 0 }
+    ensures { ((result.cause ≡ TooMany) × (result.at ≡ first.now.at) × CanBegin (grammar_of L.spelling) first.now.text.now)
+        ⊎ ((CanBegin (grammar_of L.spelling) first.now.text.now → ⊥)
+        × IsFirstRejected L.spelling phrase.now.tokens.now phrase.now.end result) }
 {
     if can_begin::<L>(first) {
         return CellFault {
@@ -153,7 +155,7 @@ fn too_many_statements<L: StatementReader>(first: &Token<'_>) -> CellFault
             cause: CellCause::TooMany,
         };
     }
-    misfit(first)
+    first_rejected::<L>(phrase)
 }
 
 /// Resolves a thread's drafts by its labels.

@@ -18,6 +18,7 @@ impl<'t, 'a> Phrase<'t, 'a> {
     pub(crate) fn behind<A: Allocator>(cell: &'t Cell<'a, A>, start: usize) -> Phrase<'t, 'a>
         requires { start ≤ length cell.now.tokens }
         ensures tokens { result.tokens.now ≡ drop start cell.now.tokens }
+        ensures end { result.end ≡ cell.now.end }
         ensures within { (len : ℕ) → EndsBefore len cell.now → AllEndBefore len result }
     {
         Phrase {

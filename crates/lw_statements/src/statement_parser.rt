@@ -4,6 +4,7 @@ ghost use Rattle.std.specs.Prelude.{MatchBool, MatchOption, MatchResult, IfSome,
 ghost use Rattle.std.specs.Str.{bytes_eq};
 ghost use Rattle.lw_base.specs.Limits.{most_locations};
 ghost use Rattle.lw_base.specs.Names.{IsLocationName};
+ghost use Rattle.lw_base.specs.NoParse.{HoldsOfNothing};
 ghost use Rattle.lw_base.specs.Registers.{IsRegisterName, lowercase_if_x86};
 ghost use Rattle.lw_base.specs.declared.operand.Operand.{Operand};
 ghost use Rattle.lw_text.specs.Spans.{token_texts};
@@ -11,12 +12,12 @@ ghost use Rattle.lw_text.specs.Tokens.{IsNumber};
 ghost use Rattle.lw_statements.specs.declared.slot.Slot.{Slot};
 ghost use Rattle.lw_statements.specs.declared.slot.Slot.TheVariants.{Location};
 ghost use Rattle.lw_statements.specs.Operands.{IsOperand};
-ghost use Rattle.lw_statements.specs.inner.Tokens.{IsMisfit, IsOverflowName, AllEndBefore};
-ghost use Rattle.lw_statements.specs.Grammars.{CanBegin};
+ghost use Rattle.lw_statements.specs.inner.Tokens.{IsOverflowName, AllEndBefore};
+ghost use Rattle.lw_statements.specs.Grammars.{CanBegin, IsBeforeRegister};
 ghost use Rattle.lw_statements.specs.Spellings.{grammar_of, SlotValue, Gives, Filling, Fills};
 ghost use Rattle.lw_statements.specs.Bindings.{CanStand, BeginsWith};
 ghost use Rattle.lw_statements.specs.Bindings as drafts;
-ghost use Rattle.lw_statements.specs.Bindings.{bind_slot, bindings_of, draft_of, IsNameAmong, IsDrafted, IsNotDrafted, IsOverflowSlot, IsReach, AreFront, IsSpelling};
+ghost use Rattle.lw_statements.specs.Bindings.{bind_slot, bindings_of, draft_of, IsNameAmong, IsDrafted, IsNotDrafted, IsOverflowSlot, IsReach, IsLongestFront, IsSlotAfter, IsLocationSlot, IsRegisterSlot, HasNext, HasSlotAfter, IsFirstRejected, IsSpelling};
 ghost use Rattle.lw_statements.specs.inner.Reading.{StatementRead, StatementFaultIsTrue, StatementRefused};
 
 use crate::draft::{Draft, Operands};
@@ -318,16 +319,18 @@ fn draft_on<F>(form: F, found: SlotBindings, loc: Option<Loc>) -> Draft<F>
     }
 }
 
-/// Returns why tokens that are no statement are rejected: the first token that names a ninth location where one may
+/// Returns why tokens that are no statement are rejected: the token that names a ninth location where one may
 /// appear, or otherwise the first token after which no statement is possible.
 fn refusal<L: StatementReader, A: Allocator>(
     phrase: &Phrase<'_, '_>,
     locs: &LocNames<A>,
 ) -> CellFault
-    requires { IsSpelling L.spelling L.made }
-    ensures { StatementFaultIsTrue (grammar_of L.spelling) phrase.now.tokens.now locs.now result.at result.cause
+    requires lawful { IsSpelling L.spelling L.made }
+    requires none { HoldsOfNothing ((grammar_of L.spelling).says (token_texts phrase.now.tokens.now)) }
+    ensures { StatementFaultIsTrue (grammar_of L.spelling) phrase.now.tokens.now phrase.now.end locs.now result.at result.cause
         × ((len : ℕ) → AllEndBefore len phrase.now → result.at ≤ len) }
 {
+    let _known = locs.len();
     for form in L::forms() {
         let slots = L::slots(*form);
         let front = accepted_prefix_len::<L>(slots, phrase.tokens);
@@ -350,23 +353,39 @@ fn overflow_token<W: Copy + Drop, A: Allocator>(
     locs: &LocNames<A>,
 ) -> Option<usize>
     requires { (front ≤ length slots.now) × (front ≤ length tokens.now) }
-    ensures { IfSome result (IsOverflowSlot slots.now tokens.now front locs.now) }
+    ensures { MatchOption result (HoldsOfNothing (IsOverflowSlot slots.now tokens.now front locs.now))
+        (IsOverflowSlot slots.now tokens.now front locs.now) }
 {
     for index in 0..front {
-        if let Slot::Location = slots[index] {
-            if is_ninth(&tokens[index], locs) {
-                return Some(index);
-            }
+        if overflows(slots[index], &tokens[index], locs) {
+            return Some(index);
         }
     }
     None
 }
 
+/// Returns whether the slot is a location's, and the token names one that the table does not have and has no room for.
+fn overflows<W: Copy + Drop, A: Allocator>(
+    slot: Slot<W>,
+    token: &Token<'_>,
+    locs: &LocNames<A>,
+) -> bool
+    ensures { IsTrue result ↔ ((slot ≡ Location) × (length locs.now ≡ most_locations) × (Contains locs.now token.now.text.now → ⊥)) }
+{
+    if !takes_location(slot) {
+        return false;
+    }
+    is_ninth(token, locs)
+}
+
 /// Returns whether the token names a location that the table does not have and has no room for.
 fn is_ninth<A: Allocator>(token: &Token<'_>, locs: &LocNames<A>) -> bool
-    ensures { result ≡ true → (length locs.now ≡ most_locations) × (Contains locs.now token.now.text.now → ⊥) }
+    ensures { IsTrue result ↔ ((length locs.now ≡ most_locations) × (Contains locs.now token.now.text.now → ⊥)) }
 {
-    locs.len() == MAX_LOCATIONS && locs.find(token.text).is_none()
+    if locs.len() != MAX_LOCATIONS {
+        return false;
+    }
+    locs.find(token.text).is_none()
 }
 
 /// Returns whether the token fits the slot.
@@ -398,7 +417,7 @@ fn accepted_prefix_len<L: StatementReader>(
 
 /// Returns the length of the longest prefix of the tokens that can begin a statement of some form.
 fn longest_accepted_prefix<L: StatementReader>(tokens: &[Token<'_>]) -> usize
-    ensures front { AreFront L.spelling (token_texts tokens.now) result }
+    ensures longest { IsLongestFront L.spelling (token_texts tokens.now) result }
     ensures within { result ≤ length tokens.now }
 {
     let mut longest = 0;
@@ -409,8 +428,9 @@ fn longest_accepted_prefix<L: StatementReader>(tokens: &[Token<'_>]) -> usize
 }
 
 /// Returns the fault of the first token after which no statement is possible, or of the cell's end.
-fn first_rejected<L: StatementReader>(phrase: &Phrase<'_, '_>) -> CellFault
-    ensures { IsMisfit result.cause × ((len : ℕ) → AllEndBefore len phrase.now → result.at ≤ len) }
+pub(crate) fn first_rejected<L: StatementReader>(phrase: &Phrase<'_, '_>) -> CellFault
+    requires lawful { IsSpelling L.spelling L.made }
+    ensures { IsFirstRejected L.spelling phrase.now.tokens.now phrase.now.end result }
 {
     let front = longest_accepted_prefix::<L>(phrase.tokens);
     let Some(token) = phrase.tokens.get(front) else {
@@ -419,26 +439,107 @@ fn first_rejected<L: StatementReader>(phrase: &Phrase<'_, '_>) -> CellFault
             cause: CellCause::Form,
         };
     };
-    if wants_register::<L>(phrase.tokens, front) {
+    if wants_register::<L>(&phrase.tokens[..front]) {
         return no_register(token);
     }
     misfit(token)
 }
 
-/// Returns whether a register may follow the first `front` tokens, and no location may.
-fn wants_register<L: StatementReader>(tokens: &[Token<'_>], front: usize) -> bool {
-    let mut wants = false;
+/// Returns whether a register may follow the tokens, and no location may.
+fn wants_register<L: StatementReader>(tokens: &[Token<'_>]) -> bool
+    requires lawful { IsSpelling L.spelling L.made }
+    ensures { IsTrue result ↔ IsBeforeRegister (grammar_of L.spelling) (token_texts tokens.now) }
+{
+    if may_be_location::<L>(tokens) {
+        return false;
+    }
+    may_be_register::<L>(tokens)
+}
+
+/// Returns whether some form has a location after the tokens.
+fn may_be_location<L: StatementReader>(tokens: &[Token<'_>]) -> bool
+    ensures { IsTrue result ↔ HasSlotAfter L.spelling IsLocationSlot (token_texts tokens.now) }
+{
     for form in L::forms() {
-        let slots = L::slots(*form);
-        if accepted_prefix_len::<L>(slots, tokens) == front {
-            match slots.get(front) {
-                Some(Slot::Location) => return false,
-                Some(Slot::Register | Slot::Value) => wants = true,
-                _ => (),
-            }
+        if location_next::<L>(L::slots(*form), tokens) {
+            return true;
         }
     }
-    wants
+    false
+}
+
+/// Returns whether some form has a register after the tokens.
+fn may_be_register<L: StatementReader>(tokens: &[Token<'_>]) -> bool
+    ensures { IsTrue result ↔ HasSlotAfter L.spelling IsRegisterSlot (token_texts tokens.now) }
+{
+    for form in L::forms() {
+        if register_next::<L>(L::slots(*form), tokens) {
+            return true;
+        }
+    }
+    false
+}
+
+/// Returns whether a location's slot follows those that accept the tokens.
+fn location_next<L: StatementReader>(slots: &[Slot<L::Keyword>], tokens: &[Token<'_>]) -> bool
+    ensures { IsTrue result ↔ HasNext L.spelling IsLocationSlot (token_texts tokens.now) slots.now }
+{
+    match slot_after::<L>(slots, tokens) {
+        Some(slot) => takes_location(slot),
+        None => false,
+    }
+}
+
+/// Returns whether a slot that takes a register follows those that accept the tokens.
+fn register_next<L: StatementReader>(slots: &[Slot<L::Keyword>], tokens: &[Token<'_>]) -> bool
+    ensures { IsTrue result ↔ HasNext L.spelling IsRegisterSlot (token_texts tokens.now) slots.now }
+{
+    match slot_after::<L>(slots, tokens) {
+        Some(slot) => takes_register(slot),
+        None => false,
+    }
+}
+
+/// Returns whether the slot takes a location.
+fn takes_location<W: Copy + Drop>(slot: Slot<W>) -> bool
+    ensures { IsTrue result ↔ IsLocationSlot slot }
+{
+    match slot {
+        Slot::Location => true,
+        _ => false,
+    }
+}
+
+/// Returns whether the slot takes a register.
+fn takes_register<W: Copy + Drop>(slot: Slot<W>) -> bool
+    ensures { IsTrue result ↔ IsRegisterSlot slot }
+{
+    match slot {
+        Slot::Register => true,
+        Slot::Value => true,
+        _ => false,
+    }
+}
+
+/// Returns the slot after those that accept the tokens, one each. Returns `None` if a slot does not accept its token,
+/// or no slot is left.
+fn slot_after<L: StatementReader>(
+    slots: &[Slot<L::Keyword>],
+    tokens: &[Token<'_>],
+) -> Option<Slot<L::Keyword>>
+    ensures { MatchOption result (HoldsOfNothing (IsSlotAfter L.spelling (token_texts tokens.now) slots.now))
+        (IsSlotAfter L.spelling (token_texts tokens.now) slots.now) }
+{
+    let Some((slot, slots)) = slots.split_first() else {
+        return None;
+    };
+    let Some((token, tokens)) = tokens.split_first() else {
+        return Some(*slot);
+    };
+    if !can_stand::<L>(*slot, token) {
+        return None;
+    }
+    slot_after::<L>(slots, tokens)
 }
 
 /// Returns whether a statement can begin with the token.

@@ -1,8 +1,9 @@
 //! Resolving one token of a cell as a location, and the faults of tokens.
-ghost use Rattle.std.specs.Prelude.{◌≡◌, ◌↔◌, Some, slice_get, IsTrue, MatchResult};
-ghost use Rattle.lw_base.specs.Names.{IsLocationName};
+ghost use Rattle.std.specs.Prelude.{◌≡◌, ◌↔◌, ◌⊎◌, Some, slice_get, IsTrue, MatchResult};
+ghost use Rattle.lw_base.specs.Names.{IsName, IsLocationName};
 ghost use Rattle.lw_text.specs.Spans.{token_texts};
-ghost use Rattle.lw_statements.specs.inner.Tokens.{IsMisfit, NameRead, NameRefused};
+ghost use Rattle.lw_statements.specs.inner.Tokens.{NameRead, NameRefused};
+ghost use Rattle.lw_statements.specs.Faults.{IsMisfitCause, IsUnknownRegister};
 
 use lw_base::{Arch, CellCause, CellFault, Loc, LocNames, is_numbered, reg_from_name};
 use lw_text::{Token, TokenKind};
@@ -26,10 +27,11 @@ pub(crate) fn location<A: Allocator + Copy>(
     }
 }
 
-/// Returns the fault of a token that fits no statement at its position.
+/// Returns the fault of a token that fits no statement at its position: Register if it is `r` with digits that is no
+/// register, and otherwise Form.
 pub(crate) fn misfit(token: &Token<'_>) -> CellFault
     ensures place { result.at ≡ token.now.at }
-    ensures cause { IsMisfit result.cause }
+    ensures cause { IsMisfitCause (IsUnknownRegister token.now.text.now) result.cause }
 {
     if is_numbered(token.text.as_bytes()) && reg_from_name(Arch::Source, token.text).is_none() {
         return CellFault {
@@ -43,10 +45,11 @@ pub(crate) fn misfit(token: &Token<'_>) -> CellFault
     }
 }
 
-/// Returns the fault of a token at a position where a register may appear, and no location may.
+/// Returns the fault of a token at a position where a register may appear, and no location may: Register if it is a
+/// name.
 pub(crate) fn no_register(token: &Token<'_>) -> CellFault
     ensures place { result.at ≡ token.now.at }
-    ensures cause { IsMisfit result.cause }
+    ensures cause { IsMisfitCause (IsName token.now.text.now ⊎ IsUnknownRegister token.now.text.now) result.cause }
 {
     if let TokenKind::Name = token.kind {
         return CellFault {

@@ -6,6 +6,7 @@ use Rattle.std.specs.BTreeMap.{BTreeMap, get_by}
 use Rattle.std.specs.Cmp.Lexicographic.{slice_cmp}
 use Rattle.std.specs.Ordering.{nat_cmp}
 use denote.Ref.{Bor}
+use Rattle.lw_base.specs.Limits.{most_locations}
 use Rattle.lw_base.specs.Types.{Bytes, NameTable}
 use Rattle.lw_base.specs.Lists.{IsDuplicateFree}
 use Rattle.lw_base.specs.Tables.{contains_name, insert_names}
@@ -70,3 +71,4 @@ module _ {Syntax Stmt : Type 0} (grammar : Grammar Syntax Stmt) where
       pub once : IsDuplicateFree (labels_of read.syntax)
       pub leads : MapsLabelsAs column.labels read.syntax
       pub counted : column.count ≡ length (statements read.syntax)
+      pub room : length after ≤ most_locations

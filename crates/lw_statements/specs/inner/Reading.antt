@@ -7,8 +7,9 @@ use Rattle.lw_base.specs.Limits.{most_locations}
 use Rattle.lw_base.specs.Types.{Bytes, NameTable, TokenList, Cells, CellGrid}
 use Rattle.lw_base.specs.declared.fault.CellFault.{CellFault}
 use Rattle.lw_base.specs.declared.fault.CellCause.{CellCause}
-use Rattle.lw_base.specs.declared.fault.CellCause.TheVariants.{LabelMissing, Backward, Memory}
+use Rattle.lw_base.specs.declared.fault.CellCause.TheVariants.{Form, LabelMissing, Backward, Memory}
 use Rattle.lw_base.specs.Lists.{IsDuplicateFree}
+use Rattle.lw_base.specs.Names.{IsLocationName}
 use Rattle.lw_base.specs.NoParse.{HoldsOfNothing}
 use Rattle.lw_base.specs.Tables.{contains_name, insert_names}
 use Rattle.lw_text.specs.declared.cell.Cell.{Cell}
@@ -20,19 +21,15 @@ use Rattle.lw_statements.specs.declared.phrase.Phrase.{Phrase}
 use Rattle.lw_statements.specs.declared.draft.Draft.{Draft}
 use Rattle.lw_statements.specs.declared.draft.DraftCell.{DraftCell}
 use Rattle.lw_statements.specs.declared.draft.Operands.{Operands}
-use Rattle.lw_statements.specs.Grammars.{Grammar, CanBegin, BeforeLocation}
+use Rattle.lw_statements.specs.Grammars.{Grammar, BeginsStatement, CanBegin, IsLocationAfter}
 use Rattle.lw_statements.specs.Cells.{CellSyntax, MaybeStatement, Labels, Column, statements, LabelsLeadForward, names_in, names_of, code_in}
 use Rattle.lw_statements.specs.declared.column.DraftColumn.{DraftColumn}
 use Rattle.lw_statements.specs.inner.Drafts.{LabelMap, target_by, ReadOn, draft_in, ColumnDrafted}
-use Rattle.lw_statements.specs.Faults.{CellCauseIsTrue}
+use Rattle.lw_statements.specs.Faults.{BeginsWithLabel, IsMisfitCause, IsUnknownRegister, IsMeantAsRegister, BeginsFitting, CellCauseIsTrue}
 use Rattle.lw_statements.specs.Bindings.{with_target}
 use Rattle.lw_statements.specs.inner.Tokens.{FaultClaim, Refused, IsOverflowName, AllEndBefore}
 
 -- ---- Labels.
-
--- The second of these tokens is a `:`, which makes the first a label.
-abbrev pub AtLabel : TokenList → Type 0
-AtLabel ts = slice_get ts 1 ≡ Some (codes ":")
 
 -- The map has exactly these names.
 abbrev pub HasExactlyLabels : LabelMap → List Bytes → Type 0
@@ -51,7 +48,7 @@ pub record LabelsRead (tokens : List Token) (to : ℕ) (labels : LabelMap) (next
 -- These are all labels of the cell: the rest begins with no label.
 pub record LabelsTaken (tokens : List Token) (to : ℕ) (labels : LabelMap) (next : ℕ) (after : LabelMap) : Type 0 where
   pub read : LabelsRead tokens to labels next after
-  pub stops : AtLabel (token_texts (drop next tokens)) → ⊥
+  pub stops : BeginsWithLabel (token_texts (drop next tokens)) → ⊥
 
 -- These names are all labels of a cell; none of them is in the map before, and there are no duplicates.
 pub record LabelsFit (labels : LabelMap) (ts : TokenList) (names : List Bytes) : Type 0 where
@@ -59,11 +56,11 @@ pub record LabelsFit (labels : LabelMap) (ts : TokenList) (names : List Bytes) :
   pub knows : HasExactlyLabels labels known
   pub rest : TokenList
   pub says : Labels ts names rest
-  pub stops : AtLabel rest → ⊥
+  pub stops : BeginsWithLabel rest → ⊥
   pub once : IsDuplicateFree (known ++ names)
 
--- A label that its thread has already is at this place of a cell.
-pub record HasDuplicateLabelAt (tokens : List Token) (labels : LabelMap) (at : ℕ) : Type 0 where
+-- A token in the place of a label is at this place of a cell, after labels of which none is a duplicate.
+pub record IsAtLabel (tokens : List Token) (labels : LabelMap) (at : ℕ) : Type 0 where
   pub names : List Bytes
   pub place : ℕ
   pub token : Token
@@ -71,12 +68,25 @@ pub record HasDuplicateLabelAt (tokens : List Token) (labels : LabelMap) (at : �
   pub begins : token.at ≡ at
   pub says : Labels (token_texts (take place tokens)) names []
   pub colon : slice_get (token_texts tokens) (place + 1) ≡ Some (codes ":")
-  pub there : (known : List Bytes) → HasExactlyLabels labels known → Contains (known ++ names) token.text.now
+  pub once : (known : List Bytes) → HasExactlyLabels labels known → IsDuplicateFree known → IsDuplicateFree (known ++ names)
 
--- The labels of a cell are rejected: they do not fit, and if the cause is `LabelTwice`, a second label is at the place.
+-- A label that its thread has already is at this place of a cell.
+abbrev pub HasDuplicateLabelAt : List Token → LabelMap → ℕ → Type 0
+HasDuplicateLabelAt tokens labels at =
+    (l : IsAtLabel tokens labels at)
+    × ((known : List Bytes) → HasExactlyLabels labels known → Contains (known ++ l.names) l.token.text.now)
+
+-- A token that can be no label is in the place of one, at this place of a cell.
+abbrev pub HasNoLabelAt : List Token → LabelMap → ℕ → CellCause → Type 0
+HasNoLabelAt tokens labels at cause =
+    (l : IsAtLabel tokens labels at)
+    × (IsLocationName l.token.text.now → ⊥) × IsMisfitCause (IsUnknownRegister l.token.text.now) cause
+
+-- The labels of a cell are rejected: they do not fit, and at the place a token is no label or a second one, as the cause says.
 abbrev pub LabelsRefused : List Token → LabelMap → CellFault → Type 0
 LabelsRefused tokens labels =
-    Refused (HoldsOfNothing (LabelsFit labels (token_texts tokens))) (λ at. FaultClaim ⊥ (HasDuplicateLabelAt tokens labels at) ⊥ ⊥)
+    Refused (HoldsOfNothing (LabelsFit labels (token_texts tokens)))
+    (λ at. FaultClaim (HasNoLabelAt tokens labels at) ⊥ (HasDuplicateLabelAt tokens labels at) ⊥ ⊥)
     (λ len. All (λ t. t.at ≤ len) tokens)
 
 -- ---- Jumps.
@@ -136,17 +146,39 @@ bare o = record { labels = []; stmt = o }
 module _ {Syntax Stmt : Type 0} (grammar : Grammar Syntax Stmt) where
   -- ---- Statements.
 
-  -- A token that is a ninth location is at this place, where a statement may have a location.
+  -- A token after which no statement is possible is at this place; a statement that fits the table begins with those before it, if there are
+  -- any. The cause is Register if it is meant as a register, and otherwise Form.
+  pub record HasMisfitIn (tokens : List Token) (names : NameTable) (at : ℕ) (cause : CellCause) : Type 0 where
+    pub place : ℕ
+    pub token : Token
+    pub is : slice_get tokens place ≡ Some token
+    pub begins : token.at ≡ at
+    pub begun : place ≢ 0 → BeginsFitting grammar names (token_texts (take place tokens))
+    pub none : BeginsStatement grammar (token_texts (take place tokens) ++ token.text.now ∷ []) → ⊥
+    pub meant : IsMisfitCause (IsMeantAsRegister grammar (token_texts (take place tokens)) token.text.now) cause
+
+  -- The tokens end too early, at this place: they are no statement, and one that fits the table begins with them.
+  pub record EndsEarlyIn (tokens : List Token) (end : ℕ) (names : NameTable) (at : ℕ) : Type 0 where
+    pub ends : end ≡ at
+    pub begun : token_texts tokens ≢ [] → BeginsFitting grammar names (token_texts tokens)
+    pub none : (s : Syntax) → grammar.says (token_texts tokens) s → ⊥
+
+  -- A token that is a ninth location is at this place, where a statement has its location.
   pub record HasOverflowIn (tokens : List Token) (names : NameTable) (at : ℕ) : Type 0 where
     pub place : ℕ
     pub token : Token
     pub is : slice_get tokens place ≡ Some token
-    pub before : BeforeLocation grammar (token_texts (take place tokens))
+    pub location : IsLocationAfter grammar (token_texts (take place tokens)) token.text.now
     pub ninth : IsOverflowName names token at
 
-  -- What a cause means for a place in a rejected statement: if it is `TooMany`, a ninth location is there.
-  abbrev pub StatementFaultIsTrue : List Token → NameTable → ℕ → CellCause → Type 0
-  StatementFaultIsTrue tokens names at = FaultClaim ⊥ ⊥ ⊥ (HasOverflowIn tokens names at)
+  -- The tokens of a statement are wrong at this place, for this cause.
+  abbrev pub WrongIn : List Token → ℕ → NameTable → ℕ → CellCause → Type 0
+  WrongIn tokens end names at cause =
+      HasMisfitIn tokens names at cause ⊎ ((cause ≡ Form) × EndsEarlyIn tokens end names at)
+
+  -- What a cause means for a place in a rejected statement.
+  abbrev pub StatementFaultIsTrue : List Token → ℕ → NameTable → ℕ → CellCause → Type 0
+  StatementFaultIsTrue tokens end names at = FaultClaim (WrongIn tokens end names at) ⊥ ⊥ ⊥ (HasOverflowIn tokens names at)
 
   -- The name of a statement's location, if it has one.
   abbrev pub named_by : Syntax → List Bytes
@@ -159,7 +191,7 @@ module _ {Syntax Stmt : Type 0} (grammar : Grammar Syntax Stmt) where
   -- The tokens are rejected as a statement: they are none that fits the table, and the cause is true of the place.
   abbrev pub StatementRefused : NameTable → Phrase → CellFault → Type 0
   StatementRefused names phrase =
-      Refused (HoldsOfNothing (Fits names (token_texts phrase.tokens.now))) (StatementFaultIsTrue phrase.tokens.now names) (λ len. AllEndBefore len phrase)
+      Refused (HoldsOfNothing (Fits names (token_texts phrase.tokens.now))) (StatementFaultIsTrue phrase.tokens.now phrase.end names) (λ len. AllEndBefore len phrase)
 
   -- The tokens after a cell's labels are this statement, or none; the table has room for its location, and the thread for the statement
   -- after `above` others.
@@ -172,16 +204,21 @@ module _ {Syntax Stmt : Type 0} (grammar : Grammar Syntax Stmt) where
   abbrev pub BeginsAt : List Token → ℕ → Type 0
   BeginsAt tokens at = (t : Token) × (slice_get tokens 0 ≡ Some t) × (t.at ≡ at) × CanBegin grammar t.text.now
 
-  -- What a cause means for a place after a cell's labels, if the cells above have `above` statements: if it is `TooMany`, the first token
-  -- would begin a statement beyond the limit, or a ninth location is there.
-  abbrev pub OptionalStatementFaultIsTrue : ℕ → List Token → NameTable → ℕ → CellCause → Type 0
-  OptionalStatementFaultIsTrue above tokens names at =
-      FaultClaim ⊥ ⊥ ⊥ (((above ≡ grammar.language.most) × BeginsAt tokens at) ⊎ HasOverflowIn tokens names at)
+  -- What a cause means for a place after a cell's labels, if the cells above have `above` statements: the thread has room for a statement,
+  -- whose tokens are wrong or have a ninth location; or it has none, and the first token begins a statement beyond the limit or is wrong.
+  abbrev pub OptionalStatementFaultIsTrue : ℕ → List Token → ℕ → NameTable → ℕ → CellCause → Type 0
+  OptionalStatementFaultIsTrue above tokens end names at =
+      FaultClaim
+      (λ cause.
+      ((m : HasMisfitIn tokens names at cause) × ((m.place ≡ 0) ⊎ (above ≢ grammar.language.most)))
+      ⊎ ((cause ≡ Form) × (above ≢ grammar.language.most) × (token_texts tokens ≢ []) × EndsEarlyIn tokens end names at))
+      ⊥ ⊥ ⊥
+      (((above ≡ grammar.language.most) × BeginsAt tokens at) ⊎ ((above ≢ grammar.language.most) × HasOverflowIn tokens names at))
 
   -- The tokens after a cell's labels are rejected: they are nothing that fits, and the cause is true of the place.
   abbrev pub MaybeRefused : ℕ → NameTable → Phrase → CellFault → Type 0
   MaybeRefused above names phrase =
-      Refused (HoldsOfNothing (FitsBelow above names (token_texts phrase.tokens.now))) (OptionalStatementFaultIsTrue above phrase.tokens.now names) (λ len. AllEndBefore len phrase)
+      Refused (HoldsOfNothing (FitsBelow above names (token_texts phrase.tokens.now))) (OptionalStatementFaultIsTrue above phrase.tokens.now phrase.end names) (λ len. AllEndBefore len phrase)
 
   -- ---- Columns.
 

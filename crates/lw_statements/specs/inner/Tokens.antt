@@ -10,12 +10,6 @@ use Rattle.lw_base.specs.Tables.{insert_name, position_of_name}
 use Rattle.lw_text.specs.declared.token.Token.{Token}
 use Rattle.lw_statements.specs.declared.phrase.Phrase.{Phrase}
 
--- The causes of a token that does not fit, and of a cell that ends too early.
-abbrev pub IsMisfit : CellCause → Type 0
-IsMisfit Form = Unit {0}
-IsMisfit Register = Unit {0}
-IsMisfit cause = ⊥
-
 -- Every token after the labels, and the cell's end, is at or before this offset.
 abbrev pub AllEndBefore : ℕ → Phrase → Type 0
 AllEndBefore len p = All (λ t. t.at ≤ len) p.tokens.now × (p.end ≤ len)
@@ -29,9 +23,11 @@ abbrev pub IsOverflowName : NameTable → Token → ℕ → Type 0
 IsOverflowName names t at =
     (t.at ≡ at) × IsLocationName t.text.now × (length names ≡ most_locations) × (Contains names t.text.now → ⊥)
 
--- What a cause means for its place, if a label is missing or a duplicate, a jump leads backward, or something is beyond a limit. The other
--- causes mean nothing.
-pub record FaultClaim (no_label second_label backward one_more : Type 0) (cause : CellCause) : Type 0 where
+-- What each cause means for its place: a token or an end that fits no statement, as the cause says; a label that is missing or a duplicate; a
+-- jump that leads backward; or something beyond a limit. Memory means nothing.
+pub record FaultClaim (wrong : CellCause → Type 0) (no_label second_label backward one_more : Type 0) (cause : CellCause) : Type 0 where
+  pub form : cause ≡ Form → wrong Form
+  pub register : cause ≡ Register → wrong Register
   pub missing : cause ≡ LabelMissing → no_label
   pub twice : cause ≡ LabelTwice → second_label
   pub back : cause ≡ Backward → backward
@@ -53,4 +49,4 @@ pub record NameRead (before : NameTable) (t : Token) (loc : ℕ) (after : NameTa
 -- The token names no location that the table has or has room for: it is a ninth, and the fault says so.
 abbrev pub NameRefused : NameTable → Token → CellFault → Type 0
 NameRefused names t =
-    Refused (FitsTable names t.text.now → ⊥) (λ at. FaultClaim ⊥ ⊥ ⊥ (IsOverflowName names t at)) (λ len. t.at ≤ len)
+    Refused (FitsTable names t.text.now → ⊥) (λ at. FaultClaim (λ cause. ⊥) ⊥ ⊥ ⊥ (IsOverflowName names t at)) (λ len. t.at ≤ len)

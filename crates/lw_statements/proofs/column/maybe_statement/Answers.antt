@@ -1,5 +1,6 @@
 use Rattle.lw_statements.proofs.Common.{sym, ◌∙◌, grammar_of, draft_of, Err-clause_known}
 use Rattle.lw_statements.proofs.Drafts.{maybe_some, maybe_none, maybe_refused, surplus_refused}
+use Rattle.lw_statements.proofs.FirstFaults.{first_wrong}
 use Rattle.lw_statements.proofs.column.maybe_statement.Goals as goal
 
 pub returns : goal.returns
@@ -12,11 +13,14 @@ returns-in_default g c = maybe_none _ (draft_of g.L.StatementReader.spelling) _ 
 
 pub returns-then-above-most : goal.returns-then-above-most
 returns-then-above-most g c =
-    surplus_refused _ (draft_of _) c.args.phrase.now _ c.in-Some.ensures.value _ _ _ (c.if-above-most.true ∙ c.most.ensures)
-    c.too_many_statements.ensures.place c.too_many_statements.ensures.cause
+    let told =
+    first_wrong g.L.StatementReader.spelling c.args.phrase.now c.in-Some.first.now c.in-Some.ensures.value c.args.locs.now
+    c.args.above c.too_many_statements.result c.too_many_statements.ensures in
+    surplus_refused _ (draft_of _) c.args.phrase.now _ c.in-Some.ensures.value _ _ _ (c.if-above-most.true ∙ c.most.ensures) told.0
+    told.1
 
 pub returns-in_err-read_statement : goal.returns-in_err-read_statement
 returns-in_err-read_statement g c =
     Err-clause_known _ _ _ c.from_residual.ensures.1
     (maybe_refused _ (draft_of _) c.args.phrase.now c.in-Some.first.now c.in-Some.ensures.value _ _ _
-    c.in_err-read_statement.ensures)
+    (λ full. c.if-above-most.false (full ∙ sym c.most.ensures)) c.in_err-read_statement.ensures)

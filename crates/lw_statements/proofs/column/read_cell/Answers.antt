@@ -23,7 +23,7 @@ returns-in_err-stmt g c =
     Err-clause_known _ _ _ c.from_residual-in_err-stmt.ensures.1 (λ front rest before drafted.
     statement_refused (grammar_of spelling) (is_grammar spelling g.L.StatementReader.made c.requires.lawful) (draft_of spelling)
     front before _ _ drafted c.args.cell.now rest _ _ _ taken c.behind-phrase.result c.behind-phrase.ensures.tokens
-    c.behind-phrase.ensures.within c.in_err-stmt.ensures)
+    c.behind-phrase.ensures.end c.behind-phrase.ensures.within c.in_err-stmt.ensures)
 
 pub returns : goal.returns
 returns g c =
@@ -36,7 +36,7 @@ returns g c =
       labels = c.read_labels.new.labels;
       count = c.args.column.now.count + c.statement_count.result;
     }) c.args.cell.now c.in_ok-start.start c.maybe_statement.new.locs c.in_ok-stmt.stmt taken stmt pushed
-    (ap (λ (n : ℕ). c.args.column.now.count + n) c.statement_count.ensures))
+    (ap (λ (n : ℕ). c.args.column.now.count + n) c.statement_count.ensures) c.len-names.ensures.table.few)
     (λ f memory front rest before drafted. column_out_of_memory (grammar_of spelling) before _ f memory.0 memory.1)
 
 pub overflow_add-column : goal.overflow_add-column

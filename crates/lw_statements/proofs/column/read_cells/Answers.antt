@@ -5,7 +5,7 @@ use Rattle.lw_statements.proofs.Elements.{cut_there, take_further}
 use Rattle.lw_statements.proofs.column.read_cells.Goals as goal
 
 pub loop-cell-init : goal.loop-cell-init
-loop-cell-init g c = draft_none _ (draft_of g.L.StatementReader.spelling) _ _ c.requires.fresh
+loop-cell-init g c = draft_none _ (draft_of g.L.StatementReader.spelling) _ _ c.requires.fresh c.len-known.ensures.table.few
 
 pub read_cell-requires-clause-few : goal.read_cell-requires-clause-few
 read_cell-requires-clause-few g c lifetimes lives = few_drafted _ _ _ _ _ _ c.loop-cell.invariant

@@ -1,9 +1,9 @@
 use Rattle.lw_statements.proofs.Common.{ℕ, ◌+◌, ◌-◌, ◌<◌, ◌≤◌, sym, ap, ◌∙◌, arith, true≢false, is_some}
 use Rattle.lw_statements.proofs.Common.{btree_map_updates_str, refl, slice_get_read, subst}
-use Rattle.lw_statements.proofs.Causes.{misfit_tells, memory_tells, twice_tells, refused_memory}
+use Rattle.lw_statements.proofs.Causes.{wrong_tells, memory_tells, twice_tells, refused_memory}
 use Rattle.lw_statements.proofs.Exits.{out_of_memory}
 use Rattle.lw_statements.proofs.FrontLabels.{get_behind, next_within, labels_start, labels_more, labels_on}
-use Rattle.lw_statements.proofs.FrontLabels.{labels_twice, twice_in}
+use Rattle.lw_statements.proofs.FrontLabels.{at_label, labels_twice, twice_in}
 use Rattle.lw_statements.proofs.labels.read_labels.Goals as goal
 
 -- Two tokens further, fewer remain.
@@ -41,7 +41,13 @@ returns-then-not-is_location g c =
           true≢false (sym (c.is_location.ensures.1 (labels_on _ _ _ _ _ c.loop-token.invariant _ token colon ks _ fit.says
           fit.stops).2)
           ∙ c.if-not-is_location.true);
-      cause = misfit_tells _ c.misfit.ensures.cause;
+      cause =
+          rw c.misfit.ensures.place
+          (wrong_tells _ c.misfit.result.cause c.misfit.ensures.cause (
+            at_label _ _ _ _ _ c.loop-token.invariant _ token colon,
+            (λ loc. true≢false (sym (c.is_location.ensures.1 loc) ∙ c.if-not-is_location.true)),
+            c.misfit.ensures.cause,
+          ));
       place = λ len lies.
           rw c.misfit.ensures.place
           (subst (λ t. t.at ≤ len) (sym c.index-tokens-next.is) (lies c.loop-token.next _ (omega arith)));

@@ -1,6 +1,7 @@
 use Rattle.lw_statements.proofs.Common.{◌≡◌, sym, arith, slice_get_within, length-map, Memory, Token, TooMany}
-use Rattle.lw_statements.proofs.Causes.{misfit_tells, many_tells}
-use Rattle.lw_statements.proofs.SlotTokens.{reach_within}
+use Rattle.lw_statements.proofs.Causes.{many_tells}
+use Rattle.lw_statements.proofs.Fronts.{HasRoom, rejected_within, statement_wrong}
+use Rattle.lw_statements.proofs.SlotTokens.{form_more, forms_all, reach_within}
 use Rattle.lw_statements.proofs.StatementsRead.{ninth_in}
 use Rattle.lw_statements.proofs.statement_parser.refusal.Goals as goal
 
@@ -13,7 +14,7 @@ pub returns-in-Some : goal.returns-in-Some
 returns-in-Some g c =
     let within = rw c.forms-form-items.ensures at c.loop-form-test.true in
     let n = rw (c.in-Some.is, c.slots-slots.ensures) at c.overflow_token.ensures in (
-      many_tells (ninth_in _ g.L.StatementReader.made c.requires c.form-item.result
+      many_tells (ninth_in _ g.L.StatementReader.made c.requires.lawful c.form-item.result
           (c.loop-form.form-index, within, sym (rw c.forms-form-items.ensures at c.form-item.is)) _ c.args.locs.now
           c.accepted_prefix_len-front.result c.in-Some.index _ (rw c.slots-slots.ensures at c.accepted_prefix_len-front.ensures)
           n),
@@ -34,5 +35,21 @@ other e = cc
 pub invariant_of-result : goal.invariant_of-result
 invariant_of-result g c = record { memory = λ e. absurd (other e) }
 
+pub loop-form-preserved : goal.loop-form-preserved
+loop-form-preserved g c =
+    let none = rw (c.in_default.is, c.slots-slots.ensures) at c.overflow_token.ensures in
+    form_more (HasRoom g.L.StatementReader.spelling c.args.phrase.now.tokens.now c.args.locs.now) _ _ _
+    (rw c.forms-form-items.ensures at c.loop-form-test.true) (rw c.forms-form-items.ensures at c.form-item.is)
+    c.loop-form.invariant
+    (c.accepted_prefix_len-front.result, rw c.slots-slots.ensures at c.accepted_prefix_len-front.ensures, none)
+
 pub returns : goal.returns
-returns g c = (misfit_tells _ c.first_rejected.ensures.0, c.first_rejected.ensures.1)
+returns g c =
+    let spelling = g.L.StatementReader.spelling in
+    let phrase = c.args.phrase.now in (
+      statement_wrong spelling phrase.tokens.now phrase.end c.args.locs.now c.len-known.ensures.table
+          (forms_all (HasRoom spelling phrase.tokens.now c.args.locs.now) spelling.forms c.loop-form.form-index
+          (rw c.forms-form-items.ensures at c.loop-form-test.false) c.loop-form.invariant) c.requires.none _
+          c.first_rejected.ensures,
+      λ len lies. rejected_within spelling phrase.tokens.now phrase.end _ c.first_rejected.ensures len lies.0 lies.1,
+    )

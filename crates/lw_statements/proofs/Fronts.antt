@@ -1,0 +1,468 @@
+-- How far tokens match the forms, and which slot follows those that they match.
+use Rattle.lw_statements.proofs.Common.{◌≡◌, ℕ, zero, suc, ◌<◌, ◌≤◌, ◌+◌, ◌⊎◌, inl, inr, Bool, true, false}
+use Rattle.lw_statements.proofs.Common.{Option, Some, None, List, [], ◌∷◌, ◌++◌, length, take, drop, refl, sym}
+use Rattle.lw_statements.proofs.Common.{ap, ◌∙◌, subst, arith, IsTrue, ◌↔◌, slice_get, Contains, MatchOption, get_or}
+use Rattle.lw_statements.proofs.Common.{length-take, length-append, cut_at, take-map, length-map, slice_get_within}
+use Rattle.lw_statements.proofs.Common.{insert_name, insert_names, insert_name-there, insert_name-new}
+use Rattle.lw_statements.proofs.Common.{contains_name, contains_name-Contains, cons_option, most_locations, codes}
+use Rattle.lw_statements.proofs.Common.{IsLocationName, IsNameTable, name_by_test, Bytes, NameTable, TokenList}
+use Rattle.lw_statements.proofs.Common.{AllByRecursion, Token, token_texts, Slot, Keyword, Register, Location}
+use Rattle.lw_statements.proofs.Common.{Value, Number, Label, Spelling, SlotValue, Filling, Gives, Fills}
+use Rattle.lw_statements.proofs.Common.{name_in, grammar_of, ParsesStatement, CanStand, HasNext, IsSlotAfter, IsReach}
+use Rattle.lw_statements.proofs.Common.{AreFront, IsLongestFront, IsOverflowSlot, BeginsStatement, BeginsFitting}
+use Rattle.lw_statements.proofs.Beginnings.{after_beginning, begins_after, stands}
+use Rattle.lw_statements.proofs.Common.{true≢false, slice_get-map, cases_Bool, same_Some, ltb, ltb-true, ltb-false, max}
+use Rattle.lw_statements.proofs.Common.{All, take_all, CellCause, CellFault, IsMisfitCause, IsMeantAsRegister}
+use Rattle.lw_statements.proofs.Common.{IsFirstRejected, StatementFaultIsTrue, HasMisfitIn, CanBegin, eqb, eqb-true}
+use Rattle.std.proofs.lemmas.Bool.{eqb-false}
+use Rattle.lw_base.specs.declared.fault.CellCause.TheVariants as cause
+use Rattle.lw_statements.proofs.Causes.{form_tells, wrong_tells}
+use Rattle.lw_statements.proofs.Elements.{all_at, mapped_some}
+use Rattle.lw_statements.proofs.FrontLabels.{get_text, name_contained}
+use Rattle.lw_statements.proofs.SlotTokens.{at_most}
+
+-- If there is no token at an index, all tokens are before it.
+none_past : (tokens : List Token) (k : ℕ) → slice_get tokens k ≡ None → length tokens ≤ k
+none_past [] k e = omega arith
+none_past (t ∷ tokens) zero e = absurd cc
+none_past (t ∷ tokens) (suc k) e = let less = none_past tokens k e in omega (arith, less)
+
+-- No tokens have no texts.
+no_texts : (tokens : List Token) → length tokens ≡ 0 → token_texts tokens ≡ []
+no_texts [] e = refl
+no_texts (t ∷ tokens) e = absurd (omega (arith, e))
+
+module _ {W Form Stmt : Type 0} (spelling : Spelling W Form Stmt) where
+  -- ---- the slot after those that accept tokens
+
+  -- If there are no slots, none follows.
+  pub no_slot : (slots : List (Slot W)) (ts : TokenList) → length slots ≡ 0 → (next : Slot W) → IsSlotAfter spelling ts slots next → ⊥
+  no_slot [] ts a next h = h
+  no_slot (slot ∷ slots) ts a next h = absurd (omega (arith, a))
+
+  -- After no tokens, the first slot follows.
+  pub slot_next : (rest : List (Slot W)) (slot : Slot W) (tokens : List Token)
+      → length tokens ≡ 0
+      → IsSlotAfter spelling (token_texts tokens) (slot ∷ rest) slot
+  slot_next rest slot [] b = refl
+  slot_next rest slot (t ∷ tokens) b = absurd (omega (arith, b))
+
+  -- With a token and a slot that accepts it before them, the same slot follows.
+  pub slot_further : (rest : List (Slot W)) (slot : Slot W) (ts : TokenList) (t : Bytes) (o : Option (Slot W))
+      → CanStand spelling (t ∷ []) (slot ∷ [])
+      → MatchOption o ((next : Slot W) → IsSlotAfter spelling ts rest next → ⊥) (IsSlotAfter spelling ts rest)
+      → MatchOption o ((next : Slot W) → IsSlotAfter spelling (t ∷ ts) (slot ∷ rest) next → ⊥)
+      (IsSlotAfter spelling (t ∷ ts) (slot ∷ rest))
+  slot_further rest slot ts t None stands h = λ next a. h next a.1
+  slot_further rest slot ts t (Some next) stands h = (stands, h)
+
+  -- The slot that follows is unique.
+  pub slot_unique : (slots : List (Slot W)) (ts : TokenList) (a b : Slot W)
+      → IsSlotAfter spelling ts slots a
+      → IsSlotAfter spelling ts slots b
+      → a ≡ b
+  slot_unique [] ts a b h k = absurd h
+  slot_unique (slot ∷ slots) [] a b h k = sym h ∙ k
+  slot_unique (slot ∷ slots) (t ∷ ts) a b h k = slot_unique slots ts a b h.1 k.1
+
+  -- If the slot that follows is of a kind, such a slot follows, and otherwise none.
+  pub next_or_not : (IsSo : Slot W → Type 0) (slots : List (Slot W)) (ts : TokenList) (slot : Slot W) (b : Bool)
+      → IsSlotAfter spelling ts slots slot
+      → IsTrue b ↔ IsSo slot
+      → IsTrue b ↔ HasNext spelling IsSo ts slots
+  next_or_not IsSo slots ts slot b after is = (
+    λ yes. (slot, after, is.0 yes),
+    λ (other, there, so). is.1 (subst IsSo (slot_unique slots ts other slot there after) so),
+  )
+
+  -- In the form no such slot follows those that accept the tokens.
+  abbrev pub HasNone : (Slot W → Type 0) → TokenList → Form → Type 0
+  HasNone IsSo ts form = HasNext spelling IsSo ts (spelling.slots_of form) → ⊥
+
+  -- ---- how far tokens match
+
+  -- If a token is accepted by the slot after those of the tokens before it, tokens match further than these.
+  reach_past : (slots : List (Slot W)) (ts back : TokenList) (t : Bytes) (slot : Slot W) (n : ℕ)
+      → IsSlotAfter spelling ts slots slot
+      → CanStand spelling (t ∷ []) (slot ∷ [])
+      → IsReach spelling (ts ++ t ∷ back) slots n
+      → length ts < n
+  reach_past [] ts back t slot n after here h = absurd after
+  reach_past (s ∷ slots) [] back t slot zero after here h =
+      absurd (h (subst (λ (u : Slot W). CanStand spelling (t ∷ []) (u ∷ [])) (sym after) here))
+  reach_past (s ∷ slots) [] back t slot (suc n) after here h = omega arith
+  reach_past (s ∷ slots) (u ∷ ts) back t slot zero after here h = absurd (h after.0)
+  reach_past (s ∷ slots) (u ∷ ts) back t slot (suc n) after here h =
+      let r = reach_past slots ts back t slot n after.1 here h.1 in omega (arith, r)
+
+  -- After the most tokens that any form accepts, no statement goes on with the next one.
+  pub stuck : (ts : TokenList) (k : ℕ) (t : Bytes)
+      → AreFront spelling ts k
+      → slice_get ts k ≡ Some t
+      → BeginsStatement (grammar_of spelling) (take k ts ++ t ∷ [])
+      → ⊥
+  stuck ts k t front is b =
+      let h = after_beginning spelling (take k ts) t b in
+      let n = front h.0 h.1 in
+      let past =
+      reach_past (spelling.slots_of h.0) (take k ts) (drop (suc k) ts) t h.2.0 n.0 h.2.1 h.2.2
+      (subst (λ (us : TokenList). IsReach spelling us (spelling.slots_of h.0) n.0) (cut_at ts k t is) n.1) in
+      omega (arith, past, n.2, length-take k ts, slice_get_within ts k t is)
+
+  -- The slot at the end of those that tokens match, if it is one, follows them.
+  pub slot_at : (slots : List (Slot W)) (ts : TokenList) (n k : ℕ) (slot : Slot W)
+      → IsReach spelling ts slots n
+      → k < n
+      → slice_get slots k ≡ Some slot
+      → IsSlotAfter spelling (take k ts) slots slot × ((t : Bytes) → slice_get ts k ≡ Some t → CanStand spelling (t ∷ []) (slot ∷ []))
+  slot_at [] ts n k slot h less e = absurd cc
+  slot_at (s ∷ slots) [] n k slot h less e = absurd (omega (arith, h, less))
+  slot_at (s ∷ slots) (u ∷ ts) zero k slot h less e = absurd (omega (arith, less))
+  slot_at (s ∷ slots) (u ∷ ts) (suc n) zero slot h less e =
+      let same : s ≡ slot = cc in (
+        same,
+        λ t is.
+            subst (λ (b : Slot W). CanStand spelling (t ∷ []) (b ∷ [])) same
+            (subst (λ (a : Bytes). CanStand spelling (a ∷ []) (s ∷ [])) (let one : u ≡ t = cc in one) h.0),
+      )
+  slot_at (s ∷ slots) (u ∷ ts) (suc n) (suc k) slot h less e =
+      let r = slot_at slots ts n k slot h.1 (omega (arith, less)) e in ((h.0, r.0), r.1)
+
+  -- After tokens that the slots before a location's accept, that slot follows.
+  pub after_cut : (front back slots : List (Slot W)) (ts : TokenList)
+      → slots ≡ front ++ Location ∷ back
+      → CanStand spelling ts front
+      → IsSlotAfter spelling ts slots Location
+  after_cut front back slots ts cut stands =
+      subst (λ (ss : List (Slot W)). IsSlotAfter spelling ts ss Location) (sym cut) (go front ts stands.0 stands.1)
+    where
+      go : (front : List (Slot W)) (ts : TokenList) (f : Filling front)
+          → Fills spelling ts front f
+          → IsSlotAfter spelling ts (front ++ Location ∷ back) Location
+      go [] [] f h = refl
+      go [] (t ∷ ts) f h = absurd h
+      go (slot ∷ front) [] f h = absurd h
+      go (slot ∷ front) (t ∷ ts) f h = (((f.0, tt), (h.0, tt)), go front ts f.1 h.1)
+
+  -- ---- a statement that fits the table
+
+  -- The table has the location or room for it, if there is one.
+  abbrev IsFitting : NameTable → Option Bytes → Type 0
+  IsFitting names o = length (insert_names names (cons_option o [])) ≤ most_locations
+
+  -- A location's name that the table has or has room for.
+  fitting_name : (names : NameTable) → IsNameTable names → (x : Bytes) × IsLocationName x × (length (insert_name names x) ≤ most_locations)
+  fitting_name [] table = (codes "x", (name_by_test (codes "x") refl, refl), omega arith)
+  fitting_name (n ∷ names) table = (
+    n,
+    table.all.0,
+    omega (arith, table.few, ap length (insert_name-there (n ∷ names) n 0 refl)),
+  )
+
+  module _ (names : NameTable) (table : IsNameTable names) where
+    -- Any slots accept some tokens, on a location that fits the table.
+    fitting_rest : (slots : List (Slot W))
+        → (ts : TokenList) × (f : Filling slots) × Fills spelling ts slots f × IsFitting names (name_in slots f)
+    fitting_rest [] = ([], tt, tt, table.few)
+    fitting_rest (Location ∷ slots) =
+        let x = fitting_name names table in
+        let r = fitting_rest slots in
+        (x.0 ∷ r.0, (x.0, r.1), ((refl, x.1), r.2), x.2)
+    fitting_rest (Keyword w ∷ slots) =
+        let s = stands spelling (Keyword w) in
+        let r = fitting_rest slots in
+        (s.0 ∷ r.0, (s.1, r.1), (s.2, r.2), r.3)
+    fitting_rest (Register ∷ slots) =
+        let s = stands spelling Register in
+        let r = fitting_rest slots in
+        (s.0 ∷ r.0, (s.1, r.1), (s.2, r.2), r.3)
+    fitting_rest (Value ∷ slots) =
+        let s = stands spelling Value in
+        let r = fitting_rest slots in
+        (s.0 ∷ r.0, (s.1, r.1), (s.2, r.2), r.3)
+    fitting_rest (Number ∷ slots) =
+        let s = stands spelling Number in
+        let r = fitting_rest slots in
+        (s.0 ∷ r.0, (s.1, r.1), (s.2, r.2), r.3)
+    fitting_rest (Label ∷ slots) =
+        let s = stands spelling Label in
+        let r = fitting_rest slots in
+        (s.0 ∷ r.0, (s.1, r.1), (s.2, r.2), r.3)
+
+    -- No location among the first n tokens, by their slots, is one that does not fit the table.
+    abbrev pub AllFit : TokenList → List (Slot W) → ℕ → Type 0
+    AllFit ts slots n =
+        (k : ℕ) (x : Bytes) → k < n → slice_get slots k ≡ Some Location → slice_get ts k ≡ Some x
+        → length (insert_name names x) ≤ most_locations
+
+    further : (t : Bytes) (ts : TokenList) (slot : Slot W) (slots : List (Slot W)) (n : ℕ)
+        → AllFit (t ∷ ts) (slot ∷ slots) (suc n)
+        → AllFit ts slots n
+    further t ts slot slots n fit k x less at is = fit (suc k) x (omega (arith, less)) at is
+
+    abbrev Fitting : List (Slot W) → TokenList → ℕ → Type 0
+    Fitting slots ts n =
+        (rest : TokenList)
+        × (f : Filling slots)
+        × Fills spelling (take n ts ++ rest) slots f
+        × IsFitting names (name_in slots f)
+
+    -- Tokens that match slots so far, of which each location fits the table, begin tokens that fill the slots and fit the table.
+    fitting_front : (slots : List (Slot W)) (ts : TokenList) (n : ℕ)
+        → IsReach spelling ts slots n
+        → AllFit ts slots n
+        → Fitting slots ts n
+    fitting_front [] ts n h fit = subst (Fitting [] ts) (sym h) (fitting_rest [])
+    fitting_front (slot ∷ slots) [] n h fit = subst (Fitting (slot ∷ slots) []) (sym h) (fitting_rest (slot ∷ slots))
+    fitting_front (slot ∷ slots) (t ∷ ts) zero h fit = fitting_rest (slot ∷ slots)
+    fitting_front (Location ∷ slots) (t ∷ ts) (suc n) h fit =
+        let r = fitting_front slots ts n h.1 (further t ts Location slots n fit) in
+        (r.0, (h.0.0.0, r.1), (h.0.1.0, r.2), subst (λ (x : Bytes). IsFitting names (Some x)) h.0.1.0.0 (fit 0 t (omega arith) refl refl))
+    fitting_front (Keyword w ∷ slots) (t ∷ ts) (suc n) h fit =
+        let r = fitting_front slots ts n h.1 (further t ts (Keyword w) slots n fit) in
+        (r.0, (h.0.0.0, r.1), (h.0.1.0, r.2), r.3)
+    fitting_front (Register ∷ slots) (t ∷ ts) (suc n) h fit =
+        let r = fitting_front slots ts n h.1 (further t ts Register slots n fit) in
+        (r.0, (h.0.0.0, r.1), (h.0.1.0, r.2), r.3)
+    fitting_front (Value ∷ slots) (t ∷ ts) (suc n) h fit =
+        let r = fitting_front slots ts n h.1 (further t ts Value slots n fit) in
+        (r.0, (h.0.0.0, r.1), (h.0.1.0, r.2), r.3)
+    fitting_front (Number ∷ slots) (t ∷ ts) (suc n) h fit =
+        let r = fitting_front slots ts n h.1 (further t ts Number slots n fit) in
+        (r.0, (h.0.0.0, r.1), (h.0.1.0, r.2), r.3)
+    fitting_front (Label ∷ slots) (t ∷ ts) (suc n) h fit =
+        let r = fitting_front slots ts n h.1 (further t ts Label slots n fit) in
+        (r.0, (h.0.0.0, r.1), (h.0.1.0, r.2), r.3)
+
+    -- So they begin a statement that fits the table.
+    pub begins_fitting : (form : Form) (ts : TokenList) (n : ℕ)
+        → Contains spelling.forms form
+        → IsReach spelling ts (spelling.slots_of form) n
+        → AllFit ts (spelling.slots_of form) n
+        → BeginsFitting (grammar_of spelling) names (take n ts)
+    begins_fitting form ts n there h fit =
+        let r = fitting_front (spelling.slots_of form) ts n h fit in
+        record { rest = r.0; syntax = record { form = form; filling = r.1 }; says = (there, r.2); room = r.3 }
+
+    -- If no slot among those that the tokens match has a ninth location, each location among them fits the table.
+    pub all_fit : (tokens : List Token) (slots : List (Slot W)) (n : ℕ)
+        → ((k : ℕ) → IsOverflowSlot slots tokens n names k → ⊥)
+        → AllFit (token_texts tokens) slots n
+    all_fit tokens slots n none k x less at is = go (contains_name names x) refl
+      where
+        go : (b : Bool) → contains_name names x ≡ b → length (insert_name names x) ≤ most_locations
+        go true e = rw e table.few
+        go false e =
+            let there : (t : Token) × (slice_get tokens k ≡ Some t) × (x ≡ t.text.now) =
+            mapped_some (λ (t : Token). t.text.now) (slice_get tokens k) x (sym is ∙ slice_get-map (λ (t : Token). t.text.now) tokens k) in
+            let free : length names ≡ most_locations → ⊥ =
+            λ full. none k (record {
+              before = less;
+              slot = at;
+              token = there.0;
+              is = there.1;
+              full = full;
+              new = λ h.
+                  true≢false (sym (contains_name-Contains names x (subst (λ (y : Bytes). Contains names y) (sym there.2) h)) ∙ e);
+            }) in
+            rw e (omega (arith, table.few, free, length-append names (x ∷ [])))
+
+  -- ---- the longest front
+
+  -- Some form accepts this number of tokens, if it is not 0.
+  abbrev pub IsReached : TokenList → ℕ → Type 0
+  IsReached ts k = (k ≡ 0) ⊎ ((form : Form) × Contains spelling.forms form × IsReach spelling ts (spelling.slots_of form) k)
+
+  -- Of two numbers that forms accept, the greater is one.
+  pub longer_reached : (ts : TokenList) (longest n k : ℕ) (form : Form)
+      → Contains spelling.forms form
+      → IsReach spelling ts (spelling.slots_of form) n
+      → IsReached ts longest
+      → k ≡ max longest n
+      → IsReached ts k
+  longer_reached ts longest n k form there reach before is = elim (cases_Bool (ltb longest n)) [
+    | inl e ↦
+        let less = ltb-true longest n e in
+        let same : n ≡ k = omega (arith, is, less) in
+        inr (form, there, subst (IsReach spelling ts (spelling.slots_of form)) same reach)
+    | inr e ↦
+        let most = ltb-false longest n e in
+        let same : longest ≡ k = omega (arith, is, most) in
+        subst (IsReached ts) same before
+  ]
+
+  -- ---- tokens that are no statement
+
+  -- The tokens match a form's slots so far that none of them is a ninth location.
+  abbrev pub HasRoom : List Token → NameTable → Form → Type 0
+  HasRoom tokens names form =
+      (n : ℕ)
+      × IsReach spelling (token_texts tokens) (spelling.slots_of form) n
+      × ((k : ℕ) → IsOverflowSlot (spelling.slots_of form) tokens n names k → ⊥)
+
+  -- If tokens match at least one slot, the first slot accepts the first token.
+  reach_first : (slots : List (Slot W)) (ts : TokenList) (n : ℕ) (t : Bytes)
+      → IsReach spelling ts slots n
+      → slice_get ts 0 ≡ Some t
+      → (n ≡ 0 → ⊥)
+      → (slot : Slot W) × IsSlotAfter spelling [] slots slot × CanStand spelling (t ∷ []) (slot ∷ [])
+  reach_first [] ts n t h is some = absurd (some h)
+  reach_first (slot ∷ slots) [] n t h is some = absurd (some h)
+  reach_first (slot ∷ slots) (u ∷ ts) zero t h is some = absurd (some refl)
+  reach_first (slot ∷ slots) (u ∷ ts) (suc n) t h is some =
+      (slot, refl, subst (λ (a : Bytes). CanStand spelling (a ∷ []) (slot ∷ [])) (let same : u ≡ t = cc in same) h.0)
+
+  -- If no statement begins with the first token, the fault is there.
+  pub misfit_first : (tokens : List Token) (end : ℕ) (names : NameTable) (t : Token)
+      → Some t ≡ slice_get tokens 0
+      → (CanBegin (grammar_of spelling) t.text.now → ⊥)
+      → (f : CellFault)
+      → IsFirstRejected spelling tokens end f
+      → (m : HasMisfitIn (grammar_of spelling) tokens names f.at f.cause) × (m.place ≡ 0) × (f.at ≡ t.at)
+  misfit_first tokens end names t first cannot f r =
+      let is = rw (zero r.longest.reached, ← first) at r.is in (
+        record {
+          place = 0;
+          token = t;
+          is = sym first;
+          begins = sym is.0;
+          begun = λ some. absurd (some refl);
+          none = cannot;
+          meant = is.1;
+        },
+        refl,
+        is.0,
+      )
+    where
+      zero : IsReached (token_texts tokens) r.front → r.front ≡ 0
+      zero (inl none) = none
+      zero (inr (form, there, reach)) = elim (cases_Bool (eqb r.front 0)) [
+        | inl e ↦ eqb-true r.front 0 e
+        | inr e ↦
+            let s =
+            reach_first (spelling.slots_of form) (token_texts tokens) r.front t.text.now reach
+            (get_text tokens 0 t (sym first)) (eqb-false r.front 0 e) in
+            absurd (cannot (begins_after spelling form s.0 [] t.text.now there s.1 s.2))
+      ]
+
+  -- The place of the first token after which no statement is possible, or the end, is within what was read.
+  pub rejected_within : (tokens : List Token) (end : ℕ) (f : CellFault)
+      → IsFirstRejected spelling tokens end f
+      → (len : ℕ)
+      → All (λ t. t.at ≤ len) tokens
+      → end ≤ len
+      → f.at ≤ len
+  rejected_within tokens end f r len all within = go (slice_get tokens r.front) refl r.is
+    where
+      go : (o : Option Token)
+          → slice_get tokens r.front ≡ o
+          → MatchOption o ((f.at ≡ end) × (f.cause ≡ cause.Form)) (λ t.
+          (f.at ≡ t.at)
+          × IsMisfitCause (IsMeantAsRegister (grammar_of spelling) (token_texts (take r.front tokens)) t.text.now) f.cause)
+          → f.at ≤ len
+      go None e is = omega (arith, is.0, within)
+      go (Some t) e is = omega (arith, is.0, all_at (λ (u : Token). u.at ≤ len) tokens r.front t e all)
+
+  module _ (tokens : List Token) (end : ℕ) (names : NameTable) (table : IsNameTable names)
+      (room : (form : Form) → Contains spelling.forms form → HasRoom tokens names form) where
+    begun_at : (k : ℕ)
+        → IsLongestFront spelling (token_texts tokens) k
+        → (k ≡ 0 → ⊥)
+        → BeginsFitting (grammar_of spelling) names (token_texts (take k tokens))
+    begun_at k longest some = go longest.reached
+      where
+        go : IsReached (token_texts tokens) k → BeginsFitting (grammar_of spelling) names (token_texts (take k tokens))
+        go (inl none) = absurd (some none)
+        go (inr (form, there, reach)) =
+            let (n, also, none) = room form there in
+            let same : n ≡ k =
+            (let less = at_most spelling _ _ n k also reach in
+            let more = at_most spelling _ _ k n reach also in
+            omega (arith, less, more)) in
+            let free = subst (λ (m : ℕ). (j : ℕ) → IsOverflowSlot (spelling.slots_of form) tokens m names j → ⊥) same none in
+            subst (BeginsFitting (grammar_of spelling) names) (take-map (λ (t : Token). t.text.now) k tokens)
+            (begins_fitting names table form (token_texts tokens) k there reach
+            (all_fit names table tokens (spelling.slots_of form) k free))
+
+    -- So the fault at the first token that fits no statement, or at the end, is a true one.
+    pub statement_wrong : ((s : ParsesStatement spelling) → (grammar_of spelling).says (token_texts tokens) s → ⊥)
+        → (f : CellFault)
+        → IsFirstRejected spelling tokens end f
+        → StatementFaultIsTrue (grammar_of spelling) tokens end names f.at f.cause
+    statement_wrong none f r = go (slice_get tokens r.front) refl r.is
+      where
+        go : (o : Option Token)
+            → slice_get tokens r.front ≡ o
+            → MatchOption o ((f.at ≡ end) × (f.cause ≡ cause.Form)) (λ t.
+            (f.at ≡ t.at)
+            × IsMisfitCause (IsMeantAsRegister (grammar_of spelling) (token_texts (take r.front tokens)) t.text.now) f.cause)
+            → StatementFaultIsTrue (grammar_of spelling) tokens end names f.at f.cause
+        go None e is =
+            subst (StatementFaultIsTrue (grammar_of spelling) tokens end names f.at) (sym is.1)
+            (form_tells (inr (
+              refl,
+              record {
+                ends = sym is.0;
+                begun = λ some.
+                    let past : length tokens ≤ r.front = none_past tokens r.front e in
+                    let whole : take r.front tokens ≡ tokens = take_all r.front tokens past in
+                    subst (λ (ts : List Token). BeginsFitting (grammar_of spelling) names (token_texts ts)) whole
+                    (begun_at r.front r.longest (λ zero.
+                    some (no_texts tokens (omega (arith, past, zero)))));
+                none = none;
+              },
+            )))
+        go (Some t) e is =
+            wrong_tells _ f.cause is.1
+            (inl (record {
+              place = r.front;
+              token = t;
+              is = e;
+              begins = sym is.0;
+              begun = begun_at r.front r.longest;
+              none = λ b.
+                  stuck (token_texts tokens) r.front t.text.now r.longest.front (get_text tokens r.front t e)
+                  (subst (λ (ts : TokenList). BeginsStatement (grammar_of spelling) (ts ++ t.text.now ∷ []))
+                  (sym (take-map (λ (u : Token). u.text.now) r.front tokens)) b);
+              meant = is.1;
+            }))
+
+-- A slot and its token, of which it is not so that the slot is a location's and the token a ninth: then there is no such slot up to there.
+pub none_so_far : {W : Type 0} (slots : List (Slot W)) (tokens : List Token) (front : ℕ) (names : NameTable) (index : ℕ) (slot : Slot W)
+    (token : Token)
+    → slice_get slots index ≡ Some slot
+    → slice_get tokens index ≡ Some token
+    → ((slot ≡ Location) × (length names ≡ most_locations) × (Contains names token.text.now → ⊥) → ⊥)
+    → ((k : ℕ) → k < index → IsOverflowSlot slots tokens front names k → ⊥)
+    → (k : ℕ)
+    → k < index + 1
+    → IsOverflowSlot slots tokens front names k
+    → ⊥
+none_so_far slots tokens front names index slot token at is none before k less over = elim (cases_Bool (ltb k index)) [
+  | inl e ↦ before k (ltb-true k index e) over
+  | inr e ↦
+      let most = ltb-false k index e in
+      let same : k ≡ index = omega (arith, less, most) in
+      let one : slot ≡ Location =
+      same_Some slot Location (sym at ∙ ap (slice_get slots) (sym same) ∙ over.slot) in
+      let two : over.token ≡ token =
+      same_Some over.token token (sym over.is ∙ ap (slice_get tokens) same ∙ is) in
+      none (one, over.full, subst (λ (t : Token). Contains names t.text.now → ⊥) two over.new)
+]
+
+-- If a fact is known, a name with that fact is a name.
+pub known_before : {IsSo IsBefore IsOther : Type 0} → IsBefore → (IsSo ⊎ IsOther → (IsSo × IsBefore) ⊎ IsOther) × ((IsSo × IsBefore) ⊎ IsOther → IsSo ⊎ IsOther)
+known_before {IsSo} {IsBefore} {IsOther} b = (there, back)
+  where
+    there : IsSo ⊎ IsOther → (IsSo × IsBefore) ⊎ IsOther
+    there (inl so) = inl (so, b)
+    there (inr other) = inr other
+
+    back : (IsSo × IsBefore) ⊎ IsOther → IsSo ⊎ IsOther
+    back (inl so) = inl so.0
+    back (inr other) = inr other
+
+-- If a fact is known not to hold, a name with that fact is none.
+pub known_not_before : {IsSo IsBefore IsOther : Type 0} → (IsBefore → ⊥) → (IsSo × IsBefore) ⊎ IsOther → IsOther
+known_not_before none (inl so) = absurd (none so.1)
+known_not_before none (inr other) = other

@@ -1,0 +1,21 @@
+use Rattle.lw_statements.proofs.Common.{true≢false, sym, ◌∙◌, refl}
+use Rattle.lw_statements.proofs.Fronts.{no_slot, slot_next, slot_further}
+use Rattle.lw_statements.proofs.statement_parser.+slot_after.Goals as goal
+
+pub returns-in_default : goal.returns-in_default
+returns-in_default g t c = no_slot g.L.StatementReader.spelling _ _ c.in_default.ensures.cases
+
+pub returns-in_default-split_first : goal.returns-in_default-split_first
+returns-in_default-split_first g t c =
+    rw c.in-Some.ensures.cases.0 (slot_next g.L.StatementReader.spelling _ c.in-Some.slot.now _ c.in_default-split_first.ensures.cases)
+
+pub returns-then-not-can_stand : goal.returns-then-not-can_stand
+returns-then-not-can_stand g t c =
+    rw (c.in-Some.ensures.cases.0, c.in-Some-split_first.ensures.cases.0)
+    (λ next h. true≢false (sym (c.can_stand.ensures.1 h.0) ∙ c.if-not-can_stand.true))
+
+pub returns : goal.returns
+returns g t c =
+    rw (c.in-Some.ensures.cases.0, c.in-Some-split_first.ensures.cases.0)
+    (slot_further g.L.StatementReader.spelling _ c.in-Some.slot.now _ _ _ (c.can_stand.ensures.0 c.if-not-can_stand.false)
+    c.slot_after.ensures)

@@ -1,0 +1,37 @@
+use Rattle.lw_statements.proofs.Common.{refl, sym, ◌∙◌, inl, inr, true≢false, slice_get_read}
+use Rattle.lw_statements.proofs.Causes.{misfit_same}
+use Rattle.lw_statements.proofs.Fronts.{known_before, known_not_before}
+use Rattle.lw_statements.proofs.statement_parser.first_rejected.Goals as goal
+
+pub returns-then-wants_register : goal.returns-then-wants_register
+returns-then-wants_register g c =
+    let token =
+    slice_get_read c.args.phrase.now.tokens.now _ c.longest_accepted_prefix-front.result _ refl c.in-Some.ensures.lookup.3.0
+    c.in-Some.ensures.lookup.1 in
+    let before = c.wants_register.ensures.0 c.if-wants_register.true in
+    record {
+      front = c.longest_accepted_prefix-front.result;
+      longest = c.longest_accepted_prefix-front.ensures.longest;
+      is =
+          rw token (
+            c.no_register.ensures.place,
+            misfit_same c.no_register.result.cause (known_before before).0 (known_before before).1 c.no_register.ensures.cause,
+          );
+    }
+
+pub returns : goal.returns
+returns g c =
+    let token =
+    slice_get_read c.args.phrase.now.tokens.now _ c.longest_accepted_prefix-front.result _ refl c.in-Some.ensures.lookup.3.0
+    c.in-Some.ensures.lookup.1 in
+    record {
+      front = c.longest_accepted_prefix-front.result;
+      longest = c.longest_accepted_prefix-front.ensures.longest;
+      is =
+          rw token (
+            c.misfit.ensures.place,
+            misfit_same c.misfit.result.cause inr
+                (known_not_before (λ before. true≢false (sym (c.wants_register.ensures.1 before) ∙ c.if-wants_register.false)))
+                c.misfit.ensures.cause,
+          );
+    }

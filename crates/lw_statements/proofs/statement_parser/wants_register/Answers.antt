@@ -1,0 +1,19 @@
+use Rattle.lw_statements.proofs.Common.{sym, true≢false, ◌∙◌}
+use Rattle.lw_statements.proofs.Beginnings.{before_register, not_before_register, register_after}
+use Rattle.lw_statements.proofs.statement_parser.wants_register.Goals as goal
+
+pub returns-then-may_be_location : goal.returns-then-may_be_location
+returns-then-may_be_location g c = (
+  λ e. absurd (true≢false (sym e)),
+  λ b.
+      absurd (not_before_register _ g.L.StatementReader.made c.requires.lawful _
+      (c.may_be_location.ensures.0 c.if-may_be_location.true) b),
+)
+
+pub returns : goal.returns
+returns g c = (
+  λ e.
+      before_register _ g.L.StatementReader.made c.requires.lawful _ (c.may_be_register.ensures.0 e) (λ there.
+      true≢false (sym (c.may_be_location.ensures.1 there) ∙ c.if-may_be_location.false)),
+  λ b. c.may_be_register.ensures.1 (register_after _ g.L.StatementReader.made c.requires.lawful _ b),
+)
