@@ -11,4 +11,4 @@ pub use lw_interleaving::{
     SourceRun, Thread, a_step_follows_the_flow, a_step_moves_one_thread, steps_can_be_exchanged,
 };
 pub use lw_litmus::{Source, Stmt};
-pub use read::{a_frame_has_one_source, read_source};
+pub use read::{a_frame_has_one_source, read_source, source_cells_have_one_fault};

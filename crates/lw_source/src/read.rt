@@ -1,9 +1,12 @@
 //! Reading a source test from its frame.
-ghost use Rattle.std.specs.Prelude.{◌≡◌, ◌≤◌, IfOk, IfErr};
+ghost use Rattle.std.specs.Prelude.{◌≡◌, ◌≢◌, ◌≤◌, List, IfOk, IfErr};
 ghost use Rattle.lw_base.specs.NoParse.{HoldsOfNothingOrOutOfMemory};
 ghost use Rattle.lw_base.specs.declared.head.Arch.TheVariants as arch;
 ghost use Rattle.lw_base.specs.declared.fault.CellCause.TheVariants.{Memory};
+ghost use Rattle.lw_base.specs.declared.fault.CellFault.{CellFault};
+ghost use Rattle.lw_base.specs.Types.{NameTable};
 ghost use Rattle.lw_text.specs.Frames.{TestFrame};
+ghost use Rattle.lw_text.specs.PlacedCells.{PlacedCell, texts_of_grid};
 ghost use Rattle.lw_text.specs.Views.{frame_of};
 ghost use Rattle.lw_text.specs.Places.{placed_cells};
 ghost use Rattle.lw_statements.specs.Faults.{CellFaultIsTrue};
@@ -43,4 +46,13 @@ pub fn read_source<A: Allocator + Copy>(
 /// States that a frame has at most one source test.
 pub fn a_frame_has_one_source()
     ensures { (frame : TestFrame) (s t : SourceTest) → HasSource frame s → HasSource frame t → s ≡ t }
+{}
+
+/// States that at most one fault of the same cells is true, and none of the cells of a source test.
+pub fn source_cells_have_one_fault()
+    ensures one { (names : NameTable) (columns : List (List PlacedCell)) (f g : CellFault) → f.cause ≢ Memory → g.cause ≢ Memory
+        → CellFaultIsTrue source_grammar names columns f → CellFaultIsTrue source_grammar names columns g → f ≡ g }
+    ensures none { (frame : TestFrame) (columns : List (List PlacedCell)) (f : CellFault) (s : SourceTest)
+        → texts_of_grid columns ≡ frame.cells → HasSource frame s → f.cause ≢ Memory
+        → CellFaultIsTrue source_grammar frame.head.locs columns f → ⊥ }
 {}

@@ -55,7 +55,7 @@ module _ {W Form Stmt : Type 0} (spelling : Spelling W Form Stmt) where
   -- ---- a token after others
 
   -- Tokens and a further one, accepted by the slot after theirs, begin tokens that fill the slots.
-  filled_after : (slots : List (Slot W)) (slot : Slot W) (ts : TokenList) (t : Bytes)
+  pub filled_after : (slots : List (Slot W)) (slot : Slot W) (ts : TokenList) (t : Bytes)
       → IsSlotAfter spelling ts slots slot
       → CanStand spelling (t ∷ []) (slot ∷ [])
       → (rest : TokenList) × CanStand spelling ((ts ++ t ∷ []) ++ rest) slots
@@ -154,7 +154,7 @@ module _ {W Form Stmt : Type 0} (spelling : Spelling W Form Stmt) where
   none_after (t ∷ ts) (slot ∷ slots) e h = none_after ts slots e h.1
 
   -- The token in the slot of a location is the name of the statement's location.
-  named_there : (ts rest : TokenList) (x : Bytes) (slots : List (Slot W)) (f : Filling slots)
+  pub named_there : (ts rest : TokenList) (x : Bytes) (slots : List (Slot W)) (f : Filling slots)
       → names_one spelling slots ≡ true
       → IsSlotAfter spelling ts slots Location
       → Fills spelling (ts ++ x ∷ rest) slots f

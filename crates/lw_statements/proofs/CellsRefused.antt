@@ -19,7 +19,7 @@ use Rattle.lw_statements.proofs.TablesRead.{read_same, read_room}
 use Rattle.lw_statements.proofs.api.Zips.{Cut, zip_cut}
 
 -- A prefix of a list without duplicates has none.
-once_front : (xs ys : List (List ℕ)) → IsDuplicateFree (xs ++ ys) → IsDuplicateFree xs
+pub once_front : (xs ys : List (List ℕ)) → IsDuplicateFree (xs ++ ys) → IsDuplicateFree xs
 once_front [] ys h = tt
 once_front (x ∷ xs) ys h = ((λ there. h.0 (Contains-append_left xs ys x there)), once_front xs ys h.1)
 

@@ -293,8 +293,9 @@ module _ {Syntax Stmt A : Type 0} (grammar : Grammar Syntax Stmt) (front rest : 
           inr (record {
             mid = token_texts (take c.place (drop next cell.tokens));
             read = read c.place c.token c.is c.ninth.0;
-            no_label = no_colon c.place c.token c.is;
+            no_label = no_label c.place c.token c.is;
             few = room_there;
+            begun = λ some. record { few = room_there; begins = begins_there _ (c.begun (nothing c.place some)) };
             is_location = c.location;
             full = ap length (same names others behind threads others_say grown) ∙ c.ninth.2;
             new = λ there.

@@ -95,7 +95,7 @@ Labels-whole tokens next ls says =
     (Labels-rest (token_texts (take next tokens)) (token_texts (drop next tokens)) ls says)
 
 -- If tokens parse as labels and then `rest`, all labels at their start are these and those at the start of `rest`.
-Labels-cut : (ts rest mid : TokenList) (ls ks : List Bytes)
+pub Labels-cut : (ts rest mid : TokenList) (ls ks : List Bytes)
     → Labels ts ls rest
     → Labels ts ks mid
     → (BeginsWithLabel mid → ⊥)

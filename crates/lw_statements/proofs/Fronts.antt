@@ -10,10 +10,11 @@ use Rattle.lw_statements.proofs.Common.{AllByRecursion, Token, token_texts, Slot
 use Rattle.lw_statements.proofs.Common.{Value, Number, Label, Spelling, SlotValue, Filling, Gives, Fills}
 use Rattle.lw_statements.proofs.Common.{name_in, grammar_of, ParsesStatement, CanStand, HasNext, IsSlotAfter, IsReach}
 use Rattle.lw_statements.proofs.Common.{AreFront, IsLongestFront, IsOverflowSlot, BeginsStatement, BeginsFitting}
-use Rattle.lw_statements.proofs.Beginnings.{after_beginning, begins_after, stands}
+use Rattle.lw_statements.proofs.Beginnings.{after_beginning, begins_after, filled_after, named_there, stands}
 use Rattle.lw_statements.proofs.Common.{true≢false, slice_get-map, cases_Bool, same_Some, ltb, ltb-true, ltb-false, max}
 use Rattle.lw_statements.proofs.Common.{All, take_all, CellCause, CellFault, IsMisfitCause, IsMeantAsRegister}
-use Rattle.lw_statements.proofs.Common.{IsFirstRejected, StatementFaultIsTrue, HasMisfitIn, CanBegin, eqb, eqb-true}
+use Rattle.lw_statements.proofs.Common.{IsFirstRejected, StatementFaultIsTrue, HasMisfitIn, CanBegin, eqb, eqb-true, append_assoc}
+use Rattle.lw_statements.proofs.Common.{names_one}
 use Rattle.std.proofs.lemmas.Bool.{eqb-false}
 use Rattle.lw_base.specs.declared.fault.CellCause.TheVariants as cause
 use Rattle.lw_statements.proofs.Causes.{form_tells, wrong_tells}
@@ -243,6 +244,25 @@ module _ {W Form Stmt : Type 0} (spelling : Spelling W Form Stmt) where
     begins_fitting form ts n there h fit =
         let r = fitting_front (spelling.slots_of form) ts n h fit in
         record { rest = r.0; syntax = record { form = form; filling = r.1 }; says = (there, r.2); room = r.3 }
+
+    -- Tokens before a location's slot begin tokens that fill the slots and fit the table.
+    pub fitting_before : (form : Form) (ts : TokenList)
+        → Contains spelling.forms form
+        → names_one spelling (spelling.slots_of form) ≡ true
+        → IsSlotAfter spelling ts (spelling.slots_of form) Location
+        → BeginsFitting (grammar_of spelling) names ts
+    fitting_before form ts there one after =
+        let x = fitting_name names table in
+        let r = filled_after spelling (spelling.slots_of form) Location ts x.0 after ((x.0, tt), ((refl, x.1), tt)) in
+        let fills : Fills spelling (ts ++ x.0 ∷ r.0) (spelling.slots_of form) r.1.0 =
+        subst (λ (us : TokenList). Fills spelling us (spelling.slots_of form) r.1.0) (append_assoc ts (x.0 ∷ []) r.0) r.1.1 in
+        let named = named_there spelling ts r.0 x.0 (spelling.slots_of form) r.1.0 one after fills in
+        record {
+          rest = x.0 ∷ r.0;
+          syntax = record { form = form; filling = r.1.0 };
+          says = (there, fills);
+          room = rw named x.2;
+        }
 
     -- If no slot among those that the tokens match has a ninth location, each location among them fits the table.
     pub all_fit : (tokens : List Token) (slots : List (Slot W)) (n : ℕ)

@@ -3,6 +3,8 @@ pub mod api
 pub mod FrontLabels
 pub mod Fronts
 pub mod FirstFaults
+pub mod CellFaults
+pub mod OneFault
 pub mod Leads
 pub mod OneReading
 pub mod ResolvedNames

@@ -3,7 +3,7 @@ use Rattle.lw_statements.proofs.Common.{◌≡◌, ℕ, suc, ◌<◌, ◌≤◌,
 use Rattle.lw_statements.proofs.Common.{length, take, get_or, refl, sym, ap, ◌∙◌, subst, arith, slice_get}
 use Rattle.lw_statements.proofs.Common.{Contains, IfSome, MatchOption, slice_get_within}
 use Rattle.lw_statements.proofs.Common.{get_or_from_slice_get, same_Some, length-map, take-map}
-use Rattle.lw_statements.proofs.Common.{IsLocationName, Bytes, NameTable, TokenList, CellFault, Token}
+use Rattle.lw_statements.proofs.Common.{IsLocationName, IsNameTable, Bytes, NameTable, TokenList, CellFault, Token}
 use Rattle.lw_statements.proofs.Common.{token_texts, Draft, Operands, Slot, Location, SlotBindings, NameRead}
 use Rattle.lw_statements.proofs.Common.{Spelling, Filling, Fills, ParsesStatement, grammar_of, name_in}
 use Rattle.lw_statements.proofs.Common.{CanStand, bindings_of, draft_on, draft_of, IsNameAmong, IsDrafted}
@@ -13,8 +13,8 @@ use Rattle.lw_statements.proofs.Elements.{all_at}
 use Rattle.lw_statements.proofs.FrontLabels.{get_text}
 use Rattle.lw_statements.proofs.Causes.{further}
 use Rattle.lw_statements.proofs.Beginnings.{location_after}
-use Rattle.lw_statements.proofs.Fronts.{after_cut, slot_at}
-use Rattle.lw_statements.proofs.api.Forms.{is_grammar}
+use Rattle.lw_statements.proofs.Fronts.{after_cut, fitting_before, slot_at}
+use Rattle.lw_statements.proofs.api.Forms.{is_grammar, passes}
 
 module _ {W Form Stmt : Type 0} (spelling : Spelling W Form Stmt) where
   -- ---- where the name of a location is
@@ -135,15 +135,17 @@ module _ {W Form Stmt : Type 0} (spelling : Spelling W Form Stmt) where
     pub refused_by_form : (made : Form → Operands → Option Stmt)
         → IsSpelling spelling made
         → (before : NameTable) (fault : CellFault)
+        → IsNameTable before
         → IsNotDrafted found tokens before fault
         → StatementRefused (grammar_of spelling) before phrase fault
-    refused_by_form made lawful before fault h =
+    refused_by_form made lawful before fault table h =
         let n = named h.index h.name in
         let is = name_is h.index h.token h.name h.is in
         let front : CanStand spelling (token_texts (take h.index tokens)) n.2 =
         subst (λ (ts : TokenList). CanStand spelling ts n.2)
         (ap (λ (m : ℕ). take m (token_texts tokens)) (omega (arith, n.5)) ∙ take-map (λ (t : Token). t.text.now) h.index tokens)
         n.8 in
+        let after = after_cut spelling n.2 n.3 (spelling.slots_of form) (token_texts (take h.index tokens)) n.7 front in
         record {
           none = λ known s fits.
               let same : s ≡ said = (is_grammar _ _ lawful).one (token_texts tokens) s said fits.0 (there, fills) in
@@ -153,9 +155,11 @@ module _ {W Form Stmt : Type 0} (spelling : Spelling W Form Stmt) where
                 place = h.index;
                 token = h.token;
                 is = h.is;
+                begun = λ some.
+                    fitting_before spelling before table form (token_texts (take h.index tokens)) there
+                    (passes _ spelling.forms there.0 form lawful.names there.1 there.2) after;
                 location =
-                    location_after _ made lawful form (token_texts (take h.index tokens)) h.token.text.now there
-                    (after_cut spelling n.2 n.3 (spelling.slots_of form) (token_texts (take h.index tokens)) n.7 front) is.1;
+                    location_after _ made lawful form (token_texts (take h.index tokens)) h.token.text.now there after is.1;
                 ninth = ninth;
               }) h.refused.cause;
           place = λ len lies. h.refused.place len (all_at (λ t. t.at ≤ len) tokens _ h.token h.is lies.0);
@@ -166,11 +170,11 @@ module _ {W Form Stmt : Type 0} (spelling : Spelling W Form Stmt) where
       → IsSpelling spelling made
       → (form : Form)
       → Contains spelling.forms form
-      → (tokens : List Token) (names : NameTable) (front index : ℕ) (default : Token)
+      → (tokens : List Token) (names : NameTable) (table : IsNameTable names) (front index : ℕ) (default : Token)
       → IsReach spelling (token_texts tokens) (spelling.slots_of form) front
       → IsOverflowSlot (spelling.slots_of form) tokens front names index
       → HasOverflowIn (grammar_of spelling) tokens names (get_or tokens index default).at
-  ninth_in made lawful form there tokens names front index default reach n =
+  ninth_in made lawful form there tokens names table front index default reach n =
       let r = slot_at spelling (spelling.slots_of form) (token_texts tokens) front index Location reach n.before n.slot in
       let here = r.1 n.token.text.now (get_text tokens index n.token n.is) in
       let loc = subst IsLocationName (sym here.1.0.0) here.1.0.1 in
@@ -181,6 +185,9 @@ module _ {W Form Stmt : Type 0} (spelling : Spelling W Form Stmt) where
         place = index;
         token = n.token;
         is = n.is;
+        begun = λ some.
+            fitting_before spelling names table form _ there (passes _ spelling.forms there.0 form lawful.names there.1 there.2)
+            after;
         location = location_after spelling made lawful form _ n.token.text.now there after loc;
         ninth = (refl, loc, n.full, n.new);
       })

@@ -150,13 +150,15 @@ module _ {Syntax Stmt : Type 0} (grammar : Grammar Syntax Stmt) where
       pub no_label : BeginsWithColon (texts_of_tokens p.back) → ⊥
       pub full : length (statements read.syntaxes) ≡ grammar.language.most
 
-    -- The token is a location and no label, and is not among the eight locations of the table and of the tokens before. Only a first token
-    -- is a label if a `:` follows: in `r0 := y :` the first fault is the location y, not the `:`.
+    -- The token is a location and no label, of a statement for which the thread has room, and is not among the eight locations of the table
+    -- and of the tokens before. Only a first token is a label if a `:` follows: in `r0 := y :` the first fault is the location y, not the
+    -- `:`.
     pub record IsNinth (p : TokenPosition columns at) : Type 0 where
       pub mid : TokenList
       pub read : IsReadTo names p.place (texts_of_tokens p.front) mid
-      pub no_label : mid ≡ [] → BeginsWithColon (texts_of_tokens p.back) → ⊥
+      pub no_label : BeginsWithLabel (mid ++ p.token.text ∷ texts_of_tokens p.back) → ⊥
       pub few : length (statements read.syntaxes) ≢ grammar.language.most
+      pub begun : mid ≢ [] → IsBegun read
       pub is_location : IsLocationAfter grammar mid p.token.text
       pub full : length (table_of read) ≡ most_locations
       pub new : Contains (table_of read) p.token.text → ⊥

@@ -20,6 +20,6 @@ mod token;
 
 pub use draft::Operands;
 pub use parts::TestParts;
-pub use read::read_test;
+pub use read::{cells_have_one_fault, read_test};
 pub use slot::Slot;
 pub use statement_reader::StatementReader;

@@ -1,12 +1,16 @@
 //! Reading a test of either language from its frame.
-ghost use Rattle.std.specs.Prelude.{◌≡◌, ◌⊎◌, ◌≤◌, ◌-◌, ◌++◌, length, replicate, Ok, Err, MatchResult, IfOk, IfErr};
+ghost use Rattle.std.specs.Prelude.{◌≡◌, ◌≢◌, List, ◌⊎◌, ◌≤◌, ◌-◌, ◌++◌, length, replicate, Ok, Err, MatchResult, IfOk, IfErr};
 ghost use Rattle.lw_base.specs.NoParse.{HoldsOfNothingOrOutOfMemory};
 ghost use Rattle.lw_base.specs.declared.fault.CellCause.TheVariants.{Memory};
 ghost use Rattle.lw_base.specs.Names.{IsNameTable};
 ghost use Rattle.lw_text.specs.Places.{all_texts, placed_cells};
 ghost use Rattle.lw_text.specs.Views.{frame_of};
 ghost use Rattle.lw_statements.specs.Grammars.{arch_of};
-ghost use Rattle.lw_litmus.specs.Tests.{test_of};
+ghost use Rattle.lw_base.specs.Types.{NameTable};
+ghost use Rattle.lw_base.specs.declared.fault.CellFault.{CellFault};
+ghost use Rattle.lw_text.specs.Frames.{TestFrame};
+ghost use Rattle.lw_text.specs.PlacedCells.{PlacedCell, texts_of_grid};
+ghost use Rattle.lw_litmus.specs.Tests.{Test, test_of};
 ghost use Rattle.lw_litmus.specs.WellFormed.{IsWellFormed};
 ghost use Rattle.lw_statements.specs.Cells.{FrameHasTest};
 ghost use Rattle.lw_statements.specs.Bindings.{IsSpelling};
@@ -48,6 +52,16 @@ pub fn read_test<L: StatementReader, A: Allocator + Copy>(
     let threads = with_zeros(&mut head, threads);
     parts_of(head, threads)
 }
+
+/// States that at most one fault of the same cells is true, and none of the cells of a test.
+pub fn cells_have_one_fault<L: StatementReader>()
+    requires lawful { IsSpelling L.spelling L.made }
+    ensures one { (names : NameTable) (columns : List (List PlacedCell)) (f g : CellFault) → f.cause ≢ Memory → g.cause ≢ Memory
+        → CellFaultIsTrue (grammar_of L.spelling) names columns f → CellFaultIsTrue (grammar_of L.spelling) names columns g → f ≡ g }
+    ensures none { (frame : TestFrame) (columns : List (List PlacedCell)) (f : CellFault) (test : Test L.Stmt)
+        → texts_of_grid columns ≡ frame.cells → FrameHasTest (grammar_of L.spelling) frame test → f.cause ≢ Memory
+        → CellFaultIsTrue (grammar_of L.spelling) frame.head.locs columns f → ⊥ }
+{}
 
 /// Returns the head and the threads of a test. Fails if the threads could not be read.
 fn parts_of<S: Drop, A: Allocator>(

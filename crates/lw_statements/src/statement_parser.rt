@@ -281,6 +281,7 @@ pub(crate) fn read_statement<L: StatementReader, A: Allocator + Copy>(
         (λ draft. StatementRead (grammar_of L.spelling) (draft_of L.spelling) (token_texts phrase.now.tokens.now) locs.old draft locs.new)
         (StatementRefused (grammar_of L.spelling) locs.old phrase.now) }
 {
+    let _known = locs.len();
     match read_form::<L>(phrase.tokens) {
         Some(filled) => draft(filled.form, filled.found, phrase.tokens, locs),
         None => Err(refusal::<L, A>(phrase, locs)),

@@ -15,4 +15,6 @@ mod separator;
 
 pub use canonical::{a_canonical_text_reads_back, write_program};
 pub use lw_litmus::{Instr, MAX_INSTRUCTIONS, Program};
-pub use read::{a_frame_has_one_program, a_text_has_one_program, read_program};
+pub use read::{
+    a_frame_has_one_program, a_text_has_one_program, read_program, x86_cells_have_one_fault,
+};

@@ -1,10 +1,12 @@
 //! Reading an x86 test from its frame.
-ghost use Rattle.std.specs.Prelude.{◌≡◌, ◌≤◌, IfOk, IfErr};
-ghost use Rattle.lw_base.specs.Types.{Bytes};
+ghost use Rattle.std.specs.Prelude.{◌≡◌, ◌≢◌, ◌≤◌, List, IfOk, IfErr};
+ghost use Rattle.lw_base.specs.Types.{Bytes, NameTable};
 ghost use Rattle.lw_base.specs.NoParse.{HoldsOfNothingOrOutOfMemory};
 ghost use Rattle.lw_base.specs.declared.head.Arch.TheVariants as arch;
 ghost use Rattle.lw_base.specs.declared.fault.CellCause.TheVariants.{Memory};
+ghost use Rattle.lw_base.specs.declared.fault.CellFault.{CellFault};
 ghost use Rattle.lw_text.specs.Frames.{TestFrame};
+ghost use Rattle.lw_text.specs.PlacedCells.{PlacedCell, texts_of_grid};
 ghost use Rattle.lw_text.specs.Views.{frame_of};
 ghost use Rattle.lw_text.specs.Places.{placed_cells};
 ghost use Rattle.lw_statements.specs.Faults.{CellFaultIsTrue};
@@ -50,4 +52,13 @@ pub fn a_frame_has_one_program()
 /// States that a text is of at most one x86 test.
 pub fn a_text_has_one_program()
     ensures { (text : Bytes) (p q : X86Test) → IsTextOf text p → IsTextOf text q → p ≡ q }
+{}
+
+/// States that at most one fault of the same cells is true, and none of the cells of an x86 test.
+pub fn x86_cells_have_one_fault()
+    ensures one { (names : NameTable) (columns : List (List PlacedCell)) (f g : CellFault) → f.cause ≢ Memory → g.cause ≢ Memory
+        → CellFaultIsTrue x86_grammar names columns f → CellFaultIsTrue x86_grammar names columns g → f ≡ g }
+    ensures none { (frame : TestFrame) (columns : List (List PlacedCell)) (f : CellFault) (p : X86Test)
+        → texts_of_grid columns ≡ frame.cells → HasProgram frame p → f.cause ≢ Memory
+        → CellFaultIsTrue x86_grammar frame.head.locs columns f → ⊥ }
 {}

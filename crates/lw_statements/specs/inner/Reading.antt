@@ -168,6 +168,7 @@ module _ {Syntax Stmt : Type 0} (grammar : Grammar Syntax Stmt) where
     pub place : ℕ
     pub token : Token
     pub is : slice_get tokens place ≡ Some token
+    pub begun : place ≢ 0 → BeginsFitting grammar names (token_texts (take place tokens))
     pub location : IsLocationAfter grammar (token_texts (take place tokens)) token.text.now
     pub ninth : IsOverflowName names token at
 

@@ -13,7 +13,7 @@ returns-in-Some g c =
     MatchResult-weaker c.draft.result c.draft.ensures
     (λ draft made. statement_read g.L.StatementReader.spelling c.args.phrase.now _ r.0 r.1 r.2 _ draft _ (rw r.3 at made))
     (λ f none.
-    refused_by_form g.L.StatementReader.spelling c.args.phrase.now _ r.0 r.1 r.2 g.L.StatementReader.made c.requires.lawful _ f
+    refused_by_form g.L.StatementReader.spelling c.args.phrase.now _ r.0 r.1 r.2 g.L.StatementReader.made c.requires.lawful _ f c.len-known.ensures.table
     (rw r.3 at none))
 
 pub refusal-requires-clause-none : goal.refusal-requires-clause-none
