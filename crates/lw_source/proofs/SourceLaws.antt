@@ -31,7 +31,8 @@ making x to Goto (_, (l, _)) = record { is = refl; located = refl; led = refl; g
 
 -- The spelling of the source language is lawful: its forms are distinguishable, and its statements made from their operands.
 pub source_spelled : IsSpelling source_spelling statement_of_operands
-source_spelled = record { countable = omega arith; apart = refl; statements = refl; names = refl; clear = refl; words = refl; making = making }
+source_spelled =
+    record { countable = omega arith; apart = refl; statements = refl; names = refl; clear = refl; words = refl; making = making }
 
 -- The grammar of the source language satisfies the rule of cells.
 pub source_lawful : IsGrammar source_grammar

@@ -1,17 +1,18 @@
 -- The tokens with which statements start, and what may follow them: a location, a register, or another token.
-use Rattle.lw_statements.proofs.Common.{◌≡◌, ℕ, ◌⊎◌, inl, inr, Bool, true, false, true≢false, not, ◌||◌}
-use Rattle.lw_statements.proofs.Common.{Option, Some, List, [], ◌∷◌, ◌++◌, refl, sym, ap, ◌∙◌, subst, arith}
-use Rattle.lw_statements.proofs.Common.{append_assoc, cases_Bool, and_parts, codes, Contains, decimal, name_in}
-use Rattle.lw_statements.proofs.Common.{IsLocationName, IsRegisterName, register_name, Bytes, TokenList}
-use Rattle.lw_statements.proofs.Common.{name_by_test, decimal_is_number, Operands, Slot, Keyword, Register}
-use Rattle.lw_statements.proofs.Common.{Location, Value, Number, Label, BeginsStatement, CanBegin}
+use Rattle.lw_statements.proofs.Common.{◌≡◌, ℕ, inl, inr, Bool, true, false, true≢false, not, ◌||◌, Option}
+use Rattle.lw_statements.proofs.Common.{Some, List, [], ◌∷◌, ◌++◌, refl, sym, ap, ◌∙◌, subst, arith}
+use Rattle.lw_statements.proofs.Common.{append_assoc, cases_Bool, and_parts, codes, Contains, decimal}
+use Rattle.lw_statements.proofs.Common.{name_in, IsLocationName, IsRegisterName, register_name, Bytes}
+use Rattle.lw_statements.proofs.Common.{TokenList, name_by_test, decimal_is_number, Operands, Slot, Keyword}
+use Rattle.lw_statements.proofs.Common.{Register, Location, Value, Number, Label, BeginsStatement, CanBegin}
 use Rattle.lw_statements.proofs.Common.{IsLocationAfter, IsBeforeRegister, Spelling, SlotValue, Filling}
 use Rattle.lw_statements.proofs.Common.{Gives, Fills, grammar_of, CanStand, BeginsWith, IsSlotAfter}
-use Rattle.lw_statements.proofs.Common.{HasSlotAfter, IsLocationSlot, IsRegisterSlot, are_clear_forms, is_operand_slot}
-use Rattle.lw_statements.proofs.Common.{is_word_slot, is_register_free, tokens_differ, names_register}
-use Rattle.lw_statements.proofs.Common.{names_none, names_one, IsSpelling}
+use Rattle.lw_statements.proofs.Common.{HasSlotAfter, IsLocationSlot, IsRegisterSlot, are_clear_forms}
+use Rattle.lw_statements.proofs.Common.{is_operand_slot, is_word_slot, is_register_free, tokens_differ}
+use Rattle.lw_statements.proofs.Common.{names_register, names_none, names_one, IsSpelling}
 use Rattle.lw_statements.proofs.api.Forms.{passes}
-use Rattle.lw_statements.proofs.Slots.{differ_apart, location_slot, no_register, register_apart, register_no_number}
+use Rattle.lw_statements.proofs.Slots.{differ_apart, location_slot, no_register, register_apart}
+use Rattle.lw_statements.proofs.Slots.{register_no_number}
 use Rattle.lw_base.specs.declared.operand.Operand.TheVariants as operand
 
 module _ {W Form Stmt : Type 0} (spelling : Spelling W Form Stmt) where
@@ -84,8 +85,7 @@ module _ {W Form Stmt : Type 0} (spelling : Spelling W Form Stmt) where
   slot_of [] [] rest t f h = absurd h
   slot_of [] (u ∷ ts) rest t f h = absurd h
   slot_of (s ∷ slots) [] rest t f h = (s, refl, ((f.0, tt), (h.0, tt)))
-  slot_of (s ∷ slots) (u ∷ ts) rest t f h =
-      let r = slot_of slots ts rest t f.1 h.1 in (r.0, (((f.0, tt), (h.0, tt)), r.1), r.2)
+  slot_of (s ∷ slots) (u ∷ ts) rest t f h = let r = slot_of slots ts rest t f.1 h.1 in (r.0, (((f.0, tt), (h.0, tt)), r.1), r.2)
 
   -- If a statement begins with tokens and a further one, some form has a slot for that after those of the others.
   pub after_beginning : (ts : TokenList) (t : Bytes)
@@ -94,7 +94,8 @@ module _ {W Form Stmt : Type 0} (spelling : Spelling W Form Stmt) where
   after_beginning ts t (rest, s, says) =
       let r =
       slot_of (spelling.slots_of s.form) ts rest t s.filling
-      (subst (λ (us : TokenList). Fills spelling us (spelling.slots_of s.form) s.filling) (append_assoc ts (t ∷ []) rest) says.1) in
+      (subst (λ (us : TokenList). Fills spelling us (spelling.slots_of s.form) s.filling) (append_assoc ts (t ∷ []) rest)
+      says.1) in
       (s.form, says.0, r)
 
   -- ---- a location or a register after tokens
@@ -129,7 +130,9 @@ module _ {W Form Stmt : Type 0} (spelling : Spelling W Form Stmt) where
   module _ (made : Form → Operands → Option Stmt) (lawful : IsSpelling spelling made) (ts : TokenList) (form : Form)
       (there : Contains spelling.forms form) (slot : Slot W) (after : IsSlotAfter spelling ts (spelling.slots_of form) slot)
       (operand : is_operand_slot slot ≡ true) where
-    clear : (other : Form) → Contains spelling.forms other → are_clear_forms spelling (spelling.slots_of form) (spelling.slots_of other) ≡ true
+    clear : (other : Form)
+        → Contains spelling.forms other
+        → are_clear_forms spelling (spelling.slots_of form) (spelling.slots_of other) ≡ true
     clear other here =
         passes _ spelling.forms here.0 other (passes _ spelling.forms there.0 form lawful.clear there.1 there.2) here.1 here.2
 
@@ -221,22 +224,22 @@ module _ {W Form Stmt : Type 0} (spelling : Spelling W Form Stmt) where
             h.2.0,
             h.2.1,
             register_slot h.2.0 h.2.2.0.0 b.name b.register (λ w is.
-            free_after ts (spelling.slots_of h.0) w free
-            (subst (λ (s : Slot W). IsSlotAfter spelling ts (spelling.slots_of h.0) s) is h.2.1)) b.named h.2.2.1.0,
+                free_after ts (spelling.slots_of h.0) w free
+                (subst (λ (s : Slot W). IsSlotAfter spelling ts (spelling.slots_of h.0) s) is h.2.1)) b.named h.2.2.1.0,
           ),
         )
 
     -- If some form has a location after the tokens, a location may follow.
-    pub not_before_register : HasSlotAfter spelling IsLocationSlot ts
-        → IsBeforeRegister (grammar_of spelling) ts
-        → ⊥
+    pub not_before_register : HasSlotAfter spelling IsLocationSlot ts → IsBeforeRegister (grammar_of spelling) ts → ⊥
     not_before_register (form, there, (slot, after, is)) b =
         let x = codes "x" in
         let loc : IsLocationName x = (name_by_test (codes "x") refl, refl) in
-        b.no_location x loc (begins_after form Location ts x there
+        b.no_location x loc
+        (begins_after form Location ts x there
         (subst (λ (u : Slot W). IsSlotAfter spelling ts (spelling.slots_of form) u) is after) ((x, tt), ((refl, loc), tt)))
 
-    stand_register : (slot : Slot W) → IsRegisterSlot slot
+    stand_register : (slot : Slot W)
+        → IsRegisterSlot slot
         → CanStand spelling (register_name spelling.language.arch 0 ∷ []) (slot ∷ []) × (is_operand_slot slot ≡ true)
     stand_register Register h = (((0, tt), ((omega arith, refl), tt)), refl)
     stand_register Value h = (((operand.Register 0, tt), ((omega arith, refl), tt)), refl)

@@ -1,7 +1,6 @@
 -- What a fault's cause claims of its position, by the table `FaultClaim`: which fact for which cause, and what follows from it.
-use Rattle.lw_statements.proofs.Common.{◌≡◌, ℕ, refl, sym, subst, arith, inl, inr, ◌⊎◌, CellCause, Form}
-use Rattle.lw_statements.proofs.Common.{LabelMissing, LabelTwice, Backward, TooMany, Memory, CellFault}
-use Rattle.lw_statements.proofs.Common.{IsMisfitCause, FaultClaim, Refused}
+use Rattle.lw_statements.proofs.Common.{◌≡◌, ℕ, sym, subst, arith, CellCause, Form, LabelTwice, TooMany}
+use Rattle.lw_statements.proofs.Common.{Memory, CellFault, IsMisfitCause, FaultClaim, Refused}
 use Rattle.lw_base.specs.declared.fault.CellCause.TheVariants.{Register}
 
 -- A misfit's cause is the same for equivalent readings of what is meant as a register.
@@ -11,7 +10,8 @@ misfit_same Register f g h = f h
 misfit_same cause f g h = absurd h
 
 -- A misfit is Form or Register, of which it claims what it is.
-pub wrong_tells : {wrong : CellCause → Type 0} {no_label second_label backward one_more : Type 0} (IsMeant : Type 0) (cause : CellCause)
+pub wrong_tells : {wrong : CellCause → Type 0} {no_label second_label backward one_more : Type 0} (IsMeant : Type 0)
+    (cause : CellCause)
     → IsMisfitCause IsMeant cause
     → wrong cause
     → FaultClaim wrong no_label second_label backward one_more cause

@@ -1,25 +1,19 @@
 -- Two faults of one cell, of which the same precedes it, are the same: the tokens before a fault's place can be continued, those up to it cannot.
-use Rattle.lw_statements.proofs.Common.{◌≡◌, ℕ, suc, ◌<◌, ◌≤◌, ◌+◌, ◌*◌, inl, inr, ◌⊎◌, Option, Some, None, List}
-use Rattle.lw_statements.proofs.Common.{[], ◌∷◌, ◌++◌, length, length-append, drop, refl, sym, ap, ◌∙◌, subst}
-use Rattle.lw_statements.proofs.Common.{arith, slice_get, codes, Contains, append_assoc, append-nil, filter_map}
+use Rattle.lw_statements.proofs.Common.{◌≡◌, ℕ, ◌<◌, ◌≤◌, ◌+◌, ◌*◌, inl, inr, ◌⊎◌, Option, Some, None, List}
+use Rattle.lw_statements.proofs.Common.{[], ◌∷◌, ◌++◌, length, length-append, refl, sym, ap, ◌∙◌, subst}
+use Rattle.lw_statements.proofs.Common.{arith, slice_get, codes, Contains, append_assoc, append-nil}
 use Rattle.lw_statements.proofs.Common.{CellCause, TooMany, LabelTwice, most_locations, IsDuplicateFree}
-use Rattle.lw_statements.proofs.Common.{IsLocationName, insert_names, insert_name, Bytes, NameTable, TokenList}
-use Rattle.lw_statements.proofs.Common.{Grammar, IsGrammar, BeginsStatement, CanBegin, IsLocationAfter}
-use Rattle.lw_statements.proofs.Common.{CellSyntax, MaybeStatement, Labels, names_in, statements, bare}
-use Rattle.lw_statements.proofs.Common.{BeginsFitting, BeginsWithLabel, IsMeantAsRegister, IsMisfitCause}
-use Rattle.lw_statements.proofs.Common.{IsUnknownRegister, insert_name-new, cases_Bool, ltb, ltb-true}
-use Rattle.lw_statements.proofs.Common.{ltb-false, AllByRecursion, true≢false}
-use Rattle.lw_statements.proofs.FrontLabels.{Labels-cut, Labels-unique, labels_rest, once_apart}
+use Rattle.lw_statements.proofs.Common.{IsLocationName, insert_name, Bytes, NameTable, TokenList, Grammar}
+use Rattle.lw_statements.proofs.Common.{IsGrammar, BeginsStatement, CanBegin, IsLocationAfter, MaybeStatement}
+use Rattle.lw_statements.proofs.Common.{Labels, BeginsFitting, BeginsWithLabel, IsMeantAsRegister}
+use Rattle.lw_statements.proofs.Common.{IsMisfitCause, IsUnknownRegister, insert_name-new}
+use Rattle.lw_statements.proofs.FrontLabels.{Labels-unique, once_apart}
 use Rattle.lw_statements.proofs.OneReading.{no_label as no_label_begins}
 use Rattle.lw_base.specs.declared.fault.CellCause.TheVariants as cause
 
 -- ---- lists
 
--- Two ways to split a list at an item: at the same place, or one before the other.
-pub record SplitBefore {X : Type 0} (xs : List X) (x : X) (ys zs : List X) : Type 0 where
-  pub more : List X
-  pub front : zs ≡ xs ++ x ∷ more
-
+-- Of two ways to split a list at an item, the items are the same, or one is before the other.
 pub split_order : {X : Type 0} (xs zs : List X) (x z : X) (ys ws : List X)
     → xs ++ x ∷ ys ≡ zs ++ z ∷ ws
     → ((xs ≡ zs) × (x ≡ z) × (ys ≡ ws)) ⊎ (((more : List X) × (zs ≡ xs ++ x ∷ more)) ⊎ ((more : List X) × (xs ≡ zs ++ z ∷ more)))
@@ -32,7 +26,8 @@ split_order (w ∷ xs) (v ∷ zs) x z ys ws e =
     go head (split_order xs zs x z ys ws tail)
   where
     go : w ≡ v
-        → ((xs ≡ zs) × (x ≡ z) × (ys ≡ ws)) ⊎ (((more : List _) × (zs ≡ xs ++ x ∷ more)) ⊎ ((more : List _) × (xs ≡ zs ++ z ∷ more)))
+        → ((xs ≡ zs) × (x ≡ z) × (ys ≡ ws))
+        ⊎ (((more : List _) × (zs ≡ xs ++ x ∷ more)) ⊎ ((more : List _) × (xs ≡ zs ++ z ∷ more)))
         → ((w ∷ xs ≡ v ∷ zs) × (x ≡ z) × (ys ≡ ws))
         ⊎ (((more : List _) × (v ∷ zs ≡ w ∷ xs ++ x ∷ more)) ⊎ ((more : List _) × (w ∷ xs ≡ v ∷ zs ++ z ∷ more)))
     go head (inl (a, b, c)) = inl (cc, b, c)
@@ -77,7 +72,8 @@ labels_meet ts m n (l ∷ ls) (j ∷ ks) h k =
     go first (labels_meet h.0 m n ls ks h.3 (subst (λ (t : TokenList). Labels t ks n) same k.3))
   where
     go : l ≡ j
-        → ((more : List Bytes) × (ks ≡ ls ++ more) × Labels m more n) ⊎ ((more : List Bytes) × (ls ≡ ks ++ more) × Labels n more m)
+        → ((more : List Bytes) × (ks ≡ ls ++ more) × Labels m more n)
+        ⊎ ((more : List Bytes) × (ls ≡ ks ++ more) × Labels n more m)
         → ((more : List Bytes) × (j ∷ ks ≡ l ∷ ls ++ more) × Labels m more n)
         ⊎ ((more : List Bytes) × (l ∷ ls ≡ j ∷ ks ++ more) × Labels n more m)
     go first (inl (more, a, b)) = inl (more, cc, b)
@@ -86,21 +82,10 @@ labels_meet ts m n (l ∷ ls) (j ∷ ks) h k =
 -- The number of tokens is that of the labels, twice, and of the rest.
 pub labels_length : (ts : TokenList) (ls rest : TokenList) → Labels ts ls rest → length ts ≡ 2 * length ls + length rest
 labels_length ts [] rest h = omega (arith, ap length h)
-labels_length ts (l ∷ ls) rest h =
-    let r = labels_length h.0 ls rest h.3 in omega (arith, ap length h.1, r)
+labels_length ts (l ∷ ls) rest h = let r = labels_length h.0 ls rest h.3 in omega (arith, ap length h.1, r)
 
 module _ {Syntax Stmt : Type 0} (grammar : Grammar Syntax Stmt) where
-  -- A prefix of tokens that begin a statement begins it too.
-  begins_prefix : (front more : TokenList) (t : Bytes)
-      → BeginsStatement grammar (front ++ t ∷ more)
-      → BeginsStatement grammar (front ++ t ∷ [])
-  begins_prefix front more t b = (
-    more ++ b.0,
-    b.1,
-    subst (λ (ts : TokenList). grammar.says ts b.1)
-        (append_assoc front (t ∷ more) b.0 ∙ sym (append_assoc front (t ∷ []) (more ++ b.0))) b.2,
-  )
-
+  -- A prefix of tokens that begin a statement on a location that fits the table begins it too.
   fitting_prefix : (names : NameTable) (front more : TokenList) (t : Bytes)
       → BeginsFitting grammar names (front ++ t ∷ more)
       → BeginsFitting grammar names (front ++ t ∷ [])
@@ -194,7 +179,8 @@ module _ {Syntax Stmt : Type 0} (grammar : Grammar Syntax Stmt) where
         → IsFront ks mid after
         → 2 * length labels < index_of ks mid
         → ⊥
-    label_past labels rest more t c says is bad ks mid after f less = go (labels_meet ts rest (mid ++ after) labels ks says f.says)
+    label_past labels rest more t c says is bad ks mid after f less =
+        go (labels_meet ts rest (mid ++ after) labels ks says f.says)
       where
         at_end : length labels ≡ length ks → rest ≡ mid ++ after → ⊥
         at_end long same = elim f.phase [
@@ -261,8 +247,8 @@ module _ {Syntax Stmt : Type 0} (grammar : Grammar Syntax Stmt) where
         → index_of labels mid < index_of ks far
         → ⊥
     stuck_past labels mid rest c g (inl (none, t, more, is, bad)) ks far after f less =
-        label_past labels rest more t c (subst (λ (us : TokenList). Labels ts labels (us ++ rest)) none g.says) is bad ks far after f
-        (omega (arith, less, ap length none))
+        label_past labels rest more t c (subst (λ (us : TokenList). Labels ts labels (us ++ rest)) none g.says) is bad ks far
+        after f (omega (arith, less, ap length none))
     stuck_past labels mid rest c g (inr (stops, inl (t, back, is, bad))) ks far after f less =
         token_past labels mid rest back t c g.says stops is bad ks far after f less
     stuck_past labels mid rest c g (inr (stops, inr (is, some, e, none))) ks far after f less = omega (
@@ -334,8 +320,10 @@ module _ {Syntax Stmt : Type 0} (grammar : Grammar Syntax Stmt) where
         let e : t ∷ back ≡ u ∷ others = sym is ∙ be in
         let same : u ≡ t = cc in
         tokens_one mid t c d bad (subst (λ (w : Bytes). IsBadToken mid w d) same worse)
-    rests_one mid rest c d (inl (t, back, is, bad)) (inr (none, some, e, never)) = absurd (let no : t ∷ back ≡ [] = sym is ∙ none in cc)
-    rests_one mid rest c d (inr (none, some, e, never)) (inl (t, back, is, bad)) = absurd (let no : t ∷ back ≡ [] = sym is ∙ none in cc)
+    rests_one mid rest c d (inl (t, back, is, bad)) (inr (none, some, e, never)) =
+        absurd (let no : t ∷ back ≡ [] = sym is ∙ none in cc)
+    rests_one mid rest c d (inr (none, some, e, never)) (inl (t, back, is, bad)) =
+        absurd (let no : t ∷ back ≡ [] = sym is ∙ none in cc)
     rests_one mid rest c d (inr (none, some, e, never)) (inr (nothing, other, f, always)) = e ∙ sym f
 
     bad_labels_one : (labels : List Bytes) (t : Bytes) (c d : CellCause)
@@ -363,8 +351,7 @@ module _ {Syntax Stmt : Type 0} (grammar : Grammar Syntax Stmt) where
         let e : t ∷ codes ":" ∷ more ≡ u ∷ codes ":" ∷ others = sym is ∙ one.1 ∙ be in
         let token : u ≡ t = cc in
         bad_labels_one labels t c d named bad
-        (subst (λ (w : Bytes). IsBadLabel labels w d) token
-        (subst (λ (ls : List Bytes). IsBadLabel ls u d) (sym one.0) worse))
+        (subst (λ (w : Bytes). IsBadLabel labels w d) token (subst (λ (ls : List Bytes). IsBadLabel ls u d) (sym one.0) worse))
     stuck_one labels ks mid far rest after c d named g f (inl (none, t, more, is, bad)) (inr (stops, worse)) same =
         let here = subst (λ (us : TokenList). Labels ts labels (us ++ rest)) none g.says in
         absurd (phases_apart labels rest more t here is ks far after f.says stops (omega (arith, same, ap length none)))
@@ -375,7 +362,8 @@ module _ {Syntax Stmt : Type 0} (grammar : Grammar Syntax Stmt) where
         let one = Labels-unique ts (mid ++ rest) (far ++ after) labels ks g.says f.says stops halts in
         let two = same_front mid far rest after one.1 (omega (arith, same, ap length one.0)) in
         rests_one mid rest c d bad
-        (subst (λ (us : TokenList). IsBadRest mid us d) (sym two.1) (subst (λ (us : TokenList). IsBadRest us after d) (sym two.0) worse))
+        (subst (λ (us : TokenList). IsBadRest mid us d) (sym two.1)
+        (subst (λ (us : TokenList). IsBadRest us after d) (sym two.0) worse))
 
     -- ---- a cell with a fault has no content that fits
 
@@ -389,8 +377,7 @@ module _ {Syntax Stmt : Type 0} (grammar : Grammar Syntax Stmt) where
         → MaybeStatement grammar far o
         → ⊥
     stuck_whole lawful labels mid rest c g (inl (none, t, more, is, bad)) ks far o f says =
-        stuck_past labels mid rest c g (inl (none, t, more, is, bad)) ks far [] f
-        (omega (
+        stuck_past labels mid rest c g (inl (none, t, more, is, bad)) ks far [] f (omega (
           arith,
           labels_length ts labels (mid ++ rest) g.says,
           length-append mid rest,
@@ -399,8 +386,7 @@ module _ {Syntax Stmt : Type 0} (grammar : Grammar Syntax Stmt) where
           length-append far [],
         ))
     stuck_whole lawful labels mid rest c g (inr (stops, inl (t, back, is, bad))) ks far o f says =
-        stuck_past labels mid rest c g (inr (stops, inl (t, back, is, bad))) ks far [] f
-        (omega (
+        stuck_past labels mid rest c g (inr (stops, inl (t, back, is, bad))) ks far [] f (omega (
           arith,
           labels_length ts labels (mid ++ rest) g.says,
           length-append mid rest,
@@ -413,8 +399,7 @@ module _ {Syntax Stmt : Type 0} (grammar : Grammar Syntax Stmt) where
         let one =
         Labels-unique ts (mid ++ rest) (far ++ []) labels ks g.says f.says stops
         (λ at. halts (subst BeginsWithLabel (append-nil far) at)) in
-        let same : mid ≡ far =
-        sym (append-nil mid) ∙ ap (λ (us : TokenList). mid ++ us) (sym is) ∙ one.1 ∙ append-nil far in
+        let same : mid ≡ far = sym (append-nil mid) ∙ ap (λ (us : TokenList). mid ++ us) (sym is) ∙ one.1 ∙ append-nil far in
         go o (subst (λ (us : TokenList). MaybeStatement grammar us o) (sym same) says)
       where
         go : (p : Option Syntax) → MaybeStatement grammar mid p → ⊥

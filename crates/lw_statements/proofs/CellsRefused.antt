@@ -90,8 +90,8 @@ module _ {Syntax Stmt : Type 0} (grammar : Grammar Syntax Stmt) where
             });
         cause =
             labels_told grammar front rest cell drafted.read.syntax drafted.read.says drafted.few before mid drafted.read.names
-            drafted.room f.at f.cause drafted.once column.labels
-            (drafted_knows grammar draft_of front before mid column drafted) r.cause;
+            drafted.room f.at f.cause drafted.once column.labels (drafted_knows grammar draft_of front before mid column drafted)
+            r.cause;
         place = λ len within. r.place len (all_amid (EndsBefore len) front rest cell within).0;
       }
 

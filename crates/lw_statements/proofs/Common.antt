@@ -7,7 +7,9 @@ pub use Rattle.std.proofs.Common.{length, length-append, length-take, ltb, ltb-f
 pub use Rattle.std.proofs.Common.{nat_cmp, not, option_map, refl, replicate, rules, slice_get, slice_index_or}
 pub use Rattle.std.proofs.Common.{subst, suc, sym, take, take-append-drop, take_all, true, true≢false, zero}
 pub use Rattle.std.proofs.Common.{ℕ, ◌*◌, ◌++◌, ◌+◌, ◌-◌, ◌<◌, ◌||◌, ◌↔◌, ◌∙◌, ◌∷◌, ◌≡◌, ◌≤◌, ◌⊎◌}
-pub use Rattle.std.proofs.lemmas.Bool.{agree_below_at, and_parts, cases_Bool, false_from_ne_true, or_right}
+pub use Rattle.std.proofs.Math.Nat.{ℕ_set}
+pub use Rattle.std.proofs.lemmas.Bool.{agree_below_at, and_parts, cases_Bool, eqb-false, false_from_ne_true}
+pub use Rattle.std.proofs.lemmas.Bool.{not-false, or_right}
 pub use Rattle.std.proofs.lemmas.Grind.{flat_map-append}
 pub use Rattle.std.proofs.lemmas.List.{drop-map, length-map, map-append, take-map}
 pub use Rattle.std.proofs.lemmas.List.Elements.{All-contains, All-from_recursion, All-more, All-weaker}
@@ -19,6 +21,7 @@ pub use Rattle.std.proofs.lemmas.Option.{get_or_from_slice_get, none-some, same_
 pub use Rattle.std.proofs.lemmas.Option.{slice_get_read, slice_get_within}
 pub use Rattle.std.proofs.lemmas.Result.{MatchResult-at_err, MatchResult-at_ok, MatchResult-weaker}
 pub use Rattle.std.proofs.lemmas.Slice.Eq.{bytes_eq-Decides}
+pub use Rattle.std.proofs.lemmas.Str.Ascii.{lowercase_is}
 pub use Rattle.std.specs.Char.{is_ascii_digit, to_ascii_lowercase}
 pub use Rattle.std.specs.Cmp.{unsigned_Decides}
 pub use Rattle.std.specs.Cmp.Lexicographic.{pointwise_decides}
@@ -29,9 +32,9 @@ pub use Rattle.std.specs.Ordering.{ord_max}
 pub use Rattle.lw_base.proofs.Common.{Bytes, CellGrid, Cells, IsDuplicateFree, IsLocationName, IsNameTable}
 pub use Rattle.lw_base.proofs.Common.{IsRegisterIndex, IsRegisterName, IsWellFormedHead, IsWordNumber}
 pub use Rattle.lw_base.proofs.Common.{NameTable, TestHead, TokenList, contains_name, first_byte_is, head_of}
-pub use Rattle.lw_base.proofs.Common.{insert_name, insert_names, is_numbered_register, is_reserved, keywords}
-pub use Rattle.lw_base.proofs.Common.{lowercase_if_x86, most_locations, position_of_name, register_name}
-pub use Rattle.lw_base.proofs.Common.{set_location_names, x86_registers}
+pub use Rattle.lw_base.proofs.Common.{insert_name, insert_names, is_name_byte, is_numbered_register}
+pub use Rattle.lw_base.proofs.Common.{is_reserved, keywords, lowercase_if_x86, most_locations}
+pub use Rattle.lw_base.proofs.Common.{position_of_name, register_name, set_location_names, x86_registers}
 pub use Rattle.lw_base.proofs.api.Elements.{All-append_inv, all_append}
 pub use Rattle.lw_base.proofs.api.GrowingTables.{contains_name-insert_name, contains_name-insert_names}
 pub use Rattle.lw_base.proofs.api.GrowingTables.{insert_names-append, insert_names-longer, once-along}
@@ -53,29 +56,36 @@ pub use Rattle.lw_base.specs.declared.operand.Operand.{Operand}
 pub use Rattle.lw_litmus.proofs.Common.{IsWellFormed, IsWellFormedStatement, IsWellFormedThread, Test}
 pub use Rattle.lw_litmus.proofs.Common.{branch_target, numbers_of, registers_of, test_of}
 pub use Rattle.lw_litmus.specs.declared.operation.Operation.{Operation}
-pub use Rattle.lw_text.proofs.Common.{EndsBefore, IsNumber, PlacedCell, TestFrame, all_texts, cell_texts}
-pub use Rattle.lw_text.proofs.Common.{cells_texts, frame_of, placed_cell, placed_cells, placed_row}
-pub use Rattle.lw_text.proofs.Common.{texts_of_tokens, token_texts, with_span, with_spans}
+pub use Rattle.lw_text.proofs.Common.{EndsBefore, IsNumber, PlacedCell, PlacedToken, TestFrame, all_texts}
+pub use Rattle.lw_text.proofs.Common.{cell_texts, cells_texts, frame_of, placed_cell, placed_cells}
+pub use Rattle.lw_text.proofs.Common.{placed_row, texts_of_cells, texts_of_grid, texts_of_tokens, token_texts}
+pub use Rattle.lw_text.proofs.Common.{with_span, with_spans}
 pub use Rattle.lw_text.proofs.api.Numbers.{number-unique, number_first}
 pub use Rattle.lw_text.proofs.api.Places.{cells_placed, grid_placed, texts_placed}
 pub use Rattle.lw_text.proofs.api.Spelling.{decimal_is_number, name_by_test}
 pub use Rattle.lw_text.specs.declared.cell.Cell.{Cell}
 pub use Rattle.lw_text.specs.declared.token.Token.{Token}
-pub use Rattle.lw_statements.specs.Bindings.{BeginsWith, CanStand, IsDrafted, IsMade, IsNameAmong}
-pub use Rattle.lw_statements.specs.Bindings.{AreFront, HasNext, HasSlotAfter, IsLocationSlot, IsFirstRejected, IsLongestFront, IsNotDrafted, IsOverflowSlot, IsReach, IsRegisterSlot, IsSlotAfter, IsSpelling, all_apart}
-pub use Rattle.lw_statements.specs.Bindings.{are_clear_forms, are_disjoint_forms, bind_slot, bindings_of, draft_of, draft_on}
-pub use Rattle.lw_statements.specs.Bindings.{is_label_last, is_no_colon, is_no_location, is_operand_slot, is_register_free, is_statement, is_word_slot, names_none, names_one}
-pub use Rattle.lw_statements.specs.Bindings.{names_register, no_bindings, numbers_in, registers_in}
-pub use Rattle.lw_statements.specs.Bindings.{tokens_differ, with_target}
+pub use Rattle.lw_statements.specs.Bindings.{AreFront, BeginsWith, CanStand, HasNext, HasSlotAfter, IsDrafted}
+pub use Rattle.lw_statements.specs.Bindings.{IsFirstRejected, IsLocationSlot, IsLongestFront, IsMade}
+pub use Rattle.lw_statements.specs.Bindings.{IsNameAmong, IsNotDrafted, IsOverflowSlot, IsReach}
+pub use Rattle.lw_statements.specs.Bindings.{IsRegisterSlot, IsSlotAfter, IsSpelling, all_apart}
+pub use Rattle.lw_statements.specs.Bindings.{are_clear_forms, are_disjoint_forms, bind_slot, bindings_of}
+pub use Rattle.lw_statements.specs.Bindings.{draft_of, draft_on, is_label_last, is_no_colon, is_no_location}
+pub use Rattle.lw_statements.specs.Bindings.{is_operand_slot, is_register_free, is_statement, is_word_slot}
+pub use Rattle.lw_statements.specs.Bindings.{names_none, names_one, names_register, no_bindings, numbers_in}
+pub use Rattle.lw_statements.specs.Bindings.{registers_in, tokens_differ, with_target}
 pub use Rattle.lw_statements.specs.Cells.{CellSyntax, Column, FrameHasTest, Labels, LabelsLeadForward}
 pub use Rattle.lw_statements.specs.Cells.{MaybeStatement, ParsesCell, code_in, labels_of, location_index}
 pub use Rattle.lw_statements.specs.Cells.{names_in, names_of, resolve_test, resolved_statement}
 pub use Rattle.lw_statements.specs.Cells.{resolved_target, statements, target_in}
-pub use Rattle.lw_statements.specs.Faults.{AreRead, BeginsFitting, BeginsWithColon, BeginsWithLabel, CellCauseIsTrue}
-pub use Rattle.lw_statements.specs.Faults.{CellPosition, EndsEarly, IsBackward, IsBegun, IsJumpLabel, IsMeantAsRegister}
-pub use Rattle.lw_statements.specs.Faults.{IsMisfit, IsMisfitCause, IsMissing, IsNinth, IsNoLabel, IsReadTo, IsSecondLabel}
-pub use Rattle.lw_statements.specs.Faults.{IsSurplus, IsUnknownRegister, IsWrong, TokenPosition, table_after, table_of}
-pub use Rattle.lw_statements.specs.Grammars.{BeginsStatement, CanBegin, Grammar, IsBeforeRegister, IsGrammar, IsLocationAfter}
+pub use Rattle.lw_statements.specs.Faults.{AreRead, BeginsFitting, BeginsWithColon, BeginsWithLabel}
+pub use Rattle.lw_statements.specs.Faults.{CellCauseIsTrue, CellFaultIsTrue, CellPosition, EndsEarly}
+pub use Rattle.lw_statements.specs.Faults.{IsBackward, IsBegun, IsJumpLabel, IsMeantAsRegister, IsMisfit}
+pub use Rattle.lw_statements.specs.Faults.{IsMisfitCause, IsMissing, IsNinth, IsReadTo, IsSecondLabel}
+pub use Rattle.lw_statements.specs.Faults.{IsSurplus, IsUnknownRegister, IsWrong, TokenPosition, all_syntaxes}
+pub use Rattle.lw_statements.specs.Faults.{table_after}
+pub use Rattle.lw_statements.specs.Grammars.{BeginsStatement, CanBegin, Grammar, IsBeforeRegister, IsGrammar}
+pub use Rattle.lw_statements.specs.Grammars.{IsLocationAfter}
 pub use Rattle.lw_statements.specs.Operands.{IsOperand}
 pub use Rattle.lw_statements.specs.Spellings.{Filling, Fills, Gives, ParsesStatement, SlotValue, Spelling}
 pub use Rattle.lw_statements.specs.Spellings.{grammar_of, label_in, name_in}
@@ -90,13 +100,14 @@ pub use Rattle.lw_statements.specs.declared.slot.Slot.TheVariants.{Value}
 pub use Rattle.lw_statements.specs.declared.statement_parser.SlotBindings.{SlotBindings}
 pub use Rattle.lw_statements.specs.inner.Drafts.{ColumnDrafted, IsFresh, LabelMap, MapsLabelsAs, ReadOn}
 pub use Rattle.lw_statements.specs.inner.Drafts.{draft_cell, draft_in, label_target, target_by}
-pub use Rattle.lw_statements.specs.inner.Reading.{AllForward, BeginsAt, ColumnFaultIsTrue}
-pub use Rattle.lw_statements.specs.inner.Reading.{ColumnFits, ColumnRead, ColumnRefused, ColumnsRead}
-pub use Rattle.lw_statements.specs.inner.Reading.{ColumnsRefused, Fits, FitsBelow, HasDuplicateLabelAt}
-pub use Rattle.lw_statements.specs.inner.Reading.{EndsEarlyIn, HasExactlyLabels, HasMisfitIn, HasNoLabelAt, HasOverflowIn, IsAtLabel, IsCellResolved}
-pub use Rattle.lw_statements.specs.inner.Reading.{IsResolvable, IsResolved, IsUnresolved, JumpCause}
-pub use Rattle.lw_statements.specs.inner.Reading.{LabelsFit, LabelsRead, LabelsRefused, LabelsTaken}
-pub use Rattle.lw_statements.specs.inner.Reading.{LedForward, MaybeRead, MaybeRefused}
-pub use Rattle.lw_statements.specs.inner.Reading.{OptionalStatementFaultIsTrue, StatementFaultIsTrue, StatementRead, WrongIn}
-pub use Rattle.lw_statements.specs.inner.Reading.{StatementRefused, bare, named_by}
-pub use Rattle.lw_statements.specs.inner.Tokens.{AllEndBefore, FaultClaim, IsOverflowName, NameRead, Refused}
+pub use Rattle.lw_statements.specs.inner.Reading.{AllForward, BeginsAt, ColumnFaultIsTrue, ColumnFits}
+pub use Rattle.lw_statements.specs.inner.Reading.{ColumnRead, ColumnRefused, ColumnsRead, ColumnsRefused}
+pub use Rattle.lw_statements.specs.inner.Reading.{EndsEarlyIn, Fits, FitsBelow, HasDuplicateLabelAt}
+pub use Rattle.lw_statements.specs.inner.Reading.{HasExactlyLabels, HasMisfitIn, HasNoLabelAt, HasOverflowIn}
+pub use Rattle.lw_statements.specs.inner.Reading.{IsAtLabel, IsCellResolved, IsResolvable, IsResolved}
+pub use Rattle.lw_statements.specs.inner.Reading.{IsUnresolved, JumpCause, LabelsFit, LabelsRead}
+pub use Rattle.lw_statements.specs.inner.Reading.{LabelsRefused, LabelsTaken, LedForward, MaybeRead}
+pub use Rattle.lw_statements.specs.inner.Reading.{MaybeRefused, OptionalStatementFaultIsTrue}
+pub use Rattle.lw_statements.specs.inner.Reading.{StatementFaultIsTrue, StatementRead, StatementRefused}
+pub use Rattle.lw_statements.specs.inner.Reading.{WrongIn, bare, named_by}
+pub use Rattle.lw_statements.specs.inner.Tokens.{AllEndBefore, FaultClaim, NameRead, Refused}

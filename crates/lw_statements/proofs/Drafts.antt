@@ -2,13 +2,14 @@
 use Rattle.lw_statements.proofs.Common.{◌≡◌, ℕ, ◌≤◌, ◌+◌, ◌*◌, Option, Some, None, ◌⊎◌, inl, inr, List, []}
 use Rattle.lw_statements.proofs.Common.{◌∷◌, ◌++◌, length, drop, sym, ap, ◌∙◌, arith, refl, is_some}
 use Rattle.lw_statements.proofs.Common.{slice_get, option_map, append-nil, option_len, ForSome, map-append}
-use Rattle.lw_statements.proofs.Common.{most_locations, CellCause, TooMany, CellFault, insert_names, NameTable, TokenList}
-use Rattle.lw_statements.proofs.Common.{Cell, Token, token_texts, cell_texts, cells_texts, DraftColumn}
-use Rattle.lw_statements.proofs.Common.{DraftCell, Phrase, Grammar, CanBegin, CellSyntax, ParsesCell}
-use Rattle.lw_statements.proofs.Common.{statements, labels_of, names_in, draft_in, draft_cell, IsFresh}
-use Rattle.lw_statements.proofs.Common.{ColumnDrafted, Fits, FitsBelow, OptionalStatementFaultIsTrue}
-use Rattle.lw_statements.proofs.Common.{HasExactlyLabels, LabelsTaken, StatementRead, MaybeRead, bare}
-use Rattle.lw_statements.proofs.Common.{StatementRefused, MaybeRefused, HasMisfitIn, EndsEarlyIn, WrongIn, Form}
+use Rattle.lw_statements.proofs.Common.{most_locations, CellCause, TooMany, CellFault, insert_names}
+use Rattle.lw_statements.proofs.Common.{NameTable, TokenList, Cell, Token, token_texts, cell_texts}
+use Rattle.lw_statements.proofs.Common.{cells_texts, DraftColumn, DraftCell, Phrase, Grammar, CanBegin}
+use Rattle.lw_statements.proofs.Common.{CellSyntax, ParsesCell, statements, labels_of, names_in, draft_in}
+use Rattle.lw_statements.proofs.Common.{draft_cell, IsFresh, ColumnDrafted, Fits, FitsBelow}
+use Rattle.lw_statements.proofs.Common.{OptionalStatementFaultIsTrue, HasExactlyLabels, LabelsTaken}
+use Rattle.lw_statements.proofs.Common.{StatementRead, MaybeRead, bare, StatementRefused, MaybeRefused}
+use Rattle.lw_statements.proofs.Common.{HasMisfitIn, EndsEarlyIn, WrongIn, Form}
 use Rattle.lw_statements.proofs.Causes.{further, many_tells, wrong_tells}
 use Rattle.lw_statements.proofs.Elements.{all_at}
 use Rattle.lw_statements.proofs.FrontLabels.{get_text, Labels-whole}

@@ -1,24 +1,24 @@
 -- The position of a cell's fault among the columns.
-use Rattle.lw_statements.proofs.Common.{◌≡◌, ℕ, suc, ◌+◌, ◌≤◌, inl, inr, ◌⊎◌, Some, List, [], ◌∷◌, ◌++◌, length}
-use Rattle.lw_statements.proofs.Common.{take, drop, refl, sym, ap, ◌∙◌, subst, arith, slice_get, Contains}
-use Rattle.lw_statements.proofs.Common.{codes, append_assoc, take-append-drop, AllZip, map-append, drop-map}
-use Rattle.lw_statements.proofs.Common.{CellCause, Form, LabelMissing, LabelTwice, Backward, TooMany, Memory}
-use Rattle.lw_statements.proofs.Common.{IsDuplicateFree, most_locations, insert_names, Bytes, NameTable}
-use Rattle.lw_statements.proofs.Common.{TokenList, insert_names-append, cut_at, drop_at, Cell, Token}
-use Rattle.lw_statements.proofs.Common.{token_texts, texts_of_tokens, PlacedCell, with_span, with_spans}
-use Rattle.lw_statements.proofs.Common.{placed_cell, placed_row, cells_texts, texts_placed, cells_placed}
-use Rattle.lw_statements.proofs.Common.{Grammar, CellSyntax, Column, ParsesCell, Labels, statements, labels_of}
-use Rattle.lw_statements.proofs.Common.{names_in, names_of, CellPosition, TokenPosition, IsReadTo, IsMissing}
-use Rattle.lw_statements.proofs.Common.{IsSecondLabel, IsBackward, IsSurplus, IsNinth, IsWrong, IsMisfit}
-use Rattle.lw_statements.proofs.Common.{EndsEarly, CellCauseIsTrue, BeginsWithColon, BeginsWithLabel}
-use Rattle.lw_statements.proofs.Common.{BeginsFitting, table_after, LabelMap, HasExactlyLabels, LabelsTaken}
-use Rattle.lw_statements.proofs.Common.{IsAtLabel, HasDuplicateLabelAt, HasNoLabelAt, HasMisfitIn, EndsEarlyIn}
-use Rattle.lw_statements.proofs.Common.{BeginsAt, HasOverflowIn, OptionalStatementFaultIsTrue}
-use Rattle.lw_statements.proofs.Common.{ColumnFaultIsTrue, FaultClaim}
+use Rattle.lw_statements.proofs.Common.{◌≡◌, ℕ, suc, ◌+◌, ◌≤◌, inl, inr, ◌⊎◌, Some, List, [], ◌∷◌, ◌++◌}
+use Rattle.lw_statements.proofs.Common.{length, take, drop, refl, sym, ap, ◌∙◌, subst, arith, slice_get}
+use Rattle.lw_statements.proofs.Common.{Contains, codes, append_assoc, take-append-drop, AllZip, map-append}
+use Rattle.lw_statements.proofs.Common.{drop-map, CellCause, Form, LabelMissing, LabelTwice, Backward}
+use Rattle.lw_statements.proofs.Common.{TooMany, Memory, IsDuplicateFree, most_locations, insert_names, Bytes}
+use Rattle.lw_statements.proofs.Common.{NameTable, TokenList, insert_names-append, cut_at, drop_at, Cell}
+use Rattle.lw_statements.proofs.Common.{Token, token_texts, texts_of_tokens, PlacedCell, with_span}
+use Rattle.lw_statements.proofs.Common.{with_spans, placed_cell, placed_row, cells_texts, texts_placed}
+use Rattle.lw_statements.proofs.Common.{cells_placed, Grammar, CellSyntax, Column, ParsesCell, Labels}
+use Rattle.lw_statements.proofs.Common.{statements, labels_of, names_in, names_of, CellPosition}
+use Rattle.lw_statements.proofs.Common.{TokenPosition, IsReadTo, IsMissing, IsSecondLabel, IsBackward}
+use Rattle.lw_statements.proofs.Common.{IsSurplus, IsNinth, IsWrong, IsMisfit, EndsEarly, CellCauseIsTrue}
+use Rattle.lw_statements.proofs.Common.{BeginsWithColon, BeginsWithLabel, BeginsFitting, table_after}
+use Rattle.lw_statements.proofs.Common.{LabelMap, HasExactlyLabels, LabelsTaken, IsAtLabel}
+use Rattle.lw_statements.proofs.Common.{HasDuplicateLabelAt, HasNoLabelAt, HasMisfitIn, EndsEarlyIn, BeginsAt}
+use Rattle.lw_statements.proofs.Common.{HasOverflowIn, OptionalStatementFaultIsTrue, ColumnFaultIsTrue}
+use Rattle.lw_statements.proofs.Common.{FaultClaim, texts_of_grid}
 use Rattle.lw_statements.proofs.Causes.{further}
 use Rattle.lw_statements.proofs.FrontLabels.{Labels-rest, Labels-whole}
 use Rattle.lw_base.specs.declared.fault.CellCause.TheVariants.{Register}
-use Rattle.lw_text.specs.PlacedCells.{texts_of_grid}
 
 -- If a `:` follows the first token, the tokens start with a label.
 at_label : (tail front back : List Token) (t : Token)
@@ -29,7 +29,8 @@ at_label : (tail front back : List Token) (t : Token)
 at_label tail [] back t e none colon = rw e colon
 at_label tail (u ∷ front) back t e none colon = absurd cc
 
-module _ {Syntax Stmt : Type 0} (grammar : Grammar Syntax Stmt) (names : NameTable) (columns : List (List PlacedCell)) (at : ℕ) where
+module _ {Syntax Stmt : Type 0} (grammar : Grammar Syntax Stmt) (names : NameTable) (columns : List (List PlacedCell))
+    (at : ℕ) where
   -- A token fits none of the statements, for this cause, or a cell ends too early.
   abbrev IsWrongAt : CellCause → Type 0
   IsWrongAt cause =
@@ -60,7 +61,8 @@ module _ {Syntax Stmt : Type 0} (grammar : Grammar Syntax Stmt) (names : NameTab
   tells_by Memory t = tt
 
 -- The position of a cell in its thread between the others.
-abbrev pub cell_standing : {A : Type 0} (others behind : List (List PlacedCell)) (cells above below : List (Cell A)) (cell : Cell A)
+abbrev pub cell_standing : {A : Type 0} (others behind : List (List PlacedCell)) (cells above below : List (Cell A))
+    (cell : Cell A)
     → cells ≡ above ++ cell ∷ below
     → CellPosition (others ++ placed_row cells ∷ behind)
 cell_standing others behind cells above below cell whole = record {
@@ -117,13 +119,8 @@ module _ {Syntax Stmt A : Type 0} (grammar : Grammar Syntax Stmt) (front rest : 
       threads = threads;
       syntaxes = syntaxes;
       labels = labels;
-      read = record {
-        before_says = others_say;
-        says = rw (cells_placed front) says;
-        few = few;
-        once = once;
-        room = rw same room;
-      };
+      read =
+          record { before_says = others_say; says = rw (cells_placed front) says; few = few; once = once; room = rw same room };
       in_front = in_front;
     }
 
@@ -140,11 +137,10 @@ module _ {Syntax Stmt A : Type 0} (grammar : Grammar Syntax Stmt) (front rest : 
             standing others behind (front ++ cell ∷ rest) front rest cell refl at (take c.place cell.tokens)
             (drop (suc c.place) cell.tokens) c.token (cut_at _ _ _ c.is) c.begins
 
-        read : (c : IsAtLabel cell.tokens labels at)
-            → IsReadTo grammar names (place c).place (texts_of_tokens (place c).front) []
+        read : (c : IsAtLabel cell.tokens labels at) → IsReadTo grammar names (place c).place (texts_of_tokens (place c).front) []
         read c =
-            reads names others behind threads others_say grown c.names (texts_of_tokens (with_spans (take c.place cell.tokens))) []
-            (rw (texts_placed (take c.place cell.tokens)) c.says) (c.once (labels_of syntaxes) knows once)
+            reads names others behind threads others_say grown c.names (texts_of_tokens (with_spans (take c.place cell.tokens)))
+            [] (rw (texts_placed (take c.place cell.tokens)) c.says) (c.once (labels_of syntaxes) knows once)
 
         colon : (c : IsAtLabel cell.tokens labels at) → BeginsWithColon (texts_of_tokens (place c).back)
         colon c =
@@ -155,7 +151,9 @@ module _ {Syntax Stmt A : Type 0} (grammar : Grammar Syntax Stmt) (front rest : 
             ∙ drop_at (token_texts cell.tokens) (suc c.place) (codes ":")
             (ap (slice_get (token_texts cell.tokens)) (sym one) ∙ c.colon))
 
-        wrong : (e : CellCause) → HasNoLabelAt cell.tokens labels at e → IsWrongAt grammar names (others ++ placed_row (front ++ cell ∷ rest) ∷ behind) at e
+        wrong : (e : CellCause)
+            → HasNoLabelAt cell.tokens labels at e
+            → IsWrongAt grammar names (others ++ placed_row (front ++ cell ∷ rest) ∷ behind) at e
         wrong e (c, none, meant) = inl (place c, inl (record { read = read c; colon = colon c; none = none }, meant))
 
         second : HasDuplicateLabelAt cell.tokens labels at
@@ -182,7 +180,8 @@ module _ {Syntax Stmt A : Type 0} (grammar : Grammar Syntax Stmt) (front rest : 
             (take next cell.tokens ++ take k (drop next cell.tokens)) (drop (suc k) (drop next cell.tokens)) t
             (sym (take-append-drop next cell.tokens)
             ∙ ap (λ ts. take next cell.tokens ++ ts) (cut_at (drop next cell.tokens) k t is)
-            ∙ sym (append_assoc (take next cell.tokens) (take k (drop next cell.tokens)) (t ∷ drop (suc k) (drop next cell.tokens)))) begins
+            ∙ sym (append_assoc (take next cell.tokens) (take k (drop next cell.tokens))
+            (t ∷ drop (suc k) (drop next cell.tokens)))) begins
 
         in_front : (k : ℕ)
             → Labels (texts_of_tokens (with_spans (take next cell.tokens ++ take k (drop next cell.tokens)))) taken.read.names
@@ -205,14 +204,15 @@ module _ {Syntax Stmt A : Type 0} (grammar : Grammar Syntax Stmt) (front rest : 
 
         no_label : (k : ℕ) (t : Token)
             → slice_get (drop next cell.tokens) k ≡ Some t
-            → BeginsWithLabel (token_texts (take k (drop next cell.tokens))
-            ++ t.text.now ∷ texts_of_tokens (with_spans (drop (suc k) (drop next cell.tokens))))
+            → BeginsWithLabel (token_texts (take k (drop next cell.tokens)) ++ t.text.now
+            ∷ texts_of_tokens (with_spans (drop (suc k) (drop next cell.tokens))))
             → ⊥
         no_label k t is label =
             taken.stops (subst BeginsWithLabel
             (ap (λ (ts : TokenList). token_texts (take k (drop next cell.tokens)) ++ t.text.now ∷ ts)
             (texts_placed (drop (suc k) (drop next cell.tokens)))
-            ∙ sym (map-append (λ (u : Token). u.text.now) (take k (drop next cell.tokens)) (t ∷ drop (suc k) (drop next cell.tokens)))
+            ∙ sym (map-append (λ (u : Token). u.text.now) (take k (drop next cell.tokens))
+            (t ∷ drop (suc k) (drop next cell.tokens)))
             ∙ ap token_texts (sym (cut_at (drop next cell.tokens) k t is))) label)
 
         read : (k : ℕ) (t : Token) (is : slice_get (drop next cell.tokens) k ≡ Some t) (begins : t.at ≡ at)
@@ -223,14 +223,14 @@ module _ {Syntax Stmt A : Type 0} (grammar : Grammar Syntax Stmt) (front rest : 
             (in_front k) once_there
 
         nothing : (k : ℕ) → (token_texts (take k (drop next cell.tokens)) ≡ [] → ⊥) → k ≡ 0 → ⊥
-        nothing k some zero = some (ap (λ (n : ℕ). token_texts (take n (drop next cell.tokens))) zero)
+        nothing k some first = some (ap (λ (n : ℕ). token_texts (take n (drop next cell.tokens))) first)
 
         free : (k : ℕ)
             → (token_texts (take k (drop next cell.tokens)) ≡ [] → ⊥)
             → (k ≡ 0) ⊎ (length (statements syntaxes) ≡ grammar.language.most → ⊥)
             → length (statements syntaxes) ≡ grammar.language.most
             → ⊥
-        free k some (inl zero) = absurd (nothing k some zero)
+        free k some (inl first) = absurd (nothing k some first)
         free k some (inr room) = room
 
         begins_there : (ts : TokenList)
@@ -246,10 +246,7 @@ module _ {Syntax Stmt A : Type 0} (grammar : Grammar Syntax Stmt) (front rest : 
           mid = token_texts (take m.place (drop next cell.tokens));
           read = read m.place m.token m.is m.begins;
           no_label = no_label m.place m.token m.is;
-          begun = λ some. record {
-            few = free m.place some at_first;
-            begins = begins_there _ (m.begun (nothing m.place some));
-          };
+          begun = λ some. record { few = free m.place some at_first; begins = begins_there _ (m.begun (nothing m.place some)) };
           none = m.none;
         }
 
@@ -279,8 +276,7 @@ module _ {Syntax Stmt A : Type 0} (grammar : Grammar Syntax Stmt) (front rest : 
           },
         )
 
-        one_more :
-            ((length (statements syntaxes) ≡ grammar.language.most) × BeginsAt grammar (drop next cell.tokens) at)
+        one_more : ((length (statements syntaxes) ≡ grammar.language.most) × BeginsAt grammar (drop next cell.tokens) at)
             ⊎ ((length (statements syntaxes) ≡ grammar.language.most → ⊥) × HasOverflowIn grammar (drop next cell.tokens) mid at)
             → (p : TokenPosition (others ++ placed_row (front ++ cell ∷ rest) ∷ behind) at)
             × (IsSurplus grammar names p ⊎ IsNinth grammar names p)

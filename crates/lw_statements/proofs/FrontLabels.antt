@@ -8,8 +8,9 @@ use Rattle.lw_statements.proofs.Common.{slice_get_within, take-map, drop-map, le
 use Rattle.lw_statements.proofs.Common.{list_any-append, Contains-append_right, unsigned_Decides}
 use Rattle.lw_statements.proofs.Common.{pointwise_decides, update, IsDuplicateFree, IsLocationName}
 use Rattle.lw_statements.proofs.Common.{contains_name, Bytes, TokenList, take_one, contains_name-Contains}
-use Rattle.lw_statements.proofs.Common.{once_more, Token, token_texts, Labels, LabelMap, target_by, BeginsWithLabel}
-use Rattle.lw_statements.proofs.Common.{HasExactlyLabels, IsAtLabel, LabelsRead, LabelsFit, HasDuplicateLabelAt}
+use Rattle.lw_statements.proofs.Common.{once_more, Token, token_texts, Labels, LabelMap, target_by}
+use Rattle.lw_statements.proofs.Common.{BeginsWithLabel, HasExactlyLabels, IsAtLabel, LabelsRead, LabelsFit}
+use Rattle.lw_statements.proofs.Common.{HasDuplicateLabelAt}
 
 -- ---- tokens and their texts
 

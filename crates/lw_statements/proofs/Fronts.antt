@@ -1,26 +1,25 @@
 -- How far tokens match the forms, and which slot follows those that they match.
 use Rattle.lw_statements.proofs.Common.{◌≡◌, ℕ, zero, suc, ◌<◌, ◌≤◌, ◌+◌, ◌⊎◌, inl, inr, Bool, true, false}
-use Rattle.lw_statements.proofs.Common.{Option, Some, None, List, [], ◌∷◌, ◌++◌, length, take, drop, refl, sym}
-use Rattle.lw_statements.proofs.Common.{ap, ◌∙◌, subst, arith, IsTrue, ◌↔◌, slice_get, Contains, MatchOption, get_or}
-use Rattle.lw_statements.proofs.Common.{length-take, length-append, cut_at, take-map, length-map, slice_get_within}
-use Rattle.lw_statements.proofs.Common.{insert_name, insert_names, insert_name-there, insert_name-new}
-use Rattle.lw_statements.proofs.Common.{contains_name, contains_name-Contains, cons_option, most_locations, codes}
-use Rattle.lw_statements.proofs.Common.{IsLocationName, IsNameTable, name_by_test, Bytes, NameTable, TokenList}
-use Rattle.lw_statements.proofs.Common.{AllByRecursion, Token, token_texts, Slot, Keyword, Register, Location}
-use Rattle.lw_statements.proofs.Common.{Value, Number, Label, Spelling, SlotValue, Filling, Gives, Fills}
-use Rattle.lw_statements.proofs.Common.{name_in, grammar_of, ParsesStatement, CanStand, HasNext, IsSlotAfter, IsReach}
-use Rattle.lw_statements.proofs.Common.{AreFront, IsLongestFront, IsOverflowSlot, BeginsStatement, BeginsFitting}
+use Rattle.lw_statements.proofs.Common.{Option, Some, None, List, [], ◌∷◌, ◌++◌, length, take, drop, refl}
+use Rattle.lw_statements.proofs.Common.{sym, ap, ◌∙◌, subst, arith, IsTrue, ◌↔◌, slice_get, Contains}
+use Rattle.lw_statements.proofs.Common.{MatchOption, length-take, length-append, cut_at, take-map}
+use Rattle.lw_statements.proofs.Common.{slice_get_within, insert_name, insert_names, insert_name-there}
+use Rattle.lw_statements.proofs.Common.{contains_name, contains_name-Contains, cons_option, most_locations}
+use Rattle.lw_statements.proofs.Common.{codes, IsLocationName, IsNameTable, name_by_test, Bytes, NameTable}
+use Rattle.lw_statements.proofs.Common.{TokenList, Token, token_texts, Slot, Keyword, Register, Location}
+use Rattle.lw_statements.proofs.Common.{Value, Number, Label, Spelling, Filling, Fills, name_in, grammar_of}
+use Rattle.lw_statements.proofs.Common.{ParsesStatement, CanStand, HasNext, IsSlotAfter, IsReach, AreFront}
+use Rattle.lw_statements.proofs.Common.{IsLongestFront, IsOverflowSlot, BeginsStatement, BeginsFitting}
+use Rattle.lw_statements.proofs.Common.{true≢false, slice_get-map, cases_Bool, same_Some, ltb, ltb-true}
+use Rattle.lw_statements.proofs.Common.{ltb-false, max, All, take_all, CellFault, IsMisfitCause}
+use Rattle.lw_statements.proofs.Common.{IsMeantAsRegister, IsFirstRejected, StatementFaultIsTrue, HasMisfitIn}
+use Rattle.lw_statements.proofs.Common.{CanBegin, eqb, eqb-true, append_assoc, names_one, eqb-false}
 use Rattle.lw_statements.proofs.Beginnings.{after_beginning, begins_after, filled_after, named_there, stands}
-use Rattle.lw_statements.proofs.Common.{true≢false, slice_get-map, cases_Bool, same_Some, ltb, ltb-true, ltb-false, max}
-use Rattle.lw_statements.proofs.Common.{All, take_all, CellCause, CellFault, IsMisfitCause, IsMeantAsRegister}
-use Rattle.lw_statements.proofs.Common.{IsFirstRejected, StatementFaultIsTrue, HasMisfitIn, CanBegin, eqb, eqb-true, append_assoc}
-use Rattle.lw_statements.proofs.Common.{names_one}
-use Rattle.std.proofs.lemmas.Bool.{eqb-false}
-use Rattle.lw_base.specs.declared.fault.CellCause.TheVariants as cause
 use Rattle.lw_statements.proofs.Causes.{form_tells, wrong_tells}
 use Rattle.lw_statements.proofs.Elements.{all_at, mapped_some}
-use Rattle.lw_statements.proofs.FrontLabels.{get_text, name_contained}
+use Rattle.lw_statements.proofs.FrontLabels.{get_text}
 use Rattle.lw_statements.proofs.SlotTokens.{at_most}
+use Rattle.lw_base.specs.declared.fault.CellCause.TheVariants as cause
 
 -- If there is no token at an index, all tokens are before it.
 none_past : (tokens : List Token) (k : ℕ) → slice_get tokens k ≡ None → length tokens ≤ k
@@ -37,7 +36,11 @@ module _ {W Form Stmt : Type 0} (spelling : Spelling W Form Stmt) where
   -- ---- the slot after those that accept tokens
 
   -- If there are no slots, none follows.
-  pub no_slot : (slots : List (Slot W)) (ts : TokenList) → length slots ≡ 0 → (next : Slot W) → IsSlotAfter spelling ts slots next → ⊥
+  pub no_slot : (slots : List (Slot W)) (ts : TokenList)
+      → length slots ≡ 0
+      → (next : Slot W)
+      → IsSlotAfter spelling ts slots next
+      → ⊥
   no_slot [] ts a next h = h
   no_slot (slot ∷ slots) ts a next h = absurd (omega (arith, a))
 
@@ -71,10 +74,8 @@ module _ {W Form Stmt : Type 0} (spelling : Spelling W Form Stmt) where
       → IsSlotAfter spelling ts slots slot
       → IsTrue b ↔ IsSo slot
       → IsTrue b ↔ HasNext spelling IsSo ts slots
-  next_or_not IsSo slots ts slot b after is = (
-    λ yes. (slot, after, is.0 yes),
-    λ (other, there, so). is.1 (subst IsSo (slot_unique slots ts other slot there after) so),
-  )
+  next_or_not IsSo slots ts slot b after is =
+      (λ yes. (slot, after, is.0 yes), λ (other, there, so). is.1 (subst IsSo (slot_unique slots ts other slot there after) so))
 
   -- In the form no such slot follows those that accept the tokens.
   abbrev pub HasNone : (Slot W → Type 0) → TokenList → Form → Type 0
@@ -115,7 +116,8 @@ module _ {W Form Stmt : Type 0} (spelling : Spelling W Form Stmt) where
       → IsReach spelling ts slots n
       → k < n
       → slice_get slots k ≡ Some slot
-      → IsSlotAfter spelling (take k ts) slots slot × ((t : Bytes) → slice_get ts k ≡ Some t → CanStand spelling (t ∷ []) (slot ∷ []))
+      → IsSlotAfter spelling (take k ts) slots slot
+      × ((t : Bytes) → slice_get ts k ≡ Some t → CanStand spelling (t ∷ []) (slot ∷ []))
   slot_at [] ts n k slot h less e = absurd cc
   slot_at (s ∷ slots) [] n k slot h less e = absurd (omega (arith, h, less))
   slot_at (s ∷ slots) (u ∷ ts) zero k slot h less e = absurd (omega (arith, less))
@@ -152,13 +154,11 @@ module _ {W Form Stmt : Type 0} (spelling : Spelling W Form Stmt) where
   IsFitting names o = length (insert_names names (cons_option o [])) ≤ most_locations
 
   -- A location's name that the table has or has room for.
-  fitting_name : (names : NameTable) → IsNameTable names → (x : Bytes) × IsLocationName x × (length (insert_name names x) ≤ most_locations)
+  fitting_name : (names : NameTable)
+      → IsNameTable names
+      → (x : Bytes) × IsLocationName x × (length (insert_name names x) ≤ most_locations)
   fitting_name [] table = (codes "x", (name_by_test (codes "x") refl, refl), omega arith)
-  fitting_name (n ∷ names) table = (
-    n,
-    table.all.0,
-    omega (arith, table.few, ap length (insert_name-there (n ∷ names) n 0 refl)),
-  )
+  fitting_name (n ∷ names) table = (n, table.all.0, omega (arith, table.few, ap length (insert_name-there (n ∷ names) n 0 refl)))
 
   module _ (names : NameTable) (table : IsNameTable names) where
     -- Any slots accept some tokens, on a location that fits the table.
@@ -193,7 +193,10 @@ module _ {W Form Stmt : Type 0} (spelling : Spelling W Form Stmt) where
     -- No location among the first n tokens, by their slots, is one that does not fit the table.
     abbrev pub AllFit : TokenList → List (Slot W) → ℕ → Type 0
     AllFit ts slots n =
-        (k : ℕ) (x : Bytes) → k < n → slice_get slots k ≡ Some Location → slice_get ts k ≡ Some x
+        (k : ℕ) (x : Bytes)
+        → k < n
+        → slice_get slots k ≡ Some Location
+        → slice_get ts k ≡ Some x
         → length (insert_name names x) ≤ most_locations
 
     further : (t : Bytes) (ts : TokenList) (slot : Slot W) (slots : List (Slot W)) (n : ℕ)
@@ -203,10 +206,7 @@ module _ {W Form Stmt : Type 0} (spelling : Spelling W Form Stmt) where
 
     abbrev Fitting : List (Slot W) → TokenList → ℕ → Type 0
     Fitting slots ts n =
-        (rest : TokenList)
-        × (f : Filling slots)
-        × Fills spelling (take n ts ++ rest) slots f
-        × IsFitting names (name_in slots f)
+        (rest : TokenList) × (f : Filling slots) × Fills spelling (take n ts ++ rest) slots f × IsFitting names (name_in slots f)
 
     -- Tokens that match slots so far, of which each location fits the table, begin tokens that fill the slots and fit the table.
     fitting_front : (slots : List (Slot W)) (ts : TokenList) (n : ℕ)
@@ -217,23 +217,22 @@ module _ {W Form Stmt : Type 0} (spelling : Spelling W Form Stmt) where
     fitting_front (slot ∷ slots) [] n h fit = subst (Fitting (slot ∷ slots) []) (sym h) (fitting_rest (slot ∷ slots))
     fitting_front (slot ∷ slots) (t ∷ ts) zero h fit = fitting_rest (slot ∷ slots)
     fitting_front (Location ∷ slots) (t ∷ ts) (suc n) h fit =
-        let r = fitting_front slots ts n h.1 (further t ts Location slots n fit) in
-        (r.0, (h.0.0.0, r.1), (h.0.1.0, r.2), subst (λ (x : Bytes). IsFitting names (Some x)) h.0.1.0.0 (fit 0 t (omega arith) refl refl))
+        let r = fitting_front slots ts n h.1 (further t ts Location slots n fit) in (
+          r.0,
+          (h.0.0.0, r.1),
+          (h.0.1.0, r.2),
+          subst (λ (x : Bytes). IsFitting names (Some x)) h.0.1.0.0 (fit 0 t (omega arith) refl refl),
+        )
     fitting_front (Keyword w ∷ slots) (t ∷ ts) (suc n) h fit =
-        let r = fitting_front slots ts n h.1 (further t ts (Keyword w) slots n fit) in
-        (r.0, (h.0.0.0, r.1), (h.0.1.0, r.2), r.3)
+        let r = fitting_front slots ts n h.1 (further t ts (Keyword w) slots n fit) in (r.0, (h.0.0.0, r.1), (h.0.1.0, r.2), r.3)
     fitting_front (Register ∷ slots) (t ∷ ts) (suc n) h fit =
-        let r = fitting_front slots ts n h.1 (further t ts Register slots n fit) in
-        (r.0, (h.0.0.0, r.1), (h.0.1.0, r.2), r.3)
+        let r = fitting_front slots ts n h.1 (further t ts Register slots n fit) in (r.0, (h.0.0.0, r.1), (h.0.1.0, r.2), r.3)
     fitting_front (Value ∷ slots) (t ∷ ts) (suc n) h fit =
-        let r = fitting_front slots ts n h.1 (further t ts Value slots n fit) in
-        (r.0, (h.0.0.0, r.1), (h.0.1.0, r.2), r.3)
+        let r = fitting_front slots ts n h.1 (further t ts Value slots n fit) in (r.0, (h.0.0.0, r.1), (h.0.1.0, r.2), r.3)
     fitting_front (Number ∷ slots) (t ∷ ts) (suc n) h fit =
-        let r = fitting_front slots ts n h.1 (further t ts Number slots n fit) in
-        (r.0, (h.0.0.0, r.1), (h.0.1.0, r.2), r.3)
+        let r = fitting_front slots ts n h.1 (further t ts Number slots n fit) in (r.0, (h.0.0.0, r.1), (h.0.1.0, r.2), r.3)
     fitting_front (Label ∷ slots) (t ∷ ts) (suc n) h fit =
-        let r = fitting_front slots ts n h.1 (further t ts Label slots n fit) in
-        (r.0, (h.0.0.0, r.1), (h.0.1.0, r.2), r.3)
+        let r = fitting_front slots ts n h.1 (further t ts Label slots n fit) in (r.0, (h.0.0.0, r.1), (h.0.1.0, r.2), r.3)
 
     -- So they begin a statement that fits the table.
     pub begins_fitting : (form : Form) (ts : TokenList) (n : ℕ)
@@ -257,12 +256,7 @@ module _ {W Form Stmt : Type 0} (spelling : Spelling W Form Stmt) where
         let fills : Fills spelling (ts ++ x.0 ∷ r.0) (spelling.slots_of form) r.1.0 =
         subst (λ (us : TokenList). Fills spelling us (spelling.slots_of form) r.1.0) (append_assoc ts (x.0 ∷ []) r.0) r.1.1 in
         let named = named_there spelling ts r.0 x.0 (spelling.slots_of form) r.1.0 one after fills in
-        record {
-          rest = x.0 ∷ r.0;
-          syntax = record { form = form; filling = r.1.0 };
-          says = (there, fills);
-          room = rw named x.2;
-        }
+        record { rest = x.0 ∷ r.0; syntax = record { form = form; filling = r.1.0 }; says = (there, fills); room = rw named x.2 }
 
     -- If no slot among those that the tokens match has a ninth location, each location among them fits the table.
     pub all_fit : (tokens : List Token) (slots : List (Slot W)) (n : ℕ)
@@ -274,9 +268,9 @@ module _ {W Form Stmt : Type 0} (spelling : Spelling W Form Stmt) where
         go true e = rw e table.few
         go false e =
             let there : (t : Token) × (slice_get tokens k ≡ Some t) × (x ≡ t.text.now) =
-            mapped_some (λ (t : Token). t.text.now) (slice_get tokens k) x (sym is ∙ slice_get-map (λ (t : Token). t.text.now) tokens k) in
-            let free : length names ≡ most_locations → ⊥ =
-            λ full. none k (record {
+            mapped_some (λ (t : Token). t.text.now) (slice_get tokens k) x
+            (sym is ∙ slice_get-map (λ (t : Token). t.text.now) tokens k) in
+            let free : length names ≡ most_locations → ⊥ = λ full. none k (record {
               before = less;
               slot = at;
               token = there.0;
@@ -340,7 +334,7 @@ module _ {W Form Stmt : Type 0} (spelling : Spelling W Form Stmt) where
       → IsFirstRejected spelling tokens end f
       → (m : HasMisfitIn (grammar_of spelling) tokens names f.at f.cause) × (m.place ≡ 0) × (f.at ≡ t.at)
   misfit_first tokens end names t first cannot f r =
-      let is = rw (zero r.longest.reached, ← first) at r.is in (
+      let is = rw (at_start r.longest.reached, ← first) at r.is in (
         record {
           place = 0;
           token = t;
@@ -354,14 +348,14 @@ module _ {W Form Stmt : Type 0} (spelling : Spelling W Form Stmt) where
         is.0,
       )
     where
-      zero : IsReached (token_texts tokens) r.front → r.front ≡ 0
-      zero (inl none) = none
-      zero (inr (form, there, reach)) = elim (cases_Bool (eqb r.front 0)) [
+      at_start : IsReached (token_texts tokens) r.front → r.front ≡ 0
+      at_start (inl none) = none
+      at_start (inr (form, there, reach)) = elim (cases_Bool (eqb r.front 0)) [
         | inl e ↦ eqb-true r.front 0 e
         | inr e ↦
             let s =
-            reach_first (spelling.slots_of form) (token_texts tokens) r.front t.text.now reach
-            (get_text tokens 0 t (sym first)) (eqb-false r.front 0 e) in
+            reach_first (spelling.slots_of form) (token_texts tokens) r.front t.text.now reach (get_text tokens 0 t (sym first))
+            (eqb-false r.front 0 e) in
             absurd (cannot (begins_after spelling form s.0 [] t.text.now there s.1 s.2))
       ]
 
@@ -417,39 +411,34 @@ module _ {W Form Stmt : Type 0} (spelling : Spelling W Form Stmt) where
             (f.at ≡ t.at)
             × IsMisfitCause (IsMeantAsRegister (grammar_of spelling) (token_texts (take r.front tokens)) t.text.now) f.cause)
             → StatementFaultIsTrue (grammar_of spelling) tokens end names f.at f.cause
-        go None e is =
-            subst (StatementFaultIsTrue (grammar_of spelling) tokens end names f.at) (sym is.1)
-            (form_tells (inr (
-              refl,
-              record {
-                ends = sym is.0;
-                begun = λ some.
-                    let past : length tokens ≤ r.front = none_past tokens r.front e in
-                    let whole : take r.front tokens ≡ tokens = take_all r.front tokens past in
-                    subst (λ (ts : List Token). BeginsFitting (grammar_of spelling) names (token_texts ts)) whole
-                    (begun_at r.front r.longest (λ zero.
-                    some (no_texts tokens (omega (arith, past, zero)))));
-                none = none;
-              },
-            )))
-        go (Some t) e is =
-            wrong_tells _ f.cause is.1
-            (inl (record {
-              place = r.front;
-              token = t;
-              is = e;
-              begins = sym is.0;
-              begun = begun_at r.front r.longest;
-              none = λ b.
-                  stuck (token_texts tokens) r.front t.text.now r.longest.front (get_text tokens r.front t e)
-                  (subst (λ (ts : TokenList). BeginsStatement (grammar_of spelling) (ts ++ t.text.now ∷ []))
-                  (sym (take-map (λ (u : Token). u.text.now) r.front tokens)) b);
-              meant = is.1;
-            }))
+        go None e is = subst (StatementFaultIsTrue (grammar_of spelling) tokens end names f.at) (sym is.1) (form_tells (inr (
+          refl,
+          record {
+            ends = sym is.0;
+            begun = λ some.
+                let past : length tokens ≤ r.front = none_past tokens r.front e in
+                let whole : take r.front tokens ≡ tokens = take_all r.front tokens past in
+                subst (λ (ts : List Token). BeginsFitting (grammar_of spelling) names (token_texts ts)) whole
+                (begun_at r.front r.longest (λ none_yet. some (no_texts tokens (omega (arith, past, none_yet)))));
+            none = none;
+          },
+        )))
+        go (Some t) e is = wrong_tells _ f.cause is.1 (inl (record {
+          place = r.front;
+          token = t;
+          is = e;
+          begins = sym is.0;
+          begun = begun_at r.front r.longest;
+          none = λ b.
+              stuck (token_texts tokens) r.front t.text.now r.longest.front (get_text tokens r.front t e)
+              (subst (λ (ts : TokenList). BeginsStatement (grammar_of spelling) (ts ++ t.text.now ∷ []))
+              (sym (take-map (λ (u : Token). u.text.now) r.front tokens)) b);
+          meant = is.1;
+        }))
 
 -- A slot and its token, of which it is not so that the slot is a location's and the token a ninth: then there is no such slot up to there.
-pub none_so_far : {W : Type 0} (slots : List (Slot W)) (tokens : List Token) (front : ℕ) (names : NameTable) (index : ℕ) (slot : Slot W)
-    (token : Token)
+pub none_so_far : {W : Type 0} (slots : List (Slot W)) (tokens : List Token) (front : ℕ) (names : NameTable) (index : ℕ)
+    (slot : Slot W) (token : Token)
     → slice_get slots index ≡ Some slot
     → slice_get tokens index ≡ Some token
     → ((slot ≡ Location) × (length names ≡ most_locations) × (Contains names token.text.now → ⊥) → ⊥)
@@ -463,15 +452,15 @@ none_so_far slots tokens front names index slot token at is none before k less o
   | inr e ↦
       let most = ltb-false k index e in
       let same : k ≡ index = omega (arith, less, most) in
-      let one : slot ≡ Location =
-      same_Some slot Location (sym at ∙ ap (slice_get slots) (sym same) ∙ over.slot) in
-      let two : over.token ≡ token =
-      same_Some over.token token (sym over.is ∙ ap (slice_get tokens) same ∙ is) in
+      let one : slot ≡ Location = same_Some slot Location (sym at ∙ ap (slice_get slots) (sym same) ∙ over.slot) in
+      let two : over.token ≡ token = same_Some over.token token (sym over.is ∙ ap (slice_get tokens) same ∙ is) in
       none (one, over.full, subst (λ (t : Token). Contains names t.text.now → ⊥) two over.new)
 ]
 
 -- If a fact is known, a name with that fact is a name.
-pub known_before : {IsSo IsBefore IsOther : Type 0} → IsBefore → (IsSo ⊎ IsOther → (IsSo × IsBefore) ⊎ IsOther) × ((IsSo × IsBefore) ⊎ IsOther → IsSo ⊎ IsOther)
+pub known_before : {IsSo IsBefore IsOther : Type 0}
+    → IsBefore
+    → (IsSo ⊎ IsOther → (IsSo × IsBefore) ⊎ IsOther) × ((IsSo × IsBefore) ⊎ IsOther → IsSo ⊎ IsOther)
 known_before {IsSo} {IsBefore} {IsOther} b = (there, back)
   where
     there : IsSo ⊎ IsOther → (IsSo × IsBefore) ⊎ IsOther

@@ -1,33 +1,29 @@
 -- At most one cause and place of a fault is true of the same cells, and none of cells that have a test: faults come in the order of the threads,
 -- of each thread's cells, then of its jumps, and of each cell's tokens; and what is read before the later one excludes the earlier.
-use Rattle.lw_statements.proofs.Common.{◌≡◌, ℕ, suc, ◌<◌, ◌≤◌, ◌+◌, ◌*◌, inl, inr, ◌⊎◌, Option, Some, None, List}
-use Rattle.lw_statements.proofs.Common.{[], ◌∷◌, ◌++◌, length, length-append, take, drop, refl, sym, ap, ◌∙◌}
-use Rattle.lw_statements.proofs.Common.{subst, arith, slice_get, codes, Contains, MatchOption, append_assoc}
-use Rattle.lw_statements.proofs.Common.{append-nil, AllZip, AllByRecursion, map-append, length-map, same_Some}
-use Rattle.lw_statements.proofs.Common.{flat_map-append, get-append_middle, All-from_recursion, All-contains}
-use Rattle.lw_statements.proofs.Common.{all_append, cons_option, cases_Bool, ltb, ltb-true, ltb-false}
-use Rattle.lw_statements.proofs.Common.{CellCause, LabelMissing, LabelTwice, Backward, TooMany, Memory}
-use Rattle.lw_statements.proofs.Common.{most_locations, IsDuplicateFree, IsLocationName, insert_names}
-use Rattle.lw_statements.proofs.Common.{insert_names-append, insert_names-longer, Bytes, NameTable, TokenList}
-use Rattle.lw_statements.proofs.Common.{CellGrid, Cells, PlacedCell, texts_of_tokens, Grammar, IsGrammar}
-use Rattle.lw_statements.proofs.Common.{CellSyntax, MaybeStatement, ParsesCell, Column, Labels, statements}
-use Rattle.lw_statements.proofs.Common.{labels_of, target_in, names_in, names_of, LabelsLeadForward, bare}
-use Rattle.lw_statements.proofs.Common.{CellPosition, TokenPosition, AreRead, IsReadTo, IsBegun, IsNoLabel}
-use Rattle.lw_statements.proofs.Common.{IsMisfit, IsWrong, EndsEarly, IsSecondLabel, IsSurplus, IsNinth}
-use Rattle.lw_statements.proofs.Common.{IsJumpLabel, IsMissing, IsBackward, CellCauseIsTrue, BeginsFitting}
-use Rattle.lw_statements.proofs.Common.{BeginsWithColon, BeginsWithLabel, IsMisfitCause, table_after}
-use Rattle.lw_statements.proofs.CellFaults.{IsFront, IsStuck, index_of, split_order, labels_length}
-use Rattle.lw_statements.proofs.CellFaults.{stuck_past, stuck_one, stuck_whole}
+use Rattle.lw_statements.proofs.Common.{◌≡◌, ℕ, ◌≤◌, ◌+◌, ◌*◌, inl, inr, ◌⊎◌, Option, Some, None, List, []}
+use Rattle.lw_statements.proofs.Common.{◌∷◌, ◌++◌, length, length-append, refl, sym, ap, ◌∙◌, subst, arith}
+use Rattle.lw_statements.proofs.Common.{slice_get, codes, Contains, MatchOption, append_assoc, append-nil}
+use Rattle.lw_statements.proofs.Common.{AllZip, AllByRecursion, map-append, length-map, flat_map-append}
+use Rattle.lw_statements.proofs.Common.{get-append_middle, All-from_recursion, All-contains, all_append}
+use Rattle.lw_statements.proofs.Common.{cons_option, cases_Bool, ltb, ltb-true, ltb-false, CellCause}
+use Rattle.lw_statements.proofs.Common.{LabelMissing, LabelTwice, Backward, TooMany, Memory, most_locations}
+use Rattle.lw_statements.proofs.Common.{IsDuplicateFree, IsLocationName, insert_names, insert_names-append}
+use Rattle.lw_statements.proofs.Common.{insert_names-longer, Bytes, NameTable, TokenList, CellGrid, Cells}
+use Rattle.lw_statements.proofs.Common.{PlacedCell, texts_of_tokens, Grammar, IsGrammar, CellSyntax}
+use Rattle.lw_statements.proofs.Common.{MaybeStatement, ParsesCell, Column, Labels, statements, labels_of}
+use Rattle.lw_statements.proofs.Common.{target_in, names_in, names_of, LabelsLeadForward, bare, CellPosition}
+use Rattle.lw_statements.proofs.Common.{TokenPosition, IsReadTo, IsBegun, IsWrong, EndsEarly, IsSecondLabel}
+use Rattle.lw_statements.proofs.Common.{IsSurplus, IsNinth, IsJumpLabel, CellCauseIsTrue, BeginsFitting}
+use Rattle.lw_statements.proofs.Common.{BeginsWithLabel, table_after, all_syntaxes, texts_of_cells}
+use Rattle.lw_statements.proofs.Common.{texts_of_grid, PlacedToken}
+use Rattle.lw_statements.proofs.CellFaults.{IsFront, IsStuck, split_order, labels_length, stuck_past}
+use Rattle.lw_statements.proofs.CellFaults.{stuck_one, stuck_whole}
 use Rattle.lw_statements.proofs.CellsRefused.{once_front}
-use Rattle.lw_statements.proofs.FrontLabels.{Labels-rest}
 use Rattle.lw_statements.proofs.Leads.{statements-append, count-append, labels_of-append}
 use Rattle.lw_statements.proofs.OneReading.{cell_unique, column_unique, no_label}
 use Rattle.lw_statements.proofs.ResolvedNames.{names_in-append}
-use Rattle.lw_statements.proofs.api.Zips.{Cut, zip_cut, zip_unique}
+use Rattle.lw_statements.proofs.api.Zips.{zip_cut, zip_unique}
 use Rattle.lw_base.specs.declared.fault.CellCause.TheVariants as cause
-use Rattle.lw_statements.specs.Faults.{all_syntaxes}
-use Rattle.lw_text.specs.PlacedCells.{texts_of_cells, texts_of_grid}
-use Rattle.lw_text.specs.PlacedTokens.{PlacedToken}
 
 -- The first item of a list.
 first_item : (ts : TokenList) (a : Bytes) → slice_get ts 0 ≡ Some a → (more : TokenList) × (ts ≡ a ∷ more)
@@ -120,9 +116,8 @@ module _ {Syntax Stmt : Type 0} (grammar : Grammar Syntax Stmt) (lawful : IsGram
         (r : IsReadTo grammar names p.place (texts_of_tokens p.front) mid)
         → ((mid ≡ [] → ⊥) → IsBegun grammar r)
         → (BeginsWithLabel (mid ++ p.token.text ∷ texts_of_tokens p.back) → ⊥) ⊎ (mid ≡ [])
-        → IsStuck grammar (length (statements r.syntaxes)) (labels_of r.syntaxes)
-        (table_after grammar names r.threads r.syntaxes) (texts_of_tokens p.place.cell.tokens) r.labels mid
-        (p.token.text ∷ texts_of_tokens p.back) c
+        → IsStuck grammar (length (statements r.syntaxes)) (labels_of r.syntaxes) (table_after grammar names r.threads r.syntaxes)
+        (texts_of_tokens p.place.cell.tokens) r.labels mid (p.token.text ∷ texts_of_tokens p.back) c
         → CellFaulty names columns at c
     token_faulty p mid r begun phase stuck = record {
       place = p.place;
@@ -148,8 +143,7 @@ module _ {Syntax Stmt : Type 0} (grammar : Grammar Syntax Stmt) (lawful : IsGram
         };
         stuck = stuck;
         offset =
-            let long : 2 * length r.labels + length mid ≡ length p.front =
-            omega (
+            let long : 2 * length r.labels + length mid ≡ length p.front = omega (
               arith,
               labels_length (texts_of_tokens p.front) r.labels mid r.in_front,
               length-map p.front (λ (t : PlacedToken). t.text),
@@ -170,7 +164,10 @@ module _ {Syntax Stmt : Type 0} (grammar : Grammar Syntax Stmt) (lawful : IsGram
         token_faulty p n.mid n.read n.begun (inl n.no_label)
         (inr (n.no_label, inl (p.token.text, texts_of_tokens p.back, refl, inl (n.none, m))))
 
-    second_faulty : c ≡ LabelTwice → (p : TokenPosition columns at) → IsSecondLabel grammar names p → CellFaulty names columns at c
+    second_faulty : c ≡ LabelTwice
+        → (p : TokenPosition columns at)
+        → IsSecondLabel grammar names p
+        → CellFaulty names columns at c
     second_faulty e p n =
         let b = first_item (texts_of_tokens p.back) (codes ":") n.colon in
         token_faulty p [] n.read (λ some. absurd (some refl)) (inr refl)
@@ -211,8 +208,7 @@ module _ {Syntax Stmt : Type 0} (grammar : Grammar Syntax Stmt) (lawful : IsGram
         };
         stuck = inr (stops, inr (refl, n.some, e, n.none));
         offset =
-            let long : 2 * length n.read.labels + length n.mid ≡ length q.cell.tokens =
-            omega (
+            let long : 2 * length n.read.labels + length n.mid ≡ length q.cell.tokens = omega (
               arith,
               labels_length (texts_of_tokens q.cell.tokens) n.read.labels n.mid n.read.in_front,
               length-map q.cell.tokens (λ (t : PlacedToken). t.text),
@@ -237,20 +233,22 @@ module _ {Syntax Stmt : Type 0} (grammar : Grammar Syntax Stmt) (lawful : IsGram
         → Faulty names threads syntaxes cell other d
         → (at ≡ other) × (c ≡ d)
     faulty_one at other c d above says f g = elim (cases_Bool (ltb here there)) [
-      | inl e ↦ absurd (stuck_past grammar _ _ _ _ f.labels f.mid f.rest c f.front f.stuck g.labels g.mid g.rest g.front
+      | inl e ↦
+          absurd (stuck_past grammar _ _ _ _ f.labels f.mid f.rest c f.front f.stuck g.labels g.mid g.rest g.front
           (ltb-true here there e))
       | inr e ↦ elim (cases_Bool (ltb there here)) [
-          | inl h ↦ absurd (stuck_past grammar _ _ _ _ g.labels g.mid g.rest d g.front g.stuck f.labels f.mid f.rest f.front
-              (ltb-true there here h))
-          | inr h ↦
-              let low = ltb-false here there e in
-              let high = ltb-false there here h in
-              let same : here ≡ there = omega (arith, low, high) in (
-                place (slice_get cell.tokens there) (rw same at f.offset) g.offset,
-                stuck_one grammar _ _ _ _ f.labels g.labels f.mid g.mid f.rest g.rest c d named f.front g.front f.stuck g.stuck
-                    same,
-              )
-        ]
+        | inl h ↦
+            absurd (stuck_past grammar _ _ _ _ g.labels g.mid g.rest d g.front g.stuck f.labels f.mid f.rest f.front
+            (ltb-true there here h))
+        | inr h ↦
+            let low = ltb-false here there e in
+            let high = ltb-false there here h in
+            let same : here ≡ there = omega (arith, low, high) in (
+              place (slice_get cell.tokens there) (rw same at f.offset) g.offset,
+              stuck_one grammar _ _ _ _ f.labels g.labels f.mid g.mid f.rest g.rest c d named f.front g.front f.stuck g.stuck
+                  same,
+            )
+      ]
     ]
       where
         here : ℕ
@@ -285,7 +283,8 @@ module _ {Syntax Stmt : Type 0} (grammar : Grammar Syntax Stmt) (lawful : IsGram
     faulty_whole at c f syntax parse few once room =
         stuck_whole grammar _ _ _ _ lawful f.labels f.mid f.rest c f.front f.stuck syntax.labels parse.0 syntax.stmt (record {
           says =
-              subst (λ (ts : TokenList). Labels (texts_of_tokens cell.tokens) syntax.labels ts) (sym (append-nil parse.0)) parse.1;
+              subst (λ (ts : TokenList). Labels (texts_of_tokens cell.tokens) syntax.labels ts) (sym (append-nil parse.0))
+              parse.1;
           once = once;
           begun = λ some. begun syntax.stmt parse.2 few room some;
           phase = inl (λ at. no_label grammar lawful parse.0 syntax.stmt parse.2 (subst BeginsWithLabel (append-nil parse.0) at));
@@ -338,14 +337,13 @@ module _ {Syntax Stmt : Type 0} (grammar : Grammar Syntax Stmt) (lawful : IsGram
         let texts = λ (cell : PlacedCell). texts_of_tokens cell.tokens in
         let cut =
         zip_cut (ParsesCell grammar) (texts_of_cells v.place.above) (texts v.place.cell) (texts_of_cells more) syntaxes
-        (subst (λ (cs : Cells). AllZip (ParsesCell grammar) cs syntaxes)
-        (map-append texts v.place.above (v.place.cell ∷ more)) says) in
+        (subst (λ (cs : Cells). AllZip (ParsesCell grammar) cs syntaxes) (map-append texts v.place.above (v.place.cell ∷ more))
+        says) in
         let above = cells_same (texts_of_cells v.place.above) cut.above v.syntaxes cut.above_says v.says in
         let others = threads_same (texts_of_grid v.place.before) threads v.threads before v.before_says in
         let whole : syntaxes ≡ v.syntaxes ++ cut.here ∷ cut.below =
         cut.whole ∙ ap (λ (ss : List (CellSyntax Syntax)). ss ++ cut.here ∷ cut.below) above in
-        faulty_whole names v.threads v.syntaxes v.place.cell at c v.faulty cut.here cut.says
-        (omega (
+        faulty_whole names v.threads v.syntaxes v.place.cell at c v.faulty cut.here cut.says (omega (
           arith,
           few,
           ap (λ (ss : List (CellSyntax Syntax)). length (statements ss)) whole,
@@ -374,7 +372,8 @@ module _ {Syntax Stmt : Type 0} (grammar : Grammar Syntax Stmt) (lawful : IsGram
             ∙ ap (λ (x : NameTable). names_of grammar ts ++ x)
             (names_in-append grammar ss (s ∷ below)
             ∙ ap (λ (x : NameTable). names_in grammar ss ++ x) (names_in-append grammar (s ∷ []) below))
-            ∙ sym (append_assoc (names_of grammar ts) (names_in grammar ss) (names_in grammar (s ∷ []) ++ names_in grammar below)) in
+            ∙ sym (append_assoc (names_of grammar ts) (names_in grammar ss)
+            (names_in grammar (s ∷ []) ++ names_in grammar below)) in
             let table : table_after grammar names us all
             ≡ insert_names (insert_names (table_after grammar names ts ss) (names_in grammar (s ∷ []))) (names_in grammar below) =
             ap (insert_names names) parts
@@ -427,8 +426,8 @@ module _ {Syntax Stmt : Type 0} (grammar : Grammar Syntax Stmt) (lawful : IsGram
         go (inr (e, there, less)) = omega (arith, less, (ahead j.token.token.text j.label.jump.2).1)
 
     -- The thread of a fault is not read.
-    cell_thread : (at : ℕ) (c : CellCause) (v : CellFaulty names columns at c)
-        (threads : List (List (CellSyntax Syntax))) (t : List (CellSyntax Syntax))
+    cell_thread : (at : ℕ) (c : CellCause) (v : CellFaulty names columns at c) (threads : List (List (CellSyntax Syntax)))
+        (t : List (CellSyntax Syntax))
         → AllZip (Column grammar) (texts_of_grid v.place.before) threads
         → Column grammar (texts_of_cells (v.place.above ++ v.place.cell ∷ v.place.below)) t
         → length (table_after grammar names threads t) ≤ most_locations
@@ -436,8 +435,8 @@ module _ {Syntax Stmt : Type 0} (grammar : Grammar Syntax Stmt) (lawful : IsGram
     cell_thread at c v threads t before column room =
         cell_unread names columns at c v v.place.below threads t before column.says column.few column.once room
 
-    jump_thread : (at : ℕ) (c : CellCause) (j : JumpFaulty names columns at c)
-        (threads : List (List (CellSyntax Syntax))) (t : List (CellSyntax Syntax))
+    jump_thread : (at : ℕ) (c : CellCause) (j : JumpFaulty names columns at c) (threads : List (List (CellSyntax Syntax)))
+        (t : List (CellSyntax Syntax))
         → AllZip (Column grammar) (texts_of_grid j.token.place.before) threads
         → Column grammar (texts_of_cells (j.token.place.above ++ j.token.place.cell ∷ j.token.place.below)) t
         → length (table_after grammar names threads t) ≤ most_locations
@@ -501,10 +500,12 @@ module _ {Syntax Stmt : Type 0} (grammar : Grammar Syntax Stmt) (lawful : IsGram
       where
         ahead : AllZip (Column grammar) (texts_of_grid v.place.before) w.threads
         ahead =
-            subst (λ (cs : List (List PlacedCell)). AllZip (Column grammar) (texts_of_grid cs) w.threads) (sym before) w.before_says
+            subst (λ (cs : List (List PlacedCell)). AllZip (Column grammar) (texts_of_grid cs) w.threads) (sym before)
+            w.before_says
 
         behind : AllZip (Column grammar) (texts_of_grid w.place.before) v.threads
-        behind = subst (λ (cs : List (List PlacedCell)). AllZip (Column grammar) (texts_of_grid cs) v.threads) before v.before_says
+        behind =
+            subst (λ (cs : List (List PlacedCell)). AllZip (Column grammar) (texts_of_grid cs) v.threads) before v.before_says
 
         go : ((v.place.above ≡ w.place.above) × (v.place.cell ≡ w.place.cell) × (v.place.below ≡ w.place.below))
             ⊎ (((more : List PlacedCell) × (w.place.above ≡ v.place.above ++ v.place.cell ∷ more))
@@ -522,27 +523,26 @@ module _ {Syntax Stmt : Type 0} (grammar : Grammar Syntax Stmt) (lawful : IsGram
             (subst (λ (ts : List (List (CellSyntax Syntax))). Faulty names ts w.syntaxes w.place.cell other d) threads w.faulty)))
         go (inr (inl (more, above))) =
             absurd (cell_unread names columns at c v more w.threads w.syntaxes ahead
-            (subst (λ (cs : List PlacedCell). AllZip (ParsesCell grammar) (texts_of_cells cs) w.syntaxes) above w.says) w.few w.once
-            w.room)
+            (subst (λ (cs : List PlacedCell). AllZip (ParsesCell grammar) (texts_of_cells cs) w.syntaxes) above w.says) w.few
+            w.once w.room)
         go (inr (inr (more, above))) =
             absurd (cell_unread names columns other d w more v.threads v.syntaxes behind
-            (subst (λ (cs : List PlacedCell). AllZip (ParsesCell grammar) (texts_of_cells cs) v.syntaxes) above v.says) v.few v.once
-            v.room)
+            (subst (λ (cs : List PlacedCell). AllZip (ParsesCell grammar) (texts_of_cells cs) v.syntaxes) above v.says) v.few
+            v.once v.room)
 
     -- A fault in a cell excludes faults in jumps of its thread.
     cell_or_jump : (at other : ℕ) (c d : CellCause) (v : CellFaulty names columns at c) (j : JumpFaulty names columns other d)
         → v.place.before ≡ j.token.place.before
-        → v.place.above ++ v.place.cell ∷ v.place.below
-        ≡ j.token.place.above ++ j.token.place.cell ∷ j.token.place.below
+        → v.place.above ++ v.place.cell ∷ v.place.below ≡ j.token.place.above ++ j.token.place.cell ∷ j.token.place.below
         → ⊥
     cell_or_jump at other c d v j before thread =
         let r = j.label.read in
         cell_unread names columns at c v v.place.below j.label.threads (all_syntaxes j.above j.syntax j.below)
         (subst (λ (cs : List (List PlacedCell)). AllZip (Column grammar) (texts_of_grid cs) j.label.threads) (sym before)
         r.before_says)
-        (subst (λ (cs : List PlacedCell).
-        AllZip (ParsesCell grammar) (texts_of_cells cs) (all_syntaxes j.above j.syntax j.below)) (sym thread) r.says) r.few
-        (subst IsDuplicateFree (append-nil (labels_of (all_syntaxes j.above j.syntax j.below))) r.once) r.room
+        (subst (λ (cs : List PlacedCell). AllZip (ParsesCell grammar) (texts_of_cells cs) (all_syntaxes j.above j.syntax j.below))
+        (sym thread) r.says) r.few (subst IsDuplicateFree (append-nil (labels_of (all_syntaxes j.above j.syntax j.below))) r.once)
+        r.room
 
     -- The jumps above one at fault lead forward.
     jump_above : (at other : ℕ) (c d : CellCause) (i : JumpFaulty names columns at c) (j : JumpFaulty names columns other d)
@@ -569,8 +569,7 @@ module _ {Syntax Stmt : Type 0} (grammar : Grammar Syntax Stmt) (lawful : IsGram
         (own i.above mine.above i.syntax mine.here i.below mine.below
         (cells_same (texts_of_cells i.token.place.above) i.above mine.above i.label.above_says mine.above_says) mine.whole
         (texts i.token.place.cell) mine.says) in
-        let is : cut.here.stmt ≡ Some i.label.jump.0 =
-        ap (λ (s : CellSyntax Syntax). s.stmt) here ∙ i.label.jump.1 in
+        let is : cut.here.stmt ≡ Some i.label.jump.0 = ap (λ (s : CellSyntax Syntax). s.stmt) here ∙ i.label.jump.1 in
         jump_bad at c i
         (subst (λ (ss : List (CellSyntax Syntax)). LabelsLeadForward grammar ss (length (statements i.above)) i.label.jump.0)
         (sym same)
@@ -604,9 +603,9 @@ module _ {Syntax Stmt : Type 0} (grammar : Grammar Syntax Stmt) (lawful : IsGram
         same : all_syntaxes i.above i.syntax i.below ≡ all_syntaxes j.above j.syntax j.below
         same =
             cells_same _ (all_syntaxes i.above i.syntax i.below) (all_syntaxes j.above j.syntax j.below)
-            (subst (λ (cs : List PlacedCell).
-            AllZip (ParsesCell grammar) (texts_of_cells cs) (all_syntaxes i.above i.syntax i.below)) thread i.label.read.says)
-            j.label.read.says
+            (subst
+            (λ (cs : List PlacedCell). AllZip (ParsesCell grammar) (texts_of_cells cs) (all_syntaxes i.above i.syntax i.below))
+            thread i.label.read.says) j.label.read.says
 
         token_one : i.token.place.cell ≡ j.token.place.cell → i.token.token ≡ j.token.token
         token_one cell =
@@ -620,19 +619,19 @@ module _ {Syntax Stmt : Type 0} (grammar : Grammar Syntax Stmt) (lawful : IsGram
         causes : i.token.token ≡ j.token.token → c ≡ d
         causes token = elim i.because [
           | inl (e, none) ↦ elim j.because [
-              | inl (f, never) ↦ e ∙ sym f
-              | inr (f, there, less) ↦
-                  absurd (none (subst (λ (w : Bytes). Contains (labels_of (all_syntaxes i.above i.syntax i.below)) w)
-                  (sym (ap (λ (t : PlacedToken). t.text) token))
-                  (subst (λ (ss : List (CellSyntax Syntax)). Contains (labels_of ss) j.token.token.text) (sym same) there)))
-            ]
+            | inl (f, never) ↦ e ∙ sym f
+            | inr (f, there, less) ↦
+                absurd (none (subst (λ (w : Bytes). Contains (labels_of (all_syntaxes i.above i.syntax i.below)) w)
+                (sym (ap (λ (t : PlacedToken). t.text) token))
+                (subst (λ (ss : List (CellSyntax Syntax)). Contains (labels_of ss) j.token.token.text) (sym same) there)))
+          ]
           | inr (e, there, less) ↦ elim j.because [
-              | inl (f, none) ↦
-                  absurd (none (subst (λ (w : Bytes). Contains (labels_of (all_syntaxes j.above j.syntax j.below)) w)
-                  (ap (λ (t : PlacedToken). t.text) token)
-                  (subst (λ (ss : List (CellSyntax Syntax)). Contains (labels_of ss) i.token.token.text) same there)))
-              | inr (f, again, more) ↦ e ∙ sym f
-            ]
+            | inl (f, none) ↦
+                absurd (none (subst (λ (w : Bytes). Contains (labels_of (all_syntaxes j.above j.syntax j.below)) w)
+                (ap (λ (t : PlacedToken). t.text) token)
+                (subst (λ (ss : List (CellSyntax Syntax)). Contains (labels_of ss) i.token.token.text) same there)))
+            | inr (f, again, more) ↦ e ∙ sym f
+          ]
         ]
 
         go : ((i.token.place.above ≡ j.token.place.above)
@@ -665,14 +664,7 @@ module _ {Syntax Stmt : Type 0} (grammar : Grammar Syntax Stmt) (lawful : IsGram
     fault_of at LabelTwice known (p, w) = inl (second_faulty names columns at LabelTwice refl p w)
     fault_of at TooMany known (p, w) = inl (many_faulty names columns at TooMany refl p w)
     fault_of at LabelMissing known (p, (above, syntax, below, label, none)) =
-        inr (record {
-          token = p;
-          above = above;
-          syntax = syntax;
-          below = below;
-          label = label;
-          because = inl (refl, none);
-        })
+        inr (record { token = p; above = above; syntax = syntax; below = below; label = label; because = inl (refl, none) })
     fault_of at Backward known (p, (above, syntax, below, label, there, less)) =
         inr (record {
           token = p;
@@ -691,15 +683,13 @@ module _ {Syntax Stmt : Type 0} (grammar : Grammar Syntax Stmt) (lawful : IsGram
         × AllZip (Column grammar) (texts_of_grid (place_of at c v).before) threads
         × (length (table_after grammar names threads syntaxes) ≤ most_locations)
     before_of at c (inl v) = (v.threads, v.syntaxes, v.before_says, v.room)
-    before_of at c (inr j) =
-        (j.label.threads, all_syntaxes j.above j.syntax j.below, j.label.read.before_says, j.label.read.room)
+    before_of at c (inr j) = (j.label.threads, all_syntaxes j.above j.syntax j.below, j.label.read.before_says, j.label.read.room)
 
     -- The thread of a fault is none that a test could have.
     unread_of : (at : ℕ) (c : CellCause) (v : Fault at c) (threads : List (List (CellSyntax Syntax)))
         (t : List (CellSyntax Syntax))
         → AllZip (Column grammar) (texts_of_grid (place_of at c v).before) threads
-        → Column grammar
-        (texts_of_cells ((place_of at c v).above ++ (place_of at c v).cell ∷ (place_of at c v).below)) t
+        → Column grammar (texts_of_cells ((place_of at c v).above ++ (place_of at c v).cell ∷ (place_of at c v).below)) t
         → length (table_after grammar names threads t) ≤ most_locations
         → ⊥
     unread_of at c (inl v) = cell_thread at c v
@@ -708,8 +698,7 @@ module _ {Syntax Stmt : Type 0} (grammar : Grammar Syntax Stmt) (lawful : IsGram
     -- A fault in a thread excludes faults in the threads after it.
     thread_before : (at other : ℕ) (c d : CellCause) (v : Fault at c) (w : Fault other d) (more : List (List PlacedCell))
         → (place_of other d w).before
-        ≡ (place_of at c v).before
-        ++ ((place_of at c v).above ++ (place_of at c v).cell ∷ (place_of at c v).below) ∷ more
+        ≡ (place_of at c v).before ++ ((place_of at c v).above ++ (place_of at c v).cell ∷ (place_of at c v).below) ∷ more
         → ⊥
     thread_before at other c d v w more e =
         let b = before_of other d w in
@@ -736,15 +725,15 @@ module _ {Syntax Stmt : Type 0} (grammar : Grammar Syntax Stmt) (lawful : IsGram
         one_thread (inr i) (inr j) before thread = jumps_one at other c d i j thread
 
         go : Fault at c → Fault other d → (at ≡ other) × (c ≡ d)
-        go v w = elim
-          (split_order (place_of at c v).before (place_of other d w).before
-          ((place_of at c v).above ++ (place_of at c v).cell ∷ (place_of at c v).below)
-          ((place_of other d w).above ++ (place_of other d w).cell ∷ (place_of other d w).below) (place_of at c v).behind
-          (place_of other d w).behind (sym (place_of at c v).in_columns ∙ (place_of other d w).in_columns)) [
-            | inl (before, thread, behind) ↦ one_thread v w before thread
-            | inr (inl (more, e)) ↦ absurd (thread_before at other c d v w more e)
-            | inr (inr (more, e)) ↦ absurd (thread_before other at d c w v more e)
-          ]
+        go v w =
+            elim (split_order (place_of at c v).before (place_of other d w).before
+            ((place_of at c v).above ++ (place_of at c v).cell ∷ (place_of at c v).below)
+            ((place_of other d w).above ++ (place_of other d w).cell ∷ (place_of other d w).below) (place_of at c v).behind
+            (place_of other d w).behind (sym (place_of at c v).in_columns ∙ (place_of other d w).in_columns)) [
+              | inl (before, thread, behind) ↦ one_thread v w before thread
+              | inr (inl (more, e)) ↦ absurd (thread_before at other c d v w more e)
+              | inr (inr (more, e)) ↦ absurd (thread_before other at d c w v more e)
+            ]
 
     -- No fault is true of columns that are the threads of a test.
     pub no_fault : (at : ℕ) (c : CellCause) (threads : List (List (CellSyntax Syntax)))
@@ -758,4 +747,5 @@ module _ {Syntax Stmt : Type 0} (grammar : Grammar Syntax Stmt) (lawful : IsGram
         thread_unread (place_of at c v) (unread_of at c v) (place_of at c v).behind threads []
         (subst (λ (cs : List (List PlacedCell)). AllZip (Column grammar) (texts_of_grid cs) threads) (place_of at c v).in_columns
         says)
-        (subst (λ (ns : NameTable). length (insert_names names ns) ≤ most_locations) (sym (append-nil (names_of grammar threads))) few)
+        (subst (λ (ns : NameTable). length (insert_names names ns) ≤ most_locations) (sym (append-nil (names_of grammar threads)))
+        few)

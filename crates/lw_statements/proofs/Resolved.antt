@@ -7,17 +7,15 @@ use Rattle.lw_statements.proofs.Common.{AllZip, cons_option, slice_get-map, same
 use Rattle.lw_statements.proofs.Common.{drop-map, CellCause, LabelMissing, Backward, CellFault, Bytes}
 use Rattle.lw_statements.proofs.Common.{NameTable, TokenList, get_append, get-append_middle, Cell, Token}
 use Rattle.lw_statements.proofs.Common.{token_texts, cell_texts, cells_texts, placed_row, EndsBefore}
-use Rattle.lw_statements.proofs.Common.{texts_placed, cells_placed, DraftColumn, Draft, DraftCell, Operands}
-use Rattle.lw_statements.proofs.Common.{Grammar, CellSyntax, MaybeStatement, ParsesCell, statements}
-use Rattle.lw_statements.proofs.Common.{labels_of, target_in, resolved_statement, LabelsLeadForward}
-use Rattle.lw_statements.proofs.Common.{TokenPosition, IsJumpLabel, IsBackward, draft_in, draft_cell}
-use Rattle.lw_statements.proofs.Common.{target_by, ColumnDrafted, JumpCause, IsResolvable, IsCellResolved}
-use Rattle.lw_statements.proofs.Common.{IsUnresolved, AllForward, ColumnRead, ColumnFaultIsTrue}
-use Rattle.lw_statements.proofs.Common.{ColumnRefused, IsResolved, draft_of, IsSpelling, Spelling}
-use Rattle.lw_statements.proofs.Common.{ParsesStatement, grammar_of}
-use Rattle.lw_statements.proofs.Common.{AreRead, table_after, names_in, names_of, insert_names}
-use Rattle.lw_statements.proofs.Common.{insert_names-append, placed_cell}
-use Rattle.lw_statements.specs.Faults.{all_syntaxes}
+use Rattle.lw_statements.proofs.Common.{cells_placed, DraftColumn, Draft, DraftCell, Operands, Grammar}
+use Rattle.lw_statements.proofs.Common.{CellSyntax, MaybeStatement, ParsesCell, statements, labels_of}
+use Rattle.lw_statements.proofs.Common.{target_in, resolved_statement, LabelsLeadForward, TokenPosition}
+use Rattle.lw_statements.proofs.Common.{IsJumpLabel, IsBackward, draft_in, draft_cell, target_by}
+use Rattle.lw_statements.proofs.Common.{ColumnDrafted, JumpCause, IsResolvable, IsCellResolved, IsUnresolved}
+use Rattle.lw_statements.proofs.Common.{AllForward, ColumnRead, ColumnFaultIsTrue, ColumnRefused, IsResolved}
+use Rattle.lw_statements.proofs.Common.{draft_of, IsSpelling, Spelling, ParsesStatement, grammar_of, AreRead}
+use Rattle.lw_statements.proofs.Common.{table_after, names_in, names_of, insert_names, insert_names-append}
+use Rattle.lw_statements.proofs.Common.{placed_cell, all_syntaxes}
 use Rattle.lw_statements.proofs.CellsRefused.{column_out_of_memory}
 use Rattle.lw_statements.proofs.Elements.{all_amid, cut_there, item_at, mapped_some, take_further}
 use Rattle.lw_statements.proofs.FaultPlaces.{standing, tells_by}
@@ -283,7 +281,8 @@ module _ {W Form Stmt : Type 0} (spelling : Spelling W Form Stmt) where
               read = record {
                 before_says = others_say;
                 says =
-                    rw (← map-append placed_cell front (cell ∷ rest), ← ap placed_row whole, cells_placed cells) drafted.read.says;
+                    rw (← map-append placed_cell front (cell ∷ rest), ← ap placed_row whole, cells_placed cells)
+                    drafted.read.says;
                 few = drafted.few;
                 once = rw append-nil drafted.once;
                 room = rw table drafted.room;

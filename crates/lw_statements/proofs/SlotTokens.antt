@@ -1,13 +1,13 @@
 -- What tokens give at slots, as the reader computes it.
 use Rattle.lw_statements.proofs.Common.{◌≡◌, ℕ, zero, suc, ◌+◌, ◌<◌, ◌≤◌, Bool, true, false, true≢false, eqb}
-use Rattle.lw_statements.proofs.Common.{Option, Some, None, List, [], ◌∷◌, ◌++◌, length, take, get_or, refl}
-use Rattle.lw_statements.proofs.Common.{sym, ap, ◌∙◌, subst, arith, slice_get, MatchBool, MatchOption, IsTrue}
-use Rattle.lw_statements.proofs.Common.{◌↔◌, Contains, is_some, bytes_eq, eqb-true, All, take_all}
-use Rattle.lw_statements.proofs.Common.{bytes_eq-Decides, All-contains, All-more, Bytes, TokenList, Arch}
-use Rattle.lw_statements.proofs.Common.{Operand, IsLocationName, IsRegisterName, lowercase_if_x86, IsNumber}
-use Rattle.lw_statements.proofs.Common.{Token, token_texts, Slot, Keyword, Location, SlotBindings, IsOperand}
-use Rattle.lw_statements.proofs.Common.{Spelling, SlotValue, Filling, Gives, Fills, BeginsWith, CanStand}
-use Rattle.lw_statements.proofs.Common.{no_bindings, bind_slot, bindings_of, IsReach}
+use Rattle.lw_statements.proofs.Common.{Option, Some, None, List, [], ◌∷◌, length, take, get_or, refl, sym}
+use Rattle.lw_statements.proofs.Common.{ap, ◌∙◌, subst, arith, MatchBool, MatchOption, IsTrue, ◌↔◌, Contains}
+use Rattle.lw_statements.proofs.Common.{is_some, bytes_eq, eqb-true, All, take_all, bytes_eq-Decides}
+use Rattle.lw_statements.proofs.Common.{All-contains, All-more, Bytes, TokenList, Arch, Operand}
+use Rattle.lw_statements.proofs.Common.{IsLocationName, IsRegisterName, lowercase_if_x86, IsNumber, Token}
+use Rattle.lw_statements.proofs.Common.{token_texts, Slot, Keyword, SlotBindings, IsOperand, Spelling}
+use Rattle.lw_statements.proofs.Common.{SlotValue, Filling, Gives, Fills, BeginsWith, CanStand, no_bindings}
+use Rattle.lw_statements.proofs.Common.{bind_slot, bindings_of, IsReach}
 use Rattle.lw_base.specs.declared.operand.Operand.TheVariants as operand
 
 -- A token that is neither a register nor a number is no operand.

@@ -1,7 +1,7 @@
 -- What tokens give at slots is unique, and forms whose slots differ exclude each other.
-use Rattle.lw_statements.proofs.Common.{◌≡◌, ℕ, ◌<◌, Bool, true, false, true≢false, List, [], ◌∷◌, map}
-use Rattle.lw_statements.proofs.Common.{get_or, refl, sym, ap, ◌∙◌, subst, arith, inl, inr, not, ◌||◌, codes}
-use Rattle.lw_statements.proofs.Common.{bytes_eq, eqb, eqb-true, list_any, agree_below_at, cases_Bool}
+use Rattle.lw_statements.proofs.Common.{not-false, ◌≡◌, ℕ, ◌<◌, Bool, true, false, true≢false, List, [], ◌∷◌}
+use Rattle.lw_statements.proofs.Common.{map, get_or, refl, sym, ap, ◌∙◌, subst, arith, inl, inr, not, ◌||◌}
+use Rattle.lw_statements.proofs.Common.{codes, bytes_eq, eqb, eqb-true, list_any, agree_below_at, cases_Bool}
 use Rattle.lw_statements.proofs.Common.{or_right, list_any_at, bytes_eq-Decides, Bytes, TokenList}
 use Rattle.lw_statements.proofs.Common.{first_byte_is, is_ascii_digit, to_ascii_lowercase, Arch, Source, X86}
 use Rattle.lw_statements.proofs.Common.{Operand, IsLocationName, is_reserved, is_numbered_register, keywords}
@@ -9,10 +9,8 @@ use Rattle.lw_statements.proofs.Common.{x86_registers, IsRegisterName, register_
 use Rattle.lw_statements.proofs.Common.{register_unique, IsNumber, number-unique, number_first, Slot, Keyword}
 use Rattle.lw_statements.proofs.Common.{Register, Location, Value, Number, Label, IsOperand, Spelling}
 use Rattle.lw_statements.proofs.Common.{SlotValue, Filling, Gives, Fills, names_register, tokens_differ}
-use Rattle.lw_statements.proofs.Common.{are_disjoint_forms, is_no_colon, is_no_location, is_word_slot}
-use Rattle.lw_statements.proofs.Common.{ltb, ltb-true, ltb-false}
-use Rattle.lw_base.specs.Characters.{is_name_byte}
-use Rattle.std.proofs.lemmas.Str.Ascii.{lowercase_is}
+use Rattle.lw_statements.proofs.Common.{are_disjoint_forms, is_no_colon, is_no_location, is_word_slot, ltb}
+use Rattle.lw_statements.proofs.Common.{ltb-true, ltb-false, is_name_byte, lowercase_is}
 use Rattle.lw_base.specs.declared.operand.Operand.TheVariants as operand
 
 -- ---- registers, numbers and names of locations
@@ -95,16 +93,10 @@ colon_case X86 = refl
 colon_location : IsLocationName (codes ":") → ⊥
 colon_location loc = true≢false (sym loc.0.0.all.0)
 
--- If a test's negation fails, the test holds.
-not-false : (b : Bool) → not b ≡ false → b ≡ true
-not-false true e = refl
-not-false false e = absurd (true≢false e)
-
 -- A byte is a name's if and only if it is one in lower case.
 case_same : (b : ℕ) → is_name_byte (to_ascii_lowercase b) ≡ is_name_byte b
 case_same b = elim (cases_Bool (ltb b 128)) [
-  | inl e ↦
-      agree_below_at (λ q. is_name_byte (to_ascii_lowercase q)) is_name_byte 128 b refl (ltb-true b 128 e)
+  | inl e ↦ agree_below_at (λ q. is_name_byte (to_ascii_lowercase q)) is_name_byte 128 b refl (ltb-true b 128 e)
   | inr e ↦ ap is_name_byte ((lowercase_is b).2 (let most = ltb-false b 128 e in omega (arith, most)))
 ]
 
@@ -135,12 +127,9 @@ no_word : (arch : Arch) (w t : Bytes)
     → ⊥
 no_word Source w t none same loc = elim (cases_Bool (is_reserved w)) [
   | inl e ↦ true≢false (sym e ∙ ap is_reserved same ∙ loc.1)
-  | inr e ↦
-      true≢false (sym none
-      ∙ rw (e, ap (first_byte_is is_name_byte) same ∙ first_byte t loc) refl)
+  | inr e ↦ true≢false (sym none ∙ rw (e, ap (first_byte_is is_name_byte) same ∙ first_byte t loc) refl)
 ]
-no_word X86 w t none same loc =
-    true≢false (sym none ∙ ap not (first_byte_case w t same (first_byte t loc)))
+no_word X86 w t none same loc = true≢false (sym none ∙ ap not (first_byte_case w t same (first_byte t loc)))
 
 module _ {W Form Stmt : Type 0} (spelling : Spelling W Form Stmt) where
   -- ---- one token
@@ -197,7 +186,8 @@ module _ {W Form Stmt : Type 0} (spelling : Spelling W Form Stmt) where
       → Gives spelling t slot g
       → IsLocationName t
       → slot ≡ Location
-  location_slot t (Keyword w) g none h loc = absurd (no_word spelling.language.arch (spelling.text_of w) t (not-false _ none) h loc)
+  location_slot t (Keyword w) g none h loc =
+      absurd (no_word spelling.language.arch (spelling.text_of w) t (not-false _ none) h loc)
   location_slot t Register r none h loc = absurd (register_apart _ t r h loc)
   location_slot t Location x none h loc = refl
   location_slot t Value v none h loc = absurd (operand_apart _ t v h loc)

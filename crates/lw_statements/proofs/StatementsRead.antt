@@ -3,12 +3,13 @@ use Rattle.lw_statements.proofs.Common.{◌≡◌, ℕ, suc, ◌<◌, ◌≤◌,
 use Rattle.lw_statements.proofs.Common.{length, take, get_or, refl, sym, ap, ◌∙◌, subst, arith, slice_get}
 use Rattle.lw_statements.proofs.Common.{Contains, IfSome, MatchOption, slice_get_within}
 use Rattle.lw_statements.proofs.Common.{get_or_from_slice_get, same_Some, length-map, take-map}
-use Rattle.lw_statements.proofs.Common.{IsLocationName, IsNameTable, Bytes, NameTable, TokenList, CellFault, Token}
-use Rattle.lw_statements.proofs.Common.{token_texts, Draft, Operands, Slot, Location, SlotBindings, NameRead}
-use Rattle.lw_statements.proofs.Common.{Spelling, Filling, Fills, ParsesStatement, grammar_of, name_in}
-use Rattle.lw_statements.proofs.Common.{CanStand, bindings_of, draft_on, draft_of, IsNameAmong, IsDrafted}
-use Rattle.lw_statements.proofs.Common.{IsNotDrafted, IsOverflowSlot, IsReach, IsSlotAfter, IsSpelling, Phrase, Fits}
-use Rattle.lw_statements.proofs.Common.{StatementRead, StatementRefused, HasOverflowIn}
+use Rattle.lw_statements.proofs.Common.{IsLocationName, IsNameTable, Bytes, NameTable, TokenList, CellFault}
+use Rattle.lw_statements.proofs.Common.{Token, token_texts, Draft, Operands, Slot, Location, SlotBindings}
+use Rattle.lw_statements.proofs.Common.{NameRead, Spelling, Filling, Fills, ParsesStatement, grammar_of}
+use Rattle.lw_statements.proofs.Common.{name_in, CanStand, bindings_of, draft_on, draft_of, IsNameAmong}
+use Rattle.lw_statements.proofs.Common.{IsDrafted, IsNotDrafted, IsOverflowSlot, IsReach, IsSlotAfter}
+use Rattle.lw_statements.proofs.Common.{IsSpelling, Phrase, Fits, StatementRead, StatementRefused}
+use Rattle.lw_statements.proofs.Common.{HasOverflowIn}
 use Rattle.lw_statements.proofs.Elements.{all_at}
 use Rattle.lw_statements.proofs.FrontLabels.{get_text}
 use Rattle.lw_statements.proofs.Causes.{further}

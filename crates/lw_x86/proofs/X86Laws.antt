@@ -20,7 +20,8 @@ making x to form f = record { is = refl; located = refl; led = refl; given = λ 
 
 -- The spelling of x86 is lawful: its forms are distinguishable, and its instructions made from their operands.
 pub x86_spelled : IsSpelling x86_spelling instruction_of_operands
-x86_spelled = record { countable = omega arith; apart = refl; statements = refl; names = refl; clear = refl; words = refl; making = making }
+x86_spelled =
+    record { countable = omega arith; apart = refl; statements = refl; names = refl; clear = refl; words = refl; making = making }
 
 -- The grammar of x86 satisfies the rule of cells.
 pub x86_lawful : IsGrammar x86_grammar

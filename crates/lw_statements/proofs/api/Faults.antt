@@ -1,29 +1,24 @@
 -- At most one fault of the same cells is true, and none of the cells of a test. The languages' proofs use this.
 use Rattle.lw_statements.proofs.Common.{◌≡◌, ℕ, List, subst, sym, ap, AllZip, CellCause, Memory, CellFault}
 use Rattle.lw_statements.proofs.Common.{NameTable, CellGrid, PlacedCell, TestFrame, Test, Grammar, IsGrammar}
-use Rattle.lw_statements.proofs.Common.{Column, FrameHasTest}
+use Rattle.lw_statements.proofs.Common.{Column, FrameHasTest, CellFaultIsTrue, texts_of_grid, ℕ_set}
 use Rattle.lw_statements.proofs.OneFault.{no_fault, one_fault}
-use Rattle.lw_statements.specs.Faults.{CellFaultIsTrue}
-use Rattle.lw_text.specs.PlacedCells.{texts_of_grid}
-use Rattle.std.proofs.Math.Nat.{ℕ_set}
 
 -- Faults of the same place and cause are the same: their ghost field is a fact that has one proof.
 same_fault : (f g : CellFault) → f.at ≡ g.at → f.cause ≡ g.cause → f ≡ g
 same_fault f g e h = go g.at g.cause g.memory e h
   where
-    one : (a : ℕ) (c : CellCause) → IsProp (c ≡ Memory → a ≡ 0)
-    one a c = hlevel (ℕ_set)
+    one : (a : ℕ) (c : CellCause) (m n : c ≡ Memory → a ≡ 0) → m ≡ n
+    one a c m n = λ i e. ℕ_set a 0 (m e) (n e) i
 
     go : (a : ℕ) (c : CellCause) (m : c ≡ Memory → a ≡ 0)
         → f.at ≡ a
         → f.cause ≡ c
         → f ≡ (let k : CellFault = record { at = a; cause = c; memory = m } in k)
     go a c m e h =
-        subst (λ (b : ℕ).
-        (n : c ≡ Memory → b ≡ 0) → f ≡ (let k : CellFault = record { at = b; cause = c; memory = n } in k)) e
+        subst (λ (b : ℕ). (n : c ≡ Memory → b ≡ 0) → f ≡ (let k : CellFault = record { at = b; cause = c; memory = n } in k)) e
         (subst (λ (d : CellCause).
-        (n : d ≡ Memory → f.at ≡ 0) → f ≡ (let k : CellFault = record { at = f.at; cause = d; memory = n } in k)) h
-        (λ n.
+        (n : d ≡ Memory → f.at ≡ 0) → f ≡ (let k : CellFault = record { at = f.at; cause = d; memory = n } in k)) h (λ n.
         ap (λ (o : f.cause ≡ Memory → f.at ≡ 0). (let k : CellFault = record { at = f.at; cause = f.cause; memory = o } in k))
         (one f.at f.cause f.memory n))) m
 

@@ -16,8 +16,8 @@ returns-then-above-most g c =
     let told =
     first_wrong g.L.StatementReader.spelling c.args.phrase.now c.in-Some.first.now c.in-Some.ensures.value c.args.locs.now
     c.args.above c.too_many_statements.result c.too_many_statements.ensures in
-    surplus_refused _ (draft_of _) c.args.phrase.now _ c.in-Some.ensures.value _ _ _ (c.if-above-most.true ∙ c.most.ensures) told.0
-    told.1
+    surplus_refused _ (draft_of _) c.args.phrase.now _ c.in-Some.ensures.value _ _ _ (c.if-above-most.true ∙ c.most.ensures)
+    told.0 told.1
 
 pub returns-in_err-read_statement : goal.returns-in_err-read_statement
 returns-in_err-read_statement g c =

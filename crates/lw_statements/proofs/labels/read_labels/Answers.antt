@@ -41,13 +41,11 @@ returns-then-not-is_location g c =
           true≢false (sym (c.is_location.ensures.1 (labels_on _ _ _ _ _ c.loop-token.invariant _ token colon ks _ fit.says
           fit.stops).2)
           ∙ c.if-not-is_location.true);
-      cause =
-          rw c.misfit.ensures.place
-          (wrong_tells _ c.misfit.result.cause c.misfit.ensures.cause (
-            at_label _ _ _ _ _ c.loop-token.invariant _ token colon,
-            (λ loc. true≢false (sym (c.is_location.ensures.1 loc) ∙ c.if-not-is_location.true)),
-            c.misfit.ensures.cause,
-          ));
+      cause = rw c.misfit.ensures.place (wrong_tells _ c.misfit.result.cause c.misfit.ensures.cause (
+        at_label _ _ _ _ _ c.loop-token.invariant _ token colon,
+        (λ loc. true≢false (sym (c.is_location.ensures.1 loc) ∙ c.if-not-is_location.true)),
+        c.misfit.ensures.cause,
+      ));
       place = λ len lies.
           rw c.misfit.ensures.place
           (subst (λ t. t.at ≤ len) (sym c.index-tokens-next.is) (lies c.loop-token.next _ (omega arith)));

@@ -1,4 +1,4 @@
-use Rattle.lw_statements.proofs.Common.{true≢false, sym, ◌∙◌, refl}
+use Rattle.lw_statements.proofs.Common.{true≢false, sym, ◌∙◌}
 use Rattle.lw_statements.proofs.Fronts.{no_slot, slot_next, slot_further}
 use Rattle.lw_statements.proofs.statement_parser.+slot_after.Goals as goal
 
@@ -7,7 +7,8 @@ returns-in_default g t c = no_slot g.L.StatementReader.spelling _ _ c.in_default
 
 pub returns-in_default-split_first : goal.returns-in_default-split_first
 returns-in_default-split_first g t c =
-    rw c.in-Some.ensures.cases.0 (slot_next g.L.StatementReader.spelling _ c.in-Some.slot.now _ c.in_default-split_first.ensures.cases)
+    rw c.in-Some.ensures.cases.0
+    (slot_next g.L.StatementReader.spelling _ c.in-Some.slot.now _ c.in_default-split_first.ensures.cases)
 
 pub returns-then-not-can_stand : goal.returns-then-not-can_stand
 returns-then-not-can_stand g t c =

@@ -1,4 +1,4 @@
-use Rattle.lw_statements.proofs.Common.{refl, sym, ◌∙◌, inl, inr, true≢false, slice_get_read}
+use Rattle.lw_statements.proofs.Common.{refl, sym, ◌∙◌, inr, true≢false, slice_get_read}
 use Rattle.lw_statements.proofs.Causes.{misfit_same}
 use Rattle.lw_statements.proofs.Fronts.{known_before, known_not_before}
 use Rattle.lw_statements.proofs.statement_parser.first_rejected.Goals as goal
@@ -12,11 +12,10 @@ returns-then-wants_register g c =
     record {
       front = c.longest_accepted_prefix-front.result;
       longest = c.longest_accepted_prefix-front.ensures.longest;
-      is =
-          rw token (
-            c.no_register.ensures.place,
-            misfit_same c.no_register.result.cause (known_before before).0 (known_before before).1 c.no_register.ensures.cause,
-          );
+      is = rw token (
+        c.no_register.ensures.place,
+        misfit_same c.no_register.result.cause (known_before before).0 (known_before before).1 c.no_register.ensures.cause,
+      );
     }
 
 pub returns : goal.returns
@@ -27,11 +26,10 @@ returns g c =
     record {
       front = c.longest_accepted_prefix-front.result;
       longest = c.longest_accepted_prefix-front.ensures.longest;
-      is =
-          rw token (
-            c.misfit.ensures.place,
-            misfit_same c.misfit.result.cause inr
-                (known_not_before (λ before. true≢false (sym (c.wants_register.ensures.1 before) ∙ c.if-wants_register.false)))
-                c.misfit.ensures.cause,
-          );
+      is = rw token (
+        c.misfit.ensures.place,
+        misfit_same c.misfit.result.cause inr
+            (known_not_before (λ before. true≢false (sym (c.wants_register.ensures.1 before) ∙ c.if-wants_register.false)))
+            c.misfit.ensures.cause,
+      );
     }

@@ -1,4 +1,5 @@
-use Rattle.lw_statements.proofs.Common.{◌≡◌, ◌∙◌, max, sym, inl, take, refl, arith, length-map, All-weaker, token_texts}
+use Rattle.lw_statements.proofs.Common.{◌≡◌, ◌∙◌, max, sym, inl, take, refl, arith, length-map, All-weaker}
+use Rattle.lw_statements.proofs.Common.{token_texts}
 use Rattle.lw_statements.proofs.Fronts.{longer_reached}
 use Rattle.lw_statements.proofs.SlotTokens.{ReachesTo, form_more, forms_all, reach_within}
 use Rattle.lw_statements.proofs.api.Greater.{greater_is}
@@ -10,8 +11,7 @@ loop-form-init g c = (omega arith, (λ k form less. absurd (omega (arith, less))
 pub returns-clause-longest : goal.returns-clause-longest
 returns-clause-longest g c = record {
   reached = c.loop-form.invariant.2;
-  front =
-      λ form there.
+  front = λ form there.
       forms_all (ReachesTo g.L.StatementReader.spelling (token_texts c.args.tokens.now) c.loop-form.longest)
       g.L.StatementReader.spelling.forms _ (rw c.forms-form-items.ensures at c.loop-form-test.false) c.loop-form.invariant.1 form
       there;

@@ -7,11 +7,8 @@ pub returns-then-location_next : goal.returns-then-location_next
 returns-then-location_next g c =
     let within = rw c.forms-form-items.ensures at c.loop-form-test.true in
     let next = rw c.slots.ensures at (c.location_next.ensures.0 c.if-location_next.true) in (
-      λ holds. (
-        c.form-item.result,
-        (c.loop-form.form-index, within, sym (rw c.forms-form-items.ensures at c.form-item.is)),
-        next,
-      ),
+      λ holds.
+          (c.form-item.result, (c.loop-form.form-index, within, sym (rw c.forms-form-items.ensures at c.form-item.is)), next),
       λ there. refl,
     )
 

@@ -7,11 +7,8 @@ pub returns-then-register_next : goal.returns-then-register_next
 returns-then-register_next g c =
     let within = rw c.forms-form-items.ensures at c.loop-form-test.true in
     let next = rw c.slots.ensures at (c.register_next.ensures.0 c.if-register_next.true) in (
-      λ holds. (
-        c.form-item.result,
-        (c.loop-form.form-index, within, sym (rw c.forms-form-items.ensures at c.form-item.is)),
-        next,
-      ),
+      λ holds.
+          (c.form-item.result, (c.loop-form.form-index, within, sym (rw c.forms-form-items.ensures at c.form-item.is)), next),
       λ there. refl,
     )
 

@@ -13,9 +13,7 @@ returns-then-overflows g c =
     let is = rw c.index-slots-index.is at (c.overflows.ensures.0 c.if-overflows.true) in
     record {
       before = c.loop-index-test.true;
-      slot =
-          at_index c.args.slots.now c.loop-index.index _ (omega (arith, c.requires.0, c.loop-index-test.true))
-          ∙ ap Some is.0;
+      slot = at_index c.args.slots.now c.loop-index.index _ (omega (arith, c.requires.0, c.loop-index-test.true)) ∙ ap Some is.0;
       token = _;
       is =
           slice_get_read c.args.tokens.now _ c.loop-index.index _ refl (omega (arith, c.requires.1, c.loop-index-test.true))

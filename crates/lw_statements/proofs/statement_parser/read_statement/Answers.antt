@@ -13,12 +13,11 @@ returns-in-Some g c =
     MatchResult-weaker c.draft.result c.draft.ensures
     (λ draft made. statement_read g.L.StatementReader.spelling c.args.phrase.now _ r.0 r.1 r.2 _ draft _ (rw r.3 at made))
     (λ f none.
-    refused_by_form g.L.StatementReader.spelling c.args.phrase.now _ r.0 r.1 r.2 g.L.StatementReader.made c.requires.lawful _ f c.len-known.ensures.table
-    (rw r.3 at none))
+    refused_by_form g.L.StatementReader.spelling c.args.phrase.now _ r.0 r.1 r.2 g.L.StatementReader.made c.requires.lawful _ f
+    c.len-known.ensures.table (rw r.3 at none))
 
 pub refusal-requires-clause-none : goal.refusal-requires-clause-none
-refusal-requires-clause-none g c lifetimes lives s says =
-    rw c.in-None.is at c.read_form.ensures s.form s.filling says.0 says.1
+refusal-requires-clause-none g c lifetimes lives s says = rw c.in-None.is at c.read_form.ensures s.form s.filling says.0 says.1
 
 pub returns-in-None : goal.returns-in-None
 returns-in-None g c =

@@ -16,8 +16,8 @@ returns-in-Some g c =
     let n = rw (c.in-Some.is, c.slots-slots.ensures) at c.overflow_token.ensures in (
       many_tells (ninth_in _ g.L.StatementReader.made c.requires.lawful c.form-item.result
           (c.loop-form.form-index, within, sym (rw c.forms-form-items.ensures at c.form-item.is)) _ c.args.locs.now
-          c.len-known.ensures.table c.accepted_prefix_len-front.result c.in-Some.index _ (rw c.slots-slots.ensures at c.accepted_prefix_len-front.ensures)
-          n),
+          c.len-known.ensures.table c.accepted_prefix_len-front.result c.in-Some.index _
+          (rw c.slots-slots.ensures at c.accepted_prefix_len-front.ensures) n),
       λ len lies. lies.0 c.in-Some.index _ (slice_get_within _ c.in-Some.index n.token n.is),
     )
 

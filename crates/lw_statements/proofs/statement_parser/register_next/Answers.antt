@@ -3,5 +3,5 @@ use Rattle.lw_statements.proofs.statement_parser.register_next.Goals as goal
 
 pub returns-in-Some : goal.returns-in-Some
 returns-in-Some g c =
-    next_or_not g.L.StatementReader.spelling _ _ _ c.in-Some.slot c.takes_register.result (rw c.in-Some.is at c.slot_after.ensures)
-    c.takes_register.ensures
+    next_or_not g.L.StatementReader.spelling _ _ _ c.in-Some.slot c.takes_register.result
+    (rw c.in-Some.is at c.slot_after.ensures) c.takes_register.ensures

@@ -13,7 +13,7 @@ returns-then-may_be_location g c = (
 pub returns : goal.returns
 returns g c = (
   λ e.
-      before_register _ g.L.StatementReader.made c.requires.lawful _ (c.may_be_register.ensures.0 e) (λ there.
-      true≢false (sym (c.may_be_location.ensures.1 there) ∙ c.if-may_be_location.false)),
+      before_register _ g.L.StatementReader.made c.requires.lawful _ (c.may_be_register.ensures.0 e)
+      (λ there. true≢false (sym (c.may_be_location.ensures.1 there) ∙ c.if-may_be_location.false)),
   λ b. c.may_be_register.ensures.1 (register_after _ g.L.StatementReader.made c.requires.lawful _ b),
 )

@@ -1,5 +1,4 @@
-use Rattle.lw_statements.proofs.api.Faults.{faults_one, test_faultless}
-use Rattle.lw_x86.specs.Grammar.{x86_grammar}
+use Rattle.lw_x86.proofs.Common.{faults_one, test_faultless, x86_grammar}
 use Rattle.lw_x86.proofs.X86Laws.{x86_lawful}
 use Rattle.lw_x86.proofs.read.x86_cells_have_one_fault.Goals as goal
 
