@@ -26,9 +26,9 @@ pub use Rattle.std.specs.Option.{ForSome}
 pub use Rattle.lw_base.proofs.Common.{Bytes, FinalState, Formula, HasOutcomeShape, HoldsOfNothing, IsEvent}
 pub use Rattle.lw_base.proofs.Common.{IsListedOutcome, IsLocationName, IsRegisterIndex, IsRegisterName}
 pub use Rattle.lw_base.proofs.Common.{IsSchedule, IsTestName, IsWellFormedHead, IsWordNumber, MentionsOnly}
-pub use Rattle.lw_base.proofs.Common.{Reg_is, TestHead, TokenList, final_state_cmp, first_byte_is, head_of}
-pub use Rattle.lw_base.proofs.Common.{is_blank, is_name_byte, is_reserved, most_threads, nodes, register_name}
-pub use Rattle.lw_base.proofs.Common.{stop_code, stop_name, thread_code}
+pub use Rattle.lw_base.proofs.Common.{NameTable, Reg_is, TestHead, TokenList, final_state_cmp, first_byte_is}
+pub use Rattle.lw_base.proofs.Common.{head_of, is_blank, is_name_byte, is_reserved, most_threads, nodes}
+pub use Rattle.lw_base.proofs.Common.{register_name, stop_code, stop_name, thread_code}
 pub use Rattle.lw_base.proofs.api.Formulas.{has_locations}
 pub use Rattle.lw_base.proofs.api.Lists.{cons_head, get_some}
 pub use Rattle.lw_base.proofs.api.Returns.{Err-clause_propagated}
@@ -95,20 +95,21 @@ pub use Rattle.lw_report.specs.declared.judgement.Claim.{Claim}
 pub use Rattle.lw_report.specs.declared.judgement.Claim.TheVariants.{Exact}
 pub use Rattle.lw_text.proofs.Common.{Atom, Close, Comment, Condition, Conjunction, Derives, DisjunctionLevel}
 pub use Rattle.lw_text.proofs.Common.{HasFrame, Holds, InThread, IsNameOrNumber, IsNumber, IsSymbol, IsToken}
-pub use Rattle.lw_text.proofs.Common.{Open, ParsesTest, Preamble, Terminal, TestFrame, TestSyntax, Tokens}
-pub use Rattle.lw_text.proofs.Common.{and, atom, begins_mark, blank, closed, comment, conjunction, ends_cell}
-pub use Rattle.lw_text.proofs.Common.{frame_of, frame_of_syntax, is_one_byte_symbol, is_two_byte_symbol, none}
-pub use Rattle.lw_text.proofs.Common.{opens_comment, other, parens, part, placed_cells}
+pub use Rattle.lw_text.proofs.Common.{Open, ParsesTest, PlacedCell, Preamble, Terminal, TestFrame, TestSyntax}
+pub use Rattle.lw_text.proofs.Common.{Tokens, and, atom, begins_mark, blank, closed, comment, conjunction}
+pub use Rattle.lw_text.proofs.Common.{ends_cell, frame_of, frame_of_syntax, is_one_byte_symbol}
+pub use Rattle.lw_text.proofs.Common.{is_two_byte_symbol, none, opens_comment, other, parens, part}
+pub use Rattle.lw_text.proofs.Common.{placed_cells}
 pub use Rattle.lw_text.proofs.api.Frames.{frame_columns, frame_well_formed}
 pub use Rattle.lw_text.proofs.api.Indices.{is_index}
 pub use Rattle.lw_text.proofs.api.Places.{grid_placed}
 pub use Rattle.lw_text.proofs.api.Spelling.{all_pass, is_name_text, name_by_test}
 pub use Rattle.lw_text.specs.declared.fault.TextCause.{TextCause}
 pub use Rattle.lw_text.specs.declared.fault.TextFault.{TextFault}
-pub use Rattle.lw_statements.proofs.Common.{CellSyntax, Column, LabelsLeadForward, ParsesCell}
-pub use Rattle.lw_statements.proofs.Common.{ParsesStatement, statements}
+pub use Rattle.lw_statements.proofs.Common.{CellFaultIsTrue, CellSyntax, Column, LabelsLeadForward}
+pub use Rattle.lw_statements.proofs.Common.{ParsesCell, ParsesStatement, statements}
 pub use Rattle.lw_source.proofs.api.Tests.{well_formed_source}
-pub use Rattle.lw_source.specs.Grammar.{HasSource}
+pub use Rattle.lw_source.specs.Grammar.{HasSource, source_grammar}
 pub use Rattle.lw_x86.proofs.Common.{HasProgram, IsTextOf, canonical_text, printed_form, x86_grammar}
 pub use Rattle.lw_x86.proofs.Common.{x86_spelling}
 pub use Rattle.lw_x86.proofs.api.Tests.{well_formed_program}
@@ -120,9 +121,9 @@ pub use Rattle.lw_bench.specs.Devices.{IsInput, LosesInput, ReadsMore, TakesInpu
 pub use Rattle.lw_bench.specs.Endings.{EndsTask, Reports}
 pub use Rattle.lw_bench.specs.Examples.{store_buffering_body, store_buffering_notes, store_buffering_report}
 pub use Rattle.lw_bench.specs.Examples.{store_buffering_text}
-pub use Rattle.lw_bench.specs.FaultTruth.{CellFaultIsTrueOf, InputFaultIsTrue, IsNotDeviceFault}
-pub use Rattle.lw_bench.specs.FaultTruth.{ReadFaultIsTrue, ReplayFaultIsTrue, RunFaultIsTrue}
-pub use Rattle.lw_bench.specs.FaultTruth.{TakesBeforeFault, TextFaultIsTrue}
+pub use Rattle.lw_bench.specs.FaultTruth.{CellFaultIsTrueIn, CellFaultIsTrueOf, InputFaultIsTrue}
+pub use Rattle.lw_bench.specs.FaultTruth.{IsNotDeviceFault, ReadFaultIsTrue, ReplayFaultIsTrue}
+pub use Rattle.lw_bench.specs.FaultTruth.{RunFaultIsTrue, TakesBeforeFault, TextFaultIsTrue}
 pub use Rattle.lw_bench.specs.Faults.{cell_fault, cell_run_fault, schedule_fault, schedule_run_fault}
 pub use Rattle.lw_bench.specs.Faults.{text_fault, text_run_fault}
 pub use Rattle.lw_bench.specs.Films.{IsFilm, IsFilmOf}

@@ -1,7 +1,9 @@
--- A frame says at most one test, of its own language.
-use Rattle.lw_bench.proofs.Common.{◌≡◌, sym, ap, ◌∙◌, Arch, Source, X86, TestFrame, SourceTest, X86Test}
-use Rattle.lw_bench.proofs.Common.{HoldsOfNothing, HasSource, HasProgram, LitmusTest, Of_source, Of_x86}
-use Rattle.lw_bench.proofs.Common.{FrameHasTest}
+-- A frame says at most one test, of its own language, and at most one fault of its cells is true.
+use Rattle.lw_bench.proofs.Common.{NameTable, PlacedCell, ◌≡◌, sym, ap, ◌∙◌, Arch, Source, X86, TestFrame}
+use Rattle.lw_bench.proofs.Common.{SourceTest, X86Test, HoldsOfNothing, HasSource, HasProgram, LitmusTest}
+use Rattle.lw_bench.proofs.Common.{Of_source, Of_x86, FrameHasTest, List, CellFault, CellFaultIsTrue}
+use Rattle.lw_bench.proofs.Common.{source_grammar, x86_grammar, CellFaultIsTrueIn}
+use Rattle.lw_base.specs.declared.fault.CellCause.TheVariants as cell
 
 -- The two languages differ.
 apart : (let arch : Arch = Source in arch) ≡ X86 → ⊥
@@ -31,3 +33,25 @@ module _ (one_source : (frame : TestFrame) (s t : SourceTest) → HasSource fram
     one_test frame (Of_source s) (Of_x86 t) says other = absurd (apart (sym says.arch ∙ other.arch))
     one_test frame (Of_x86 s) (Of_source t) says other = absurd (apart (sym other.arch ∙ says.arch))
     one_test frame (Of_x86 s) (Of_x86 t) says other = ap Of_x86 (one_program frame s t says other)
+
+-- If at most one fault is true of the same cells in each language, it is so in the language of a text.
+pub one_cell_fault : ((names : NameTable) (cells : List (List PlacedCell)) (f g : CellFault)
+    → (f.cause ≡ cell.Memory → ⊥)
+    → (g.cause ≡ cell.Memory → ⊥)
+    → CellFaultIsTrue source_grammar names cells f
+    → CellFaultIsTrue source_grammar names cells g
+    → f ≡ g)
+    → ((names : NameTable) (cells : List (List PlacedCell)) (f g : CellFault)
+    → (f.cause ≡ cell.Memory → ⊥)
+    → (g.cause ≡ cell.Memory → ⊥)
+    → CellFaultIsTrue x86_grammar names cells f
+    → CellFaultIsTrue x86_grammar names cells g
+    → f ≡ g)
+    → (arch : Arch) (names : NameTable) (cells : List (List PlacedCell)) (f g : CellFault)
+    → (f.cause ≡ cell.Memory → ⊥)
+    → (g.cause ≡ cell.Memory → ⊥)
+    → CellFaultIsTrueIn arch names cells f
+    → CellFaultIsTrueIn arch names cells g
+    → f ≡ g
+one_cell_fault source x86 Source = source
+one_cell_fault source x86 X86 = x86

@@ -5,19 +5,20 @@ ghost use Rattle.lw_base.specs.Heads.{head_of};
 ghost use Rattle.lw_base.specs.WellFormed.{IsWellFormedHead};
 ghost use Rattle.lw_base.specs.NoParse.{HoldsOfNothingOrOutOfMemory};
 ghost use Rattle.lw_base.specs.declared.fault.CellCause.TheVariants.{Memory};
+ghost use Rattle.lw_base.specs.declared.fault.CellFault.{CellFault};
 ghost use Rattle.lw_text.specs.Places.{placed_cells};
 ghost use Rattle.lw_text.specs.Views.{frame_of};
 ghost use Rattle.lw_bench.specs.LitmusTests as specs;
 ghost use Rattle.lw_bench.specs.TestTexts.{FrameHasTest, HasTest};
 ghost use Rattle.lw_bench.specs.LitmusTests.{litmus_test_of, head_of_test};
-ghost use Rattle.lw_bench.specs.FaultTruth.{ReadFaultIsTrue, CellFaultIsTrueIn, IsNotDeviceFault};
+ghost use Rattle.lw_bench.specs.FaultTruth.{ReadFaultIsTrue, CellFaultIsTrueIn, CellFaultIsTrueOf, IsNotDeviceFault};
 
 use crate::fault::BenchFault;
 use lw_base::{Arch, CellFault, Head};
 use lw_litmus::{Program, Source};
-use lw_source::{a_frame_has_one_source, read_source};
-use lw_text::{Frame, a_text_has_one_frame, read_frame};
-use lw_x86::{a_frame_has_one_program, read_program};
+use lw_source::{a_frame_has_one_source, read_source, source_cells_have_one_fault};
+use lw_text::{Frame, a_text_has_its_cells_once, a_text_has_one_frame, read_frame};
+use lw_x86::{a_frame_has_one_program, read_program, x86_cells_have_one_fault};
 use std::alloc::Allocator;
 
 /// A test of the source language or of x86.
@@ -47,6 +48,16 @@ pub fn a_text_has_one_test()
     a_text_has_one_frame();
     a_frame_has_one_source();
     a_frame_has_one_program();
+}
+
+/// States that at most one fault of a cell is true of a text.
+pub fn a_text_has_one_cell_fault()
+    ensures { (text : Bytes) (f g : CellFault) → CellFaultIsTrueOf text f → CellFaultIsTrueOf text g → f ≡ g }
+{
+    a_text_has_one_frame();
+    a_text_has_its_cells_once();
+    source_cells_have_one_fault();
+    x86_cells_have_one_fault();
 }
 
 /// Reads the test of the bytes.
