@@ -1,8 +1,8 @@
 -- What proofs cite of std, of lower crates and of this crate's definitions, passed on from one place. Declares nothing.
 pub use Rattle.std.proofs.Common.{All, AllPairs, Bool, Bor, Contains, Err, IfErr, IfOk, IfSome, IsAscii}
-pub use Rattle.std.proofs.Common.{IsTrue, Less, List, MatchOption, None, Ok, OnOk, Option, Result, Some, []}
-pub use Rattle.std.proofs.Common.{add-one, ap, append-nil, append_assoc, ap₂, arith, codes, decimal, drop}
-pub use Rattle.std.proofs.Common.{drop-cons, eqb-true, false, if◌then◌else◌, inl, inr, is_ok, length}
+pub use Rattle.std.proofs.Common.{IsTrue, IsUtf8, Less, List, MatchOption, None, Ok, OnOk, Option, Result}
+pub use Rattle.std.proofs.Common.{Some, [], add-one, ap, append-nil, append_assoc, ap₂, arith, codes, decimal}
+pub use Rattle.std.proofs.Common.{drop, drop-cons, eqb-true, false, if◌then◌else◌, inl, inr, is_ok, length}
 pub use Rattle.std.proofs.Common.{length-append, length-take, length-take-le, ltb-true, map, nat_cmp, nat_eq}
 pub use Rattle.std.proofs.Common.{nat_lt, not, option_map, refl, replicate, rules, slice_get, slice_index}
 pub use Rattle.std.proofs.Common.{slice_index_or, slice_set, string_bytes, subst, suc, sym, take}
@@ -27,8 +27,8 @@ pub use Rattle.lw_base.proofs.Common.{Bytes, FinalState, Formula, HasOutcomeShap
 pub use Rattle.lw_base.proofs.Common.{IsListedOutcome, IsLocationName, IsRegisterIndex, IsRegisterName}
 pub use Rattle.lw_base.proofs.Common.{IsSchedule, IsTestName, IsWellFormedHead, IsWordNumber, MentionsOnly}
 pub use Rattle.lw_base.proofs.Common.{NameTable, Reg_is, TestHead, TokenList, final_state_cmp, first_byte_is}
-pub use Rattle.lw_base.proofs.Common.{head_of, is_blank, is_name_byte, is_reserved, most_threads, nodes}
-pub use Rattle.lw_base.proofs.Common.{register_name, stop_code, stop_name, thread_code}
+pub use Rattle.lw_base.proofs.Common.{head_of, is_blank, is_name_byte, is_reserved, most_text_bytes}
+pub use Rattle.lw_base.proofs.Common.{most_threads, nodes, register_name, stop_code, stop_name, thread_code}
 pub use Rattle.lw_base.proofs.api.Formulas.{has_locations}
 pub use Rattle.lw_base.proofs.api.Lists.{cons_head, get_some}
 pub use Rattle.lw_base.proofs.api.Returns.{Err-clause_propagated}
@@ -93,17 +93,18 @@ pub use Rattle.lw_report.proofs.Common.{report_text, schedule_list_text, schedul
 pub use Rattle.lw_report.proofs.api.OneList.{one_report}
 pub use Rattle.lw_report.specs.declared.judgement.Claim.{Claim}
 pub use Rattle.lw_report.specs.declared.judgement.Claim.TheVariants.{Exact}
-pub use Rattle.lw_text.proofs.Common.{Atom, Close, Comment, Condition, Conjunction, Derives, DisjunctionLevel}
+pub use Rattle.lw_text.proofs.Common.{Atom, Close, Comment, Conjunction, Derives, DisjunctionLevel, FailsAt}
 pub use Rattle.lw_text.proofs.Common.{HasFrame, Holds, InThread, IsNameOrNumber, IsNumber, IsSymbol, IsToken}
 pub use Rattle.lw_text.proofs.Common.{Open, ParsesTest, PlacedCell, Preamble, Terminal, TestFrame, TestSyntax}
 pub use Rattle.lw_text.proofs.Common.{Tokens, and, atom, begins_mark, blank, closed, comment, conjunction}
 pub use Rattle.lw_text.proofs.Common.{ends_cell, frame_of, frame_of_syntax, is_one_byte_symbol}
-pub use Rattle.lw_text.proofs.Common.{is_two_byte_symbol, none, opens_comment, other, parens, part}
-pub use Rattle.lw_text.proofs.Common.{placed_cells}
+pub use Rattle.lw_text.proofs.Common.{is_two_byte_symbol, opens_comment, other, parens, part, placed_cells}
 pub use Rattle.lw_text.proofs.api.Frames.{frame_columns, frame_well_formed}
 pub use Rattle.lw_text.proofs.api.Indices.{is_index}
 pub use Rattle.lw_text.proofs.api.Places.{grid_placed}
 pub use Rattle.lw_text.proofs.api.Spelling.{all_pass, is_name_text, name_by_test}
+pub use Rattle.lw_text.specs.Conditions.{Condition}
+pub use Rattle.lw_text.specs.Tokens.{none}
 pub use Rattle.lw_text.specs.declared.fault.TextCause.{TextCause}
 pub use Rattle.lw_text.specs.declared.fault.TextFault.{TextFault}
 pub use Rattle.lw_statements.proofs.Common.{CellFaultIsTrue, CellSyntax, Column, LabelsLeadForward}
@@ -122,7 +123,7 @@ pub use Rattle.lw_bench.specs.Endings.{EndsTask, Reports}
 pub use Rattle.lw_bench.specs.Examples.{store_buffering_body, store_buffering_notes, store_buffering_report}
 pub use Rattle.lw_bench.specs.Examples.{store_buffering_text}
 pub use Rattle.lw_bench.specs.FaultTruth.{CellFaultIsTrueIn, CellFaultIsTrueOf, InputFaultIsTrue}
-pub use Rattle.lw_bench.specs.FaultTruth.{IsNotDeviceFault, ReadFaultIsTrue, ReplayFaultIsTrue}
+pub use Rattle.lw_bench.specs.FaultTruth.{IsFaultOfText, IsNotDeviceFault, ReadFaultIsTrue, ReplayFaultIsTrue}
 pub use Rattle.lw_bench.specs.FaultTruth.{RunFaultIsTrue, TakesBeforeFault, TextFaultIsTrue}
 pub use Rattle.lw_bench.specs.Faults.{cell_fault, cell_run_fault, schedule_fault, schedule_run_fault}
 pub use Rattle.lw_bench.specs.Faults.{text_fault, text_run_fault}

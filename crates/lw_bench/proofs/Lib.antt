@@ -11,6 +11,7 @@ pub mod Replays
 pub mod FilmSteps
 pub mod Compilations
 pub mod FaultTruths
+pub mod OneFault
 pub mod Endings
 pub mod Runs
 pub mod TokenTexts

@@ -77,6 +77,12 @@ ReadFaultIsTrue bytes Memory = Unit {0}
 ReadFaultIsTrue bytes Read = Unit {0}
 ReadFaultIsTrue bytes Write = Unit {0}
 
+-- The fault is one of the text or of its cells.
+abbrev pub IsFaultOfText : BenchFault → Type 0
+IsFaultOfText (Text f) = Unit {0}
+IsFaultOfText (Cell f) = Unit {0}
+IsFaultOfText _ = ⊥
+
 -- The fault of a run is true: that of reading the test, or what it states of the test that was read.
 abbrev pub RunFaultIsTrue : (LitmusTest → BenchFault → Type 0) → Bytes → BenchFault → Type 0
 RunFaultIsTrue TestFaultIsTrue bytes f = ReadFaultIsTrue bytes f ⊎ ((test : LitmusTest) × HasTest bytes test × TestFaultIsTrue test f)

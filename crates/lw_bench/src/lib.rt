@@ -55,7 +55,9 @@ pub use laws::{
     the_text_of_store_buffering_has_this_report, what_a_text_says_is_well_formed,
 };
 pub use lists::{list_test, marks_of_listing, report_of_listing, schedules_of_listing};
-pub use litmus_test::{LitmusTest, a_text_has_one_cell_fault, a_text_has_one_test, read_test};
+pub use litmus_test::{
+    LitmusTest, a_text_has_one_cell_fault, a_text_has_one_fault, a_text_has_one_test, read_test,
+};
 pub use lw_base::End;
 pub use lw_mesi::Protocol;
 pub use output::write_output;

@@ -11,13 +11,16 @@ ghost use Rattle.lw_text.specs.Views.{frame_of};
 ghost use Rattle.lw_bench.specs.LitmusTests as specs;
 ghost use Rattle.lw_bench.specs.TestTexts.{FrameHasTest, HasTest};
 ghost use Rattle.lw_bench.specs.LitmusTests.{litmus_test_of, head_of_test};
-ghost use Rattle.lw_bench.specs.FaultTruth.{ReadFaultIsTrue, CellFaultIsTrueIn, CellFaultIsTrueOf, IsNotDeviceFault};
+ghost use Rattle.lw_bench.specs.FaultTruth.{ReadFaultIsTrue, CellFaultIsTrueIn, CellFaultIsTrueOf, IsFaultOfText, IsNotDeviceFault};
+ghost use Rattle.lw_bench.specs.declared.fault.BenchFault.{BenchFault};
 
 use crate::fault::BenchFault;
 use lw_base::{Arch, CellFault, Head};
 use lw_litmus::{Program, Source};
 use lw_source::{a_frame_has_one_source, read_source, source_cells_have_one_fault};
-use lw_text::{Frame, a_text_has_its_cells_once, a_text_has_one_frame, read_frame};
+use lw_text::{
+    Frame, a_text_fails_at_one_place, a_text_has_its_cells_once, a_text_has_one_frame, read_frame,
+};
 use lw_x86::{a_frame_has_one_program, read_program, x86_cells_have_one_fault};
 use std::alloc::Allocator;
 
@@ -58,6 +61,15 @@ pub fn a_text_has_one_cell_fault()
     a_text_has_its_cells_once();
     source_cells_have_one_fault();
     x86_cells_have_one_fault();
+}
+
+/// States that of a text at most one fault, of the text or of a cell, is true: so the line of its refusal is one.
+pub fn a_text_has_one_fault()
+    ensures { (text : Bytes) (f g : BenchFault) → IsFaultOfText f → IsFaultOfText g
+        → ReadFaultIsTrue text f → ReadFaultIsTrue text g → f ≡ g }
+{
+    a_text_fails_at_one_place();
+    a_text_has_one_cell_fault();
 }
 
 /// Reads the test of the bytes.

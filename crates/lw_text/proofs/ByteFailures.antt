@@ -1,22 +1,27 @@
 -- A text fails at one place only, and for one cause, before the tokens of its body: in a token, and in its preamble.
-use Rattle.lw_text.proofs.Common.{◌≡◌, ℕ, ◌<◌, inl, inr, Bool, true, false, not, [], ◌∷◌, ◌++◌, length, refl, sym, ap, ◌∙◌, subst, arith, ◌==◌}
-use Rattle.lw_text.proofs.Common.{AllByRecursion, All-mono, Arch, Bytes, first_byte_is, is_ascii_digit, is_blank, is_key_byte, is_name_byte, is_space}
-use Rattle.lw_text.proofs.Common.{IsFirstToken, IsName, IsNameOrNumber, IsNumber, IsSymbol, IsTestName, IsToken, Trivia, begins_trivia, ParsesTestName}
-use Rattle.lw_text.proofs.Common.{KeyLine, Note, Notes, note, Quoted, Preamble, arch_keyword, not-true, not-false, false≢true, append-nil, length-append, nat_tests}
+use Rattle.lw_text.proofs.Common.{◌≡◌, ℕ, ◌<◌, inl, inr, Bool, true, false, not, [], ◌∷◌, ◌++◌, length, refl}
+use Rattle.lw_text.proofs.Common.{sym, ap, ◌∙◌, subst, arith, ◌==◌, AllByRecursion, All-mono, Arch, Bytes}
+use Rattle.lw_text.proofs.Common.{first_byte_is, is_ascii_digit, is_blank, is_key_byte, is_name_byte}
+use Rattle.lw_text.proofs.Common.{is_space, IsFirstToken, IsName, IsNameOrNumber, IsNumber, IsSymbol}
+use Rattle.lw_text.proofs.Common.{IsTestName, IsToken, Trivia, begins_trivia, ParsesTestName, KeyLine, Note}
+use Rattle.lw_text.proofs.Common.{Notes, note, Quoted, Preamble, arch_keyword, not-true, not-false}
+use Rattle.lw_text.proofs.Common.{false≢true, append-nil, length-append, nat_tests, IsLongestRun}
+use Rattle.lw_text.proofs.Common.{FailsInToken, no_number_run, no_name_run, no_symbol, HasOpenComment}
+use Rattle.lw_text.proofs.Common.{FailsInFirstToken, open_comment, in_token, FailsInTestName, no_name}
+use Rattle.lw_text.proofs.Common.{no_blank, bad_name, FailsInKeyLine, no_equals_sign, none, FailsInNote}
+use Rattle.lw_text.proofs.Common.{open_quote, in_key_line, FailsInNotes, open_comment_in_notes, in_note}
+use Rattle.lw_text.proofs.Common.{after_note, IsNoteCause, FailsInPreamble, in_keyword, no_keyword}
+use Rattle.lw_text.proofs.Common.{other_keyword, in_test_name, in_notes, TextCause}
 use Rattle.lw_text.proofs.api.Numbers.{number_first}
 use Rattle.lw_text.proofs.NameRuns.{run-unique, run_front, symbol_front, token_no_trivia, token_nonempty}
-use Rattle.lw_text.proofs.NoteRows.{Quoted-front, Quoted-open, KeyLine-front, no_equals, no_note, no_quote, Note-unique, note_no_trivia, block_no_trivia}
-use Rattle.lw_text.proofs.NoteRows.{at_note, first_start, key_front, without}
-use Rattle.lw_text.proofs.Preambles.{graphic_no_blank, ParsesTestName-parts, ParsesTestName-unique, arch_keyword-unique}
+use Rattle.lw_text.proofs.NoteRows.{Quoted-front, Quoted-open, KeyLine-front, no_equals, no_note, no_quote}
+use Rattle.lw_text.proofs.NoteRows.{Note-unique, note_no_trivia, block_no_trivia, at_note, first_start}
+use Rattle.lw_text.proofs.NoteRows.{key_front, without}
+use Rattle.lw_text.proofs.Preambles.{graphic_no_blank, ParsesTestName-parts, ParsesTestName-unique}
+use Rattle.lw_text.proofs.Preambles.{arch_keyword-unique}
 use Rattle.lw_text.proofs.TokenRows.{IsFirstToken-unique, no_first}
 use Rattle.lw_text.proofs.TriviaLemmas.{Trivia-unique}
-use Rattle.lw_text.specs.TextFailures.{IsLongestRun, FailsInToken, no_number_run, no_name_run, no_symbol, HasOpenComment, FailsInFirstToken}
-use Rattle.lw_text.specs.TextFailures.{open_comment, in_token, FailsInTestName, no_name, no_blank, bad_name, FailsInKeyLine, no_equals_sign}
-use Rattle.lw_text.specs.Preambles.{none}
 use Rattle.lw_text.specs.TextFailures.{no_key as no_key_byte}
-use Rattle.lw_text.specs.TextFailures.{FailsInNote, open_quote, in_key_line, FailsInNotes, open_comment_in_notes, in_note, after_note, IsNoteCause}
-use Rattle.lw_text.specs.TextFailures.{FailsInPreamble, in_keyword, no_keyword, other_keyword, in_test_name, in_notes}
-use Rattle.lw_text.specs.declared.fault.TextCause.{TextCause}
 
 -- Two failures are at the same place, and for the same cause.
 abbrev pub IsSameFault : Bytes → TextCause → Bytes → TextCause → Type 0
@@ -32,31 +37,41 @@ digit_in_name (b ∷ bytes) p q = grind (arith, nat_tests)
 -- A token fails for one cause.
 token_one : (bytes : Bytes) (cause because : TextCause) → FailsInToken bytes cause → FailsInToken bytes because → cause ≡ because
 token_one bytes c d (no_number_run w r run digit never p) (no_number_run v s too also lacks q) = p ∙ sym q
-token_one bytes c d (no_number_run w r run digit never p) (no_name_run v s too name other lacks q) = absurd (false≢true (sym other ∙ digit))
-token_one bytes c d (no_number_run w r run digit never p) (no_symbol some other lacks q) = absurd (digit_in_name bytes digit other)
-token_one bytes c d (no_name_run w r run name other never p) (no_number_run v s too digit lacks q) = absurd (false≢true (sym other ∙ digit))
+token_one bytes c d (no_number_run w r run digit never p) (no_name_run v s too name other lacks q) =
+    absurd (false≢true (sym other ∙ digit))
+token_one bytes c d (no_number_run w r run digit never p) (no_symbol some other lacks q) =
+    absurd (digit_in_name bytes digit other)
+token_one bytes c d (no_name_run w r run name other never p) (no_number_run v s too digit lacks q) =
+    absurd (false≢true (sym other ∙ digit))
 token_one bytes c d (no_name_run w r run name other never p) (no_name_run v s too also another lacks q) = p ∙ sym q
 token_one bytes c d (no_name_run w r run name other never p) (no_symbol some off lacks q) = absurd (false≢true (sym off ∙ name))
-token_one bytes c d (no_symbol some other lacks p) (no_number_run w r run digit never q) = absurd (digit_in_name bytes digit other)
+token_one bytes c d (no_symbol some other lacks p) (no_number_run w r run digit never q) =
+    absurd (digit_in_name bytes digit other)
 token_one bytes c d (no_symbol some other lacks p) (no_name_run w r run name off never q) = absurd (false≢true (sym other ∙ name))
 token_one bytes c d (no_symbol some other lacks p) (no_symbol also off never q) = p ∙ sym q
 
 -- Where a token is, lacks fails.
 token_not : (t rest : Bytes) (cause : TextCause) → FailsInToken (t ++ rest) cause → IsToken t rest → ⊥
 token_not t rest cause (no_number_run w r run digit never c) (inl name) =
-    let same = run-unique is_name_byte t w {text = t ++ rest} (record { parts = refl; all = name.all; longest = name.longest })
+    let same =
+    run-unique is_name_byte t w {text = t ++ rest} (record { parts = refl; all = name.all; longest = name.longest })
     (record { parts = run.parts; all = run.all; longest = run.longest }) in
     elim name.kind [
       | inl is ↦ false≢true (sym (first_of t rest is.0.some is.0.front) ∙ digit)
       | inr number ↦ never number.0 (subst (λ x. IsNumber x number.0) same.0 number.1)
     ]
   where
-    first_of : (t rest : Bytes) → 0 < length t → first_byte_is is_ascii_digit t ≡ false → first_byte_is is_ascii_digit (t ++ rest) ≡ false
+    first_of : (t rest : Bytes)
+        → 0 < length t
+        → first_byte_is is_ascii_digit t ≡ false
+        → first_byte_is is_ascii_digit (t ++ rest) ≡ false
     first_of [] rest some e = absurd (omega (arith, some))
     first_of (b ∷ t) rest some e = e
-token_not t rest cause (no_number_run w r run digit never c) (inr symbol) = digit_in_name (t ++ rest) digit (symbol_front t rest symbol)
+token_not t rest cause (no_number_run w r run digit never c) (inr symbol) =
+    digit_in_name (t ++ rest) digit (symbol_front t rest symbol)
 token_not t rest cause (no_name_run w r run first other never c) (inl name) =
-    let same = run-unique is_name_byte t w {text = t ++ rest} (record { parts = refl; all = name.all; longest = name.longest })
+    let same =
+    run-unique is_name_byte t w {text = t ++ rest} (record { parts = refl; all = name.all; longest = name.longest })
     (record { parts = run.parts; all = run.all; longest = run.longest }) in
     elim name.kind [
       | inl is ↦ never (subst IsName same.0 is)
@@ -66,7 +81,8 @@ token_not t rest cause (no_name_run w r run first other never c) (inl name) =
     number_start : (t rest : Bytes) (n : ℕ) → IsNumber t n → first_byte_is is_ascii_digit (t ++ rest) ≡ true
     number_start [] rest n is = let k = number_first [] n is in cc
     number_start (b ∷ t) rest n is = number_first (b ∷ t) n is
-token_not t rest cause (no_name_run w r run first other never c) (inr symbol) = false≢true (sym (symbol_front t rest symbol) ∙ first)
+token_not t rest cause (no_name_run w r run first other never c) (inr symbol) =
+    false≢true (sym (symbol_front t rest symbol) ∙ first)
 token_not t rest cause (no_symbol some other never c) (inl name) = false≢true (sym other ∙ run_front t rest name)
 token_not t rest cause (no_symbol some other never c) (inr symbol) = never t rest refl symbol
 
@@ -85,15 +101,13 @@ FailsInFirstToken-unique text r s c d (open_comment never end p) (open_comment l
 FailsInFirstToken-unique text r s c d (open_comment never end p) (in_token trivia stop fails) = absurd (never s stop trivia)
 FailsInFirstToken-unique text r s c d (in_token trivia stop fails) (open_comment never end p) = absurd (never r stop trivia)
 FailsInFirstToken-unique text r s c d (in_token trivia stop fails) (in_token also too q) =
-    let same = Trivia-unique trivia also stop too in
-    (same, token_one r c d fails (subst (λ x. FailsInToken x d) (sym same) q))
+    let same = Trivia-unique trivia also stop too in (same, token_one r c d fails (subst (λ x. FailsInToken x d) (sym same) q))
 
 -- A text with a first token does not fail before it.
 pub FailsInFirstToken-not : (text r t after : Bytes) (c : TextCause) → FailsInFirstToken text r c → IsFirstToken text t after → ⊥
 FailsInFirstToken-not text r t after c (open_comment never end p) is = never (t ++ after) (token_no_trivia t after is.1) is.0
 FailsInFirstToken-not text r t after c (in_token trivia stop fails) is =
-    token_not t after c
-    (subst (λ x. FailsInToken x c) (Trivia-unique trivia is.0 stop (token_no_trivia t after is.1)) fails) is.1
+    token_not t after c (subst (λ x. FailsInToken x c) (Trivia-unique trivia is.0 stop (token_no_trivia t after is.1)) fails) is.1
 
 -- A text that is only trivia does not fail in a token.
 pub FailsInFirstToken-end : (text r : Bytes) (c : TextCause) → FailsInFirstToken text r c → Trivia text [] → ⊥
@@ -126,7 +140,8 @@ blanks_end : (blanks name after : Bytes)
     → 0 < length name
     → ⊥
 blanks_end [] name after all plain some =
-    false≢true (sym (plain_front name after plain some) ∙ all_blank_front (name ++ after) all (omega (arith, some, length-append name after)))
+    false≢true (sym (plain_front name after plain some)
+    ∙ all_blank_front (name ++ after) all (omega (arith, some, length-append name after)))
 blanks_end (b ∷ blanks) name after all plain some = blanks_end blanks name after all.1 plain some
 
 -- A text that begins with blanks begins with one.
@@ -139,40 +154,45 @@ blank_first text [] rest e some all = absurd (omega (arith, some))
 blank_first text (b ∷ blanks) rest e some all = ap (first_byte_is is_blank) e ∙ all.0
 
 -- The test's name fails uniquely.
-pub FailsInTestName-unique : (text r s : Bytes) (c d : TextCause) → FailsInTestName text r c → FailsInTestName text s d → IsSameFault r c s d
+pub FailsInTestName-unique : (text r s : Bytes) (c d : TextCause)
+    → FailsInTestName text r c
+    → FailsInTestName text s d
+    → IsSameFault r c s d
 FailsInTestName-unique text r s c d (no_name all end p) (no_name too is q) = (end ∙ sym is, p ∙ sym q)
 FailsInTestName-unique text r s c d (no_name all end p) (no_blank some other at q) =
     absurd (false≢true (sym other ∙ all_blank_front text all some))
 FailsInTestName-unique text r s c d (no_name all end p) (bad_name blanks name after e f some are plain has longest not_name q) =
-    absurd (blanks_end blanks name after (subst (AllByRecursion (λ b. is_blank b ≡ true)) (e ∙ ap (λ x. blanks ++ x) f) all) plain has)
+    absurd (blanks_end blanks name after (subst (AllByRecursion (λ b. is_blank b ≡ true)) (e ∙ ap (λ x. blanks ++ x) f) all) plain
+    has)
 FailsInTestName-unique text r s c d (no_blank some other at p) (no_name all end q) =
     absurd (false≢true (sym other ∙ all_blank_front text all some))
 FailsInTestName-unique text r s c d (no_blank some other at p) (no_blank also off is q) = (at ∙ sym is, p ∙ sym q)
 FailsInTestName-unique text r s c d (no_blank some other at p) (bad_name blanks name after e f has are plain too longest not_name q) =
     absurd (false≢true (sym other ∙ blank_first text blanks s e has are))
 FailsInTestName-unique text r s c d (bad_name blanks name after e f some are plain has longest not_name p) (no_name all end q) =
-    absurd (blanks_end blanks name after (subst (AllByRecursion (λ b. is_blank b ≡ true)) (e ∙ ap (λ x. blanks ++ x) f) all) plain has)
+    absurd (blanks_end blanks name after (subst (AllByRecursion (λ b. is_blank b ≡ true)) (e ∙ ap (λ x. blanks ++ x) f) all) plain
+    has)
 FailsInTestName-unique text r s c d (bad_name blanks name after e f has are plain too longest not_name p) (no_blank some other at q) =
     absurd (false≢true (sym other ∙ blank_first text blanks r e has are))
-FailsInTestName-unique text r s c d (bad_name blanks name after e f some are plain has longest not_name p)
-    (bad_name spaces word behind g h many blank also too last off q) =
-    (
-      (run-unique is_blank blanks spaces {text = text}
-          (record { parts = e; all = are; longest = ap (first_byte_is is_blank) f ∙ plain_front name after plain has })
-          (record { parts = g; all = blank; longest = ap (first_byte_is is_blank) h ∙ plain_front word behind also too })).1,
-      p ∙ sym q,
-    )
+FailsInTestName-unique text r s c d (bad_name blanks name after e f some are plain has longest not_name p) (bad_name spaces word behind g h many blank also too last off q) = (
+  (run-unique is_blank blanks spaces {text = text}
+      (record { parts = e; all = are; longest = ap (first_byte_is is_blank) f ∙ plain_front name after plain has })
+      (record { parts = g; all = blank; longest = ap (first_byte_is is_blank) h ∙ plain_front word behind also too })).1,
+  p ∙ sym q,
+)
 
 -- A test's name does not fail.
-pub FailsInTestName-not : (text r name after : Bytes) (c : TextCause) → FailsInTestName text r c → ParsesTestName text name after → ⊥
+pub FailsInTestName-not : (text r name after : Bytes) (c : TextCause)
+    → FailsInTestName text r c
+    → ParsesTestName text name after
+    → ⊥
 FailsInTestName-not text r name after c (no_name all end p) is =
     blanks_end is.blanks name after (subst (AllByRecursion (λ b. is_blank b ≡ true)) is.parts all)
     (All-mono _ _ (λ b e. graphic_no_blank b e) name is.is_name.all) is.is_name.some
 FailsInTestName-not text r name after c (no_blank some other at p) is =
     false≢true (sym other ∙ blank_first text is.blanks (name ++ after) is.parts is.apart is.blank)
 FailsInTestName-not text r name after c (bad_name blanks word behind e f some are plain has longest not_name p) is =
-    not_name
-    (subst IsTestName
+    not_name (subst IsTestName
     (ParsesTestName-parts text blanks r word behind e are (ap (first_byte_is is_blank) f ∙ plain_front word behind plain has) f
     (All-mono _ _ (λ b e. ap not e) word plain) longest name after is).1 is.is_name)
 
@@ -189,9 +209,9 @@ key_line_one text r s (no_key_byte other at) (no_equals_sign key spaces e some a
     absurd (front_apart is_key_byte text (ap (first_byte_is is_key_byte) e ∙ key_front key (spaces ++ s) some all) other)
 key_line_one text r s (no_equals_sign key spaces e some all blank after stop sign) (no_key_byte other at) =
     absurd (front_apart is_key_byte text (ap (first_byte_is is_key_byte) e ∙ key_front key (spaces ++ r) some all) other)
-key_line_one text r s (no_equals_sign key spaces e some all blank after stop sign)
-    (no_equals_sign word room f many every space behind end mark) =
-    let outer = run-unique is_key_byte key word {text = text} (record { parts = e; all = all; longest = after })
+key_line_one text r s (no_equals_sign key spaces e some all blank after stop sign) (no_equals_sign word room f many every space behind end mark) =
+    let outer =
+    run-unique is_key_byte key word {text = text} (record { parts = e; all = all; longest = after })
     (record { parts = f; all = every; longest = behind }) in
     (run-unique is_space spaces room {text = spaces ++ r} (record { parts = refl; all = blank; longest = stop })
     (record { parts = outer.1; all = space; longest = end })).1
@@ -222,18 +242,22 @@ note_not text r end (in_key_line other q) (inr is) = key_line_not text r end q i
 -- Notes fail uniquely.
 FailsInNotes-unique : (r s : Bytes) (text : Bytes) → FailsInNotes r text → FailsInNotes s text → r ≡ s
 FailsInNotes-unique r s text (open_comment_in_notes never end) (open_comment_in_notes lacks is) = end ∙ sym is
-FailsInNotes-unique r s text (open_comment_in_notes never end) (in_note {mid = mid} trivia stop other q) = absurd (never mid stop trivia)
+FailsInNotes-unique r s text (open_comment_in_notes never end) (in_note {mid = mid} trivia stop other q) =
+    absurd (never mid stop trivia)
 FailsInNotes-unique r s text (open_comment_in_notes never end) (after_note {mid = mid} {after = after} trivia is q) =
     absurd (never mid (note_no_trivia mid after is) trivia)
-FailsInNotes-unique r s text (in_note {mid = mid} trivia stop other q) (open_comment_in_notes never end) = absurd (never mid stop trivia)
+FailsInNotes-unique r s text (in_note {mid = mid} trivia stop other q) (open_comment_in_notes never end) =
+    absurd (never mid stop trivia)
 FailsInNotes-unique r s text (in_note {mid = mid} trivia stop other p) (in_note {mid = end} also too off q) =
     note_one mid r s p (subst (λ x. FailsInNote x s) (sym (Trivia-unique trivia also stop too)) q)
 FailsInNotes-unique r s text (in_note {mid = mid} trivia stop other p) (after_note {mid = end} {after = after} also is q) =
-    absurd (note_not mid r after p (subst (λ x. Note x after) (sym (Trivia-unique trivia also stop (note_no_trivia end after is))) is))
+    absurd (note_not mid r after p
+    (subst (λ x. Note x after) (sym (Trivia-unique trivia also stop (note_no_trivia end after is))) is))
 FailsInNotes-unique r s text (after_note {mid = mid} {after = after} trivia is q) (open_comment_in_notes never end) =
     absurd (never mid (note_no_trivia mid after is) trivia)
 FailsInNotes-unique r s text (after_note {mid = end} {after = after} also is q) (in_note {mid = mid} trivia stop other p) =
-    absurd (note_not mid s after p (subst (λ x. Note x after) (sym (Trivia-unique trivia also stop (note_no_trivia end after is))) is))
+    absurd (note_not mid s after p
+    (subst (λ x. Note x after) (sym (Trivia-unique trivia also stop (note_no_trivia end after is))) is))
 FailsInNotes-unique r s text (after_note {mid = mid} {after = after} trivia is p) (after_note {mid = end} {after = behind} also too q) =
     let same = Trivia-unique trivia also (note_no_trivia mid after is) (note_no_trivia end behind too) in
     let ends = Note-unique mid after behind is (subst (λ x. Note x behind) (sym same) too) in
@@ -241,14 +265,15 @@ FailsInNotes-unique r s text (after_note {mid = mid} {after = after} trivia is p
 
 -- Notes do not fail.
 FailsInNotes-not : (r : Bytes) (text end : Bytes) → FailsInNotes r text → Notes text end → ⊥
-FailsInNotes-not r text end (open_comment_in_notes never ends) is =
-    let start = first_start is in never start.0 start.2 start.1
+FailsInNotes-not r text end (open_comment_in_notes never ends) is = let start = first_start is in never start.0 start.2 start.1
 FailsInNotes-not r text end (in_note {mid = mid} trivia stop other p) (none {rest = last} also block) =
     front_apart (λ b. b == 123) mid
-    (subst (λ x. first_byte_is (λ b. b == 123) x ≡ true) (Trivia-unique also trivia (block_no_trivia last block) stop) block) other
+    (subst (λ x. first_byte_is (λ b. b == 123) x ≡ true) (Trivia-unique also trivia (block_no_trivia last block) stop) block)
+    other
 FailsInNotes-not r text end (in_note {mid = mid} trivia stop other p) (note {mid = start} {after = after} also is more) =
     note_not mid r after p (subst (λ x. Note x after) (Trivia-unique also trivia (note_no_trivia start after is) stop) is)
-FailsInNotes-not r text end (after_note {mid = mid} {after = after} trivia is p) more = FailsInNotes-not r after end p (at_note more trivia is)
+FailsInNotes-not r text end (after_note {mid = mid} {after = after} trivia is p) more =
+    FailsInNotes-not r after end p (at_note more trivia is)
 
 -- Notes fail for one cause.
 note_cause_one : (rest : Bytes) (c d : TextCause) → IsNoteCause rest c → IsNoteCause rest d → c ≡ d
@@ -265,21 +290,30 @@ named_one : (text t after mid : Bytes) (arch : Arch)
 named_one text t after mid arch is also = (IsFirstToken-unique text (arch_keyword arch) mid t after also is).0
 
 -- The preamble fails uniquely.
-pub FailsInPreamble-unique : (text r s : Bytes) (c d : TextCause) → FailsInPreamble text r c → FailsInPreamble text s d → IsSameFault r c s d
+pub FailsInPreamble-unique : (text r s : Bytes) (c d : TextCause)
+    → FailsInPreamble text r c
+    → FailsInPreamble text s d
+    → IsSameFault r c s d
 FailsInPreamble-unique text r s c d (in_keyword p) (in_keyword q) = FailsInFirstToken-unique text r s c d p q
 FailsInPreamble-unique text r s c d (in_keyword p) (no_keyword end is q) = absurd (FailsInFirstToken-end text r c p end)
-FailsInPreamble-unique text r s c d (in_keyword p) (other_keyword t after is at other q) = absurd (FailsInFirstToken-not text r t after c p is)
-FailsInPreamble-unique text r s c d (in_keyword p) (in_test_name arch after is q) = absurd (FailsInFirstToken-not text r _ after c p is)
+FailsInPreamble-unique text r s c d (in_keyword p) (other_keyword t after is at other q) =
+    absurd (FailsInFirstToken-not text r t after c p is)
+FailsInPreamble-unique text r s c d (in_keyword p) (in_test_name arch after is q) =
+    absurd (FailsInFirstToken-not text r _ after c p is)
 FailsInPreamble-unique text r s c d (in_keyword p) (in_notes arch mid name after is names q cause) =
     absurd (FailsInFirstToken-not text r _ mid c p is)
 FailsInPreamble-unique text r s c d (no_keyword end is p) (in_keyword q) = absurd (FailsInFirstToken-end text s d q end)
 FailsInPreamble-unique text r s c d (no_keyword end is p) (no_keyword also at q) = (is ∙ sym at, p ∙ sym q)
-FailsInPreamble-unique text r s c d (no_keyword end is p) (other_keyword t after first at other q) = absurd (no_first text t after end first)
-FailsInPreamble-unique text r s c d (no_keyword end is p) (in_test_name arch after first q) = absurd (no_first text _ after end first)
+FailsInPreamble-unique text r s c d (no_keyword end is p) (other_keyword t after first at other q) =
+    absurd (no_first text t after end first)
+FailsInPreamble-unique text r s c d (no_keyword end is p) (in_test_name arch after first q) =
+    absurd (no_first text _ after end first)
 FailsInPreamble-unique text r s c d (no_keyword end is p) (in_notes arch mid name after first names q cause) =
     absurd (no_first text _ mid end first)
-FailsInPreamble-unique text r s c d (other_keyword t after is at other q) (in_keyword p) = absurd (FailsInFirstToken-not text s t after d p is)
-FailsInPreamble-unique text r s c d (other_keyword t after first at other q) (no_keyword end is p) = absurd (no_first text t after end first)
+FailsInPreamble-unique text r s c d (other_keyword t after is at other q) (in_keyword p) =
+    absurd (FailsInFirstToken-not text s t after d p is)
+FailsInPreamble-unique text r s c d (other_keyword t after first at other q) (no_keyword end is p) =
+    absurd (no_first text t after end first)
 FailsInPreamble-unique text r s c d (other_keyword t after is at other p) (other_keyword u behind also place another q) =
     let same = IsFirstToken-unique text t after u behind is also in
     (at ∙ ap (λ x. x ++ after) same.0 ∙ ap (λ x. u ++ x) same.1 ∙ sym place, p ∙ sym q)
@@ -287,13 +321,16 @@ FailsInPreamble-unique text r s c d (other_keyword t after is at other p) (in_te
     absurd (other arch (named_one text t after mid arch is also))
 FailsInPreamble-unique text r s c d (other_keyword t after is at other p) (in_notes arch mid name behind also names q cause) =
     absurd (other arch (named_one text t after mid arch is also))
-FailsInPreamble-unique text r s c d (in_test_name arch after is q) (in_keyword p) = absurd (FailsInFirstToken-not text s _ after d p is)
-FailsInPreamble-unique text r s c d (in_test_name arch after first q) (no_keyword end is p) = absurd (no_first text _ after end first)
+FailsInPreamble-unique text r s c d (in_test_name arch after is q) (in_keyword p) =
+    absurd (FailsInFirstToken-not text s _ after d p is)
+FailsInPreamble-unique text r s c d (in_test_name arch after first q) (no_keyword end is p) =
+    absurd (no_first text _ after end first)
 FailsInPreamble-unique text r s c d (in_test_name arch mid also q) (other_keyword t after is at other p) =
     absurd (other arch (named_one text t after mid arch is also))
 FailsInPreamble-unique text r s c d (in_test_name arch after is p) (in_test_name language mid also q) =
     FailsInTestName-unique after r s c d p
-    (subst (λ x. FailsInTestName x s d) (sym (IsFirstToken-unique text (arch_keyword arch) after (arch_keyword language) mid is also).1) q)
+    (subst (λ x. FailsInTestName x s d)
+    (sym (IsFirstToken-unique text (arch_keyword arch) after (arch_keyword language) mid is also).1) q)
 FailsInPreamble-unique text r s c d (in_test_name arch after is p) (in_notes language mid name behind also names q cause) =
     absurd (FailsInTestName-not after r name behind c p
     (subst (λ x. ParsesTestName x name behind)
@@ -310,7 +347,8 @@ FailsInPreamble-unique text r s c d (in_notes language mid name behind also name
     (sym (IsFirstToken-unique text (arch_keyword arch) after (arch_keyword language) mid is also).1) names))
 FailsInPreamble-unique text r s c d (in_notes arch mid name after is names p cause) (in_notes language end word behind also called q because) =
     let u = (IsFirstToken-unique text (arch_keyword arch) mid (arch_keyword language) end is also).1 in
-    let v = (ParsesTestName-unique mid name after word behind names (subst (λ x. ParsesTestName x word behind) (sym u) called)).1 in
+    let v =
+    (ParsesTestName-unique mid name after word behind names (subst (λ x. ParsesTestName x word behind) (sym u) called)).1 in
     let same = FailsInNotes-unique r s after p (subst (FailsInNotes s) (sym v) q) in
     (same, note_cause_one r c d cause (subst (λ x. IsNoteCause x d) (sym same) because))
 

@@ -7,8 +7,8 @@ pub use Rattle.std.proofs.Common.{inl, inr, is_some, length, length-append, leng
 pub use Rattle.std.proofs.Common.{ltb-false, ltb-true, map, map-id, mul-le-mul_left, mul_comm, nat_lt, ne_eqb}
 pub use Rattle.std.proofs.Common.{not, option_and_then, option_map, refl, reverse, rules, set, slice_get}
 pub use Rattle.std.proofs.Common.{slice_index_or, sub-one, subst, suc, sym, take, take_all, take_at, true}
-pub use Rattle.std.proofs.Common.{true≢false, unwrap_or, zero, zero-add, zip, ℕ, ◌&&◌, ◌*◌, ◌++◌, ◌+◌, ◌-◌}
-pub use Rattle.std.proofs.Common.{◌<◌, ◌==◌, ◌^◌, ◌||◌, ◌∙◌, ◌∷◌, ◌≡◌, ◌≢◌, ◌≤◌, ◌⊎◌}
+pub use Rattle.std.proofs.Common.{true≢false, zero, zero-add, zip, ℕ, ◌&&◌, ◌*◌, ◌++◌, ◌+◌, ◌-◌, ◌<◌, ◌==◌}
+pub use Rattle.std.proofs.Common.{◌^◌, ◌||◌, ◌∙◌, ◌∷◌, ◌≡◌, ◌≢◌, ◌≤◌, ◌⊎◌}
 pub use Rattle.std.proofs.Math.ListN.{get_or-append}
 pub use Rattle.std.proofs.Math.Path.{fun_ext}
 pub use Rattle.std.proofs.Math.Seq.{drop-append_seam, get_or-append_seam, set-append_seam, take-append_seam}
@@ -20,6 +20,7 @@ pub use Rattle.std.proofs.lemmas.Grind.{flat_map-append}
 pub use Rattle.std.proofs.lemmas.List.{append_cancel_left, drop_all, length-map, length-reverse, map-append}
 pub use Rattle.std.proofs.lemmas.List.{map_push, nil_from_length, reverse-append}
 pub use Rattle.std.proofs.lemmas.List.Elements.{All-from_recursion, All-nil, filter-append, filter_map-append}
+pub use Rattle.std.proofs.lemmas.List.Elements.{recursion_from_All}
 pub use Rattle.std.proofs.lemmas.List.Folds.{fold_stays, list_any_at, list_any_more}
 pub use Rattle.std.proofs.lemmas.List.FromFn.{get_or-range_with_len, length-map-range_with_len}
 pub use Rattle.std.proofs.lemmas.List.FromFn.{length-range_with_len, map-range_with_len_more}
@@ -51,7 +52,7 @@ pub use Rattle.lw_base.proofs.api.GrowingTables.{contains_name-insert_name, cont
 pub use Rattle.lw_base.proofs.api.GrowingTables.{insert_name-grows, insert_names-append, insert_names-longer}
 pub use Rattle.lw_base.proofs.api.GrowingTables.{once-along, position_of_name-insert_names}
 pub use Rattle.lw_base.proofs.api.GrowingTables.{position_of_name-within}
-pub use Rattle.lw_base.proofs.api.Lists.{get_some}
+pub use Rattle.lw_base.proofs.api.Lists.{cons_head, get_some}
 pub use Rattle.lw_base.proofs.api.Registers.{register_unique}
 pub use Rattle.lw_base.proofs.api.SeenLists.{all_ascending, all_seen, ascending_filter}
 pub use Rattle.lw_base.proofs.api.Tables.{IsInTable, position_of_name-again, position_of_name-at}
@@ -64,18 +65,32 @@ pub use Rattle.lw_base.specs.declared.head.Seen.TheVariants.{Location, Register}
 pub use Rattle.lw_base.specs.declared.proposition.Prop.{Prop}
 pub use Rattle.lw_text.specs.Causes.{IsOfReader}
 pub use Rattle.lw_text.specs.Combinators.{ParsesMany, ParsesManyTill, ParsesSepBy, ParsesSepEndBy}
-pub use Rattle.lw_text.specs.Conditions.{Always, AtomSyntax, Condition, Holds, IsAtom, IsTerminal, Listed}
-pub use Rattle.lw_text.specs.Conditions.{Never, Quantified, Terminals, begins_token, resolved, site_of}
-pub use Rattle.lw_text.specs.Conditions.{sites_in}
+pub use Rattle.lw_text.specs.Conditions.{Always, AtomSyntax, Holds, IsAtom, IsTerminal, Listed, Never}
+pub use Rattle.lw_text.specs.Conditions.{Quantified, Terminals, begins_token, resolved, site_of, sites_in}
+pub use Rattle.lw_text.specs.Failures.{FailsBefore, FailsInAssignment, FailsInBlock, FailsInBrackets}
+pub use Rattle.lw_text.specs.Failures.{FailsInCondition, FailsInElements, FailsInHeader, FailsInInitializers}
+pub use Rattle.lw_text.specs.Failures.{FailsInList, FailsInName, FailsInProposition, FailsInQuantifier}
+pub use Rattle.lw_text.specs.Failures.{FailsInRegister, FailsInRow, FailsInRows, FailsInSite, FailsInSites}
+pub use Rattle.lw_text.specs.Failures.{FailsInTerminal, FailsInTest, FailsInValue, HasRoomForNode, IfFirst}
+pub use Rattle.lw_text.specs.Failures.{IsMisfitCause, IsNoNewLocation, PropositionPlace, ReadsBlock}
+pub use Rattle.lw_text.specs.Failures.{after_terminal, first_place, in_block, in_bracketed_name, in_brackets}
+pub use Rattle.lw_text.specs.Failures.{in_condition, in_element, in_elements_after, in_header}
+pub use Rattle.lw_text.specs.Failures.{in_initializers, in_list, in_name, in_next_thread, in_proposition}
+pub use Rattle.lw_text.specs.Failures.{in_quantifier, in_register, in_row, in_rows, in_rows_after, in_site}
+pub use Rattle.lw_text.specs.Failures.{in_sites, in_terminal, in_value, incomplete, next_place, no_brace}
+pub use Rattle.lw_text.specs.Failures.{no_bracket, no_colon, no_end, no_equals, no_exists, no_list_bracket}
+pub use Rattle.lw_text.specs.Failures.{no_mark, no_number, no_quantifier, no_register_name, no_such_thread}
+pub use Rattle.lw_text.specs.Failures.{no_thread, no_thread_mark, no_thread_name, opening_words, ragged}
+pub use Rattle.lw_text.specs.Failures.{too_many_nodes, too_many_rows, too_many_threads, unopened}
 pub use Rattle.lw_text.specs.Frames.{Block, HasFrame, InitializerSyntax, IsInitializer, ParsesNoTest}
 pub use Rattle.lw_text.specs.Frames.{ParsesTest, TestFrame, TestSyntax, frame_of_syntax, head_of_syntax}
 pub use Rattle.lw_text.specs.Frames.{initial_word_of, listed_in, location_table, sites_of}
 pub use Rattle.lw_text.specs.PlacedCells.{CellsFrom, HasCells, HasRows, PlacedCell, RowsFrom, texts_of_cells}
 pub use Rattle.lw_text.specs.PlacedCells.{texts_of_grid}
-pub use Rattle.lw_text.specs.PlacedTokens.{PlacedToken, PlacedTokens, texts_of_tokens}
+pub use Rattle.lw_text.specs.PlacedTokens.{IsPlacedToken, PlacedToken, PlacedTokens, texts_of_tokens}
 pub use Rattle.lw_text.specs.Places.{EndsBefore, all_texts, cell_texts, cells_texts, height, placed_cell}
 pub use Rattle.lw_text.specs.Places.{placed_cells, placed_row, with_span, with_spans}
-pub use Rattle.lw_text.specs.Preambles.{KeyLine, Note, Notes, ParsesTestName, Preamble, Quoted, note}
+pub use Rattle.lw_text.specs.Preambles.{KeyLine, Note, Notes, ParsesTestName, Preamble, Quoted, none, note}
 pub use Rattle.lw_text.specs.Propositions.{Atom, Close, Conjunction, ConjunctionLevel, Derives, Disjunction}
 pub use Rattle.lw_text.specs.Propositions.{DisjunctionLevel, HasFewNodes, IsProposition, Level, Negation}
 pub use Rattle.lw_text.specs.Propositions.{Open, PartLevel, Terminal, and, atom, conjunction, is_node}
@@ -86,32 +101,45 @@ pub use Rattle.lw_text.specs.Sites.{HasRoomFor, HasRoomForName, InMemory, InThre
 pub use Rattle.lw_text.specs.Sites.{ThreadAllowed, ThreadExists, Value, seen_in, site_name, site_names}
 pub use Rattle.lw_text.specs.Sites.{with_sites}
 pub use Rattle.lw_text.specs.Spans.{IsSuffix, Spans, token_texts}
+pub use Rattle.lw_text.specs.TextFailures.{FailsAt, FailsInBody, FailsInFirstToken, FailsInKeyLine}
+pub use Rattle.lw_text.specs.TextFailures.{FailsInNote, FailsInNotes, FailsInPreamble, FailsInTestName}
+pub use Rattle.lw_text.specs.TextFailures.{FailsInToken, HasOpenComment, HasTokens, IsLongestRun, IsNoteCause}
+pub use Rattle.lw_text.specs.TextFailures.{after_note, at_end, at_token, bad_name, in_body, in_key_line}
+pub use Rattle.lw_text.specs.TextFailures.{in_keyword, in_next_token, in_note, in_notes, in_preamble}
+pub use Rattle.lw_text.specs.TextFailures.{in_test_name, in_token, no_blank, no_equals_sign, no_keyword}
+pub use Rattle.lw_text.specs.TextFailures.{no_name, no_name_run, no_number_run, no_symbol, open_comment}
+pub use Rattle.lw_text.specs.TextFailures.{open_comment_in_notes, open_quote, other_keyword}
 pub use Rattle.lw_text.specs.TokenKinds.{IsOfKind}
 pub use Rattle.lw_text.specs.Tokens.{Comment, Digits, IsFirstToken, IsNameOrNumber, IsNameRun, IsNumber}
 pub use Rattle.lw_text.specs.Tokens.{IsSymbol, IsToken, Tokens, Trivia, begins_mark, begins_pair}
 pub use Rattle.lw_text.specs.Tokens.{begins_trivia, blank, closed, comment, is_one_byte_symbol}
-pub use Rattle.lw_text.specs.Tokens.{is_two_byte_symbol, nested, none, one_byte_symbols, opens_comment, other}
+pub use Rattle.lw_text.specs.Tokens.{is_two_byte_symbol, nested, one_byte_symbols, opens_comment, other}
 pub use Rattle.lw_text.specs.Tokens.{two_byte_symbols}
-pub use Rattle.lw_text.specs.Views.{AdvancesTo, frame_of, remaining, remaining_texts}
+pub use Rattle.lw_text.specs.Views.{AdvancesTo, BeginsAt, Fails, FailsFrom, frame_of, remaining}
+pub use Rattle.lw_text.specs.Views.{remaining_texts}
 pub use Rattle.lw_text.specs.declared.block.Initializer.{Initializer}
 pub use Rattle.lw_text.specs.declared.cell.Cell.{Cell}
 pub use Rattle.lw_text.specs.declared.cursor.Cursor.{Cursor}
 pub use Rattle.lw_text.specs.declared.fault.Fault.{Fault}
 pub use Rattle.lw_text.specs.declared.fault.Refusal.{Refusal}
-pub use Rattle.lw_text.specs.declared.fault.TextCause.TheVariants.{Memory, NotUtf8, TooLong, Unexpected}
+pub use Rattle.lw_text.specs.declared.fault.TextCause.{TextCause}
+pub use Rattle.lw_text.specs.declared.fault.TextCause.TheVariants.{Condition, Memory, Name, NotUtf8, Number}
+pub use Rattle.lw_text.specs.declared.fault.TextCause.TheVariants.{TooLong, TooManyThreads, Unexpected}
 pub use Rattle.lw_text.specs.declared.fault.TextCause.TheVariants.{Unterminated}
 pub use Rattle.lw_text.specs.declared.parts.ParsedBody.{ParsedBody}
 pub use Rattle.lw_text.specs.declared.proposition_reader.PropositionReader.{PropositionReader}
 pub use Rattle.lw_text.specs.declared.site.Site.{Site}
 pub use Rattle.lw_text.specs.declared.token.Token.{Token}
 pub use Rattle.lw_text.specs.declared.token_kind.TokenKind.TheVariants.{Symbol}
-pub use Rattle.lw_text.specs.inner.Parsed.{Fits, NoCondition, NoProposition, ParsedBlock, ParsedCell}
-pub use Rattle.lw_text.specs.inner.Parsed.{ParsedCondition, ParsedNameList, ParsedProposition, ParsedSite}
-pub use Rattle.lw_text.specs.inner.Parsed.{ParsedTerminal}
+pub use Rattle.lw_text.specs.inner.Parsed.{BeginInitializers, BeginsInitializer, Fits, NoCondition}
+pub use Rattle.lw_text.specs.inner.Parsed.{NoProposition, ParsedBlock, ParsedCell, ParsedCondition}
+pub use Rattle.lw_text.specs.inner.Parsed.{ParsedNameList, ParsedProposition, ParsedSite, ParsedTerminal}
+pub use Rattle.lw_text.specs.inner.Parsed.{StopsAt, StreamFails, at_stream_end, at_stream_fault}
+pub use Rattle.lw_text.specs.inner.Parsed.{at_stream_token}
 pub use Rattle.lw_text.specs.inner.ReaderStates.{BeforePart, BehindPart, Pending, ReaderState, after_and}
 pub use Rattle.lw_text.specs.inner.ReaderStates.{after_or, ands_of, begins_part, group_of}
 pub use Rattle.lw_text.specs.inner.ReaderStates.{initial_reader_state, negations, next_state, opened, ors_of}
-pub use Rattle.lw_text.specs.inner.ReaderStates.{reader_state_in, state_of, state_result, with_not}
+pub use Rattle.lw_text.specs.inner.ReaderStates.{place_of, reader_state_in, state_of, state_result, with_not}
 pub use Rattle.lw_text.specs.inner.Resolved.{HasSyntax, IsIn, TerminalIn, is_allowed, is_listed}
 pub use Rattle.lw_text.specs.inner.Resolved.{named_initializer, named_terminal, resolved_head, seen_of}
 pub use Rattle.lw_text.specs.inner.Resolved.{site_by_name, syntax_of, thread_exists, word_at}

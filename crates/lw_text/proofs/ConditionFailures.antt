@@ -1,25 +1,30 @@
 -- A condition fails at one place only, and for one cause; and no tokens fail that are one.
-use Rattle.lw_text.proofs.Common.{◌≡◌, ◌≢◌, ◌⊎◌, ℕ, zero, suc, ◌+◌, ◌≤◌, Option, None, Some, List, [], ◌∷◌, length, map, filter, option_map}
-use Rattle.lw_text.proofs.Common.{Bool, true, false, refl, sym, ap, ◌∙◌, subst, inl, inr, arith, codes, option_and_then, fold_stays}
-use Rattle.lw_text.proofs.Common.{AllByRecursion, Arch, Bytes, NameTable, TokenList, Quant, Formula, ThreadExists, HasRoomFor, with_sites}
-use Rattle.lw_text.proofs.Common.{insert_names-longer, site_names, Listed, Quantified, Terminal, Open, Close, Negation, Conjunction, Disjunction}
-use Rattle.lw_text.proofs.Common.{Atom, AtomSyntax, Always, Never, Holds, IsTerminal, Terminals, Condition, Fits, NoCondition, resolved}
-use Rattle.lw_text.proofs.Common.{is_node, sites_in, ReaderState, BeforePart, BehindPart, initial_reader_state, next_state, state_result, SiteSyntax}
+use Rattle.lw_text.proofs.Common.{cons_head, ◌≡◌, ◌≢◌, ◌⊎◌, ℕ, zero, suc, ◌+◌, ◌≤◌, Option, None, Some, List}
+use Rattle.lw_text.proofs.Common.{[], ◌∷◌, length, map, filter, option_map, Bool, true, false, refl, sym, ap}
+use Rattle.lw_text.proofs.Common.{◌∙◌, subst, inl, inr, arith, codes, option_and_then, fold_stays}
+use Rattle.lw_text.proofs.Common.{AllByRecursion, Arch, Bytes, NameTable, TokenList, Quant, Formula}
+use Rattle.lw_text.proofs.Common.{ThreadExists, HasRoomFor, with_sites, insert_names-longer, site_names}
+use Rattle.lw_text.proofs.Common.{Listed, Quantified, Terminal, Open, Close, Negation, Conjunction}
+use Rattle.lw_text.proofs.Common.{Disjunction, Atom, AtomSyntax, Always, Never, Holds, IsTerminal, Terminals}
+use Rattle.lw_text.proofs.Common.{Fits, NoCondition, resolved, is_node, sites_in, ReaderState, BeforePart}
+use Rattle.lw_text.proofs.Common.{BehindPart, initial_reader_state, next_state, state_result, SiteSyntax}
+use Rattle.lw_text.proofs.Common.{IfFirst, FailsInQuantifier, opening_words, FailsInTerminal}
+use Rattle.lw_text.proofs.Common.{PropositionPlace, first_place, next_place, HasRoomForNode}
+use Rattle.lw_text.proofs.Common.{FailsInProposition, incomplete, too_many_nodes, in_terminal, unopened}
+use Rattle.lw_text.proofs.Common.{after_terminal, FailsInCondition, in_list, in_quantifier, in_proposition}
+use Rattle.lw_text.proofs.Common.{place_of, TextCause}
+use Rattle.lw_text.specs.Conditions.{Condition}
 use Rattle.lw_text.proofs.api.PropositionNodes.{count, count_append}
-use Rattle.lw_text.proofs.Failures.{same_head, same_tail}
-use Rattle.lw_text.proofs.FailureUniqueness.{IsSameFailure, FailsUniquely, first_holds, FailsBefore-unique, FailsBefore-not}
-use Rattle.lw_text.proofs.FailureUniqueness.{FailsInAssignment-unique, FailsInAssignment-not}
+use Rattle.lw_text.proofs.Failures.{same_tail}
+use Rattle.lw_text.proofs.FailureUniqueness.{IsSameFailure, FailsUniquely, first_holds, FailsBefore-unique}
+use Rattle.lw_text.proofs.FailureUniqueness.{FailsBefore-not, FailsInAssignment-unique, FailsInAssignment-not}
 use Rattle.lw_text.proofs.PropositionCases.{one_node, with_sites_in-append}
 use Rattle.lw_text.proofs.PropositionReadings.{state_after_terminals, said_at, derived_said}
 use Rattle.lw_text.proofs.SiteLists.{Listed-unique}
 use Rattle.lw_text.proofs.TerminalLists.{IsTerminal-unique, IsTerminal-shorter}
-use Rattle.lw_text.proofs.TestFailures.{FailsInList-unique, FailsInList-not, FailsInQuantifier-unique, FailsInQuantifier-not}
+use Rattle.lw_text.proofs.TestFailures.{FailsInList-unique, FailsInList-not, FailsInQuantifier-unique}
+use Rattle.lw_text.proofs.TestFailures.{FailsInQuantifier-not}
 use Rattle.lw_text.proofs.Whole.{Quantified-unique}
-use Rattle.lw_text.specs.Failures.{IfFirst, FailsInQuantifier, opening_words, FailsInTerminal, PropositionPlace, first_place, next_place, HasRoomForNode}
-use Rattle.lw_text.specs.Failures.{FailsInProposition, incomplete, too_many_nodes, in_terminal, unopened, after_terminal}
-use Rattle.lw_text.specs.Failures.{FailsInCondition, in_list, in_quantifier, in_proposition}
-use Rattle.lw_text.specs.inner.ReaderStates.{place_of}
-use Rattle.lw_text.specs.declared.fault.TextCause.{TextCause}
 use Rattle.lw_text.specs.declared.fault.TextCause.TheVariants as cause
 
 -- The signs that follow a part.
@@ -56,8 +61,8 @@ module _ (arch : Arch) (threads : ℕ) where
   opening_not ts mid w first begins one = one (first_holds (λ t. AllByRecursion (λ v. t ≢ v) opening_words) ts mid w begins first)
 
   -- A terminal that is possible at the place, and whose location has room, does not fail.
-  FailsInTerminal-not : (part : Bool) (n : ℕ) (names : NameTable) (ts rest mid : TokenList) (because : TextCause) (s : Terminal AtomSyntax)
-      (next : PropositionPlace)
+  FailsInTerminal-not : (part : Bool) (n : ℕ) (names : NameTable) (ts rest mid : TokenList) (because : TextCause)
+      (s : Terminal AtomSyntax) (next : PropositionPlace)
       → FailsInTerminal arch threads part names ts rest because
       → IsTerminal arch threads ts s mid
       → next_place (part, n) s ≡ Some next
@@ -77,7 +82,8 @@ module _ (arch : Arch) (threads : ℕ) where
   FailsInTerminal-not true n names ts rest mid because (Atom Never) next fails is step room =
       opening_not ts mid (codes "false") fails.0 is (λ all. all.1.1.1.1.0 refl)
   FailsInTerminal-not true n names ts rest mid because (Atom (Holds site word)) next fails is step room =
-      FailsInAssignment-not arch (Some threads) names cause.Condition ts rest is.0 mid because site word fails.1 is.1 is.2 room is.3
+      FailsInAssignment-not arch (Some threads) names cause.Condition ts rest is.0 mid because site word fails.1 is.1 is.2 room
+      is.3
   FailsInTerminal-not false n names ts rest mid because Close next fails is step room =
       FailsBefore-not joints cause.Condition ts rest mid because (codes ")") fails is (λ all. all.0 refl)
   FailsInTerminal-not false n names ts rest mid because Conjunction next fails is step room =
@@ -94,7 +100,8 @@ module _ (arch : Arch) (threads : ℕ) where
   -- After a part outside of all parentheses no `)` is possible.
   no_close : (place next : PropositionPlace) → place ≡ (false, 0) → next_place {A = AtomSyntax} place Close ≡ Some next → ⊥
   no_close place next is step =
-      let k : next_place {A = AtomSyntax} (false, 0) Close ≡ Some next = subst (λ (p : PropositionPlace). next_place {A = AtomSyntax} p Close ≡ Some next) is step in
+      let k : next_place {A = AtomSyntax} (false, 0) Close ≡ Some next =
+      subst (λ (p : PropositionPlace). next_place {A = AtomSyntax} p Close ≡ Some next) is step in
       cc k
 
   -- A `)` that closes nothing is not a terminal that is possible.
@@ -116,10 +123,12 @@ module _ (arch : Arch) (threads : ℕ) where
       → ⊥
   unopened_no_terminal place names ts rest after because is begins fails =
       FailsBefore-not joints cause.Condition ts rest after because (codes ")")
-      (subst (λ (p : PropositionPlace). FailsInTerminal arch threads p.0 names ts rest because) is fails) begins (λ all. all.0 refl)
+      (subst (λ (p : PropositionPlace). FailsInTerminal arch threads p.0 names ts rest because) is fails) begins
+      (λ all. all.0 refl)
 
   -- A proposition fails uniquely, from each place on.
-  FailsInProposition-unique : (r s : TokenList) (d e : TextCause) (place : PropositionPlace) (nodes : ℕ) (names : NameTable) (ts : TokenList)
+  FailsInProposition-unique : (r s : TokenList) (d e : TextCause) (place : PropositionPlace) (nodes : ℕ) (names : NameTable)
+      (ts : TokenList)
       → FailsInProposition arch threads r d place nodes names ts
       → FailsInProposition arch threads s e place nodes names ts
       → IsSameFailure r d s e
@@ -127,26 +136,27 @@ module _ (arch : Arch) (threads : ℕ) where
       (is ∙ sym at, λ some. absurd (some is))
   FailsInProposition-unique r s d e place nodes names ts (incomplete part_open end is) (too_many_nodes some full at first because) =
       absurd (some end)
-  FailsInProposition-unique r s d e place nodes names ts (incomplete part_open end is) (in_terminal some room fails) = absurd (some end)
+  FailsInProposition-unique r s d e place nodes names ts (incomplete part_open end is) (in_terminal some room fails) =
+      absurd (some end)
   FailsInProposition-unique r s d e place nodes names ts (incomplete part_open end is) (unopened here begins at because) =
       absurd (omega (arith, ap length (sym end ∙ begins)))
   FailsInProposition-unique r s d e place nodes names ts (incomplete part_open end is) (after_terminal t mid next room terminal has step q) =
       absurd (some_here ts mid t terminal end)
   FailsInProposition-unique r s d e place nodes names ts (too_many_nodes some full at first because) (incomplete part_open end is) =
       absurd (some end)
-  FailsInProposition-unique r s d e place nodes names ts (too_many_nodes some full at first because)
-      (too_many_nodes also too is second cause) =
+  FailsInProposition-unique r s d e place nodes names ts (too_many_nodes some full at first because) (too_many_nodes also too is second cause) =
       (sym at ∙ is, λ there. because ∙ sym cause)
   FailsInProposition-unique r s d e place nodes names ts (too_many_nodes some full at first because) (in_terminal also room fails) =
       absurd (first_parenthesis ts some (room full)
       (subst (IfFirst (λ t. AllByRecursion (λ w. t ≢ w) (codes "(" ∷ codes ")" ∷ []))) (sym at) first))
   FailsInProposition-unique r s d e place nodes names ts (too_many_nodes some full at first because) (unopened here begins is cause) =
-      absurd ((first_holds (λ t. AllByRecursion (λ w. t ≢ w) (codes "(" ∷ codes ")" ∷ [])) r _ (codes ")") (sym at ∙ begins) first).1.0 refl)
-  FailsInProposition-unique r s d e place nodes names ts (too_many_nodes some full at first because)
-      (after_terminal t mid next room terminal has step q) =
+      absurd ((first_holds (λ t. AllByRecursion (λ w. t ≢ w) (codes "(" ∷ codes ")" ∷ [])) r _ (codes ")") (sym at ∙ begins)
+      first).1.0 refl)
+  FailsInProposition-unique r s d e place nodes names ts (too_many_nodes some full at first because) (after_terminal t mid next room terminal has step q) =
       absurd (first_parenthesis ts some (room full)
       (subst (IfFirst (λ t. AllByRecursion (λ w. t ≢ w) (codes "(" ∷ codes ")" ∷ []))) (sym at) first))
-  FailsInProposition-unique r s d e place nodes names ts (in_terminal some room fails) (incomplete part_open end is) = absurd (some end)
+  FailsInProposition-unique r s d e place nodes names ts (in_terminal some room fails) (incomplete part_open end is) =
+      absurd (some end)
   FailsInProposition-unique r s d e place nodes names ts (in_terminal also room fails) (too_many_nodes some full at first because) =
       absurd (first_parenthesis ts some (room full)
       (subst (IfFirst (λ t. AllByRecursion (λ w. t ≢ w) (codes "(" ∷ codes ")" ∷ []))) (sym at) first))
@@ -154,40 +164,36 @@ module _ (arch : Arch) (threads : ℕ) where
       FailsInTerminal-unique place.0 names ts r s d e fails more
   FailsInProposition-unique r s d e place nodes names ts (in_terminal some room fails) (unopened here begins is because) =
       absurd (unopened_no_terminal place names ts r _ d here begins fails)
-  FailsInProposition-unique r s d e (part, n) nodes names ts (in_terminal some room fails)
-      (after_terminal t mid next also terminal has step q) =
+  FailsInProposition-unique r s d e (part, n) nodes names ts (in_terminal some room fails) (after_terminal t mid next also terminal has step q) =
       absurd (FailsInTerminal-not part n names ts r mid d t next fails terminal step has)
   FailsInProposition-unique r s d e place nodes names ts (unopened here begins at because) (incomplete part_open end is) =
       absurd (omega (arith, ap length (sym end ∙ begins)))
   FailsInProposition-unique r s d e place nodes names ts (unopened here begins is cause) (too_many_nodes some full at first because) =
-      absurd ((first_holds (λ t. AllByRecursion (λ w. t ≢ w) (codes "(" ∷ codes ")" ∷ [])) s _ (codes ")") (sym at ∙ begins) first).1.0 refl)
+      absurd ((first_holds (λ t. AllByRecursion (λ w. t ≢ w) (codes "(" ∷ codes ")" ∷ [])) s _ (codes ")") (sym at ∙ begins)
+      first).1.0 refl)
   FailsInProposition-unique r s d e place nodes names ts (unopened here begins is because) (in_terminal some room fails) =
       absurd (unopened_no_terminal place names ts s _ e here begins fails)
   FailsInProposition-unique r s d e place nodes names ts (unopened here begins is because) (unopened also again at cause) =
       (sym is ∙ at, λ some. because ∙ sym cause)
-  FailsInProposition-unique r s d e place nodes names ts (unopened here begins is because)
-      (after_terminal t mid next room terminal has step q) =
+  FailsInProposition-unique r s d e place nodes names ts (unopened here begins is because) (after_terminal t mid next room terminal has step q) =
       absurd (unopened_not place next ts _ mid t here begins terminal step)
   FailsInProposition-unique r s d e place nodes names ts (after_terminal t mid next room terminal has step q) (incomplete part_open end is) =
       absurd (some_here ts mid t terminal end)
-  FailsInProposition-unique r s d e place nodes names ts (after_terminal t mid next room terminal has step q)
-      (too_many_nodes some full at first because) =
+  FailsInProposition-unique r s d e place nodes names ts (after_terminal t mid next room terminal has step q) (too_many_nodes some full at first because) =
       absurd (first_parenthesis ts some (room full)
       (subst (IfFirst (λ t. AllByRecursion (λ w. t ≢ w) (codes "(" ∷ codes ")" ∷ []))) (sym at) first))
-  FailsInProposition-unique r s d e (part, n) nodes names ts (after_terminal t mid next also terminal has step q)
-      (in_terminal some room fails) =
+  FailsInProposition-unique r s d e (part, n) nodes names ts (after_terminal t mid next also terminal has step q) (in_terminal some room fails) =
       absurd (FailsInTerminal-not part n names ts s mid e t next fails terminal step has)
-  FailsInProposition-unique r s d e place nodes names ts (after_terminal t mid next room terminal has step q)
-      (unopened here begins is because) =
+  FailsInProposition-unique r s d e place nodes names ts (after_terminal t mid next room terminal has step q) (unopened here begins is because) =
       absurd (unopened_not place next ts _ mid t here begins terminal step)
-  FailsInProposition-unique r s d e place nodes names ts (after_terminal t mid next room terminal has step p)
-      (after_terminal u other then more another too again q) =
+  FailsInProposition-unique r s d e place nodes names ts (after_terminal t mid next room terminal has step p) (after_terminal u other then more another too again q) =
       let same = IsTerminal-unique arch threads ts t u mid other terminal another in
       let F = λ (pl : PropositionPlace) (x : Terminal AtomSyntax) (l : TokenList).
-      FailsInProposition arch threads s e pl (nodes + length (filter is_node (x ∷ []))) (with_sites names (sites_in (x ∷ []))) l in
-      let onward : next ≡ then =
-      some_one (sym step ∙ ap (λ (x : Terminal AtomSyntax). next_place place x) same.0 ∙ again) in
-      FailsInProposition-unique r s d e next (nodes + length (filter is_node (t ∷ []))) (with_sites names (sites_in (t ∷ []))) mid p
+      FailsInProposition arch threads s e pl (nodes + length (filter is_node (x ∷ []))) (with_sites names (sites_in (x ∷ [])))
+      l in
+      let onward : next ≡ then = some_one (sym step ∙ ap (λ (x : Terminal AtomSyntax). next_place place x) same.0 ∙ again) in
+      FailsInProposition-unique r s d e next (nodes + length (filter is_node (t ∷ []))) (with_sites names (sites_in (t ∷ []))) mid
+      p
       (subst (λ pl. F pl t mid) (sym onward) (subst (λ l. F then t l) (sym same.1) (subst (λ x. F then x other) (sym same.0) q)))
     where
       some_one : {a b : PropositionPlace} → Some a ≡ Some b → a ≡ b
@@ -271,8 +277,8 @@ module _ (arch : Arch) (threads : ℕ) where
   )
 
   -- The rest of a proposition does not fail.
-  FailsInProposition-not : (rest : TokenList) (because : TextCause) (place : PropositionPlace) (nodes : ℕ) (names : NameTable) (ts : TokenList)
-      (state : ReaderState) (more : List (Terminal AtomSyntax)) (p : Formula)
+  FailsInProposition-not : (rest : TokenList) (because : TextCause) (place : PropositionPlace) (nodes : ℕ) (names : NameTable)
+      (ts : TokenList) (state : ReaderState) (more : List (Terminal AtomSyntax)) (p : Formula)
       → FailsInProposition arch threads rest because place nodes names ts
       → place ≡ place_of state
       → Terminals arch threads ts more
@@ -284,43 +290,46 @@ module _ (arch : Arch) (threads : ℕ) where
       part_open (here ∙ result_place state p said)
   FailsInProposition-not rest because place nodes names ts state [] p (too_many_nodes some full at first cause) here all said few room =
       some all
-  FailsInProposition-not rest because place nodes names ts state [] p (in_terminal some has fails) here all said few room = some all
+  FailsInProposition-not rest because place nodes names ts state [] p (in_terminal some has fails) here all said few room =
+      some all
   FailsInProposition-not rest because place nodes names ts state [] p (unopened at begins is cause) here all said few room =
       omega (arith, ap length (sym all ∙ begins))
-  FailsInProposition-not rest because place nodes names ts state [] p (after_terminal t mid next has terminal fits step q) here all said few
-      room =
+  FailsInProposition-not rest because place nodes names ts state [] p (after_terminal t mid next has terminal fits step q) here all said few room =
       some_here ts mid t terminal all
   FailsInProposition-not rest because place nodes names ts state (s ∷ ss) p (incomplete part_open end is) here all said few room =
       some_here ts all.0 s all.1 end
   FailsInProposition-not rest because place nodes names ts state (s ∷ ss) p (too_many_nodes some full at first cause) here all said few room =
       elim (no_node ts all.0 s all.1 (no_node_left nodes s ss full few)) [
         | inl opens ↦
-            (first_holds (λ t. AllByRecursion (λ w. t ≢ w) (codes "(" ∷ codes ")" ∷ [])) rest all.0 (codes "(") (sym at ∙ opens) first).0
-            refl
+            (first_holds (λ t. AllByRecursion (λ w. t ≢ w) (codes "(" ∷ codes ")" ∷ [])) rest all.0 (codes "(") (sym at ∙ opens)
+            first).0 refl
         | inr closes ↦
-            (first_holds (λ t. AllByRecursion (λ w. t ≢ w) (codes "(" ∷ codes ")" ∷ [])) rest all.0 (codes ")") (sym at ∙ closes) first).1.0
-            refl
+            (first_holds (λ t. AllByRecursion (λ w. t ≢ w) (codes "(" ∷ codes ")" ∷ [])) rest all.0 (codes ")") (sym at ∙ closes)
+            first).1.0 refl
       ]
   FailsInProposition-not rest because place nodes names ts state (s ∷ ss) p (in_terminal some has fails) here all said few room =
-      let after = state_after state (resolved (with_sites names (sites_in (s ∷ ss))) s)
+      let after =
+      state_after state (resolved (with_sites names (sites_in (s ∷ ss))) s)
       (map (resolved (with_sites names (sites_in (s ∷ ss)))) ss) p said in
       FailsInTerminal-not (place_of state).0 (place_of state).1 names ts rest all.0 because s (place_of after.0)
       (subst (λ (pl : PropositionPlace). FailsInTerminal arch threads pl.0 names ts rest because) here fails) all.1
       (next_place-resolved state (with_sites names (sites_in (s ∷ ss))) s ∙ ap (option_map place_of) after.1)
       (first_names_room names s ss room)
   FailsInProposition-not rest because place nodes names ts state (s ∷ ss) p (unopened at begins is cause) here all said few room =
-      let after = state_after state (resolved (with_sites names (sites_in (s ∷ ss))) s)
+      let after =
+      state_after state (resolved (with_sites names (sites_in (s ∷ ss))) s)
       (map (resolved (with_sites names (sites_in (s ∷ ss)))) ss) p said in
       unopened_not (place_of state) (place_of after.0) ts _ all.0 s (sym here ∙ at) begins all.1
       (next_place-resolved state (with_sites names (sites_in (s ∷ ss))) s ∙ ap (option_map place_of) after.1)
-  FailsInProposition-not rest because place nodes names ts state (s ∷ ss) p (after_terminal t mid next has terminal fits step q) here all
-      said few room =
+  FailsInProposition-not rest because place nodes names ts state (s ∷ ss) p (after_terminal t mid next has terminal fits step q) here all said few room =
       let table = with_sites names (sites_in (s ∷ ss)) in
       let after = state_after state (resolved table s) (map (resolved table) ss) p said in
       let same = IsTerminal-unique arch threads ts t s mid all.0 terminal all.1 in
       let F = λ (x : Terminal AtomSyntax) (l : TokenList).
-      FailsInProposition arch threads rest because next (nodes + length (filter is_node (x ∷ []))) (with_sites names (sites_in (x ∷ []))) l in
-      let grown : table ≡ with_sites (with_sites names (sites_in (s ∷ []))) (sites_in ss) = with_sites_in-append names (s ∷ []) ss in
+      FailsInProposition arch threads rest because next (nodes + length (filter is_node (x ∷ [])))
+      (with_sites names (sites_in (x ∷ []))) l in
+      let grown : table ≡ with_sites (with_sites names (sites_in (s ∷ []))) (sites_in ss) =
+      with_sites_in-append names (s ∷ []) ss in
       FailsInProposition-not rest because next (nodes + count (s ∷ [])) (with_sites names (sites_in (s ∷ []))) all.0 after.0 ss p
       (subst (λ l. F s l) same.1 (subst (λ x. F x mid) same.0 q))
       (some_place (sym step
@@ -347,18 +356,15 @@ module _ (arch : Arch) (threads : ℕ) where
     FailsInCondition-unique ts r s d e (in_quantifier listed {mid = mid} lists there room p) (in_quantifier other {mid = end} also too has q) =
         FailsInQuantifier-unique mid r s d e p
         (subst (λ l. FailsInQuantifier l s e) (sym (Listed-unique arch ts listed other mid end lists also).1) q)
-    FailsInCondition-unique ts r s d e (in_quantifier listed {mid = mid} lists there room p)
-        (in_proposition other quant {mid = end} {after = after} also too has asks q) =
+    FailsInCondition-unique ts r s d e (in_quantifier listed {mid = mid} lists there room p) (in_proposition other quant {mid = end} {after = after} also too has asks q) =
         absurd (FailsInQuantifier-not mid r after d quant p
         (subst (λ l. Quantified l quant after) (sym (Listed-unique arch ts listed other mid end lists also).1) asks))
     FailsInCondition-unique ts r s d e (in_proposition listed quant lists there room asks p) (in_list q) =
         absurd (FailsInList-not arch threads names ts s _ e listed q lists there room)
-    FailsInCondition-unique ts r s d e (in_proposition other quant {mid = end} {after = after} also too has asks p)
-        (in_quantifier listed {mid = mid} lists there room q) =
+    FailsInCondition-unique ts r s d e (in_proposition other quant {mid = end} {after = after} also too has asks p) (in_quantifier listed {mid = mid} lists there room q) =
         absurd (FailsInQuantifier-not mid s after e quant q
         (subst (λ l. Quantified l quant after) (sym (Listed-unique arch ts listed other mid end lists also).1) asks))
-    FailsInCondition-unique ts r s d e (in_proposition listed quant {mid = mid} {after = after} lists there room asks p)
-        (in_proposition other another {mid = end} {after = behind} also too has questions q) =
+    FailsInCondition-unique ts r s d e (in_proposition listed quant {mid = mid} {after = after} lists there room asks p) (in_proposition other another {mid = end} {after = behind} also too has questions q) =
         let u = Listed-unique arch ts listed other mid end lists also in
         let v =
         Quantified-unique mid quant another after behind asks (subst (λ l. Quantified l another behind) (sym u.1) questions) in
@@ -377,8 +383,7 @@ module _ (arch : Arch) (threads : ℕ) where
         FailsInQuantifier-not mid rest is.behind_quant because quant fails
         (subst (λ l. Quantified l quant is.behind_quant)
         (sym (Listed-unique arch ts other listed mid is.behind_list lists is.lists).1) is.quantifies)
-    FailsInCondition-not ts rest because (in_proposition other another {mid = mid} {after = after} lists there room asks fails) listed quant
-        ss p is fits =
+    FailsInCondition-not ts rest because (in_proposition other another {mid = mid} {after = after} lists there room asks fails) listed quant ss p is fits =
         let u = Listed-unique arch ts other listed mid is.behind_list lists is.lists in
         let v =
         Quantified-unique mid another quant after is.behind_quant asks

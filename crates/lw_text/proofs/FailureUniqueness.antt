@@ -1,14 +1,16 @@
 -- Tokens fail at one place only, and for one cause; and tokens that parse do not fail. First of the smallest phrases, up to sites and values.
-use Rattle.lw_text.proofs.Common.{◌≡◌, ◌≢◌, ◌⊎◌, ℕ, Option, None, Some, List, [], ◌∷◌, refl, sym, ap, ◌∙◌, subst, inl, inr, codes}
-use Rattle.lw_text.proofs.Common.{AllByRecursion, Arch, Bytes, NameTable, TokenList, IsName, IsLocationName, IsNumber, IsRegisterName}
-use Rattle.lw_text.proofs.Common.{HasRoomFor, HasRoomForName, SiteSyntax, InMemory, InThread, IsSite, ThreadAllowed, Value}
+use Rattle.lw_text.proofs.Common.{cons_head, ◌≡◌, ◌≢◌, ◌⊎◌, ℕ, Option, None, Some, List, [], ◌∷◌, refl, sym}
+use Rattle.lw_text.proofs.Common.{ap, ◌∙◌, subst, inl, inr, codes, AllByRecursion, Arch, Bytes, NameTable}
+use Rattle.lw_text.proofs.Common.{TokenList, IsName, IsLocationName, IsNumber, IsRegisterName, HasRoomFor}
+use Rattle.lw_text.proofs.Common.{HasRoomForName, SiteSyntax, InMemory, InThread, IsSite, ThreadAllowed}
+use Rattle.lw_text.proofs.Common.{Value, IfFirst, FailsBefore, IsMisfitCause, IsNoNewLocation, FailsInName}
+use Rattle.lw_text.proofs.Common.{FailsInBrackets, in_bracketed_name, no_bracket, FailsInRegister, no_colon}
+use Rattle.lw_text.proofs.Common.{no_register_name, FailsInSite, in_name, in_brackets, no_thread, in_register}
+use Rattle.lw_text.proofs.Common.{FailsInValue, no_equals, no_number, FailsInAssignment, in_site, in_value}
+use Rattle.lw_text.proofs.Common.{TextCause}
 use Rattle.lw_text.proofs.Atoms.{number_no_name, bracket_no_name, IsSite-unique}
-use Rattle.lw_text.proofs.Failures.{same_head, same_tail}
+use Rattle.lw_text.proofs.Failures.{same_tail}
 use Rattle.lw_text.proofs.api.Numbers.{bracket_no_number, number-unique}
-use Rattle.lw_text.specs.Failures.{IfFirst, FailsBefore, IsMisfitCause, IsNoNewLocation, FailsInName, FailsInBrackets, in_bracketed_name}
-use Rattle.lw_text.specs.Failures.{no_bracket, FailsInRegister, no_colon, no_register_name, FailsInSite, in_name, in_brackets, no_thread}
-use Rattle.lw_text.specs.Failures.{in_register, FailsInValue, no_equals, no_number, FailsInAssignment, in_site, in_value}
-use Rattle.lw_text.specs.declared.fault.TextCause.{TextCause}
 
 -- Two failures are at the same place, and for the same cause, unless the input ends there.
 abbrev pub IsSameFailure : {X : Type 0} → List X → TextCause → List X → TextCause → Type 0
@@ -16,8 +18,11 @@ IsSameFailure rest cause other because = (rest ≡ other) × (rest ≢ [] → ca
 
 -- A way to fail is unique: from the same tokens it fails at one place, for one cause.
 abbrev pub FailsUniquely : {X : Type 0} → (List X → List X → TextCause → Type 0) → Type 0
-FailsUniquely {X} Way =
-    (ts rest other : List X) (cause because : TextCause) → Way ts rest cause → Way ts other because → IsSameFailure rest cause other because
+FailsUniquely {X} way =
+    (ts rest other : List X) (cause because : TextCause)
+    → way ts rest cause
+    → way ts other because
+    → IsSameFailure rest cause other because
 
 -- A failure at the first token is unique if its cause is.
 pub at_once : (P : Bytes → TextCause → Type 0)
@@ -49,11 +54,13 @@ pub FailsBefore-not : (words : List Bytes) (c : TextCause) (ts rest l : TokenLis
     → ts ≡ w ∷ l
     → (AllByRecursion (λ v. w ≢ v) words → ⊥)
     → ⊥
-FailsBefore-not words c ts rest l cause w fails begins one =
-    one (first_holds _ rest l w (sym fails.0 ∙ begins) fails.1).0
+FailsBefore-not words c ts rest l cause w fails begins one = one (first_holds _ rest l w (sym fails.0 ∙ begins) fails.1).0
 
 -- A misfit has one cause.
-misfit_one : (c : TextCause) (t : Bytes) (cause because : TextCause) → IsMisfitCause c t cause → IsMisfitCause c t because → cause ≡ because
+misfit_one : (c : TextCause) (t : Bytes) (cause because : TextCause)
+    → IsMisfitCause c t cause
+    → IsMisfitCause c t because
+    → cause ≡ because
 misfit_one c t cause because (inl p) (inl q) = p.1 ∙ sym q.1
 misfit_one c t cause because (inl p) (inr q) = absurd (q.0 p.0)
 misfit_one c t cause because (inr p) (inl q) = absurd (p.0 q.0)
@@ -127,7 +134,8 @@ FailsInRegister-not : (arch : Arch) (c : TextCause) (ts rest l : TokenList) (cau
 FailsInRegister-not arch c ts rest l cause q n (no_colon p) begins is =
     FailsBefore-not (codes ":" ∷ []) c ts rest _ cause (codes ":") p begins (λ all. all.0 refl)
 FailsInRegister-not arch c ts rest l cause q n (no_register_name again p) begins is =
-    (first_holds (λ t. ((n : ℕ) → IsRegisterName arch t n → ⊥) × IsMisfitCause c t cause) rest l q (same_tail (sym again ∙ begins)) p).0 n is
+    (first_holds (λ t. ((n : ℕ) → IsRegisterName arch t n → ⊥) × IsMisfitCause c t cause) rest l q
+    (same_tail (sym again ∙ begins)) p).0 n is
 
 -- ---- Sites.
 
@@ -142,12 +150,11 @@ no_plain_number : (ts l : TokenList) (p : Bytes) (n : ℕ) → Plain ts → ts �
 no_plain_number ts l p n plain e is = (first_holds _ ts l p e plain).1 n is
 
 bracket_or_number : (ts l m : TokenList) (p : Bytes) (n : ℕ) → ts ≡ codes "[" ∷ l → ts ≡ p ∷ m → IsNumber p n → ⊥
-bracket_or_number ts l m p n e f is = bracket_no_number n (subst (λ w. IsNumber w n) (same_head (sym f ∙ e)) is)
+bracket_or_number ts l m p n e f is = bracket_no_number n (subst (λ w. IsNumber w n) (cons_head _ _ _ _ (sym f ∙ e)) is)
 
 -- Two numbers at the start of the same tokens are the same.
 same_number : (ts l m : TokenList) (p q : Bytes) (n k : ℕ) → ts ≡ p ∷ l → ts ≡ q ∷ m → IsNumber p n → IsNumber q k → n ≡ k
-same_number ts l m p q n k e f is also =
-    number-unique p n k is (subst (λ w. IsNumber w k) (same_head (sym f ∙ e)) also)
+same_number ts l m p q n k e f is also = number-unique p n k is (subst (λ w. IsNumber w k) (cons_head _ _ _ _ (sym f ∙ e)) also)
 
 module _ (arch : Arch) (threads : Option ℕ) (names : NameTable) (c : TextCause) where
   -- A site fails uniquely.
@@ -156,7 +163,8 @@ module _ (arch : Arch) (threads : Option ℕ) (names : NameTable) (c : TextCause
   FailsInSite-unique ts r s d e (in_name plain p) (in_brackets begins q) = absurd (no_plain_bracket ts _ plain begins)
   FailsInSite-unique ts r s d e (in_name plain p) (no_thread q n begins at is refused because) =
       absurd (no_plain_number ts _ q n plain begins is)
-  FailsInSite-unique ts r s d e (in_name plain p) (in_register q n begins is there w) = absurd (no_plain_number ts _ q n plain begins is)
+  FailsInSite-unique ts r s d e (in_name plain p) (in_register q n begins is there w) =
+      absurd (no_plain_number ts _ q n plain begins is)
   FailsInSite-unique ts r s d e (in_brackets begins p) (in_name plain q) = absurd (no_plain_bracket ts _ plain begins)
   FailsInSite-unique ts r s d e (in_brackets {inside = inside} begins p) (in_brackets {inside = other} again q) =
       let same : inside ≡ other = same_tail (sym begins ∙ again) in
@@ -172,12 +180,15 @@ module _ (arch : Arch) (threads : Option ℕ) (names : NameTable) (c : TextCause
   FailsInSite-unique ts r s d e (no_thread p n begins at is refused because) (no_thread q k again too also not therefore) =
       (sym at ∙ too, λ some. because ∙ sym therefore)
   FailsInSite-unique ts r s d e (no_thread p n begins at is refused because) (in_register q k again also there w) =
-      absurd (refused 0 (subst (λ (t : ℕ). ThreadAllowed threads (InThread t 0)) (sym (same_number ts _ _ p q n k begins again is also)) (there 0)))
-  FailsInSite-unique ts r s d e (in_register p n begins is there v) (in_name plain q) = absurd (no_plain_number ts _ p n plain begins is)
+      absurd (refused 0
+      (subst (λ (t : ℕ). ThreadAllowed threads (InThread t 0)) (sym (same_number ts _ _ p q n k begins again is also)) (there 0)))
+  FailsInSite-unique ts r s d e (in_register p n begins is there v) (in_name plain q) =
+      absurd (no_plain_number ts _ p n plain begins is)
   FailsInSite-unique ts r s d e (in_register p n begins is there v) (in_brackets again q) =
       absurd (bracket_or_number ts _ _ p n again begins is)
   FailsInSite-unique ts r s d e (in_register p n begins is there v) (no_thread q k again too also not therefore) =
-      absurd (not 0 (subst (λ (t : ℕ). ThreadAllowed threads (InThread t 0)) (same_number ts _ _ p q n k begins again is also) (there 0)))
+      absurd (not 0
+      (subst (λ (t : ℕ). ThreadAllowed threads (InThread t 0)) (same_number ts _ _ p q n k begins again is also) (there 0)))
   FailsInSite-unique ts r s d e (in_register p n {after = after} begins is there v) (in_register q k {after = other} again also too w) =
       let same : after ≡ other = same_tail (sym begins ∙ again) in
       FailsInRegister-unique arch c after r s d e v (subst (λ l. FailsInRegister arch c l s e) (sym same) w)
@@ -193,22 +204,23 @@ module _ (arch : Arch) (threads : Option ℕ) (names : NameTable) (c : TextCause
       FailsInName-not names c ts rest mid cause x p e is room
   FailsInSite-not ts rest mid cause (InMemory x) (in_name plain p) (is, inr e) there room = no_plain_bracket ts _ plain e
   FailsInSite-not ts rest mid cause (InMemory x) (in_brackets begins p) (is, inl e) there room =
-      bracket_no_name (subst IsName (same_head (sym e ∙ begins)) is.0)
+      bracket_no_name (subst IsName (cons_head _ _ _ _ (sym e ∙ begins)) is.0)
   FailsInSite-not ts rest mid cause (InMemory x) (in_brackets begins p) (is, inr e) there room =
       FailsInBrackets-not names c _ rest mid cause x p (same_tail (sym begins ∙ e)) is room
   FailsInSite-not ts rest mid cause (InMemory x) (no_thread q n begins at number refused because) (is, inl e) there room =
-      number_no_name q n number (subst IsName (same_head (sym e ∙ begins)) is.0)
+      number_no_name q n number (subst IsName (cons_head _ _ _ _ (sym e ∙ begins)) is.0)
   FailsInSite-not ts rest mid cause (InMemory x) (no_thread q n begins at number refused because) (is, inr e) there room =
       bracket_or_number ts _ _ q n e begins number
   FailsInSite-not ts rest mid cause (InMemory x) (in_register q n begins number too w) (is, inl e) there room =
-      number_no_name q n number (subst IsName (same_head (sym e ∙ begins)) is.0)
+      number_no_name q n number (subst IsName (cons_head _ _ _ _ (sym e ∙ begins)) is.0)
   FailsInSite-not ts rest mid cause (InMemory x) (in_register q n begins number too w) (is, inr e) there room =
       bracket_or_number ts _ _ q n e begins number
   FailsInSite-not ts rest mid cause (InThread t r) (in_name plain p) is there room = no_plain_number ts _ is.0 t plain is.2 is.3
   FailsInSite-not ts rest mid cause (InThread t r) (in_brackets begins p) is there room =
       bracket_or_number ts _ _ is.0 t begins is.2 is.3
   FailsInSite-not ts rest mid cause (InThread t r) (no_thread q n begins at number refused because) is there room =
-      refused r (subst (λ (k : ℕ). ThreadAllowed threads (InThread k r)) (same_number ts _ _ is.0 q t n is.2 begins is.3 number) there)
+      refused r
+      (subst (λ (k : ℕ). ThreadAllowed threads (InThread k r)) (same_number ts _ _ is.0 q t n is.2 begins is.3 number) there)
   FailsInSite-not ts rest mid cause (InThread t r) (in_register q n begins number too w) is there room =
       FailsInRegister-not arch c _ rest mid cause is.1 r w (same_tail (sym begins ∙ is.2)) is.4
 

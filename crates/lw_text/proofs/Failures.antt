@@ -1,14 +1,12 @@
 -- Where parsing fails: at the next token, or later, after what was parsed.
-use Rattle.lw_text.proofs.Common.{true, false, begins_token, ◌≡◌, ◌≢◌, ℕ, Option, Some, None, List, [], ◌∷◌, refl, sym, subst, drop, ap, ◌∙◌, TokenList, Bytes}
-use Rattle.lw_text.proofs.Common.{Cursor, Refusal, Token, IsSuffix, remaining, remaining_texts, token_texts}
-use Rattle.lw_text.proofs.Common.{ParsesMany}
+use Rattle.lw_text.proofs.Common.{true, false, begins_token, ◌≡◌, ◌≢◌, ℕ, Option, Some, None, List, [], ◌∷◌}
+use Rattle.lw_text.proofs.Common.{refl, sym, subst, drop, ap, ◌∙◌, TokenList, Bytes, Cursor, Refusal, Token}
+use Rattle.lw_text.proofs.Common.{IsSuffix, remaining, remaining_texts, token_texts, ParsesMany, BeginsAt}
+use Rattle.lw_text.proofs.Common.{Fails, FailsFrom, IfFirst, FailsBefore, Arch, Initializer, ◌++◌, append-nil}
+use Rattle.lw_text.proofs.Common.{append_assoc, slice_get, take, zero, suc, BeginsInitializer}
+use Rattle.lw_text.proofs.Common.{BeginInitializers, TextCause}
 use Rattle.lw_text.proofs.Lists.{IsSuffix-join, Listing}
-use Rattle.lw_text.specs.Views.{BeginsAt, Fails, FailsFrom}
 use Rattle.lw_text.proofs.Texts.{is_text, is_no_text, token_not_next}
-use Rattle.lw_text.specs.Failures.{IfFirst, FailsBefore}
-use Rattle.lw_text.proofs.Common.{Arch, Initializer, ◌++◌, append-nil, append_assoc, slice_get, take, zero, suc}
-use Rattle.lw_text.specs.inner.Parsed.{BeginsInitializer, BeginInitializers}
-use Rattle.lw_text.specs.declared.fault.TextCause.{TextCause}
 
 -- Parsing fails at the next token.
 pub Fails-here : {Way : TokenList → TokenList → TextCause → Type 0} (before : Cursor) (f : Refusal)
@@ -20,7 +18,9 @@ Fails-here before f place way = record { rest = remaining before; suffix = ([], 
 -- Parsing fails later, at a token of what remains after something was parsed.
 pub Fails-later : {Way Later : TokenList → TokenList → TextCause → Type 0} {before after : Cursor} {f : Refusal}
     → IsSuffix (remaining before) (remaining after)
-    → ((rest : TokenList) (cause : TextCause) → Later (remaining_texts after) rest cause → Way (remaining_texts before) rest cause)
+    → ((rest : TokenList) (cause : TextCause)
+    → Later (remaining_texts after) rest cause
+    → Way (remaining_texts before) rest cause)
     → Fails after Later f
     → Fails before Way f
 Fails-later leaves way h =
@@ -33,10 +33,6 @@ IfFirst-cons P ts l t e p = subst (IfFirst P) (sym e) p
 -- There is no first token.
 pub IfFirst-nil : (P : Bytes → Type 0) (ts : TokenList) → ts ≡ [] → IfFirst P ts
 IfFirst-nil P ts e = subst (IfFirst P) (sym e) tt
-
--- Equal lists have equal first items.
-pub same_head : {X : Type 0} {a b : X} {l m : List X} → a ∷ l ≡ b ∷ m → a ≡ b
-same_head e = cc
 
 -- Equal lists have equal items after the first.
 pub same_tail : {X : Type 0} {a b : X} {l m : List X} → a ∷ l ≡ b ∷ m → l ≡ m
@@ -71,10 +67,12 @@ pub FailsBefore-more : (w : Bytes) (words : List Bytes) (c : TextCause) (ts rest
     → FailsBefore words c ts rest cause
     → FailsBefore (w ∷ words) c ts rest cause
 FailsBefore-more w words c ts [] cause e f = (f.0, tt)
-FailsBefore-more w words c ts (t ∷ rest) cause e f = (f.0, ((λ same. token_not_next w ts rest e (f.0 ∙ ap (λ x. x ∷ rest) same), f.1.0), f.1.1))
+FailsBefore-more w words c ts (t ∷ rest) cause e f =
+    (f.0, ((λ same. token_not_next w ts rest e (f.0 ∙ ap (λ x. x ∷ rest) same), f.1.0), f.1.1))
 
 -- Parsing a text fails where it fails later in it, in the same text.
-pub FailsFrom-later : {Way Later : Bytes → Bytes → TextCause → Type 0} {len whole : ℕ} {text after : Bytes} {at : ℕ} {cause : TextCause}
+pub FailsFrom-later : {Way Later : Bytes → Bytes → TextCause → Type 0} {len whole : ℕ} {text after : Bytes} {at : ℕ}
+    {cause : TextCause}
     → len ≡ whole
     → ((rest : Bytes) (cause : TextCause) → Later after rest cause → Way text rest cause)
     → FailsFrom len after Later at cause
@@ -86,7 +84,8 @@ pub BeginInitializers-push : (arch : Arch) (before : Cursor) (front es : List In
     → BeginInitializers arch before front es
     → BeginsInitializer arch before (front ++ es) e
     → BeginInitializers arch before front (es ++ e ∷ [])
-BeginInitializers-push arch before front [] e all more = (subst (λ l. BeginsInitializer arch before l e) (append-nil front) more, tt)
+BeginInitializers-push arch before front [] e all more =
+    (subst (λ l. BeginsInitializer arch before l e) (append-nil front) more, tt)
 BeginInitializers-push arch before front (x ∷ es) e all more = (
   all.0,
   BeginInitializers-push arch before (front ++ x ∷ []) es e all.1

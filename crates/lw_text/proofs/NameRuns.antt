@@ -6,11 +6,9 @@ use Rattle.lw_text.proofs.Common.{list_all, bytes_eq-Decides, not-true, false_fr
 use Rattle.lw_text.proofs.Common.{is_name_byte, first_byte_is, any_all, same_byte, blank_all, all_ascii}
 use Rattle.lw_text.proofs.Common.{begins_trivia, begins_pair, is_one_byte_symbol, is_two_byte_symbol}
 use Rattle.lw_text.proofs.Common.{two_byte_symbols, one_byte_symbols, IsNumber, IsNameOrNumber, IsNameRun}
-use Rattle.lw_text.proofs.Common.{IsSymbol, IsToken, HoldsOfNothing, ◌≤◌, IsName}
-use Rattle.lw_text.proofs.Common.{if◌then◌else◌, cases_Bool}
-use Rattle.lw_text.specs.TextFailures.{IsLongestRun, FailsInToken, no_number_run, no_name_run}
-use Rattle.lw_text.specs.declared.fault.TextCause.{TextCause}
-use Rattle.lw_text.specs.declared.fault.TextCause.TheVariants.{Number, Name}
+use Rattle.lw_text.proofs.Common.{IsSymbol, IsToken, HoldsOfNothing, ◌≤◌, IsName, if◌then◌else◌, cases_Bool}
+use Rattle.lw_text.proofs.Common.{IsLongestRun, FailsInToken, no_number_run, no_name_run, TextCause, Number}
+use Rattle.lw_text.proofs.Common.{Name}
 use Rattle.lw_text.proofs.api.Numbers.{number_first}
 use Rattle.lw_text.proofs.api.Spelling.{all_pass}
 
@@ -272,12 +270,11 @@ pub run_fails : {bytes w rest more : Bytes} {first : ℕ} {cause : TextCause}
     → (IsNameOrNumber w → ⊥)
     → cause ≡ (if is_ascii_digit first then Number else Name)
     → FailsInToken bytes cause
-run_fails {bytes} {w} {rest} {more} {first} {cause} run begins name none is =
-    elim (cases_Bool (is_ascii_digit first)) [
-      | inl digit ↦
-          no_number_run w rest run (ap (first_byte_is is_ascii_digit) begins ∙ digit) (λ n number. none (inr (n, number)))
-          (is ∙ ap (λ b. if b then Number else Name) digit)
-      | inr other ↦
-          no_name_run w rest run (ap (first_byte_is is_name_byte) begins ∙ name) (ap (first_byte_is is_ascii_digit) begins ∙ other)
-          (λ is_name. none (inl is_name)) (is ∙ ap (λ b. if b then Number else Name) other)
-    ]
+run_fails {bytes} {w} {rest} {more} {first} {cause} run begins name none is = elim (cases_Bool (is_ascii_digit first)) [
+  | inl digit ↦
+      no_number_run w rest run (ap (first_byte_is is_ascii_digit) begins ∙ digit) (λ n number. none (inr (n, number)))
+      (is ∙ ap (λ b. if b then Number else Name) digit)
+  | inr other ↦
+      no_name_run w rest run (ap (first_byte_is is_name_byte) begins ∙ name) (ap (first_byte_is is_ascii_digit) begins ∙ other)
+      (λ is_name. none (inl is_name)) (is ∙ ap (λ b. if b then Number else Name) other)
+]

@@ -3,8 +3,7 @@ use Rattle.lw_text.proofs.Common.{◌≡◌, ℕ, ◌<◌, ◌≤◌, inl, inr, 
 use Rattle.lw_text.proofs.Common.{length-append, append_assoc, refl, sym, ap, ◌∙◌, subst, arith, ◌==◌}
 use Rattle.lw_text.proofs.Common.{eqb-true, AllByRecursion, list_all, not-true, not-false, HoldsOfNothing}
 use Rattle.lw_text.proofs.Common.{Bytes, first_byte_is, is_key_byte, is_space, begins_trivia, Trivia, Quoted}
-use Rattle.lw_text.proofs.Common.{KeyLine, Note, Notes, note, IsSuffix, any_all, same_byte, All-mono}
-use Rattle.lw_text.specs.Preambles.{none}
+use Rattle.lw_text.proofs.Common.{KeyLine, Note, Notes, note, IsSuffix, any_all, same_byte, All-mono, none}
 use Rattle.lw_text.proofs.Lists.{IsSuffix-join}
 use Rattle.lw_text.proofs.TriviaLemmas.{Trivia-unique, Trivia-suffix, Trivia-shorter}
 use Rattle.lw_text.proofs.NameRuns.{run-unique, no_trivia_at}

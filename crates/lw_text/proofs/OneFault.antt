@@ -1,17 +1,16 @@
 -- A text fails at one byte only, and for one cause; and a text with a frame does not fail.
-use Rattle.lw_text.proofs.Common.{◌≡◌, ℕ, ◌+◌, inl, inr, List, [], ◌∷◌, ◌++◌, length, refl, sym, ap, ◌∙◌, subst, arith, length-append, length-map}
-use Rattle.lw_text.proofs.Common.{Arch, Bytes, TokenList, PlacedToken, PlacedTokens, ParsesMany, ParsesNothing, IsFirstToken, Tokens, Trivia}
-use Rattle.lw_text.proofs.Common.{Preamble, HasFrame, TestFrame, texts_of_tokens, append_cancel_left}
-use Rattle.lw_text.proofs.ByteFailures.{FailsInFirstToken-unique, FailsInFirstToken-not, FailsInFirstToken-end, FailsInPreamble-unique}
-use Rattle.lw_text.proofs.ByteFailures.{FailsInPreamble-not}
+use Rattle.lw_text.proofs.Common.{◌≡◌, ℕ, ◌+◌, inl, inr, List, [], ◌∷◌, ◌++◌, length, refl, sym, ap, ◌∙◌}
+use Rattle.lw_text.proofs.Common.{subst, arith, length-append, length-map, Arch, Bytes, TokenList}
+use Rattle.lw_text.proofs.Common.{PlacedToken, PlacedTokens, ParsesMany, ParsesNothing, IsFirstToken, Tokens}
+use Rattle.lw_text.proofs.Common.{Trivia, Preamble, HasFrame, TestFrame, texts_of_tokens, append_cancel_left}
+use Rattle.lw_text.proofs.Common.{FailsInTest, IsPlacedToken, FailsInFirstToken, HasTokens, FailsInBody}
+use Rattle.lw_text.proofs.Common.{at_token, in_next_token, at_end, FailsAt, in_preamble, in_body, TextCause}
+use Rattle.lw_text.proofs.ByteFailures.{FailsInFirstToken-unique, FailsInFirstToken-not}
+use Rattle.lw_text.proofs.ByteFailures.{FailsInFirstToken-end, FailsInPreamble-unique, FailsInPreamble-not}
 use Rattle.lw_text.proofs.Preambles.{Preamble-unique}
 use Rattle.lw_text.proofs.StreamFailures.{placed_many}
 use Rattle.lw_text.proofs.TokenRows.{IsFirstToken-unique, no_first, same_token}
 use Rattle.lw_text.proofs.WholeFailures.{FailsInTest-unique, FailsInTest-not}
-use Rattle.lw_text.specs.Failures.{FailsInTest}
-use Rattle.lw_text.specs.PlacedTokens.{IsPlacedToken}
-use Rattle.lw_text.specs.TextFailures.{FailsInFirstToken, HasTokens, FailsInBody, at_token, in_next_token, at_end, FailsAt, in_preamble, in_body}
-use Rattle.lw_text.specs.declared.fault.TextCause.{TextCause}
 
 -- A text's tokens, up to where none follows, and their end are unique.
 tokens_one : (len : ℕ) (text end stop : Bytes) (ts us : List PlacedToken)
@@ -19,10 +18,8 @@ tokens_one : (len : ℕ) (text end stop : Bytes) (ts us : List PlacedToken)
     → HasTokens len text us stop
     → (ts ≡ us) × (end ≡ stop)
 tokens_one len text end stop [] [] p q = (refl, sym p.0 ∙ q.0)
-tokens_one len text end stop [] (u ∷ us) p q =
-    absurd (p.1 u.text q.0.0 (subst (λ x. IsFirstToken x u.text q.0.0) p.0 q.0.1.0))
-tokens_one len text end stop (t ∷ ts) [] p q =
-    absurd (q.1 t.text p.0.0 (subst (λ x. IsFirstToken x t.text p.0.0) q.0 p.0.1.0))
+tokens_one len text end stop [] (u ∷ us) p q = absurd (p.1 u.text q.0.0 (subst (λ x. IsFirstToken x u.text q.0.0) p.0 q.0.1.0))
+tokens_one len text end stop (t ∷ ts) [] p q = absurd (q.1 t.text p.0.0 (subst (λ x. IsFirstToken x t.text p.0.0) q.0 p.0.1.0))
 tokens_one len text end stop (t ∷ ts) (u ∷ us) p q =
     let e = IsFirstToken-unique text t.text p.0.0 u.text q.0.0 p.0.1.0 q.0.1.0 in
     let same : t ≡ u = same_token t u (omega (arith, p.0.1.1, q.0.1.1, ap length e.0, ap length e.1)) e.0 in
@@ -51,8 +48,7 @@ whole_tokens : (len : ℕ) (text : Bytes) (tokens : List PlacedToken)
     → PlacedTokens len text tokens
     → (end : Bytes) × HasTokens len text tokens end × Trivia end []
 whole_tokens len text tokens p =
-    let read = placed_many len text tokens p in
-    (read.0, (read.1, λ t rest is. no_first read.0 t rest read.2 is), read.2)
+    let read = placed_many len text tokens p in (read.0, (read.1, λ t rest is. no_first read.0 t rest read.2 is), read.2)
 
 -- Where the next token fails, no token follows.
 fails_tokens : (len : ℕ) (text end rest : Bytes) (tokens : List PlacedToken) (c : TextCause)
@@ -63,15 +59,16 @@ fails_tokens len text end rest tokens c read fails = (read, λ t after is. Fails
 
 module _ (arch : Arch) (len : ℕ) (text : Bytes) where
   -- A body fails at one byte, for one cause.
-  FailsInBody-unique : (m n : ℕ) (c d : TextCause) → FailsInBody arch len text m c → FailsInBody arch len text n d → (m ≡ n) × (c ≡ d)
-  FailsInBody-unique m n c d (at_token tokens behind token before end read parts at fails)
-      (at_token others after other front stop also too place way) =
+  FailsInBody-unique : (m n : ℕ) (c d : TextCause)
+      → FailsInBody arch len text m c
+      → FailsInBody arch len text n d
+      → (m ≡ n) × (c ≡ d)
+  FailsInBody-unique m n c d (at_token tokens behind token before end read parts at fails) (at_token others after other front stop also too place way) =
       let same = (tokens_one len text end stop tokens others read also).0 in
       let u =
-      FailsInTest-unique arch (texts_of_tokens tokens) (texts_of_tokens (token ∷ behind)) (texts_of_tokens (other ∷ after)) c d fails
-      (subst (λ ts. FailsInTest arch (texts_of_tokens ts) (texts_of_tokens (other ∷ after)) d) (sym same) way) in
-      let ends =
-      same_end before front (token ∷ behind) (other ∷ after) (sym parts ∙ same ∙ too) (omega (
+      FailsInTest-unique arch (texts_of_tokens tokens) (texts_of_tokens (token ∷ behind)) (texts_of_tokens (other ∷ after)) c d
+      fails (subst (λ ts. FailsInTest arch (texts_of_tokens ts) (texts_of_tokens (other ∷ after)) d) (sym same) way) in
+      let ends = same_end before front (token ∷ behind) (other ∷ after) (sym parts ∙ same ∙ too) (omega (
         arith,
         ap length u.0,
         length-map (token ∷ behind) (λ (t : PlacedToken). t.text),
@@ -82,13 +79,11 @@ module _ (arch : Arch) (len : ℕ) (text : Bytes) where
       first_at : List PlacedToken → ℕ
       first_at [] = 0
       first_at (t ∷ ts) = t.at
-  FailsInBody-unique m n c d (at_token tokens behind token before end read parts at fails)
-      (in_next_token others stop rest e many next place (inl way)) =
+  FailsInBody-unique m n c d (at_token tokens behind token before end read parts at fails) (in_next_token others stop rest e many next place (inl way)) =
       let same = (tokens_one len text end stop tokens others read (fails_tokens len text stop rest others d many next)).0 in
       absurd (token_or_end arch (texts_of_tokens tokens) token.text (texts_of_tokens behind) c e fails
       (subst (λ ts. FailsInTest arch (texts_of_tokens ts) [] e) (sym same) way))
-  FailsInBody-unique m n c d (at_token tokens behind token before end read parts at fails)
-      (in_next_token others stop rest e many next place (inr (s, p, is, whole))) =
+  FailsInBody-unique m n c d (at_token tokens behind token before end read parts at fails) (in_next_token others stop rest e many next place (inr (s, p, is, whole))) =
       let same = (tokens_one len text end stop tokens others read (fails_tokens len text stop rest others d many next)).0 in
       absurd (FailsInTest-not arch (texts_of_tokens others) (texts_of_tokens (token ∷ behind)) c
       (subst (λ ts. FailsInTest arch (texts_of_tokens ts) (texts_of_tokens (token ∷ behind)) c) same fails) s p is whole)
@@ -97,13 +92,11 @@ module _ (arch : Arch) (len : ℕ) (text : Bytes) where
       let same = (tokens_one len text end all.0 tokens others read all.1).0 in
       absurd (token_or_end arch (texts_of_tokens tokens) token.text (texts_of_tokens behind) c e fails
       (subst (λ ts. FailsInTest arch (texts_of_tokens ts) [] e) (sym same) way))
-  FailsInBody-unique m n c d (in_next_token others stop rest e many next place (inl way))
-      (at_token tokens behind token before end read parts at fails) =
+  FailsInBody-unique m n c d (in_next_token others stop rest e many next place (inl way)) (at_token tokens behind token before end read parts at fails) =
       let same = (tokens_one len text end stop tokens others read (fails_tokens len text stop rest others c many next)).0 in
       absurd (token_or_end arch (texts_of_tokens tokens) token.text (texts_of_tokens behind) d e fails
       (subst (λ ts. FailsInTest arch (texts_of_tokens ts) [] e) (sym same) way))
-  FailsInBody-unique m n c d (in_next_token others stop rest e many next place (inr (s, p, is, whole)))
-      (at_token tokens behind token before end read parts at fails) =
+  FailsInBody-unique m n c d (in_next_token others stop rest e many next place (inr (s, p, is, whole))) (at_token tokens behind token before end read parts at fails) =
       let same = (tokens_one len text end stop tokens others read (fails_tokens len text stop rest others c many next)).0 in
       absurd (FailsInTest-not arch (texts_of_tokens others) (texts_of_tokens (token ∷ behind)) d
       (subst (λ ts. FailsInTest arch (texts_of_tokens ts) (texts_of_tokens (token ∷ behind)) d) same fails) s p is whole)
@@ -132,8 +125,7 @@ module _ (arch : Arch) (len : ℕ) (text : Bytes) where
 -- A text fails at one byte, for one cause.
 pub FailsAt-unique : (text : Bytes) (m n : ℕ) (c d : TextCause) → FailsAt text m c → FailsAt text n d → (m ≡ n) × (c ≡ d)
 FailsAt-unique text m n c d (in_preamble rest fails place) (in_preamble left way at) =
-    let u = FailsInPreamble-unique text rest left c d fails way in
-    (omega (arith, place, at, ap length u.0), u.1)
+    let u = FailsInPreamble-unique text rest left c d fails way in (omega (arith, place, at, ap length u.0), u.1)
 FailsAt-unique text m n c d (in_preamble rest fails place) (in_body arch name left is way) =
     absurd (FailsInPreamble-not text rest left name arch c fails is)
 FailsAt-unique text m n c d (in_body arch name left is way) (in_preamble rest fails place) =
@@ -178,5 +170,5 @@ FailsAt-not text m c frame (in_body arch name rest is fails) has =
     at (at_end tokens d whole way place because) =
         let all = whole_tokens (length text) has.rest tokens whole in
         let same = (tokens_are (length text) has.rest all.0 tokens has.tokens all.1 has.stream).0 in
-        FailsInTest-not has.arch has.tokens [] d (subst (λ ts. FailsInTest has.arch ts [] d) same way) has.syntax has.condition has.parts
-        has.proposition
+        FailsInTest-not has.arch has.tokens [] d (subst (λ ts. FailsInTest has.arch ts [] d) same way) has.syntax has.condition
+        has.parts has.proposition

@@ -3,8 +3,8 @@ use Rattle.lw_text.proofs.Common.{◌≡◌, ℕ, true, false, not, [], ◌∷�
 use Rattle.lw_text.proofs.Common.{AllByRecursion, is_ascii_graphic, not-true, false_from_ne_true}
 use Rattle.lw_text.proofs.Common.{HoldsOfNothing, ParsesNothing, Bytes, Arch, Source, X86, arch_keyword}
 use Rattle.lw_text.proofs.Common.{is_blank, first_byte_is, IsFirstToken, IsTestName, ParsesTestName, Notes}
-use Rattle.lw_text.proofs.Common.{Preamble, blank_all}
-use Rattle.lw_text.proofs.Common.{◌∙◌, append-nil, false≢true, length, nil_from_length, not-false}
+use Rattle.lw_text.proofs.Common.{Preamble, blank_all, ◌∙◌, append-nil, false≢true, length, nil_from_length}
+use Rattle.lw_text.proofs.Common.{not-false}
 use Rattle.lw_text.proofs.Texts.{is_no_text}
 use Rattle.lw_text.proofs.NameRuns.{run-unique}
 use Rattle.lw_text.proofs.TokenRows.{IsFirstToken-unique}

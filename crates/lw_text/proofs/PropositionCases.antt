@@ -15,6 +15,7 @@ use Rattle.lw_text.proofs.Common.{begins_part, initial_reader_state, group_of, r
 use Rattle.lw_text.proofs.Common.{next_state, state_result, terminal_of, AtomSyntax, Holds, IsTerminal}
 use Rattle.lw_text.proofs.Common.{Terminals, begins_token, site_of, sites_in, resolved, named_terminal}
 use Rattle.lw_text.proofs.Common.{TerminalIn, ParsedTerminal, ParsedProposition, NoProposition, Fits}
+use Rattle.lw_text.proofs.Common.{FailsInProposition, HasRoomForNode, after_terminal, place_of, TextCause}
 use Rattle.lw_text.specs.declared.terminal.Terminal.{Terminal as Made}
 use Rattle.lw_text.proofs.api.PropositionNodes.{count, count_append}
 use Rattle.lw_text.proofs.Atoms.{no_site, is_apart}
@@ -24,9 +25,6 @@ use Rattle.lw_text.proofs.Readings.{with_sites-append}
 use Rattle.lw_text.proofs.Texts.{is_text}
 use Rattle.lw_text.proofs.TerminalLists.{Terminals-peel, Terminals-unique, IsTerminal-unique}
 use Rattle.lw_text.proofs.PropositionPlaces.{next_place-state}
-use Rattle.lw_text.specs.Failures.{FailsInProposition, HasRoomForNode, after_terminal}
-use Rattle.lw_text.specs.inner.ReaderStates.{place_of}
-use Rattle.lw_text.specs.declared.fault.TextCause.{TextCause}
 use Rattle.lw_text.specs.declared.terminal.Terminal.TheVariants as made
 use Rattle.lw_text.specs.declared.terminal.Atom.TheVariants as atoms
 
@@ -246,7 +244,8 @@ module _ {arch : Arch} {threads : ℕ} {before behind : Cursor} {names after : N
       }
 
   -- If a proposition fails after the terminal read, it fails before it.
-  pub Fails-after_terminal : {A : Type 0} (reader reader_after : PropositionReader A) {nodes nodes_after : ℕ} {rest : TokenList} {cause : TextCause}
+  pub Fails-after_terminal : {A : Type 0} (reader reader_after : PropositionReader A) {nodes nodes_after : ℕ} {rest : TokenList}
+      {cause : TextCause}
       → HasRoomForNode nodes (remaining_texts before)
       → next_state (state_of reader) (terminal_of s) ≡ Some (state_of reader_after)
       → nodes_after ≡ nodes + (if is_node (terminal_of s) then 1 else 0)
@@ -257,10 +256,15 @@ module _ {arch : Arch} {threads : ℕ} {before behind : Cursor} {names after : N
       let t = named_terminal after s in
       let one = one_node (is_node (terminal_of s)) t (node_named after s) in
       let same : nodes_after ≡ nodes + count (t ∷ []) = counts ∙ ap (λ (n : ℕ). nodes + n) (sym one) in
-      after_terminal t (remaining_texts behind) _ room taken.is (subst (λ (table : NameTable). length table ≤ 8) taken.names_are few)
+      after_terminal t (remaining_texts behind) _ room taken.is
+      (subst (λ (table : NameTable). length table ≤ 8) taken.names_are few)
       (next_place-state (state_of reader) after s ∙ ap (option_map place_of) step)
-      (subst (λ table. FailsInProposition arch threads rest cause (place_of (state_of reader_after)) (nodes + count (t ∷ [])) table (remaining_texts behind)) taken.names_are
-      (subst (λ (n : ℕ). FailsInProposition arch threads rest cause (place_of (state_of reader_after)) n after (remaining_texts behind)) same w))
+      (subst (λ table.
+      FailsInProposition arch threads rest cause (place_of (state_of reader_after)) (nodes + count (t ∷ [])) table
+      (remaining_texts behind)) taken.names_are
+      (subst
+      (λ (n : ℕ). FailsInProposition arch threads rest cause (place_of (state_of reader_after)) n after (remaining_texts behind))
+      same w))
 
   -- If the terminal read is not allowed next, no terminal of the same tokens is.
   pub terminal_refused : {A : Type 0} (reader : PropositionReader A)

@@ -1,11 +1,13 @@
 -- The places of a proposition are those of the reader's states.
-use Rattle.lw_text.proofs.Common.{◌≡◌, ◌≢◌, ℕ, Bool, true, false, not, List, [], ◌∷◌, Option, Some, None, refl, sym, ap, ◌∙◌, is_some}
-use Rattle.lw_text.proofs.Common.{option_map, bytes_eq, inl, inr, or_cases, or_parts, not-false, not-true, eqb-true, eqb-false, codes, begins_token, ◌==◌, ◌||◌, Bytes, TokenList, NameTable}
-use Rattle.lw_text.proofs.Common.{AllByRecursion, Formula, formula_of, group_of, reader_state_in, state_of, next_state, state_result}
-use Rattle.lw_text.proofs.Common.{PropositionReader, Pending, ReaderState, BeforePart, BehindPart, begins_part, named_terminal, terminal_of}
+use Rattle.lw_text.proofs.Common.{◌≡◌, ◌≢◌, ℕ, Bool, true, false, not, List, [], ◌∷◌, Option, Some, None}
+use Rattle.lw_text.proofs.Common.{refl, sym, ap, ◌∙◌, is_some, option_map, bytes_eq, inl, inr, or_cases}
+use Rattle.lw_text.proofs.Common.{or_parts, not-false, not-true, eqb-true, eqb-false, codes, begins_token}
+use Rattle.lw_text.proofs.Common.{◌==◌, ◌||◌, Bytes, TokenList, NameTable, AllByRecursion, Formula}
+use Rattle.lw_text.proofs.Common.{formula_of, group_of, reader_state_in, state_of, next_state, state_result}
+use Rattle.lw_text.proofs.Common.{PropositionReader, Pending, ReaderState, BeforePart, BehindPart}
+use Rattle.lw_text.proofs.Common.{begins_part, named_terminal, terminal_of, PropositionPlace, IfFirst}
+use Rattle.lw_text.proofs.Common.{HasRoomForNode, next_place, place_of}
 use Rattle.lw_text.proofs.Texts.{is_text, is_no_text}
-use Rattle.lw_text.specs.Failures.{PropositionPlace, IfFirst, HasRoomForNode, next_place}
-use Rattle.lw_text.specs.inner.ReaderStates.{place_of}
 use Rattle.lw_text.specs.declared.terminal.Terminal.{Terminal as Made}
 use Rattle.lw_text.specs.declared.terminal.Terminal.TheVariants as made
 
@@ -76,14 +78,13 @@ pub room-first : (nodes : ℕ) (ts : TokenList)
     → (not (nodes == 256) || (begins_token (codes "(") ts || begins_token (codes ")") ts)) ≡ true
     → HasRoomForNode nodes ts
 room-first nodes [] e full = tt
-room-first nodes (t ∷ ts) e full =
-    elim (or_cases (not (nodes == 256)) (bytes_eq t (codes "(") || bytes_eq t (codes ")")) e) [
-      | inl h ↦ absurd (eqb-false nodes 256 (not-true (nodes == 256) h) full)
-      | inr h ↦ elim (or_cases (bytes_eq t (codes "(")) (bytes_eq t (codes ")")) h) [
-          | inl opens ↦ inl (is_text t (codes "(") opens)
-          | inr closes ↦ inr (is_text t (codes ")") closes)
-        ]
-    ]
+room-first nodes (t ∷ ts) e full = elim (or_cases (not (nodes == 256)) (bytes_eq t (codes "(") || bytes_eq t (codes ")")) e) [
+  | inl h ↦ absurd (eqb-false nodes 256 (not-true (nodes == 256) h) full)
+  | inr h ↦ elim (or_cases (bytes_eq t (codes "(")) (bytes_eq t (codes ")")) h) [
+    | inl opens ↦ inl (is_text t (codes "(") opens)
+    | inr closes ↦ inr (is_text t (codes ")") closes)
+  ]
+]
 
 -- A terminal that is not possible in a state, though it begins a part if and only if one must begin there, is a `)` that closes nothing.
 pub closes_nothing : (state : ReaderState) (s : Made)

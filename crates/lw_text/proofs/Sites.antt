@@ -1,11 +1,11 @@
 -- When tokens start with a site, and when they do not.
 use Rattle.lw_text.proofs.Common.{◌≡◌, ◌⊎◌, ℕ, ◌<◌, inl, inr, [], ◌∷◌, Option, None, Some, true, false}
 use Rattle.lw_text.proofs.Common.{slice_get, subst, sym, ap, ◌∙◌, arith, codes, true≢false, ltb-false}
-use Rattle.lw_text.proofs.Common.{ltb-true, length, ◌≤◌, slice_get_within, HoldsOfNothing, ParsesNothing, Bytes, NameTable}
-use Rattle.lw_text.proofs.Common.{TokenList, Arch, IsName, IsLocationName, IsRegisterName, insert_name}
-use Rattle.lw_text.proofs.Common.{Cursor, IsNumber, with_sites, HasRoomFor, HasRoomForName, SiteSyntax}
-use Rattle.lw_text.proofs.Common.{InMemory, InThread, IsSite, ThreadExists, ThreadAllowed, remaining_texts}
-use Rattle.lw_text.proofs.Common.{AdvancesTo, is_allowed, ParsedSite}
+use Rattle.lw_text.proofs.Common.{ltb-true, length, ◌≤◌, slice_get_within, HoldsOfNothing, ParsesNothing}
+use Rattle.lw_text.proofs.Common.{Bytes, NameTable, TokenList, Arch, IsName, IsLocationName, IsRegisterName}
+use Rattle.lw_text.proofs.Common.{insert_name, Cursor, IsNumber, with_sites, HasRoomFor, HasRoomForName}
+use Rattle.lw_text.proofs.Common.{SiteSyntax, InMemory, InThread, IsSite, ThreadExists, ThreadAllowed}
+use Rattle.lw_text.proofs.Common.{remaining_texts, AdvancesTo, is_allowed, ParsedSite}
 use Rattle.lw_text.proofs.Atoms.{number_no_name, bracket_no_name}
 use Rattle.lw_text.proofs.api.Numbers.{bracket_no_number, number-unique}
 use Rattle.lw_text.proofs.NameTables.{site_by_name-at}

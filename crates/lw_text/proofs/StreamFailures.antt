@@ -1,18 +1,17 @@
 -- The tokens of a text fail to be a test's body where the parser refuses one, or where the lexer stops.
-use Rattle.lw_text.proofs.Common.{◌≡◌, ◌≢◌, ◌⊎◌, ℕ, ◌≤◌, Option, Some, None, IfSome, IfNone, MatchOption, List, [], ◌∷◌, ◌++◌, map, refl, sym, ap, inl, ◌+◌}
-use Rattle.lw_text.proofs.Common.{subst, ◌∙◌, map-append, All, AllByRecursion, Arch, Bytes, Formula, HoldsOfNothing, Tokens, length}
-use Rattle.lw_text.proofs.Common.{Token, Fault, Refusal, IsSuffix, PlacedToken, PlacedTokens, ParsesMany, ParsesTest, TestSyntax, IsProposition}
-use Rattle.lw_text.proofs.Common.{resolved, location_table, Trivia, token_texts, texts_of_tokens, with_span, with_spans, Memory, Unterminated}
-use Rattle.std.proofs.lemmas.List.Elements.{recursion_from_All}
+use Rattle.lw_text.proofs.Common.{◌≡◌, ◌≢◌, ◌⊎◌, ℕ, ◌≤◌, Option, Some, None, IfSome, IfNone, MatchOption}
+use Rattle.lw_text.proofs.Common.{List, [], ◌∷◌, ◌++◌, map, refl, sym, ap, inl, ◌+◌, subst, ◌∙◌, map-append}
+use Rattle.lw_text.proofs.Common.{All, AllByRecursion, Arch, Bytes, Formula, HoldsOfNothing, Tokens, length}
+use Rattle.lw_text.proofs.Common.{Token, Fault, Refusal, IsSuffix, PlacedToken, PlacedTokens, ParsesMany}
+use Rattle.lw_text.proofs.Common.{ParsesTest, TestSyntax, IsProposition, resolved, location_table, Trivia}
+use Rattle.lw_text.proofs.Common.{token_texts, texts_of_tokens, with_span, with_spans, Memory, Unterminated}
+use Rattle.lw_text.proofs.Common.{recursion_from_All, FailsInTest, IsPlacedToken, FailsInBody}
+use Rattle.lw_text.proofs.Common.{FailsInFirstToken, HasTokens, at_token, in_next_token, at_end, BeginsAt}
+use Rattle.lw_text.proofs.Common.{TextCause, StopsAt, StreamFails, at_stream_token, at_stream_end}
+use Rattle.lw_text.proofs.Common.{at_stream_fault}
 use Rattle.lw_text.proofs.api.Places.{texts_placed}
 use Rattle.lw_text.proofs.ByteFailures.{FailsInFirstToken-not}
 use Rattle.lw_text.proofs.TokenRows.{no_first}
-use Rattle.lw_text.specs.Failures.{FailsInTest}
-use Rattle.lw_text.specs.PlacedTokens.{IsPlacedToken}
-use Rattle.lw_text.specs.TextFailures.{FailsInBody, FailsInFirstToken, HasTokens, at_token, in_next_token, at_end}
-use Rattle.lw_text.specs.Views.{BeginsAt}
-use Rattle.lw_text.specs.declared.fault.TextCause.{TextCause}
-use Rattle.lw_text.specs.inner.Parsed.{StopsAt, StreamFails, at_stream_token, at_stream_end, at_stream_fault}
 
 -- What holds of all items holds of one after others.
 holds_after : {X : Type 0} (P : X → Type 0) (front : List X) (x : X) (more : List X) → AllByRecursion P (front ++ x ∷ more) → P x
@@ -32,15 +31,15 @@ place_within len tokens (t ∷ rest) at all suffix place =
     (subst (AllByRecursion (λ (t : Token). t.at ≤ len)) suffix.1 (recursion_from_All (λ (t : Token). t.at ≤ len) tokens all)))
 
 -- If the parser refuses a suffix of the tokens, the stream fails at its first token, or where the tokens end.
-pub stream_fails : {arch : Arch} {len : ℕ} (tokens : List Token) (fault : Option Fault) (refusal : Refusal) (f : Fault) (rest : List Token)
+pub stream_fails : {arch : Arch} {len : ℕ} (tokens : List Token) (fault : Option Fault) (refusal : Refusal) (f : Fault)
+    (rest : List Token)
     → IsSuffix tokens rest
     → BeginsAt rest refusal.at
     → FailsInTest arch (token_texts tokens) (token_texts rest) refusal.cause
     → IfSome refusal.at (λ at. (f.at ≡ at) × (f.cause ≡ refusal.cause))
     → IfNone refusal.at (MatchOption fault ((f.at ≡ len) × (f.cause ≡ Unterminated)) (λ g. (f.at ≡ g.at) × (f.cause ≡ g.cause)))
     → StreamFails arch len (with_spans tokens) fault f.at f.cause
-stream_fails {arch} {len} tokens fault refusal f [] suffix place way some none =
-    at fault (rw place at none)
+stream_fails {arch} {len} tokens fault refusal f [] suffix place way some none = at fault (rw place at none)
   where
     fails : FailsInTest arch (texts_of_tokens (with_spans tokens)) [] refusal.cause
     fails = subst (λ ts. FailsInTest arch ts [] refusal.cause) (sym (texts_placed tokens)) way
@@ -54,7 +53,8 @@ stream_fails {arch} {len} tokens fault refusal f (t ∷ rest) suffix place way s
     let is = rw place at some in
     at_stream_token (with_spans suffix.0) (with_spans rest) (with_span t)
     (ap with_spans suffix.1 ∙ map-append with_span suffix.0 (t ∷ rest)) is.0
-    (subst (λ cause. FailsInTest arch (texts_of_tokens (with_spans tokens)) (texts_of_tokens (with_spans (t ∷ rest))) cause) (sym is.1)
+    (subst (λ cause. FailsInTest arch (texts_of_tokens (with_spans tokens)) (texts_of_tokens (with_spans (t ∷ rest))) cause)
+    (sym is.1)
     (subst (λ ts. FailsInTest arch ts (texts_of_tokens (with_spans (t ∷ rest))) refusal.cause) (sym (texts_placed tokens))
     (subst (λ ts. FailsInTest arch (token_texts tokens) ts refusal.cause) (sym (texts_placed (t ∷ rest))) way)))
 
@@ -63,27 +63,23 @@ pub placed_many : (len : ℕ) (text : Bytes) (tokens : List PlacedToken)
     → PlacedTokens len text tokens
     → (end : Bytes) × ParsesMany (IsPlacedToken len) text tokens end × Trivia end []
 placed_many len text [] p = (text, refl, p)
-placed_many len text (t ∷ tokens) p =
-    let more = placed_many len p.0 tokens p.3 in
-    (more.0, (p.0, (p.1, p.2), more.1), more.2)
+placed_many len text (t ∷ tokens) p = let more = placed_many len p.0 tokens p.3 in (more.0, (p.0, (p.1, p.2), more.1), more.2)
 
 -- If the stream of a text's tokens fails, its body does.
-pub body_fails : {arch : Arch} {len : ℕ} {text : Bytes} {tokens : List PlacedToken} {fault : Option Fault} {at : ℕ} {cause : TextCause}
+pub body_fails : {arch : Arch} {len : ℕ} {text : Bytes} {tokens : List PlacedToken} {fault : Option Fault} {at : ℕ}
+    {cause : TextCause}
     → MatchOption fault (PlacedTokens len text tokens)
     (λ g. HoldsOfNothing (Tokens text) × (g.at ≤ len) × StopsAt len text tokens g.at g.cause)
     → StreamFails arch len tokens fault at cause
     → FailsInBody arch len text at cause
 body_fails {arch} {len} {text} {tokens} {fault} {at} {cause} stream (at_stream_token before behind token parts place way) =
-    let read = many fault stream in
-    at_token tokens behind token before read.0 read.1 parts place way
+    let read = many fault stream in at_token tokens behind token before read.0 read.1 parts place way
   where
     many : (o : Option Fault)
         → MatchOption o (PlacedTokens len text tokens)
         (λ g. HoldsOfNothing (Tokens text) × (g.at ≤ len) × StopsAt len text tokens g.at g.cause)
         → (end : Bytes) × HasTokens len text tokens end
-    many None p =
-        let read = placed_many len text tokens p in
-        (read.0, (read.1, λ t rest is. no_first read.0 t rest read.2 is))
+    many None p = let read = placed_many len text tokens p in (read.0, (read.1, λ t rest is. no_first read.0 t rest read.2 is))
     many (Some g) p =
         (p.2.end, (p.2.read, λ t rest is. FailsInFirstToken-not p.2.end p.2.fails.rest t rest g.cause p.2.fails.way is))
 body_fails stream (at_stream_end c none way place cause) = at_end _ c (rw none at stream) way place cause

@@ -1,16 +1,29 @@
 -- Tokens fail to be a test at one place only, and for one cause: lists of sites, the header, the rows, the condition, and the whole.
-use Rattle.lw_text.proofs.Common.{◌≡◌, ◌≢◌, ◌⊎◌, ℕ, zero, suc, ◌+◌, ◌<◌, ◌≤◌, Option, None, Some, List, [], ◌∷◌, length, map, filter, map-id}
-use Rattle.lw_text.proofs.Common.{Bool, true, false, refl, sym, ap, ◌∙◌, subst, inl, inr, arith, codes, bytes_eq, begins_token, begins_stop}
-use Rattle.lw_text.proofs.Common.{AllByRecursion, Arch, Bytes, NameTable, TokenList, Cells, CellGrid, Quant, Exists, NotExists, Forall}
-use Rattle.lw_text.proofs.Common.{InitializerSyntax, IsInitializer, IsSite, SiteSyntax, InThread, ThreadExists, ThreadAllowed, HasRoomFor, site_names, with_sites}
-use Rattle.lw_text.proofs.Common.{insert_names-longer, sites_of, Block, Header, Names, Row, RowCells, Rows, Listed, Quantified, thread_name}
-use Rattle.lw_text.proofs.Common.{Terminal, Open, Close, Negation, Conjunction, Disjunction, Atom, AtomSyntax, Always, Never, Holds, IsTerminal}
-use Rattle.lw_text.proofs.Common.{is_node, sites_in, ParsesMany, ParsesManyTill, ParsesSepBy, ParsesSepEndBy, Value}
-use Rattle.lw_text.proofs.Atoms.{IsSite-unique, IsInitializer-unique, IsSite-shorter, brace, bracket, semicolon}
+use Rattle.lw_text.proofs.Common.{cons_head, ◌≡◌, ◌≢◌, ◌⊎◌, ℕ, zero, suc, ◌+◌, ◌<◌, ◌≤◌, Option, None, Some}
+use Rattle.lw_text.proofs.Common.{List, [], ◌∷◌, length, map, filter, map-id, Bool, true, false, refl, sym}
+use Rattle.lw_text.proofs.Common.{ap, ◌∙◌, subst, inl, inr, arith, codes, bytes_eq, begins_token, begins_stop}
+use Rattle.lw_text.proofs.Common.{AllByRecursion, Arch, Bytes, NameTable, TokenList, Cells, CellGrid, Quant}
+use Rattle.lw_text.proofs.Common.{Exists, NotExists, Forall, InitializerSyntax, IsInitializer, IsSite}
+use Rattle.lw_text.proofs.Common.{SiteSyntax, InThread, ThreadExists, ThreadAllowed, HasRoomFor, site_names}
+use Rattle.lw_text.proofs.Common.{with_sites, insert_names-longer, sites_of, Block, Header, Names, Row}
+use Rattle.lw_text.proofs.Common.{RowCells, Rows, Listed, Quantified, thread_name, Terminal, Open, Close}
+use Rattle.lw_text.proofs.Common.{Negation, Conjunction, Disjunction, Atom, AtomSyntax, Always, Never, Holds}
+use Rattle.lw_text.proofs.Common.{IsTerminal, is_node, sites_in, ParsesMany, ParsesManyTill, ParsesSepBy}
+use Rattle.lw_text.proofs.Common.{ParsesSepEndBy, Value, IfFirst, FailsBefore, FailsInAssignment, FailsInSite}
+use Rattle.lw_text.proofs.Common.{FailsInElements, in_element, no_mark, in_elements_after}
+use Rattle.lw_text.proofs.Common.{FailsInInitializers, FailsInBlock, no_brace, in_initializers, FailsInSites}
+use Rattle.lw_text.proofs.Common.{FailsInList, no_list_bracket, in_sites, FailsInHeader, no_thread_name}
+use Rattle.lw_text.proofs.Common.{no_thread_mark, in_next_thread, too_many_threads, FailsInRow, no_end}
+use Rattle.lw_text.proofs.Common.{ragged, FailsInRows, too_many_rows, in_row, in_rows_after}
+use Rattle.lw_text.proofs.Common.{FailsInQuantifier, no_quantifier, no_exists, TextCause, Unexpected}
+use Rattle.lw_text.proofs.Common.{Condition, TooManyThreads}
+use Rattle.lw_text.proofs.Atoms.{IsSite-unique, IsInitializer-unique, IsSite-shorter, brace, bracket}
+use Rattle.lw_text.proofs.Atoms.{semicolon}
 use Rattle.lw_text.proofs.Cells.{Cell-exact, Row-one, Rows-unique}
-use Rattle.lw_text.proofs.Failures.{same_head, same_tail}
-use Rattle.lw_text.proofs.FailureUniqueness.{IsSameFailure, FailsUniquely, first_holds, at_once, FailsBefore-unique, FailsBefore-not}
-use Rattle.lw_text.proofs.FailureUniqueness.{FailsInSite-unique, FailsInSite-not, FailsInAssignment-unique, FailsInAssignment-not}
+use Rattle.lw_text.proofs.Failures.{same_tail}
+use Rattle.lw_text.proofs.FailureUniqueness.{IsSameFailure, FailsUniquely, first_holds, at_once}
+use Rattle.lw_text.proofs.FailureUniqueness.{FailsBefore-unique, FailsBefore-not, FailsInSite-unique}
+use Rattle.lw_text.proofs.FailureUniqueness.{FailsInSite-not, FailsInAssignment-unique, FailsInAssignment-not}
 use Rattle.lw_text.proofs.Headers.{Names-unique}
 use Rattle.lw_text.proofs.Lists.{IsDeterministic, ParsesSepBy-unique}
 use Rattle.lw_text.proofs.Readings.{with_sites-append}
@@ -19,21 +32,17 @@ use Rattle.lw_text.proofs.TerminalLists.{IsTerminal-unique, IsTerminal-shorter}
 use Rattle.lw_text.proofs.Texts.{is_no_text, marks_apart, token_not_next}
 use Rattle.lw_text.proofs.Whole.{Quantified-unique}
 use Rattle.lw_text.specs.Rows.{Cell}
-use Rattle.lw_text.specs.Failures.{IfFirst, FailsBefore, FailsInAssignment, FailsInSite, FailsInElements, in_element, no_mark, in_elements_after}
-use Rattle.lw_text.specs.Failures.{FailsInInitializers, FailsInBlock, no_brace, in_initializers, FailsInSites, FailsInList, no_list_bracket, in_sites}
-use Rattle.lw_text.specs.Failures.{FailsInHeader, no_thread_name, no_thread_mark, in_next_thread, too_many_threads, FailsInRow, no_end, ragged}
-use Rattle.lw_text.specs.Failures.{FailsInRows, too_many_rows, in_row, in_rows_after, FailsInQuantifier, no_quantifier, no_exists}
-use Rattle.lw_text.specs.declared.fault.TextCause.{TextCause}
-use Rattle.lw_text.specs.declared.fault.TextCause.TheVariants.{Unexpected, Condition, TooManyThreads}
 
 -- ---- Lists of elements with sites.
 
 module _ {X : Type 0} (Parses : TokenList → X → TokenList → Type 0) (site_by : X → SiteSyntax)
-    (Way : NameTable → TokenList → TokenList → TextCause → Type 0) (close : Bytes) (c : TextCause)
-    (one : IsDeterministic Parses) (way_one : (names : NameTable) → FailsUniquely (Way names))
+    (Way : NameTable → TokenList → TokenList → TextCause → Type 0) (close : Bytes) (c : TextCause) (one : IsDeterministic Parses)
+    (way_one : (names : NameTable) → FailsUniquely (Way names))
     (way_not : (names : NameTable) (ts rest mid : TokenList) (cause : TextCause) (x : X)
-    → Way names ts rest cause → Parses ts x mid → HasRoomFor names (site_by x ∷ []) → ⊥)
-    (apart : codes ";" ≡ close → ⊥) where
+    → Way names ts rest cause
+    → Parses ts x mid
+    → HasRoomFor names (site_by x ∷ [])
+    → ⊥) (apart : codes ";" ≡ close → ⊥) where
   -- Elements fail uniquely.
   elements_unique : (r s : TokenList) (d e : TextCause) (names : NameTable) (ts : TokenList)
       → FailsInElements Parses site_by Way close c r d names ts
@@ -55,15 +64,16 @@ module _ {X : Type 0} (Parses : TokenList → X → TokenList → Type 0) (site_
   elements_unique r s d e names ts (in_elements_after {next = next} {x = x} go is room p) (no_mark {mid = mid} {x = y} too also has q) =
       absurd (FailsBefore-not (close ∷ codes ";" ∷ []) c mid s next e (codes ";") q (one ts y x mid (codes ";" ∷ next) also is).1
       (λ all. all.1.0 refl))
-  elements_unique r s d e names ts (in_elements_after {next = next} {x = x} go is room p)
-      (in_elements_after {next = other} {x = y} too also has q) =
+  elements_unique r s d e names ts (in_elements_after {next = next} {x = x} go is room p) (in_elements_after {next = other} {x = y} too also has q) =
       let same = one ts x y (codes ";" ∷ next) (codes ";" ∷ other) is also in
       elements_unique r s d e (with_sites names (site_by x ∷ [])) next p
       (subst (λ (y : X). FailsInElements Parses site_by Way close c s e (with_sites names (site_by y ∷ [])) next) (sym same.0)
       (subst (FailsInElements Parses site_by Way close c s e (with_sites names (site_by y ∷ []))) (sym (same_tail same.1)) q))
 
   -- A table with room for sites has room for the first.
-  first_room : (names : NameTable) (x : SiteSyntax) (sites : List SiteSyntax) → HasRoomFor names (x ∷ sites) → HasRoomFor names (x ∷ [])
+  first_room : (names : NameTable) (x : SiteSyntax) (sites : List SiteSyntax)
+      → HasRoomFor names (x ∷ sites)
+      → HasRoomFor names (x ∷ [])
   first_room names x sites room = omega (
     arith,
     room,
@@ -85,19 +95,18 @@ module _ {X : Type 0} (Parses : TokenList → X → TokenList → Type 0) (site_
   elements_not rest cause names ts after (x ∷ xs) (no_mark {mid = mid} {x = y} go also has p) is room =
       let same = (one ts y x mid is.0 also is.1).1 in
       elim is.2 [
-        | inl end ↦
-            FailsBefore-not (close ∷ codes ";" ∷ []) c mid rest after cause close p (same ∙ end.1) (λ all. all.0 refl)
+        | inl end ↦ FailsBefore-not (close ∷ codes ";" ∷ []) c mid rest after cause close p (same ∙ end.1) (λ all. all.0 refl)
         | inr more ↦
             FailsBefore-not (close ∷ codes ";" ∷ []) c mid rest more.0 cause (codes ";") p (same ∙ more.1) (λ all. all.1.0 refl)
       ]
   elements_not rest cause names ts after (x ∷ xs) (in_elements_after {next = next} {x = y} go also has p) is room =
       let same = one ts y x (codes ";" ∷ next) is.0 also is.1 in
       elim is.2 [
-        | inl end ↦ apart (same_head (same.1 ∙ end.1))
+        | inl end ↦ apart (cons_head _ _ _ _ (same.1 ∙ end.1))
         | inr more ↦
             elements_not rest cause (with_sites names (site_by x ∷ [])) next after xs
-            (subst (λ (y : X). FailsInElements Parses site_by Way close c rest cause (with_sites names (site_by y ∷ [])) next) same.0 p)
-            (subst (λ l. ParsesSepEndBy Parses (codes ";") close l xs after) (sym (same_tail (same.1 ∙ more.1))) more.2)
+            (subst (λ (y : X). FailsInElements Parses site_by Way close c rest cause (with_sites names (site_by y ∷ [])) next)
+            same.0 p) (subst (λ l. ParsesSepEndBy Parses (codes ";") close l xs after) (sym (same_tail (same.1 ∙ more.1))) more.2)
             (subst (λ (table : NameTable). length table ≤ 8) (with_sites-append names (site_by x ∷ []) (map site_by xs)) room)
       ]
 
@@ -129,9 +138,9 @@ module _ (arch : Arch) (names : NameTable) where
   FailsInBlock-unique ts r s d e (in_initializers begins p) (no_brace q) =
       absurd (FailsBefore-not (codes "{" ∷ []) Unexpected ts s _ e (codes "{") q begins (λ all. all.0 refl))
   FailsInBlock-unique ts r s d e (in_initializers {inside = inside} begins p) (in_initializers again q) =
-      elements_unique (IsInitializer arch) (λ e. e.site) (λ names. FailsInAssignment arch None names Unexpected) (codes "}") Unexpected
-      (IsInitializer-unique arch) (λ names. FailsInAssignment-unique arch None names Unexpected) (initializer_not arch) brace_apart
-      r s d e names inside p (subst (FailsInInitializers arch s e names) (sym (same_tail (sym begins ∙ again))) q)
+      elements_unique (IsInitializer arch) (λ e. e.site) (λ names. FailsInAssignment arch None names Unexpected) (codes "}")
+      Unexpected (IsInitializer-unique arch) (λ names. FailsInAssignment-unique arch None names Unexpected) (initializer_not arch)
+      brace_apart r s d e names inside p (subst (FailsInInitializers arch s e names) (sym (same_tail (sym begins ∙ again))) q)
 
   -- A block that has room for its locations does not fail.
   pub FailsInBlock-not : (ts rest after : TokenList) (cause : TextCause) (es : List InitializerSyntax)
@@ -142,10 +151,11 @@ module _ (arch : Arch) (names : NameTable) where
   FailsInBlock-not ts rest after cause es (no_brace p) is room =
       FailsBefore-not (codes "{" ∷ []) Unexpected ts rest is.0 cause (codes "{") p is.1 (λ all. all.0 refl)
   FailsInBlock-not ts rest after cause es (in_initializers {inside = inside} begins p) is room =
-      elements_not (IsInitializer arch) (λ e. e.site) (λ names. FailsInAssignment arch None names Unexpected) (codes "}") Unexpected
-      (IsInitializer-unique arch) (λ names. FailsInAssignment-unique arch None names Unexpected) (initializer_not arch) brace_apart
-      rest cause names inside after es p
-      (subst (λ l. ParsesSepEndBy (IsInitializer arch) (codes ";") (codes "}") l es after) (sym (same_tail (sym begins ∙ is.1))) is.2) room
+      elements_not (IsInitializer arch) (λ e. e.site) (λ names. FailsInAssignment arch None names Unexpected) (codes "}")
+      Unexpected (IsInitializer-unique arch) (λ names. FailsInAssignment-unique arch None names Unexpected) (initializer_not arch)
+      brace_apart rest cause names inside after es p
+      (subst (λ l. ParsesSepEndBy (IsInitializer arch) (codes ";") (codes "}") l es after) (sym (same_tail (sym begins ∙ is.1)))
+      is.2) room
 
 -- ---- The list of names.
 
@@ -174,7 +184,7 @@ module _ (arch : Arch) (threads : ℕ) where
   listed_all ts after (x ∷ sites) is all = (
     is.0,
     (is.1, all.0),
-    elim is.2 [ | inl end ↦ inl end | inr more ↦ inr (more.0, more.1, listed_all more.0 after sites more.2 all.1) ],
+    elim is.2 [ inl end ↦ inl end | inr more ↦ inr (more.0, more.1, listed_all more.0 after sites more.2 all.1) ],
   )
 
   module _ (names : NameTable) where
@@ -184,13 +194,15 @@ module _ (arch : Arch) (threads : ℕ) where
         FailsBefore-unique (codes "[" ∷ []) Condition after r s d e p
         (subst (λ l. FailsBefore (codes "[" ∷ []) Condition l s e) (sym (same_tail (sym begins ∙ again))) q)
     FailsInList-unique ts r s d e (no_list_bracket begins p) (in_sites again q) =
-        absurd (FailsBefore-not (codes "[" ∷ []) Condition _ r _ d (codes "[") p (same_tail (sym begins ∙ again)) (λ all. all.0 refl))
+        absurd (FailsBefore-not (codes "[" ∷ []) Condition _ r _ d (codes "[") p (same_tail (sym begins ∙ again))
+        (λ all. all.0 refl))
     FailsInList-unique ts r s d e (in_sites begins p) (no_list_bracket again q) =
-        absurd (FailsBefore-not (codes "[" ∷ []) Condition _ s _ e (codes "[") q (same_tail (sym again ∙ begins)) (λ all. all.0 refl))
+        absurd (FailsBefore-not (codes "[" ∷ []) Condition _ s _ e (codes "[") q (same_tail (sym again ∙ begins))
+        (λ all. all.0 refl))
     FailsInList-unique ts r s d e (in_sites {inside = inside} begins p) (in_sites again q) =
         elements_unique IsListed (λ site. site) (λ names. FailsInSite arch (Some threads) names Condition) (codes "]") Condition
-        listed_one (λ names. FailsInSite-unique arch (Some threads) names Condition) listed_not bracket_apart r s d e names inside p
-        (subst (FailsInSites arch threads s e names) (sym (same_tail (same_tail (sym begins ∙ again)))) q)
+        listed_one (λ names. FailsInSite-unique arch (Some threads) names Condition) listed_not bracket_apart r s d e names inside
+        p (subst (FailsInSites arch threads s e names) (sym (same_tail (same_tail (sym begins ∙ again)))) q)
 
     -- A list on threads that exist, which has room for its locations, does not fail.
     pub FailsInList-not : (ts rest after : TokenList) (cause : TextCause) (sites : List SiteSyntax)
@@ -200,15 +212,16 @@ module _ (arch : Arch) (threads : ℕ) where
         → HasRoomFor names sites
         → ⊥
     FailsInList-not ts rest after cause sites (no_list_bracket begins p) (inl is) all room =
-        FailsBefore-not (codes "[" ∷ []) Condition _ rest is.0 cause (codes "[") p (same_tail (sym begins ∙ is.1)) (λ all. all.0 refl)
+        FailsBefore-not (codes "[" ∷ []) Condition _ rest is.0 cause (codes "[") p (same_tail (sym begins ∙ is.1))
+        (λ all. all.0 refl)
     FailsInList-not ts rest after cause sites (no_list_bracket begins p) (inr is) all room =
         token_not_next (codes "locations") ts _ is.0 begins
     FailsInList-not ts rest after cause sites (in_sites {inside = inside} begins p) (inl is) all room =
         elements_not IsListed (λ site. site) (λ names. FailsInSite arch (Some threads) names Condition) (codes "]") Condition
-        listed_one (λ names. FailsInSite-unique arch (Some threads) names Condition) listed_not bracket_apart rest cause names inside after
-        sites p
-        (subst (λ l. ParsesSepEndBy IsListed (codes ";") (codes "]") l sites after) (sym (same_tail (same_tail (sym begins ∙ is.1))))
-        (listed_all is.0 after sites is.2 all)) (syntax_same names sites room)
+        listed_one (λ names. FailsInSite-unique arch (Some threads) names Condition) listed_not bracket_apart rest cause names
+        inside after sites p
+        (subst (λ l. ParsesSepEndBy IsListed (codes ";") (codes "]") l sites after)
+        (sym (same_tail (same_tail (sym begins ∙ is.1)))) (listed_all is.0 after sites is.2 all)) (syntax_same names sites room)
     FailsInList-not ts rest after cause sites (in_sites begins p) (inr is) all room =
         token_not_next (codes "locations") ts _ is.0 begins
 
@@ -248,8 +261,8 @@ FailsInHeader-unique r s d e k ts (too_many_threads full is p) (no_thread_name f
 FailsInHeader-unique r s d e k ts (too_many_threads full is p) (no_thread_mark few begins q) = absurd (omega (arith, few, full))
 FailsInHeader-unique r s d e k ts (too_many_threads full is p) (in_next_thread few begins q) = absurd (omega (arith, few, full))
 FailsInHeader-unique r s d e k ts (too_many_threads full is p) (too_many_threads also too q) =
-    at_once (λ t cause. ((t ≡ thread_name 4) × (cause ≡ TooManyThreads)) ⊎ ((t ≢ thread_name 4) × (cause ≡ Unexpected))) one ts r s d e
-    (is, p) (too, q)
+    at_once (λ t cause. ((t ≡ thread_name 4) × (cause ≡ TooManyThreads)) ⊎ ((t ≢ thread_name 4) × (cause ≡ Unexpected))) one ts r
+    s d e (is, p) (too, q)
   where
     one : (t : Bytes) (cause because : TextCause)
         → ((t ≡ thread_name 4) × (cause ≡ TooManyThreads)) ⊎ ((t ≢ thread_name 4) × (cause ≡ Unexpected))
@@ -273,7 +286,7 @@ FailsInHeader-not rest cause k (suc zero) ts after (no_thread_mark {mid = mid} l
     FailsBefore-not (codes ";" ∷ codes "|" ∷ []) Unexpected mid rest after cause (codes ";") p (same_tail (sym begins ∙ is))
     (λ all. all.0 refl)
 FailsInHeader-not rest cause k (suc zero) ts after (in_next_thread low begins p) is few =
-    marks_apart (same_head (same_tail (sym begins ∙ is)))
+    marks_apart (cons_head _ _ _ _ (same_tail (sym begins ∙ is)))
 FailsInHeader-not rest cause k (suc zero) ts after (too_many_threads full at p) is few = omega (arith, full, few)
 FailsInHeader-not rest cause k (suc (suc n)) ts after (no_thread_name low p) is few =
     FailsBefore-not (thread_name k ∷ []) Unexpected ts rest _ cause (thread_name k) p is.1 (λ all. all.0 refl)
@@ -298,10 +311,7 @@ module _ (threads : ℕ) where
   FailsInRow-unique ts r s d e (no_end is never) (ragged cells line at other because) = absurd (never cells _ line)
   FailsInRow-unique ts r s d e (ragged cells line at other because) (no_end also none) = absurd (none cells _ line)
   FailsInRow-unique ts r s d e (ragged cells {after = after} line at other because) (ragged more {after = behind} too also another cause) =
-      (
-        at ∙ ap (λ l. codes ";" ∷ l) (cells_one ts after behind cells more line too).1 ∙ sym also,
-        λ some. because ∙ sym cause,
-      )
+      (at ∙ ap (λ l. codes ";" ∷ l) (cells_one ts after behind cells more line too).1 ∙ sym also, λ some. because ∙ sym cause)
 
   FailsInRow-not : (ts rest after : TokenList) (cause : TextCause) (cells : Cells)
       → FailsInRow threads ts rest cause
@@ -319,12 +329,16 @@ module _ (threads : ℕ) where
   FailsInRows-unique r s d e k ts (too_many_rows full go is because) (too_many_rows also on at cause) =
       (sym is ∙ at, λ some. because ∙ sym cause)
   FailsInRows-unique r s d e k ts (too_many_rows full go is because) (in_row few on q) = absurd (omega (arith, full, few))
-  FailsInRows-unique r s d e k ts (too_many_rows full go is because) (in_rows_after cells few on row q) = absurd (omega (arith, full, few))
+  FailsInRows-unique r s d e k ts (too_many_rows full go is because) (in_rows_after cells few on row q) =
+      absurd (omega (arith, full, few))
   FailsInRows-unique r s d e k ts (in_row few go p) (too_many_rows full on at cause) = absurd (omega (arith, full, few))
   FailsInRows-unique r s d e k ts (in_row few go p) (in_row also on q) = FailsInRow-unique ts r s d e p q
-  FailsInRows-unique r s d e k ts (in_row few go p) (in_rows_after cells also on row q) = absurd (FailsInRow-not ts r _ d cells p row)
-  FailsInRows-unique r s d e k ts (in_rows_after cells few go row p) (too_many_rows full on at cause) = absurd (omega (arith, full, few))
-  FailsInRows-unique r s d e k ts (in_rows_after cells few go row p) (in_row also on q) = absurd (FailsInRow-not ts s _ e cells q row)
+  FailsInRows-unique r s d e k ts (in_row few go p) (in_rows_after cells also on row q) =
+      absurd (FailsInRow-not ts r _ d cells p row)
+  FailsInRows-unique r s d e k ts (in_rows_after cells few go row p) (too_many_rows full on at cause) =
+      absurd (omega (arith, full, few))
+  FailsInRows-unique r s d e k ts (in_rows_after cells few go row p) (in_row also on q) =
+      absurd (FailsInRow-not ts s _ e cells q row)
   FailsInRows-unique r s d e k ts (in_rows_after {next = next} cells few go row p) (in_rows_after {next = other} more also on line q) =
       FailsInRows-unique r s d e (suc k) next p
       (subst (FailsInRows threads s e (suc k)) (sym (Row-one threads ts cells more next other row line).1) q)
@@ -340,8 +354,7 @@ module _ (threads : ℕ) where
   FailsInRows-not rest cause k ts after [] (in_row low go p) read few = let h = read.1 in cc
   FailsInRows-not rest cause k ts after [] (in_rows_after cells low go row p) read few = let h = read.1 in cc
   FailsInRows-not rest cause k ts after (x ∷ rows) (too_many_rows full go is because) read few = omega (arith, full, few)
-  FailsInRows-not rest cause k ts after (x ∷ rows) (in_row low go p) read few =
-      FailsInRow-not ts rest read.1.0 cause x p read.1.1
+  FailsInRows-not rest cause k ts after (x ∷ rows) (in_row low go p) read few = FailsInRow-not ts rest read.1.0 cause x p read.1.1
   FailsInRows-not rest cause k ts after (x ∷ rows) (in_rows_after {next = next} cells low go row p) read few =
       FailsInRows-not rest cause (suc k) next after rows p
       (subst (λ l. ParsesManyTill begins_stop (Row threads) l rows after)
@@ -361,7 +374,8 @@ quantifier_words = codes "~" ∷ codes "exists" ∷ codes "forall" ∷ []
 
 -- The quantifier fails uniquely.
 pub FailsInQuantifier-unique : FailsUniquely FailsInQuantifier
-FailsInQuantifier-unique ts r s d e (no_quantifier p) (no_quantifier q) = FailsBefore-unique quantifier_words Condition ts r s d e p q
+FailsInQuantifier-unique ts r s d e (no_quantifier p) (no_quantifier q) =
+    FailsBefore-unique quantifier_words Condition ts r s d e p q
 FailsInQuantifier-unique ts r s d e (no_quantifier p) (no_exists begins q) =
     absurd (FailsBefore-not quantifier_words Condition ts r _ d (codes "~") p begins (λ all. all.0 refl))
 FailsInQuantifier-unique ts r s d e (no_exists begins p) (no_quantifier q) =
@@ -381,8 +395,8 @@ FailsInQuantifier-not ts rest after cause NotExists (no_quantifier p) is =
     FailsBefore-not quantifier_words Condition ts rest _ cause (codes "~") p is (λ all. all.0 refl)
 FailsInQuantifier-not ts rest after cause Forall (no_quantifier p) is =
     FailsBefore-not quantifier_words Condition ts rest after cause (codes "forall") p is (λ all. all.1.1.0 refl)
-FailsInQuantifier-not ts rest after cause Exists (no_exists begins p) is = exists_or_tilde (same_head (sym is ∙ begins))
+FailsInQuantifier-not ts rest after cause Exists (no_exists begins p) is = exists_or_tilde (cons_head _ _ _ _ (sym is ∙ begins))
 FailsInQuantifier-not ts rest after cause NotExists (no_exists {mid = mid} begins p) is =
     FailsBefore-not (codes "exists" ∷ []) Condition mid rest after cause (codes "exists") p (same_tail (sym begins ∙ is))
     (λ all. all.0 refl)
-FailsInQuantifier-not ts rest after cause Forall (no_exists begins p) is = forall_or_tilde (same_head (sym is ∙ begins))
+FailsInQuantifier-not ts rest after cause Forall (no_exists begins p) is = forall_or_tilde (cons_head _ _ _ _ (sym is ∙ begins))

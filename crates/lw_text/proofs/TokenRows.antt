@@ -3,8 +3,8 @@ use Rattle.lw_text.proofs.Common.{◌≡◌, ℕ, ◌+◌, ◌<◌, false, List,
 use Rattle.lw_text.proofs.Common.{subst, arith, length-append, HoldsOfNothing, ParsesNothing, Bytes}
 use Rattle.lw_text.proofs.Common.{TokenList, Token, ParsesMany, begins_trivia, Trivia, IsToken, IsFirstToken}
 use Rattle.lw_text.proofs.Common.{Tokens, PlacedToken, texts_of_tokens, PlacedTokens, token_texts, with_spans}
+use Rattle.lw_text.proofs.Common.{IsPlacedToken}
 use Rattle.lw_text.proofs.api.Places.{texts_placed}
-use Rattle.lw_text.specs.PlacedTokens.{IsPlacedToken}
 use Rattle.lw_text.proofs.TriviaLemmas.{Trivia-unique, Trivia-shorter}
 use Rattle.lw_text.proofs.NameRuns.{token-unique, token_no_trivia, token_nonempty}
 

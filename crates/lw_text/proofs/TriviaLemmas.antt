@@ -1,8 +1,9 @@
 -- The end of blanks and comments is unique, and a loop finds it.
 use Rattle.lw_text.proofs.Common.{◌≡◌, ℕ, true, false, ◌||◌, [], ◌∷◌, ◌++◌, ◌≤◌, length, length-append, arith}
 use Rattle.lw_text.proofs.Common.{refl, sym, ap, ◌∙◌, subst, AllByRecursion, HoldsOfNothing, Bytes, is_blank}
-use Rattle.lw_text.proofs.Common.{first_byte_is, begins_pair, begins_trivia, Comment, Trivia, none, blank}
-use Rattle.lw_text.proofs.Common.{comment, IsSuffix}
+use Rattle.lw_text.proofs.Common.{first_byte_is, begins_pair, begins_trivia, Comment, Trivia, blank, comment}
+use Rattle.lw_text.proofs.Common.{IsSuffix}
+use Rattle.lw_text.specs.Tokens.{none}
 use Rattle.lw_text.proofs.Comments.{Comment-unique, Comment-suffix}
 use Rattle.lw_text.proofs.Lists.{IsSuffix-join}
 

@@ -2,18 +2,17 @@
 use Rattle.lw_text.proofs.Common.{◌≡◌, ℕ, zero, suc, ◌≤◌, true, false, List, [], ◌∷◌, ◌++◌, length, map, refl}
 use Rattle.lw_text.proofs.Common.{sym, ap, ◌∙◌, subst, arith, Option, Some, None, MatchOption, IfNone, codes}
 use Rattle.lw_text.proofs.Common.{All, AllByRecursion, list_all, length-map, ltb-false, All-from_recursion}
-use Rattle.lw_text.proofs.Common.{ParsedBlock}
-use Rattle.lw_text.specs.Failures.{ReadsBlock}
-use Rattle.lw_text.proofs.Common.{HoldsOfNothing, ParsesNothing, Bytes, NameTable, TokenList, CellGrid, Arch}
-use Rattle.lw_text.proofs.Common.{Quant, Exists, NotExists, Forall, all_map, All-mono, insert_names-longer}
-use Rattle.lw_text.proofs.Common.{Cell, Cursor, Token, Tokens, PlacedTokens, token_texts, Preamble}
-use Rattle.lw_text.proofs.Common.{ParsesManyTill, Header, Row, Rows, begins_stop, with_sites, HasRoomFor}
-use Rattle.lw_text.proofs.Common.{SiteSyntax, ThreadExists, site_names, Terminal, IsProposition, AtomSyntax}
-use Rattle.lw_text.proofs.Common.{Quantified, Condition, begins_token, sites_in, resolved, InitializerSyntax}
-use Rattle.lw_text.proofs.Common.{sites_of, Block, TestSyntax, location_table, ParsesTest, ParsesNoTest}
-use Rattle.lw_text.proofs.Common.{HasFrame, all_texts, with_spans, remaining_texts, site_by_name}
-use Rattle.lw_text.proofs.Common.{named_initializer, thread_exists, ParsedNameList, NoProposition}
-use Rattle.lw_text.proofs.Common.{NoCondition}
+use Rattle.lw_text.proofs.Common.{ParsedBlock, ReadsBlock, HoldsOfNothing, ParsesNothing, Bytes, NameTable}
+use Rattle.lw_text.proofs.Common.{TokenList, CellGrid, Arch, Quant, Exists, NotExists, Forall, all_map}
+use Rattle.lw_text.proofs.Common.{All-mono, insert_names-longer, Cell, Cursor, Token, Tokens, PlacedTokens}
+use Rattle.lw_text.proofs.Common.{token_texts, Preamble, ParsesManyTill, Header, Row, Rows, begins_stop}
+use Rattle.lw_text.proofs.Common.{with_sites, HasRoomFor, SiteSyntax, ThreadExists, site_names, Terminal}
+use Rattle.lw_text.proofs.Common.{IsProposition, AtomSyntax, Quantified, begins_token, sites_in, resolved}
+use Rattle.lw_text.proofs.Common.{InitializerSyntax, sites_of, Block, TestSyntax, location_table, ParsesTest}
+use Rattle.lw_text.proofs.Common.{ParsesNoTest, HasFrame, all_texts, with_spans, remaining_texts}
+use Rattle.lw_text.proofs.Common.{site_by_name, named_initializer, thread_exists, ParsedNameList}
+use Rattle.lw_text.proofs.Common.{NoProposition, NoCondition}
+use Rattle.lw_text.specs.Conditions.{Condition}
 use Rattle.lw_text.proofs.api.Spelling.{all_pass}
 use Rattle.lw_text.specs.declared.site.Site.{Site as MadeSite}
 use Rattle.lw_text.specs.declared.block.Initializer.{Initializer as MadeInitializer}

@@ -1,21 +1,22 @@
 -- Tokens fail to be a test at one place only, and for one cause, and tests do not fail.
-use Rattle.lw_text.proofs.Common.{inl, inr, ◌≡◌, ◌≢◌, ℕ, ◌+◌, ◌<◌, ◌≤◌, None, List, [], ◌∷◌, length, refl, sym, ap, ◌∙◌, subst, arith, codes}
-use Rattle.lw_text.proofs.Common.{AllByRecursion, Arch, NameTable, TokenList, CellGrid, Formula, HasRoomFor, ThreadExists, InThread, with_sites}
-use Rattle.lw_text.proofs.Common.{InitializerSyntax, IsInitializer, sites_of, Block, Header, Names, Rows, ParsesMany, ParsesSepEndBy, ParsesNoTest, ParsesTest}
+use Rattle.lw_text.proofs.Common.{cons_head, inl, inr, ◌≡◌, ◌≢◌, ℕ, ◌+◌, ◌<◌, ◌≤◌, None, List, [], ◌∷◌}
+use Rattle.lw_text.proofs.Common.{length, refl, sym, ap, ◌∙◌, subst, arith, codes, AllByRecursion, Arch}
+use Rattle.lw_text.proofs.Common.{NameTable, TokenList, CellGrid, Formula, HasRoomFor, ThreadExists, InThread}
+use Rattle.lw_text.proofs.Common.{with_sites, InitializerSyntax, IsInitializer, sites_of, Block, Header}
+use Rattle.lw_text.proofs.Common.{Names, Rows, ParsesMany, ParsesSepEndBy, ParsesNoTest, ParsesTest}
+use Rattle.lw_text.proofs.Common.{ReadsBlock, FailsInCondition, FailsInHeader, FailsInRows, FailsInTest}
+use Rattle.lw_text.proofs.Common.{in_block, in_header, no_such_thread, in_rows, in_condition, TextCause}
 use Rattle.lw_text.proofs.Atoms.{no_site, IsInitializer-unique}
 use Rattle.lw_text.proofs.Cells.{Rows-unique}
 use Rattle.lw_text.proofs.ConditionFailures.{FailsInCondition-unique, FailsInCondition-not}
-use Rattle.lw_text.proofs.Failures.{same_head, same_tail}
+use Rattle.lw_text.proofs.Failures.{same_tail}
 use Rattle.lw_text.proofs.FailureUniqueness.{IsSameFailure, FailsUniquely}
 use Rattle.lw_text.proofs.Headers.{Names-unique}
 use Rattle.lw_text.proofs.SiteLists.{Block-unique}
-use Rattle.lw_text.proofs.TestFailures.{FailsInBlock-unique, FailsInBlock-not, FailsInHeader-unique, FailsInHeader-not}
-use Rattle.lw_text.proofs.TestFailures.{FailsInRows-unique, FailsInRows-not}
+use Rattle.lw_text.proofs.TestFailures.{FailsInBlock-unique, FailsInBlock-not, FailsInHeader-unique}
+use Rattle.lw_text.proofs.TestFailures.{FailsInHeader-not, FailsInRows-unique, FailsInRows-not}
 use Rattle.lw_text.proofs.Texts.{is_no_text}
 use Rattle.lw_text.proofs.Whole.{few_first, no_header, no_rows, no_condition}
-use Rattle.lw_text.specs.Failures.{ReadsBlock, FailsInCondition, FailsInHeader, FailsInRows, FailsInTest, in_block, in_header, no_such_thread}
-use Rattle.lw_text.specs.Failures.{in_rows, in_condition}
-use Rattle.lw_text.specs.declared.fault.TextCause.{TextCause}
 
 module _ (arch : Arch) where
   -- An initializer with its `;`.
@@ -23,9 +24,7 @@ module _ (arch : Arch) where
   Entry ts e next = IsInitializer arch ts e (codes ";" ∷ next)
 
   entry_one : (ts r s : TokenList) (x y : InitializerSyntax) → Entry ts x r → Entry ts y s → (x ≡ y) × (r ≡ s)
-  entry_one ts r s x y p q =
-      let u = IsInitializer-unique arch ts x y (codes ";" ∷ r) (codes ";" ∷ s) p q in
-      (u.0, same_tail u.1)
+  entry_one ts r s x y p q = let u = IsInitializer-unique arch ts x y (codes ";" ∷ r) (codes ";" ∷ s) p q in (u.0, same_tail u.1)
 
   -- The thread of an initializer that is not one of the threads does not exist.
   no_thread_here : (threads t r word : ℕ) (ts behind after : TokenList) (e : InitializerSyntax)
@@ -40,8 +39,8 @@ module _ (arch : Arch) where
       omega (arith, high, low)
 
   -- The first initializer whose thread does not exist is at one place.
-  first_one : (threads : ℕ) (front other : List InitializerSyntax) (inside rest place : TokenList)
-      (t r word u v more : ℕ) (behind after : TokenList)
+  first_one : (threads : ℕ) (front other : List InitializerSyntax) (inside rest place : TokenList) (t r word u v more : ℕ)
+      (behind after : TokenList)
       → ParsesMany Entry inside front rest
       → AllByRecursion (λ e. ThreadExists threads e.site) front
       → IsInitializer arch rest (record { site = InThread t r; word = word }) behind
@@ -80,10 +79,11 @@ module _ (arch : Arch) where
   none_first threads (x ∷ front) (y ∷ es) inside rest end t r word behind p is high block all =
       let u = IsInitializer-unique arch inside x y (codes ";" ∷ p.0) block.0 p.1 block.1 in
       elim block.2 [
-        | inl close ↦ is_no_text (codes ";") (codes "}") refl (same_head (u.1 ∙ close.1))
+        | inl close ↦ is_no_text (codes ";") (codes "}") refl (cons_head _ _ _ _ (u.1 ∙ close.1))
         | inr more ↦
             none_first threads front es p.0 rest end t r word behind p.2 is high
-            (subst (λ l. ParsesSepEndBy (IsInitializer arch) (codes ";") (codes "}") l es end) (sym (same_tail (u.1 ∙ more.1))) more.2) all.1
+            (subst (λ l. ParsesSepEndBy (IsInitializer arch) (codes ";") (codes "}") l es end) (sym (same_tail (u.1 ∙ more.1)))
+            more.2) all.1
       ]
 
   -- What a block and a header say is unique.
@@ -124,8 +124,8 @@ module _ (arch : Arch) where
   thread_not ts mid end rest after behind inside later es fs front n k t r word block header begins read is high also too all =
       let u = header_one ts mid end after later es fs n k block also header too in
       none_first n front fs inside rest end t r word behind read is high
-      (subst (λ l. ParsesSepEndBy (IsInitializer arch) (codes ";") (codes "}") l fs end) (sym (same_tail (sym begins ∙ also.1))) also.2)
-      (subst (λ (k : ℕ). AllByRecursion (λ e. ThreadExists k e.site) fs) (sym u.1) all)
+      (subst (λ l. ParsesSepEndBy (IsInitializer arch) (codes ";") (codes "}") l fs end) (sym (same_tail (sym begins ∙ also.1)))
+      also.2) (subst (λ (k : ℕ). AllByRecursion (λ e. ThreadExists k e.site) fs) (sym u.1) all)
 
   -- Tokens fail to be a test uniquely.
   pub FailsInTest-unique : FailsUniquely (FailsInTest arch)
@@ -143,8 +143,7 @@ module _ (arch : Arch) where
   FailsInTest-unique ts r s d e (in_header es mid block p) (in_header fs end also q) =
       FailsInHeader-unique r s d e 0 mid p
       (subst (FailsInHeader s e 0) (sym (Block-unique arch ts es fs mid end block.0 also.0).1) q)
-  FailsInTest-unique ts r s d e (in_header es mid block p)
-      (no_such_thread fs front n t i w inside end after behind also header begins read all is high c) =
+  FailsInTest-unique ts r s d e (in_header es mid block p) (no_such_thread fs front n t i w inside end after behind also header begins read all is high c) =
       absurd (header_not ts mid end r after d es fs n block.0 p also.0 header)
   FailsInTest-unique ts r s d e (in_header es mid block p) (in_rows fs n end after also header all q) =
       absurd (header_not ts mid end r after d es fs n block.0 p also.0 header)
@@ -152,32 +151,29 @@ module _ (arch : Arch) where
       absurd (header_not ts mid end r after d es fs n block.0 p also.0 header)
   FailsInTest-unique ts r s d e (no_such_thread es front n t i w inside mid after behind block header begins read all is high c) (in_block p) =
       absurd (FailsInBlock-not arch [] ts s mid e es p block.0 block.1)
-  FailsInTest-unique ts r s d e (no_such_thread fs front n t i w inside end after behind also header begins read all is high c)
-      (in_header es mid block p) =
+  FailsInTest-unique ts r s d e (no_such_thread fs front n t i w inside end after behind also header begins read all is high c) (in_header es mid block p) =
       absurd (header_not ts mid end s after e es fs n block.0 p also.0 header)
-  FailsInTest-unique ts r s d e (no_such_thread es front n t i w inside mid after behind block header begins read all is high c)
-      (no_such_thread fs other k u j v within end later beyond also too again reads each that above b) =
-      let same = header_one ts mid end after later es fs n k block.0 also.0 header too in
-      (
+  FailsInTest-unique ts r s d e (no_such_thread es front n t i w inside mid after behind block header begins read all is high c) (no_such_thread fs other k u j v within end later beyond also too again reads each that above b) =
+      let same = header_one ts mid end after later es fs n k block.0 also.0 header too in (
         first_one n front other inside r s t i w u j v behind beyond read all is high
             (subst (λ l. ParsesMany Entry l other s) (sym (same_tail (sym begins ∙ again))) reads)
             (subst (λ (k : ℕ). AllByRecursion (λ e. ThreadExists k e.site) other) (sym same.1) each) that
             (subst (λ (k : ℕ). k ≤ u) (sym same.1) above),
         λ some. c ∙ sym b,
       )
-  FailsInTest-unique ts r s d e (no_such_thread es front n t i w inside mid after behind block header begins read all is high c)
-      (in_rows fs k end later also too every q) =
-      absurd (thread_not ts mid end r after behind inside later es fs front n k t i w block.0 header begins read is high also.0 too every)
-  FailsInTest-unique ts r s d e (no_such_thread es front n t i w inside mid after behind block header begins read all is high c)
-      (in_condition fs k rows end later beyond also too every are q) =
-      absurd (thread_not ts mid end r after behind inside later es fs front n k t i w block.0 header begins read is high also.0 too every)
+  FailsInTest-unique ts r s d e (no_such_thread es front n t i w inside mid after behind block header begins read all is high c) (in_rows fs k end later also too every q) =
+      absurd (thread_not ts mid end r after behind inside later es fs front n k t i w block.0 header begins read is high also.0
+      too every)
+  FailsInTest-unique ts r s d e (no_such_thread es front n t i w inside mid after behind block header begins read all is high c) (in_condition fs k rows end later beyond also too every are q) =
+      absurd (thread_not ts mid end r after behind inside later es fs front n k t i w block.0 header begins read is high also.0
+      too every)
   FailsInTest-unique ts r s d e (in_rows es n mid after block header all p) (in_block q) =
       absurd (FailsInBlock-not arch [] ts s mid e es q block.0 block.1)
   FailsInTest-unique ts r s d e (in_rows fs n end after also header all q) (in_header es mid block p) =
       absurd (header_not ts mid end s after e es fs n block.0 p also.0 header)
-  FailsInTest-unique ts r s d e (in_rows fs k end later also too every q)
-      (no_such_thread es front n t i w inside mid after behind block header begins read all is high c) =
-      absurd (thread_not ts mid end s after behind inside later es fs front n k t i w block.0 header begins read is high also.0 too every)
+  FailsInTest-unique ts r s d e (in_rows fs k end later also too every q) (no_such_thread es front n t i w inside mid after behind block header begins read all is high c) =
+      absurd (thread_not ts mid end s after behind inside later es fs front n k t i w block.0 header begins read is high also.0
+      too every)
   FailsInTest-unique ts r s d e (in_rows es n mid after block header all p) (in_rows fs k end later also too every q) =
       let same = header_one ts mid end after later es fs n k block.0 also.0 header too in
       FailsInRows-unique n r s d e 0 after p
@@ -191,16 +187,15 @@ module _ (arch : Arch) where
       absurd (FailsInBlock-not arch [] ts s mid e es q block.0 block.1)
   FailsInTest-unique ts r s d e (in_condition fs n rows end after behind also header all are q) (in_header es mid block p) =
       absurd (header_not ts mid end s after e es fs n block.0 p also.0 header)
-  FailsInTest-unique ts r s d e (in_condition fs k rows end later beyond also too every are q)
-      (no_such_thread es front n t i w inside mid after behind block header begins read all is high c) =
-      absurd (thread_not ts mid end s after behind inside later es fs front n k t i w block.0 header begins read is high also.0 too every)
+  FailsInTest-unique ts r s d e (in_condition fs k rows end later beyond also too every are q) (no_such_thread es front n t i w inside mid after behind block header begins read all is high c) =
+      absurd (thread_not ts mid end s after behind inside later es fs front n k t i w block.0 header begins read is high also.0
+      too every)
   FailsInTest-unique ts r s d e (in_condition fs k rows end later beyond also too every are q) (in_rows es n mid after block header all p) =
       let same = header_one ts mid end after later es fs n k block.0 also.0 header too in
       let read : Rows n after rows beyond =
       subst (λ (k : ℕ). Rows k after rows beyond) (sym same.1) (subst (λ l. Rows k l rows beyond) (sym same.2) are) in
       absurd (FailsInRows-not n s e 0 after beyond rows p read.0 (omega (arith, read.1)))
-  FailsInTest-unique ts r s d e (in_condition es n rows mid after behind block header all are p)
-      (in_condition fs k lines end later beyond also too every still q) =
+  FailsInTest-unique ts r s d e (in_condition es n rows mid after behind block header all are p) (in_condition fs k lines end later beyond also too every still q) =
       let same = header_one ts mid end after later es fs n k block.0 also.0 header too in
       let read : Rows n after lines beyond =
       subst (λ (k : ℕ). Rows k after lines beyond) (sym same.1) (subst (λ l. Rows k l lines beyond) (sym same.2) still) in
@@ -218,8 +213,8 @@ module _ (arch : Arch) where
       no_header arch ts mid es block.0
       (λ n after header. FailsInHeader-not rest cause 0 n mid after fails header.0 (omega (arith, header.1))) s p
   FailsInTest-not ts rest cause (no_such_thread es front n t i w inside mid after behind block header begins read all is high c) s f p whole =
-      thread_not ts mid p.behind_block rest after behind inside p.behind_header es s.initializers front n s.threads t i w block.0 header begins
-      read is high p.block p.header p.there
+      thread_not ts mid p.behind_block rest after behind inside p.behind_header es s.initializers front n s.threads t i w block.0
+      header begins read is high p.block p.header p.there
   FailsInTest-not ts rest cause (in_rows es n mid after block header all fails) s f p whole =
       no_rows arch ts mid es block.0 n after header
       (λ rows end read. FailsInRows-not n rest cause 0 after end rows fails read.0 (omega (arith, read.1))) s p

@@ -60,13 +60,13 @@ pub use Rattle.lw_litmus.proofs.Common.{X86Test, branch_target, location_of, num
 pub use Rattle.lw_litmus.proofs.Common.{test_of, x86_language, x86_operation}
 pub use Rattle.lw_litmus.specs.declared.instr.Instr.{Instr}
 pub use Rattle.lw_litmus.specs.declared.instr.Instr.TheVariants.{Add, Cmp, Set, Store}
-pub use Rattle.lw_text.proofs.Common.{AtomSyntax, Block, Condition, HasFewNodes, HasFrame, Header}
-pub use Rattle.lw_text.proofs.Common.{InitializerSyntax, IsInitializer, IsProposition, IsSite, Listed, Names}
-pub use Rattle.lw_text.proofs.Common.{ParsesManyTill, ParsesTest, Preamble, Row, RowCells, SiteSyntax}
-pub use Rattle.lw_text.proofs.Common.{Terminal, TestFrame, TestSyntax, ThreadExists, begins_stop}
-pub use Rattle.lw_text.proofs.Common.{begins_token, blank, column, columns, ends_cell, frame_of_syntax}
-pub use Rattle.lw_text.proofs.Common.{head_of_syntax, initial_word_of, listed_in, location_table, resolved}
-pub use Rattle.lw_text.proofs.Common.{seen_in, site_name, site_names, sites_in, thread_name}
+pub use Rattle.lw_text.proofs.Common.{AtomSyntax, Block, HasFewNodes, HasFrame, Header, InitializerSyntax}
+pub use Rattle.lw_text.proofs.Common.{IsInitializer, IsProposition, IsSite, Listed, Names, ParsesManyTill}
+pub use Rattle.lw_text.proofs.Common.{ParsesTest, Preamble, Row, RowCells, SiteSyntax, Terminal, TestFrame}
+pub use Rattle.lw_text.proofs.Common.{TestSyntax, ThreadExists, begins_stop, begins_token, blank, column}
+pub use Rattle.lw_text.proofs.Common.{columns, ends_cell, frame_of_syntax, head_of_syntax, initial_word_of}
+pub use Rattle.lw_text.proofs.Common.{listed_in, location_table, resolved, seen_in, site_name, site_names}
+pub use Rattle.lw_text.proofs.Common.{sites_in, thread_name}
 pub use Rattle.lw_text.proofs.api.CellTokens.{EndsNoCell}
 pub use Rattle.lw_text.proofs.api.ConditionTokens.{IsPrintable, ended_said, named_claim, named_printable}
 pub use Rattle.lw_text.proofs.api.ConditionTokens.{named_site, quantifier_said, quantifier_tokens, seen_again}
@@ -85,6 +85,7 @@ pub use Rattle.lw_text.proofs.api.Spelling.{Spells-mark, Spells-name, Spells-new
 pub use Rattle.lw_text.proofs.api.Spelling.{Spells-number, Spells-on, Spells-run, Spells-space, Spells-then}
 pub use Rattle.lw_text.proofs.api.Spelling.{Spells-whole, Spells-within, blank_ends_name, decimal_is_name_run}
 pub use Rattle.lw_text.proofs.api.Spelling.{decimal_is_number, decimal_is_short, is_name_text, name_by_test}
+pub use Rattle.lw_text.specs.Conditions.{Condition}
 pub use Rattle.lw_statements.proofs.Common.{CellSyntax, Column, Filling, Fills, Gives, IsGrammar, IsMade}
 pub use Rattle.lw_statements.proofs.Common.{IsSpelling, Labels, LabelsLeadForward, MaybeStatement, ParsesCell}
 pub use Rattle.lw_statements.proofs.Common.{ParsesStatement, SlotValue, code_in, label_in, labels_of}

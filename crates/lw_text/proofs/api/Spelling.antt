@@ -6,9 +6,10 @@ use Rattle.lw_text.proofs.Common.{IsAscii, decimal, ltb-true, AllByRecursion, li
 use Rattle.lw_text.proofs.Common.{digits_value_after, digit_value, is_ascii_digit, not-true, and_parts}
 use Rattle.lw_text.proofs.Common.{nat_tests, decimal_is_IsNumeral, length-decimal-le, IsUtf8-nil}
 use Rattle.lw_text.proofs.Common.{IsUtf8-append, IsUtf8-from_ascii, digit_from_value, Bytes, TokenList}
-use Rattle.lw_text.proofs.Common.{is_blank, is_name_byte, first_byte_is, IsName, opens_comment, none, blank}
-use Rattle.lw_text.proofs.Common.{Digits, IsNumber, IsNameOrNumber, is_two_byte_symbol, is_one_byte_symbol}
-use Rattle.lw_text.proofs.Common.{Tokens, blank_all, name_bytes_ascii}
+use Rattle.lw_text.proofs.Common.{is_blank, is_name_byte, first_byte_is, IsName, opens_comment, blank, Digits}
+use Rattle.lw_text.proofs.Common.{IsNumber, IsNameOrNumber, is_two_byte_symbol, is_one_byte_symbol, Tokens}
+use Rattle.lw_text.proofs.Common.{blank_all, name_bytes_ascii}
+use Rattle.lw_text.specs.Tokens.{none}
 
 -- ---- what may follow a text: anything, no name byte, a blank, no `*`, or nothing that makes a symbol with `:`
 

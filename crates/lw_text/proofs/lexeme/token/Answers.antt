@@ -1,9 +1,7 @@
 use Rattle.lw_text.proofs.Common.{refl, sym, ◌∙◌, ap, subst, length, arith, false≢true, is_name_byte}
-use Rattle.lw_text.proofs.Common.{first_byte_is, IsNameOrNumber, inl, name_bytes_ascii}
+use Rattle.lw_text.proofs.Common.{first_byte_is, IsNameOrNumber, inl, name_bytes_ascii, no_symbol, inr}
 use Rattle.lw_text.proofs.NameRuns.{no_kind, no_token, long_symbol, short_symbol, long_ascii, short_ascii}
 use Rattle.lw_text.proofs.NameRuns.{run_fails}
-use Rattle.lw_text.specs.TextFailures.{no_symbol}
-use Rattle.lw_text.proofs.Common.{inr}
 use Rattle.lw_text.proofs.lexeme.token.Goals as goal
 
 pub returns-in_default-kind_of_run-clause-none : goal.returns-in_default-kind_of_run-clause-none
@@ -60,16 +58,17 @@ kind_of_run-requires c = rw c.ascii_text-text.ensures c.prefix_of_kind.ensures.a
 
 pub returns-in_default-kind_of_run-clause-fails : goal.returns-in_default-kind_of_run-clause-fails
 returns-in_default-kind_of_run-clause-fails c = λ some.
-    run_fails
-    (record { parts = c.prefix_of_kind.ensures.parts; all = c.prefix_of_kind.ensures.all; longest = c.prefix_of_kind.ensures.longest })
-    c.in-Some.ensures (sym c.is_name_byte.ensures ∙ c.if-is_name_byte.true)
+    run_fails (record {
+      parts = c.prefix_of_kind.ensures.parts;
+      all = c.prefix_of_kind.ensures.all;
+      longest = c.prefix_of_kind.ensures.longest;
+    }) c.in-Some.ensures (sym c.is_name_byte.ensures ∙ c.if-is_name_byte.true)
     (λ k. c.in_default-kind_of_run.ensures (subst IsNameOrNumber (sym c.ascii_text-text.ensures) k)) c.fault_of_run.ensures.cause
 
 pub returns-clause-fails : goal.returns-clause-fails
 returns-clause-fails c = λ some.
     no_symbol (omega (arith, ap length c.in-Some.ensures))
-    (ap (first_byte_is is_name_byte) c.in-Some.ensures ∙ sym c.is_name_byte.ensures ∙ c.if-is_name_byte.false)
-    (λ t rest e symbol.
+    (ap (first_byte_is is_name_byte) c.in-Some.ensures ∙ sym c.is_name_byte.ensures ∙ c.if-is_name_byte.false) (λ t rest e symbol.
     no_token c.in-Some.ensures (sym c.is_name_byte.ensures ∙ c.if-is_name_byte.false)
     (λ p. false≢true (c.if-begins_short.ensures.1 p)) (λ b d more e p. false≢true (c.if-begins_long.ensures.1 (b, d, more, e, p)))
     t rest e (inr symbol)) refl

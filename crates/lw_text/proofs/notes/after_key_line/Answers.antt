@@ -1,7 +1,8 @@
-use Rattle.lw_text.proofs.Common.{◌≡◌, ◌++◌, ◌∙◌, refl, sym, first_byte_is, is_key_byte, ℕ, ap, length, length-append, arith, nat_tests}
+use Rattle.lw_text.proofs.Common.{◌≡◌, ◌++◌, ◌∙◌, refl, sym, first_byte_is, is_key_byte, ℕ, ap, length}
+use Rattle.lw_text.proofs.Common.{length-append, arith, nat_tests, no_equals_sign}
 use Rattle.lw_text.proofs.NoteRows.{no_key, no_equals, KeyLine-made}
 use Rattle.lw_text.proofs.Preambles.{no_front}
-use Rattle.lw_text.specs.TextFailures.{no_key as no_key_byte, no_equals_sign}
+use Rattle.lw_text.specs.TextFailures.{no_key as no_key_byte}
 use Rattle.lw_text.proofs.notes.after_key_line.Goals as goal
 
 pub returns-then-is_empty : goal.returns-then-is_empty

@@ -1,6 +1,6 @@
 use Rattle.lw_text.proofs.Common.{ℕ, inl, inr, ap, length, length-append, arith, ◌==◌, MatchResult-weaker}
-use Rattle.lw_text.proofs.Common.{first_byte_is, ◌≡◌, ◌++◌, ◌∙◌, false, sym, subst, AllByRecursion, All-mono, append-nil, not-true}
-use Rattle.lw_text.specs.TextFailures.{in_key_line, open_quote}
+use Rattle.lw_text.proofs.Common.{first_byte_is, ◌≡◌, ◌++◌, ◌∙◌, false, sym, subst, AllByRecursion, All-mono}
+use Rattle.lw_text.proofs.Common.{append-nil, not-true, in_key_line, open_quote}
 use Rattle.lw_text.proofs.NoteRows.{no_note, no_quote, Quoted-made, Quoted-open}
 use Rattle.lw_text.proofs.notes.after_note.Goals as goal
 
@@ -22,6 +22,7 @@ returns-in-None c =
       omega (arith, ap length c.in-Some.ensures, ap length u.parts, length-append {A = ℕ}),
       open_quote c.in-Some.inside.now c.in-Some.ensures
           (subst (AllByRecursion (λ b. (b == 34) ≡ false))
-          (sym (u.parts ∙ ap (λ x. c.prefix_of_kind.result.0.now ++ x) c.in-None.ensures ∙ append-nil c.prefix_of_kind.result.0.now))
-          (All-mono _ _ (λ b. not-true (b == 34)) _ u.all)) c.in-None.ensures,
+          (sym (u.parts
+          ∙ ap (λ x. c.prefix_of_kind.result.0.now ++ x) c.in-None.ensures
+          ∙ append-nil c.prefix_of_kind.result.0.now)) (All-mono _ _ (λ b. not-true (b == 34)) _ u.all)) c.in-None.ensures,
     )

@@ -1,13 +1,10 @@
-use Rattle.lw_text.proofs.Common.{length, Bytes}
-use Rattle.lw_text.specs.TextFailures.{FailsInNotes}
+use Rattle.lw_text.proofs.Common.{length, Bytes, FailsInNotes}
 use Rattle.lw_text.proofs.NoteRows.{Passed}
 use Rattle.lw_text.proofs.notes.after_notes.Given as goal
 
 abbrev pub invariant-notes : goal.invariant-notes
-invariant-notes l = record {
-  passed : Passed l.bytes l.rest;
-  fails : (left : Bytes) → FailsInNotes left l.rest → FailsInNotes left l.bytes;
-}
+invariant-notes l =
+    record { passed : Passed l.bytes l.rest; fails : (left : Bytes) → FailsInNotes left l.rest → FailsInNotes left l.bytes }
 
 abbrev pub decreases-notes : goal.decreases-notes
 decreases-notes l = length l.rest

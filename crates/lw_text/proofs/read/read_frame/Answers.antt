@@ -1,5 +1,4 @@
-use Rattle.lw_text.proofs.Common.{NotUtf8, TooLong, arith, subst, sym, ◌∙◌, ◌≢◌}
-use Rattle.lw_text.specs.TextFailures.{FailsAt}
+use Rattle.lw_text.proofs.Common.{NotUtf8, TooLong, arith, subst, sym, ◌∙◌, ◌≢◌, FailsAt}
 use Rattle.lw_text.proofs.read.read_frame.Goals as goal
 
 -- The two causes that concern a whole text differ.

@@ -2,12 +2,9 @@ use Rattle.lw_text.proofs.Common.{◌≡◌, ◌≢◌, ℕ, ◌≤◌, length, 
 use Rattle.lw_text.proofs.Common.{None, Some, MatchOption, Result, IsErrAnd, MatchResult, Fault, Memory}
 use Rattle.lw_text.proofs.Common.{MatchOption-at_none, token_texts, PlacedTokens, head_of, columns, Preamble}
 use Rattle.lw_text.proofs.Common.{formula_of, head_of_syntax, syntax_of, cell_texts, all_texts, with_spans}
-use Rattle.lw_text.proofs.Common.{placed_cells, CellGrid, TestFrame, TestHead}
-use Rattle.lw_text.proofs.Common.{HoldsOfNothing, Tokens}
+use Rattle.lw_text.proofs.Common.{placed_cells, CellGrid, TestFrame, TestHead, HoldsOfNothing, Tokens}
+use Rattle.lw_text.proofs.Common.{FailsInPreamble, in_preamble, in_body, FailsFrom, StopsAt}
 use Rattle.lw_text.proofs.StreamFailures.{body_fails}
-use Rattle.lw_text.specs.TextFailures.{FailsInPreamble, in_preamble, in_body}
-use Rattle.lw_text.specs.Views.{FailsFrom}
-use Rattle.lw_text.specs.inner.Parsed.{StopsAt}
 use Rattle.lw_text.proofs.TokenRows.{read_whole}
 use Rattle.lw_text.proofs.CellPlaces.{HasRows-within}
 use Rattle.lw_text.proofs.RowColumns.{columns-map}
@@ -40,8 +37,9 @@ returns-in_err-preamble g c = Err-clause_known _ _ _ c.from_residual.ensures.1 (
   omega (arith, c.in_err-preamble.ensures.reads.1, ap length c.new-lexer.ensures.text),
   λ ne.
       let fails =
-      subst (λ t. FailsFrom (length c.new-lexer.result.text.now) t FailsInPreamble c.in_err-preamble.field-0.0.at c.in_err-preamble.field-0.0.cause) c.new-lexer.ensures.rest
-      c.in_err-preamble.ensures.reads.2 in
+      subst (λ t.
+      FailsFrom (length c.new-lexer.result.text.now) t FailsInPreamble c.in_err-preamble.field-0.0.at
+      c.in_err-preamble.field-0.0.cause) c.new-lexer.ensures.rest c.in_err-preamble.ensures.reads.2 in
       in_preamble fails.rest fails.way (fails.place ∙ ap length c.new-lexer.ensures.text),
 )
 
@@ -70,15 +68,16 @@ returns-in_err-body g c = Err-clause_known _ _ _ c.from_residual-in_err-body.ens
   λ ne.
       let whole = c.in_ok-preamble.ensures.same ∙ c.new-lexer.ensures.text in
       in_body c.in_ok-preamble.preamble.arch c.in_ok-preamble.preamble.name.now c.parse_preamble.new.self.rest.now
-      (subst (λ t. Preamble t c.in_ok-preamble.preamble.arch c.in_ok-preamble.preamble.name.now c.parse_preamble.new.self.rest.now)
+      (subst
+      (λ t. Preamble t c.in_ok-preamble.preamble.arch c.in_ok-preamble.preamble.name.now c.parse_preamble.new.self.rest.now)
       c.new-lexer.ensures.rest c.in_ok-preamble.ensures.reads)
       (body_fails
       (subst
       (λ t.
       MatchOption c.in_ok-stream.stream.fault
-      (PlacedTokens (length t) c.parse_preamble.new.self.rest.now (with_spans c.in_ok-stream.stream.tokens))
-      (λ g.
-      HoldsOfNothing (Tokens c.parse_preamble.new.self.rest.now) × (g.at ≤ length t)
+      (PlacedTokens (length t) c.parse_preamble.new.self.rest.now (with_spans c.in_ok-stream.stream.tokens)) (λ g.
+      HoldsOfNothing (Tokens c.parse_preamble.new.self.rest.now)
+      × (g.at ≤ length t)
       × StopsAt (length t) c.parse_preamble.new.self.rest.now (with_spans c.in_ok-stream.stream.tokens) g.at g.cause)) whole
       c.in_ok-stream.ensures.0) (c.in_err-body.ensures.2 ne)),
 )

@@ -1,26 +1,24 @@
-use Rattle.lw_text.proofs.Common.{ℕ, ◌≡◌, ◌<◌, ◌≤◌, length, NameTable, ParsesMany, sym, [], None, refl, subst, ap, arith, remaining_texts, remaining, IsSuffix}
-use Rattle.lw_text.proofs.Common.{IsSite, IsInitializer, TokenList, Unexpected, named_initializer, site_by_name}
+use Rattle.lw_text.proofs.Common.{ℕ, ◌≡◌, ◌<◌, ◌≤◌, length, NameTable, ParsesMany, sym, [], None, refl, subst}
+use Rattle.lw_text.proofs.Common.{ap, arith, remaining_texts, remaining, IsSuffix, IsSite, IsInitializer}
+use Rattle.lw_text.proofs.Common.{TokenList, Unexpected, named_initializer, site_by_name, ◌∷◌, codes, map}
+use Rattle.lw_text.proofs.Common.{FailsInAssignment, FailsInInitializers, FailsInBlock, no_brace}
+use Rattle.lw_text.proofs.Common.{in_initializers, in_element, no_mark, in_elements_after, in_site, in_value}
+use Rattle.lw_text.proofs.Common.{TextCause, BeginsInitializer}
 use Rattle.lw_text.proofs.Faults.{Err-clause_known, ran_out, unexpected}
 use Rattle.lw_text.proofs.Lists.{IsSuffix-join, shorter_behind}
-use Rattle.lw_text.proofs.Common.{◌∷◌, codes, map}
 use Rattle.lw_text.proofs.Atoms.{brace, semicolon, IsSite-shorter, Value-shorter, value_missing}
 use Rattle.lw_text.proofs.SiteLists.{initializers, initializers_fault}
 use Rattle.lw_text.proofs.Failures.{Fails-later, BeginInitializers-push, Listing-joined}
-use Rattle.lw_text.specs.Failures.{FailsInAssignment, FailsInInitializers, FailsInBlock, no_brace, in_initializers, in_element, no_mark}
-use Rattle.lw_text.specs.Failures.{in_elements_after, in_site, in_value}
-use Rattle.lw_text.specs.declared.fault.TextCause.{TextCause}
-use Rattle.lw_text.specs.inner.Parsed.{BeginsInitializer}
 use Rattle.lw_text.proofs.Readings.{read_none, read_end, read_more, read_last, read_no_mark, More}
 use Rattle.lw_text.proofs.cursor.Cursor.parse_block.Given.{Over}
 use Rattle.lw_text.proofs.cursor.Cursor.parse_block.Goals.{After-parse_site, In_ok-word, In_ok-expect_either}
 use Rattle.lw_text.proofs.cursor.Cursor.parse_block.Goals as goal
 
 pub returns-in_err-expect : goal.returns-in_err-expect
-returns-in_err-expect g c =
-    Err-clause_known _ _ _ c.from_residual.ensures.1 (λ _. (
-      λ es rest block few. c.in_err-expect.ensures.err block.0 block.1,
-      Fails-later ([], refl) (λ rest cause w. no_brace w) c.in_err-expect.ensures.fails,
-    ))
+returns-in_err-expect g c = Err-clause_known _ _ _ c.from_residual.ensures.1 (λ _. (
+  λ es rest block few. c.in_err-expect.ensures.err block.0 block.1,
+  Fails-later ([], refl) (λ rest cause w. no_brace w) c.in_err-expect.ensures.fails,
+))
 
 pub initializers-init : goal.initializers-init
 initializers-init g c = rw c.new-initializers.ensures (record {
@@ -101,14 +99,13 @@ begins g c =
           (Listing-joined (IsInitializer c.args.arch) semicolon brace _ read.start _ read.listing);
       suffix = IsSuffix-join c.initializers.invariant.leaves c.accept.ensures.leaves;
       place = c.place-at.ensures;
-      is =
-          λ t r e. (
-            remaining_texts c.parse_site.new.self,
-            subst (λ s.
-                IsSite c.args.arch (remaining_texts c.accept.new.self) (site_by_name c.parse_site.new.locs s)
-                (remaining_texts c.parse_site.new.self)) e c.in_ok-site.ensures.is,
-            c.in_ok-word.ensures.0,
-          );
+      is = λ t r e. (
+        remaining_texts c.parse_site.new.self,
+        subst (λ s.
+            IsSite c.args.arch (remaining_texts c.accept.new.self) (site_by_name c.parse_site.new.locs s)
+            (remaining_texts c.parse_site.new.self)) e c.in_ok-site.ensures.is,
+        c.in_ok-word.ensures.0,
+      );
     }
 
 pub returns-in_err-site : goal.returns-in_err-site
@@ -130,9 +127,11 @@ returns-in_err-word g c =
       initializers_fault c.args.arch c.initializers.invariant.read (c.accept.ensures.other c.if-accept.false)
           (λ e back initializer some.
           value_missing c.args.arch _ _ _ (rw same at c.in_ok-site.ensures.is) c.in_err-word.ensures.0 e back initializer),
-      Fails-later (IsSuffix-join (leaves_before g d) c.in_ok-site.ensures.leaves)
-          (λ rest cause w. element_fails g d rest cause (in_value _ c.in_ok-site.ensures.is c.in_ok-site.ensures.there
-          (subst (λ (table : NameTable). length table ≤ 8) c.in_ok-site.ensures.names_are c.in_ok-site.ensures.few) w)) c.in_err-word.ensures.1,
+      Fails-later (IsSuffix-join (leaves_before g d) c.in_ok-site.ensures.leaves) (λ rest cause w.
+          element_fails g d rest cause
+          (in_value _ c.in_ok-site.ensures.is c.in_ok-site.ensures.there
+          (subst (λ (table : NameTable). length table ≤ 8) c.in_ok-site.ensures.names_are c.in_ok-site.ensures.few) w))
+          c.in_err-word.ensures.1,
     ))
 
 pub returns-in_err-expect_either : goal.returns-in_err-expect_either
@@ -144,12 +143,12 @@ returns-in_err-expect_either g c =
           read_no_mark c.initializers.invariant.read _ _ initializer.stands c.in_err-expect_either.ensures.1
           c.in_err-expect_either.ensures.0 es rest block,
       Fails-later
-          (IsSuffix-join (leaves_before g d.After-parse_site)
-          (IsSuffix-join c.in_ok-site.ensures.leaves c.in_ok-word.ensures.1))
+          (IsSuffix-join (leaves_before g d.After-parse_site) (IsSuffix-join c.in_ok-site.ensures.leaves c.in_ok-word.ensures.1))
           (λ rest cause w.
           c.initializers.invariant.fails rest cause
           (no_mark (c.accept.ensures.other c.if-accept.false) initializer.stands
-          (subst (λ (table : NameTable). length table ≤ 8) initializer.grows c.in_ok-site.ensures.few) w)) c.in_err-expect_either.ensures.2,
+          (subst (λ (table : NameTable). length table ≤ 8) initializer.grows c.in_ok-site.ensures.few) w))
+          c.in_err-expect_either.ensures.2,
     ))
 
 pub returns-then-branch : goal.returns-then-branch
@@ -158,8 +157,7 @@ returns-then-branch g c =
     let mark = rw c.if-branch.true at c.in_ok-expect_either.ensures.0 in
     let whole =
     read_last c.initializers.invariant.read (entry_read g d.In_ok-word) (remaining_texts c.expect_either.new.self) mark in
-    rw c.in_ok-push.ensures.ok
-    (record {
+    rw c.in_ok-push.ensures.ok (record {
       is = whole.whole;
       names_are = whole.names_are;
       within = whole.within;
@@ -189,14 +187,11 @@ initializers-preserved g c =
       leaves = leaves g d.In_ok-expect_either;
       places = BeginInitializers-push _ _ [] _ _ c.initializers.invariant.places (begins g d.In_ok-word);
       few = c.in_ok-site.ensures.few;
-      fails =
-          λ rest cause w.
+      fails = λ rest cause w.
           c.initializers.invariant.fails rest cause
           (in_elements_after (c.accept.ensures.other c.if-accept.false)
-          (subst
-          (λ mid.
-          IsInitializer c.args.arch (remaining_texts c.initializers.self)
-          (named_initializer c.parse_site.new.locs
+          (subst (λ mid.
+          IsInitializer c.args.arch (remaining_texts c.initializers.self) (named_initializer c.parse_site.new.locs
           (record { at = c.place-at.result; site = c.in_ok-site.site; word = c.in_ok-word.word })) mid) mark
           (entry_read g d.In_ok-word).stands)
           (subst (λ (table : NameTable). length table ≤ 8) (entry_read g d.In_ok-word).grows c.in_ok-site.ensures.few)

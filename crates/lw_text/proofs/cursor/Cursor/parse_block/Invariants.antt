@@ -1,9 +1,7 @@
 use Rattle.lw_text.proofs.Common.{◌≤◌, [], length, IsSuffix, TokenList, remaining, remaining_texts}
+use Rattle.lw_text.proofs.Common.{FailsInInitializers, FailsInBlock, TextCause, BeginInitializers}
 use Rattle.lw_text.proofs.SiteLists.{initializers}
 use Rattle.lw_text.proofs.Readings.{Read}
-use Rattle.lw_text.specs.Failures.{FailsInInitializers, FailsInBlock}
-use Rattle.lw_text.specs.declared.fault.TextCause.{TextCause}
-use Rattle.lw_text.specs.inner.Parsed.{BeginInitializers}
 use Rattle.lw_text.proofs.cursor.Cursor.parse_block.Given as goal
 
 abbrev pub invariant-initializers : goal.invariant-initializers
@@ -12,7 +10,9 @@ invariant-initializers g l = record {
   leaves : IsSuffix (remaining l.fn.self) (remaining l.self);
   places : BeginInitializers l.arch l.fn.self [] l.initializers;
   few : length l.locs ≤ 8;
-  fails : (rest : TokenList) (cause : TextCause) → FailsInInitializers l.arch rest cause l.locs (remaining_texts l.self)
+  fails :
+      (rest : TokenList) (cause : TextCause)
+      → FailsInInitializers l.arch rest cause l.locs (remaining_texts l.self)
       → FailsInBlock l.arch l.fn.locs (remaining_texts l.fn.self) rest cause;
 }
 

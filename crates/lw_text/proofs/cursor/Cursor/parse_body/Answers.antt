@@ -1,5 +1,7 @@
-use Rattle.lw_text.proofs.Common.{[], refl, sym, map, arith, subst, length-map, Header, Block, named_initializer}
-use Rattle.lw_text.proofs.Common.{cells_texts, with_spans, remaining, remaining_texts}
+use Rattle.lw_text.proofs.Common.{[], refl, sym, map, arith, subst, length-map, Header, Block}
+use Rattle.lw_text.proofs.Common.{named_initializer, cells_texts, with_spans, remaining, remaining_texts}
+use Rattle.lw_text.proofs.Common.{FailsInCondition, in_block, in_header, no_such_thread, in_rows}
+use Rattle.lw_text.proofs.Common.{in_condition, BeginsAt}
 use Rattle.lw_text.proofs.CellPlaces.{rows_placed, front_placed}
 use Rattle.lw_text.proofs.Lists.{IsSuffix-join}
 use Rattle.lw_text.proofs.api.Places.{texts_placed}
@@ -7,16 +9,13 @@ use Rattle.lw_text.proofs.Bodies.{taken_body}
 use Rattle.lw_text.proofs.Whole.{first_names, few_first, no_header, no_thread, no_rows, no_condition}
 use Rattle.lw_text.proofs.Whole.{header_some, Rows-even, all_there, missing_thread, block_read}
 use Rattle.lw_text.proofs.Failures.{Fails-later, BeginInitializers-at}
-use Rattle.lw_text.specs.Failures.{FailsInCondition, in_block, in_header, no_such_thread, in_rows, in_condition}
-use Rattle.lw_text.specs.Views.{BeginsAt}
 use Rattle.lw_text.proofs.Faults.{Err-clause_known}
 use Rattle.lw_text.proofs.cursor.Cursor.parse_body.Goals as goal
 
 pub returns-in_err-initializers : goal.returns-in_err-initializers
 returns-in_err-initializers g c = Err-clause_known _ _ _ c.from_residual.ensures.1 (λ ne.
     let lost = rw c.new-locs.ensures at (c.in_err-initializers.ensures ne) in (
-      λ s f p whole.
-          lost.0 s.initializers p.behind_block p.block (few_first c.args.arch (remaining_texts c.args.self.now) s p),
+      λ s f p whole. lost.0 s.initializers p.behind_block p.block (few_first c.args.arch (remaining_texts c.args.self.now) s p),
       Fails-later ([], refl) (λ rest cause w. in_block w) lost.1,
     ))
 
@@ -24,8 +23,8 @@ pub returns-in_err-threads : goal.returns-in_err-threads
 returns-in_err-threads g c = Err-clause_known _ _ _ c.from_residual-in_err-threads.ensures.1 (λ ne. (
   λ s f p whole.
       no_header c.args.arch (remaining_texts c.args.self.now) _ _ c.in_ok-initializers.ensures.is c.in_err-threads.ensures.0 s p,
-  Fails-later c.in_ok-initializers.ensures.leaves (λ rest cause w. in_header _ _ (block_read c.new-locs.ensures c.in_ok-initializers.ensures) w)
-      c.in_err-threads.ensures.1,
+  Fails-later c.in_ok-initializers.ensures.leaves
+      (λ rest cause w. in_header _ _ (block_read c.new-locs.ensures c.in_ok-initializers.ensures) w) c.in_err-threads.ensures.1,
 ))
 
 pub returns-in_err-check_threads : goal.returns-in_err-check_threads
@@ -44,19 +43,17 @@ returns-in_err-check_threads g c =
         suffix = begins.suffix;
         place = subst (BeginsAt begins.rest) (sym lost.5) begins.place;
         way =
-            no_such_thread _ _ _ thread.0 thread.1 lost.1.word _ _ _ _ (block_read c.new-locs.ensures c.in_ok-initializers.ensures)
-            c.in_ok-threads.ensures.0 begins.opens begins.read (all_there _ begins.names _ lost.3)
-            (begins.is thread.0 thread.1 thread.2) thread.3 lost.6;
+            no_such_thread _ _ _ thread.0 thread.1 lost.1.word _ _ _ _
+            (block_read c.new-locs.ensures c.in_ok-initializers.ensures) c.in_ok-threads.ensures.0 begins.opens begins.read
+            (all_there _ begins.names _ lost.3) (begins.is thread.0 thread.1 thread.2) thread.3 lost.6;
       },
     ))
 
 pub returns-in_err-rows : goal.returns-in_err-rows
 returns-in_err-rows g c = Err-clause_known _ _ _ c.from_residual-in_err-rows.ensures.1 (λ ne.
     let lost = c.in_err-rows.ensures ne in (
-      λ s f p whole.
-          no_rows c.args.arch _ _ _ c.in_ok-initializers.ensures.is _ _ c.in_ok-threads.ensures.0 lost.0 s p,
-      Fails-later (IsSuffix-join c.in_ok-initializers.ensures.leaves c.in_ok-threads.ensures.1)
-          (λ rest cause w.
+      λ s f p whole. no_rows c.args.arch _ _ _ c.in_ok-initializers.ensures.is _ _ c.in_ok-threads.ensures.0 lost.0 s p,
+      Fails-later (IsSuffix-join c.in_ok-initializers.ensures.leaves c.in_ok-threads.ensures.1) (λ rest cause w.
           in_rows _ _ _ _ (block_read c.new-locs.ensures c.in_ok-initializers.ensures) c.in_ok-threads.ensures.0
           (all_there _ _ _ (rw c.as_slice.ensures at c.in_ok-check_threads.ensures.ok)) w) lost.1,
     ))
@@ -71,15 +68,13 @@ returns g c = λ ne.
           c.in_ok-initializers.ensures.is c.in_ok-threads.threads (remaining_texts c.parse_header.new.self)
           c.in_ok-threads.ensures.0 _ _ c.in_ok-rows.ensures.0 c.parse_block.new.locs names lost.0,
       Fails-later
-          (IsSuffix-join c.in_ok-initializers.ensures.leaves
-          (IsSuffix-join c.in_ok-threads.ensures.1 c.in_ok-rows.ensures.2))
+          (IsSuffix-join c.in_ok-initializers.ensures.leaves (IsSuffix-join c.in_ok-threads.ensures.1 c.in_ok-rows.ensures.2))
           (λ rest cause w.
           in_condition _ _ _ _ _ _ (block_read c.new-locs.ensures c.in_ok-initializers.ensures) c.in_ok-threads.ensures.0
           (all_there _ _ _ (rw c.as_slice.ensures at c.in_ok-check_threads.ensures.ok)) c.in_ok-rows.ensures.0
           (subst
-          (λ table.
-          FailsInCondition c.args.arch c.in_ok-threads.threads table (remaining_texts c.parse_rows.new.self) rest cause) names w))
-          lost.1,
+          (λ table. FailsInCondition c.args.arch c.in_ok-threads.threads table (remaining_texts c.parse_rows.new.self) rest cause)
+          names w)) lost.1,
     )
 
 pub invariant_of-result : goal.invariant_of-result

@@ -26,9 +26,7 @@ cell-preserved g c =
     })
 
 pub returns-in_err-token : goal.returns-in_err-token
-returns-in_err-token g c =
-    Err-clause_known _ _ _ c.from_residual.ensures.1
-    (λ _. (
-      rw (c.cell.invariant.tokens, map-append, c.in_err-token.ensures.err, append-nil) c.cell.invariant.plain,
-      c.in_err-token.ensures.fails.1,
-    ))
+returns-in_err-token g c = Err-clause_known _ _ _ c.from_residual.ensures.1 (λ _. (
+  rw (c.cell.invariant.tokens, map-append, c.in_err-token.ensures.err, append-nil) c.cell.invariant.plain,
+  c.in_err-token.ensures.fails.1,
+))

@@ -1,18 +1,17 @@
-use Rattle.lw_text.proofs.Common.{◌≤◌, length, NameTable, [], map, refl, sym, subst, arith, IsDuplicateFree, once-along, insert_names-longer}
-use Rattle.lw_text.proofs.Common.{site_names, with_sites, sites_in, site_by_name, remaining_texts}
+use Rattle.lw_text.proofs.Common.{◌≤◌, length, NameTable, [], map, refl, sym, subst, arith, IsDuplicateFree}
+use Rattle.lw_text.proofs.Common.{once-along, insert_names-longer, site_names, with_sites, sites_in}
+use Rattle.lw_text.proofs.Common.{site_by_name, remaining_texts, FailsInProposition, first_place, in_list}
+use Rattle.lw_text.proofs.Common.{in_quantifier, in_proposition}
 use Rattle.lw_text.proofs.Bodies.{taken_condition}
 use Rattle.lw_text.proofs.SiteLists.{Listed-unique}
 use Rattle.lw_text.proofs.Whole.{no_terminals}
 use Rattle.lw_text.proofs.Lists.{IsSuffix-join}
 use Rattle.lw_text.proofs.Failures.{Fails-later}
-use Rattle.lw_text.specs.Failures.{FailsInProposition, first_place, in_list, in_quantifier, in_proposition}
 use Rattle.lw_text.proofs.Faults.{Err-clause_known}
 use Rattle.lw_text.proofs.cursor.Cursor.parse_condition.Goals as goal
 
 pub returns-in_err-listed : goal.returns-in_err-listed
-returns-in_err-listed g c =
-    Err-clause_known _ _ _ c.from_residual.ensures.1
-    (λ ne.
+returns-in_err-listed g c = Err-clause_known _ _ _ c.from_residual.ensures.1 (λ ne.
     let lost = c.in_err-listed.ensures ne in (
       λ all q ss p condition fits.
           lost.0 all condition.behind_list condition.lists condition.there
@@ -27,8 +26,10 @@ returns-in_err-quant g c = Err-clause_known _ _ _ c.from_residual-in_err-quant.e
       Listed-unique c.args.arch (remaining_texts c.args.self.now) all _ condition.behind_list
       (remaining_texts c.parse_listed.new.self) condition.lists c.in_ok-listed.ensures.is in
       c.in_err-quant.ensures.0 q condition.behind_quant (rw u.1 at condition.quantifies),
-  Fails-later c.in_ok-listed.ensures.leaves (λ rest cause w. in_quantifier _ c.in_ok-listed.ensures.is c.in_ok-listed.ensures.there
-      (subst (λ (table : NameTable). length table ≤ 8) c.in_ok-listed.ensures.names_are c.in_ok-listed.ensures.few) w) c.in_err-quant.ensures.1,
+  Fails-later c.in_ok-listed.ensures.leaves (λ rest cause w.
+      in_quantifier _ c.in_ok-listed.ensures.is c.in_ok-listed.ensures.there
+      (subst (λ (table : NameTable). length table ≤ 8) c.in_ok-listed.ensures.names_are c.in_ok-listed.ensures.few) w)
+      c.in_err-quant.ensures.1,
 ))
 
 pub parse_proposition-requires-clause-once : goal.parse_proposition-requires-clause-once
@@ -40,15 +41,13 @@ pub returns-in-Err : goal.returns-in-Err
 returns-in-Err g c = λ ne.
     let lost = c.in-Err.ensures ne in (
       no_terminals c.in_ok-listed.ensures _ _ c.in_ok-quant.ensures.0 lost.0,
-      Fails-later (IsSuffix-join c.in_ok-listed.ensures.leaves c.in_ok-quant.ensures.1)
-          (λ rest cause w.
+      Fails-later (IsSuffix-join c.in_ok-listed.ensures.leaves c.in_ok-quant.ensures.1) (λ rest cause w.
           in_proposition _ _ c.in_ok-listed.ensures.is c.in_ok-listed.ensures.there
           (subst (λ (table : NameTable). length table ≤ 8) c.in_ok-listed.ensures.names_are c.in_ok-listed.ensures.few)
           c.in_ok-quant.ensures.0
-          (subst
-          (λ names.
-          FailsInProposition c.args.arch c.args.threads rest cause first_place 0 names (remaining_texts c.parse_quantifier.new.self))
-          c.in_ok-listed.ensures.names_are w)) lost.1,
+          (subst (λ names.
+          FailsInProposition c.args.arch c.args.threads rest cause first_place 0 names
+          (remaining_texts c.parse_quantifier.new.self)) c.in_ok-listed.ensures.names_are w)) lost.1,
     )
 
 pub returns-in-Ok : goal.returns-in-Ok

@@ -1,9 +1,11 @@
-use Rattle.lw_text.proofs.Common.{◌∷◌, ◌∙◌, ap, add-one, arith, codes, inl, inr, rules, subst, sym, thread_name, remaining_texts, [], refl, Unexpected}
+use Rattle.lw_text.proofs.Common.{◌∷◌, ◌∙◌, ap, add-one, arith, codes, inl, inr, rules, subst, sym}
+use Rattle.lw_text.proofs.Common.{thread_name, remaining_texts, [], refl, Unexpected, FailsBefore}
+use Rattle.lw_text.proofs.Common.{FailsInHeader, in_next_thread, no_thread_name, no_thread_mark}
+use Rattle.lw_text.proofs.Common.{too_many_threads}
 use Rattle.lw_text.proofs.Faults.{Err-clause_known}
 use Rattle.lw_text.proofs.Failures.{Fails-here, Fails-later, IfFirst-map, IfFirst-begins, IfFirst-begins_not}
 use Rattle.lw_text.proofs.Headers.{Names-more, NamesTo-start}
 use Rattle.lw_text.proofs.Lists.{IsSuffix-join}
-use Rattle.lw_text.specs.Failures.{FailsBefore, FailsInHeader, in_next_thread, no_thread_name, no_thread_mark, too_many_threads}
 use Rattle.lw_text.proofs.cursor.Cursor.parse_header.Goals as goal
 
 pub loop-thread-preserved : goal.loop-thread-preserved
@@ -15,13 +17,13 @@ loop-thread-preserved c = record {
       (remaining_texts c.expect_either.new.self) (rw c.if-branch.false at c.in_ok-expect_either.ensures.0);
   leaves =
       IsSuffix-join c.loop-thread.invariant.leaves (IsSuffix-join c.in_ok-expect.ensures.leaves c.in_ok-expect_either.ensures.1);
-  fails =
-      λ rest cause w.
+  fails = λ rest cause w.
       c.loop-thread.invariant.fails rest cause
       (in_next_thread (omega (arith, c.loop-thread-test.true))
       (c.in_ok-expect.ensures.ok
       ∙ ap (λ x. x ∷ remaining_texts c.expect.new.self) c.thread_name.ensures
-      ∙ ap (λ l. thread_name c.loop-thread.thread ∷ l) (rw c.if-branch.false at c.in_ok-expect_either.ensures.0)) (rw add-one at w));
+      ∙ ap (λ l. thread_name c.loop-thread.thread ∷ l) (rw c.if-branch.false at c.in_ok-expect_either.ensures.0))
+      (rw add-one at w));
 }
 
 pub returns-then-branch : goal.returns-then-branch
@@ -37,13 +39,13 @@ returns-then-branch c = (
 )
 
 pub loop-thread-init : goal.loop-thread-init
-loop-thread-init c = record { names = NamesTo-start (remaining_texts c.args.self.now); leaves = ([], refl); fails = λ rest cause w. w }
+loop-thread-init c =
+    record { names = NamesTo-start (remaining_texts c.args.self.now); leaves = ([], refl); fails = λ rest cause w. w }
 
 pub returns-in_err-expect : goal.returns-in_err-expect
 returns-in_err-expect c = Err-clause_known _ _ _ c.from_residual.ensures.1 (
   search rules,
-  Fails-later c.loop-thread.invariant.leaves
-      (λ rest cause w.
+  Fails-later c.loop-thread.invariant.leaves (λ rest cause w.
       c.loop-thread.invariant.fails rest cause
       (no_thread_name (omega (arith, c.loop-thread-test.true))
       (subst (λ n. FailsBefore (n ∷ []) Unexpected (remaining_texts c.loop-thread.self) rest cause) c.thread_name.ensures w)))
@@ -53,8 +55,7 @@ returns-in_err-expect c = Err-clause_known _ _ _ c.from_residual.ensures.1 (
 pub returns-in_err-expect_either : goal.returns-in_err-expect_either
 returns-in_err-expect_either c = Err-clause_known _ _ _ c.from_residual-in_err-expect_either.ensures.1 (
   search rules,
-  Fails-later (IsSuffix-join c.loop-thread.invariant.leaves c.in_ok-expect.ensures.leaves)
-      (λ rest cause w.
+  Fails-later (IsSuffix-join c.loop-thread.invariant.leaves c.in_ok-expect.ensures.leaves) (λ rest cause w.
       c.loop-thread.invariant.fails rest cause
       (no_thread_mark (omega (arith, c.loop-thread-test.true))
       (c.in_ok-expect.ensures.ok ∙ ap (λ x. x ∷ remaining_texts c.expect.new.self) c.thread_name.ensures) w))

@@ -1,13 +1,13 @@
-use Rattle.lw_text.proofs.Common.{IsSuffix, TokenList, remaining, remaining_texts}
+use Rattle.lw_text.proofs.Common.{IsSuffix, TokenList, remaining, remaining_texts, FailsInHeader, TextCause}
 use Rattle.lw_text.proofs.Headers.{NamesTo}
-use Rattle.lw_text.specs.Failures.{FailsInHeader}
-use Rattle.lw_text.specs.declared.fault.TextCause.{TextCause}
 use Rattle.lw_text.proofs.cursor.Cursor.parse_header.Given as goal
 
 abbrev pub invariant-loop-thread : goal.invariant-loop-thread
 invariant-loop-thread l = record {
   names : NamesTo (remaining_texts l.fn.self) l.thread (remaining_texts l.self);
   leaves : IsSuffix (remaining l.fn.self) (remaining l.self);
-  fails : (rest : TokenList) (cause : TextCause) → FailsInHeader rest cause l.thread (remaining_texts l.self)
+  fails :
+      (rest : TokenList) (cause : TextCause)
+      → FailsInHeader rest cause l.thread (remaining_texts l.self)
       → FailsInHeader rest cause 0 (remaining_texts l.fn.self);
 }

@@ -1,8 +1,8 @@
-use Rattle.lw_text.proofs.Common.{◌≤◌, length, NameTable, ◌≡◌, ◌∷◌, ◌∙◌, inl, inr, refl, ap, subst, sym, codes, All-nil, IsIn, Some}
-use Rattle.lw_text.proofs.Common.{IsSite, IsSuffix, site_by_name, remaining, remaining_texts}
+use Rattle.lw_text.proofs.Common.{◌≤◌, length, NameTable, ◌≡◌, ◌∷◌, ◌∙◌, inl, inr, refl, ap, subst, sym}
+use Rattle.lw_text.proofs.Common.{codes, All-nil, IsIn, Some, IsSite, IsSuffix, site_by_name, remaining}
+use Rattle.lw_text.proofs.Common.{remaining_texts, FailsInSite, FailsInSites, no_list_bracket, in_sites}
+use Rattle.lw_text.proofs.Common.{in_element, no_mark, in_elements_after, Condition}
 use Rattle.lw_text.proofs.Failures.{Fails-later}
-use Rattle.lw_text.specs.Failures.{FailsInSite, FailsInSites, no_list_bracket, in_sites, in_element, no_mark, in_elements_after}
-use Rattle.lw_text.specs.declared.fault.TextCause.TheVariants.{Condition}
 use Rattle.lw_text.proofs.Lists.{IsSuffix-join, same_behind, shorter_behind}
 use Rattle.lw_text.proofs.Atoms.{IsSite-shorter, bracket}
 use Rattle.lw_text.proofs.Faults.{Err-clause_known, ran_out}
@@ -94,8 +94,7 @@ returns-in_err-parse_site g c =
           (rw same at lost.0) all rest
           (list_behind _ c.args.threads (remaining_texts c.args.self.now) (codes "[" ∷ c.sites.invariant.read.start)
           c.sites.invariant.read.begun all rest listed) there (syntax_same c.args.locs.now all few),
-      Fails-later (leaves_before g d)
-          (λ rest cause w.
+      Fails-later (leaves_before g d) (λ rest cause w.
           c.sites.invariant.fails rest cause
           (in_element (c.accept-in-sites.ensures.other c.if-accept.false)
           (subst (λ ts. FailsInSite c.args.arch (Some c.args.threads) c.sites.locs Condition ts rest cause) same w))) lost.1,
@@ -107,11 +106,11 @@ returns-in_err-expect_either g c =
     let site = site_read g d.In_ok-parse_site in
     Err-clause_known _ _ _ c.from_residual-in_err-expect_either.ensures.1 (λ ne. (
       λ all rest listed there few.
-          read_no_mark c.sites.invariant.read _ _ site.stands c.in_err-expect_either.ensures.1 c.in_err-expect_either.ensures.0 all
-          rest
-          (list_behind c.args.arch c.args.threads (remaining_texts c.args.self.now) _ c.sites.invariant.read.begun all rest listed),
-      Fails-later (IsSuffix-join (leaves_before g d.After-parse_site) c.in_ok-parse_site.ensures.leaves)
-          (λ rest cause w.
+          read_no_mark c.sites.invariant.read _ _ site.stands c.in_err-expect_either.ensures.1 c.in_err-expect_either.ensures.0
+          all rest
+          (list_behind c.args.arch c.args.threads (remaining_texts c.args.self.now) _ c.sites.invariant.read.begun all rest
+          listed),
+      Fails-later (IsSuffix-join (leaves_before g d.After-parse_site) c.in_ok-parse_site.ensures.leaves) (λ rest cause w.
           c.sites.invariant.fails rest cause
           (no_mark (c.accept-in-sites.ensures.other c.if-accept.false) (site.stands, site.fits)
           (subst (λ (table : NameTable). length table ≤ 8) site.grows c.in_ok-parse_site.ensures.few) w))
@@ -124,8 +123,7 @@ returns-then-branch g c =
     let site = site_read g d.In_ok-parse_site in
     let mark = rw c.if-branch.true at c.in_ok-expect_either.ensures.0 in
     let whole = read_last c.sites.invariant.read site (remaining_texts c.expect_either.new.self) mark in
-    rw c.in_ok-push.ensures.ok
-    (record {
+    rw c.in_ok-push.ensures.ok (record {
       is = inl whole.whole;
       there = whole.there;
       names_are = whole.names_are;
@@ -153,15 +151,14 @@ sites-preserved g c =
           IsSuffix-join (leaves_before g d.After-parse_site)
           (IsSuffix-join c.in_ok-parse_site.ensures.leaves c.in_ok-expect_either.ensures.1);
       few = c.in_ok-parse_site.ensures.few;
-      fails =
-          λ rest cause w.
+      fails = λ rest cause w.
           c.sites.invariant.fails rest cause
-          (in_elements_after (c.accept-in-sites.ensures.other c.if-accept.false)
-          (subst
-          (λ mid.
-          IsSite c.args.arch (remaining_texts c.sites.self)
-          (site_by_name c.parse_site.new.locs c.in_ok-parse_site.field-0) mid) mark site.stands, site.fits)
-          (subst (λ (table : NameTable). length table ≤ 8) site.grows c.in_ok-parse_site.ensures.few)
+          (in_elements_after (c.accept-in-sites.ensures.other c.if-accept.false) (
+            subst (λ mid.
+                IsSite c.args.arch (remaining_texts c.sites.self) (site_by_name c.parse_site.new.locs c.in_ok-parse_site.field-0)
+                mid) mark site.stands,
+            site.fits,
+          ) (subst (λ (table : NameTable). length table ≤ 8) site.grows c.in_ok-parse_site.ensures.few)
           (subst (λ names. FailsInSites c.args.arch c.args.threads rest cause names (remaining_texts c.expect_either.new.self))
           site.grows w));
     })

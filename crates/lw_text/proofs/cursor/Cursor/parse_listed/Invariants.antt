@@ -1,19 +1,19 @@
-use Rattle.lw_text.proofs.Common.{◌≤◌, length, IsSuffix, TokenList, remaining, remaining_texts}
-use Rattle.lw_text.specs.Failures.{FailsInSites, FailsInList}
-use Rattle.lw_text.specs.declared.fault.TextCause.{TextCause}
+use Rattle.lw_text.proofs.Common.{◌≤◌, length, IsSuffix, TokenList, remaining, remaining_texts, FailsInSites}
+use Rattle.lw_text.proofs.Common.{FailsInList, TextCause}
 use Rattle.lw_text.proofs.SiteLists.{sites}
 use Rattle.lw_text.proofs.Readings.{Read}
 use Rattle.lw_text.proofs.cursor.Cursor.parse_listed.Given as goal
 
 abbrev pub invariant-sites : goal.invariant-sites
-invariant-sites g l =
-    record {
-      read : Read (sites l.arch l.threads) l.fn.locs l.locs (remaining_texts l.fn.self) (remaining_texts l.self) l.sites;
-      few : length l.locs ≤ 8;
-      leaves : IsSuffix (remaining l.fn.self) (remaining l.self);
-      fails : (rest : TokenList) (cause : TextCause) → FailsInSites l.arch l.threads rest cause l.locs (remaining_texts l.self)
-          → FailsInList l.arch l.threads l.fn.locs (remaining_texts l.fn.self) rest cause;
-    }
+invariant-sites g l = record {
+  read : Read (sites l.arch l.threads) l.fn.locs l.locs (remaining_texts l.fn.self) (remaining_texts l.self) l.sites;
+  few : length l.locs ≤ 8;
+  leaves : IsSuffix (remaining l.fn.self) (remaining l.self);
+  fails :
+      (rest : TokenList) (cause : TextCause)
+      → FailsInSites l.arch l.threads rest cause l.locs (remaining_texts l.self)
+      → FailsInList l.arch l.threads l.fn.locs (remaining_texts l.fn.self) rest cause;
+}
 
 abbrev pub decreases-sites : goal.decreases-sites
 decreases-sites g l = length (remaining_texts l.self)

@@ -1,7 +1,7 @@
-use Rattle.lw_text.proofs.Common.{◌∙◌, [], refl, sym, ap, subst, remaining_texts, state_of}
+use Rattle.lw_text.proofs.Common.{◌∙◌, [], refl, sym, ap, subst, remaining_texts, state_of, FailsInTerminal}
+use Rattle.lw_text.proofs.Common.{unopened, too_many_nodes, in_terminal}
 use Rattle.lw_text.proofs.Failures.{Fails-here, Fails-later}
 use Rattle.lw_text.proofs.PropositionPlaces.{closes_nothing, wants_part-place, no_room-first, room-first}
-use Rattle.lw_text.specs.Failures.{FailsInTerminal, unopened, too_many_nodes, in_terminal}
 use Rattle.lw_text.proofs.PropositionCases.{terminal_refused, no_room, begins_right}
 use Rattle.lw_text.proofs.Faults.{ran_out, Err-clause_known}
 use Rattle.lw_text.proofs.cursor.Cursor.parse_next_terminal.Goals as goal
@@ -13,7 +13,8 @@ returns-then-not-branch g c =
       λ s rest is left few fits.
           left (terminal_refused c.in_ok-terminal.ensures.0 c.args.reader.now c.requires.once refused s rest is),
       Fails-here c.args.self.now _ c.refusal-misfit.ensures.place
-          (let closes = closes_nothing (state_of c.args.reader.now) c.in_ok-terminal.terminal refused
+          (let closes =
+          closes_nothing (state_of c.args.reader.now) c.in_ok-terminal.terminal refused
           (c.in_ok-terminal.ensures.1 ∙ sym (wants_part-place c.args.reader.now _ c.wants_part.ensures)) in
           unopened closes.0 (rw closes.1 at c.in_ok-terminal.ensures.0.is) refl c.refusal-misfit.ensures.cause),
     )
@@ -32,8 +33,7 @@ pub returns-in_err-terminal : goal.returns-in_err-terminal
 returns-in_err-terminal g c = Err-clause_known _ _ _ c.from_residual.ensures.1 (λ ne.
     let lost = c.in_err-terminal.ensures ne in (
       λ s rest is left few fits. lost.0 s rest is (begins_right c.args.reader.now _ c.wants_part.ensures _ s left) few,
-      Fails-later ([], refl)
-          (λ rest cause w.
+      Fails-later ([], refl) (λ rest cause w.
           in_terminal c.requires.some (room-first _ _ (sym c.has_room.ensures ∙ c.if-not-has_room.false))
           (subst
           (λ part. FailsInTerminal c.args.arch c.args.threads part c.args.locs.now (remaining_texts c.args.self.now) rest cause)
@@ -44,10 +44,9 @@ pub returns-in_err-take : goal.returns-in_err-take
 returns-in_err-take g c = ran_out _ _ _ c.from_residual-in_err-take.ensures.1
 
 pub returns : goal.returns
-returns g c =
-    (
-      c.in_ok-terminal.ensures.0,
-      rw c.if-not-branch.false at c.in_ok-take.ensures,
-      c.len-known.ensures.table.few,
-      sym c.has_room.ensures ∙ c.if-not-has_room.false,
-    )
+returns g c = (
+  c.in_ok-terminal.ensures.0,
+  rw c.if-not-branch.false at c.in_ok-take.ensures,
+  c.len-known.ensures.table.few,
+  sym c.has_room.ensures ∙ c.if-not-has_room.false,
+)

@@ -1,9 +1,8 @@
-use Rattle.lw_text.proofs.Common.{◌≤◌, length, NameTable, ◌≡◌, ◌∷◌, [], Some, refl, sym, ap, subst, with_sites, Atom, IsAtom, sites_in}
-use Rattle.lw_text.proofs.Common.{IsSuffix, remaining, remaining_texts}
+use Rattle.lw_text.proofs.Common.{◌≤◌, length, NameTable, ◌≡◌, ◌∷◌, [], Some, refl, sym, ap, subst}
+use Rattle.lw_text.proofs.Common.{with_sites, Atom, IsAtom, sites_in, IsSuffix, remaining, remaining_texts}
+use Rattle.lw_text.proofs.Common.{FailsInSite, in_site, in_value, Condition}
 use Rattle.lw_text.proofs.Lists.{IsSuffix-join}
 use Rattle.lw_text.proofs.Failures.{Fails-later}
-use Rattle.lw_text.specs.Failures.{FailsInSite, in_site, in_value}
-use Rattle.lw_text.specs.declared.fault.TextCause.TheVariants.{Condition}
 use Rattle.lw_text.proofs.TerminalLists.{site_alone}
 use Rattle.lw_text.proofs.Faults.{Err-clause_known}
 use Rattle.lw_text.proofs.cursor.Cursor.parse_opening.Goals as goal
@@ -21,8 +20,7 @@ returns-in_err-site g c =
       Fails-later (subst (λ x. IsSuffix (remaining x) (remaining c.parse_opening_keyword.new.self)) same ([], refl))
           (λ rest cause w. (
             c.in_default.ensures.words,
-            in_site (subst
-                (λ ts. FailsInSite c.args.arch (Some c.args.threads) c.args.locs.now Condition ts rest cause) kept w),
+            in_site (subst (λ ts. FailsInSite c.args.arch (Some c.args.threads) c.args.locs.now Condition ts rest cause) kept w),
           )) lost.1,
     ))
 
@@ -36,8 +34,11 @@ returns-in_err-word g c =
       λ s rest terminal begins few.
           site_alone c.args.arch c.args.threads _ (remaining_texts c.parse_site.new.self) _ stands c.in_err-word.ensures.0 s rest
           terminal,
-      Fails-later leaves (λ rest cause w. (c.in_default.ensures.words, in_value _ stands c.in_ok-site.ensures.there
-          (subst (λ (table : NameTable). length table ≤ 8) c.in_ok-site.ensures.names_are c.in_ok-site.ensures.few) w)) c.in_err-word.ensures.1,
+      Fails-later leaves (λ rest cause w. (
+        c.in_default.ensures.words,
+        in_value _ stands c.in_ok-site.ensures.there
+            (subst (λ (table : NameTable). length table ≤ 8) c.in_ok-site.ensures.names_are c.in_ok-site.ensures.few) w,
+      )) c.in_err-word.ensures.1,
     ))
 
 pub returns : goal.returns
@@ -46,8 +47,7 @@ returns g c =
     let kept = ap remaining_texts same in
     let table = c.parse_site.new.locs in
     let taken = c.in_ok-site.ensures in
-    let syntax = sym (c.atom_at.ensures.syntax table) in
-    (
+    let syntax = sym (c.atom_at.ensures.syntax table) in (
       record {
         is =
             subst (λ claim.

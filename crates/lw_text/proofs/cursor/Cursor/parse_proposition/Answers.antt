@@ -1,12 +1,9 @@
-use Rattle.lw_text.proofs.Common.{ℕ, ◌+◌, ◌≤◌, ◌∙◌, [], append-nil, drop_all, refl, sym, ap, subst, arith, MatchResult-weaker, IsOfReader}
-use Rattle.lw_text.proofs.Common.{remaining, remaining_texts, state_of}
+use Rattle.lw_text.proofs.Common.{ℕ, ◌+◌, ◌≤◌, ◌∙◌, [], append-nil, drop_all, refl, sym, ap, subst, arith}
+use Rattle.lw_text.proofs.Common.{MatchResult-weaker, IsOfReader, remaining, remaining_texts, state_of}
+use Rattle.lw_text.proofs.Common.{FailsInProposition, incomplete, BeginsAt, place_of, Unterminated}
 use Rattle.lw_text.proofs.Lists.{IsSuffix-join}
 use Rattle.lw_text.proofs.Failures.{Fails-later}
 use Rattle.lw_text.proofs.PropositionPlaces.{incomplete_place, room-first}
-use Rattle.lw_text.specs.Failures.{FailsInProposition, incomplete}
-use Rattle.lw_text.specs.Views.{BeginsAt}
-use Rattle.lw_text.specs.inner.ReaderStates.{place_of}
-use Rattle.lw_text.proofs.Common.{Unterminated}
 use Rattle.lw_text.proofs.Texts.{nothing_left, some_left}
 use Rattle.lw_text.proofs.TerminalLists.{IsTerminal-shorter}
 use Rattle.lw_text.proofs.PropositionCases.{terminals_none, terminals_end, terminals_open, terminals_fault}
@@ -24,11 +21,9 @@ pub returns-then-self : goal.returns-then-self
 returns-then-self g c =
     let read = c.terminals.invariant.read in
     let gone = nothing_left c.terminals.self.tokens.now c.terminals.self.next (omega (arith, c.if-self.true)) in
-    MatchResult-weaker c.finish-prop.result c.finish-prop.ensures (λ prop is. terminals_end read gone prop is)
-    (λ f lost ne.
+    MatchResult-weaker c.finish-prop.result c.finish-prop.ensures (λ prop is. terminals_end read gone prop is) (λ f lost ne.
     let none = lost ne in
-    let nothing =
-    drop_all c.terminals.self.next c.terminals.self.tokens.now (omega (arith, c.if-self.true)) in (
+    let nothing = drop_all c.terminals.self.next c.terminals.self.tokens.now (omega (arith, c.if-self.true)) in (
       terminals_open read gone none.0,
       record {
         rest = [];
@@ -36,9 +31,7 @@ returns-then-self g c =
             IsSuffix-join c.terminals.invariant.leaves
             (remaining c.terminals.self, sym (append-nil (remaining c.terminals.self)));
         place = none.1 ∙ subst (λ x. BeginsAt x c.refusal.result.at) nothing c.refusal.ensures.place;
-        way =
-            c.terminals.invariant.fails [] _
-            (incomplete (incomplete_place (state_of c.terminals.reader) none.0) gone refl);
+        way = c.terminals.invariant.fails [] _ (incomplete (incomplete_place (state_of c.terminals.reader) none.0) gone refl);
       },
     ))
 
@@ -54,17 +47,14 @@ returns-in-Err g c = λ ne.
     )
 
 pub terminals-init : goal.terminals-init
-terminals-init g c =
-    record {
-      read = terminals_none c.args.arch c.args.threads c.args.locs.now _ c.new-reader.result c.new-reader.ensures;
-      leaves = ([], refl);
-      fails =
-          λ rest cause w.
-          subst
-          (λ state.
-          FailsInProposition c.args.arch c.args.threads rest cause (place_of state) 0 c.args.locs.now
-          (remaining_texts c.args.self.now)) c.new-reader.ensures w;
-    }
+terminals-init g c = record {
+  read = terminals_none c.args.arch c.args.threads c.args.locs.now _ c.new-reader.result c.new-reader.ensures;
+  leaves = ([], refl);
+  fails = λ rest cause w.
+      subst (λ state.
+      FailsInProposition c.args.arch c.args.threads rest cause (place_of state) 0 c.args.locs.now
+      (remaining_texts c.args.self.now)) c.new-reader.ensures w;
+}
 
 pub terminals-preserved : goal.terminals-preserved
 terminals-preserved g c =
@@ -75,7 +65,9 @@ terminals-preserved g c =
           terminals_more c.in-Ok.ensures.0 c.terminals.invariant.read c.requires.once c.in-Ok.ensures.1 _ counts
           (subst (λ (n : ℕ). n ≤ 256) (sym counts) room);
       leaves = IsSuffix-join c.terminals.invariant.leaves c.in-Ok.ensures.0.leaves;
-      fails = λ rest cause w. c.terminals.invariant.fails rest cause (Fails-after_terminal c.in-Ok.ensures.0 c.terminals.reader c.parse_next_terminal.new.reader
+      fails = λ rest cause w.
+          c.terminals.invariant.fails rest cause
+          (Fails-after_terminal c.in-Ok.ensures.0 c.terminals.reader c.parse_next_terminal.new.reader
           (room-first _ _ c.in-Ok.ensures.3) c.in-Ok.ensures.1 counts c.in-Ok.ensures.2 w);
     }
 

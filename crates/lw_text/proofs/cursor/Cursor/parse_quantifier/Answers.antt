@@ -1,9 +1,9 @@
-use Rattle.lw_text.proofs.Common.{◌∷◌, ◌∙◌, [], ap, codes, rules, subst, remaining_texts}
+use Rattle.lw_text.proofs.Common.{◌∷◌, ◌∙◌, [], ap, codes, rules, subst, remaining_texts, FailsBefore}
+use Rattle.lw_text.proofs.Common.{no_exists, Condition}
 use Rattle.lw_text.proofs.Whole.{no_quantifier}
 use Rattle.lw_text.proofs.Lists.{IsSuffix-join}
 use Rattle.lw_text.proofs.Failures.{Fails-later, FailsBefore-more}
-use Rattle.lw_text.specs.Failures.{FailsBefore, no_exists, no_quantifier as no_quantifier_word}
-use Rattle.lw_text.specs.declared.fault.TextCause.TheVariants.{Condition}
+use Rattle.lw_text.specs.Failures.{no_quantifier as no_quantifier_word}
 use Rattle.lw_text.proofs.Faults.{Err-clause_known}
 use Rattle.lw_text.proofs.cursor.Cursor.parse_quantifier.Goals as goal
 
@@ -20,8 +20,7 @@ returns-in_err-expect_either c =
     let other = c.accept.ensures.other c.if-accept.false in
     Err-clause_known _ _ _ c.from_residual-in_err-expect_either.ensures.1 (
       no_quantifier _ other (rw kept at c.in_err-expect_either.ensures.0) (rw kept at c.in_err-expect_either.ensures.1),
-      Fails-later c.accept.ensures.leaves
-          (λ rest cause w.
+      Fails-later c.accept.ensures.leaves (λ rest cause w.
           no_quantifier_word (FailsBefore-more _ (codes "exists" ∷ codes "forall" ∷ []) Condition _ rest cause other
           (subst (λ ts. FailsBefore (codes "exists" ∷ codes "forall" ∷ []) Condition ts rest cause) kept w)))
           c.in_err-expect_either.ensures.2,

@@ -1,8 +1,8 @@
-use Rattle.lw_text.proofs.Common.{◌≡◌, [], ◌∷◌, ◌∙◌, append-nil, refl, ap, sym, length, arith, length-append, length-map, RowCells}
-use Rattle.lw_text.proofs.Common.{cell_texts, cells_texts, remaining, remaining_texts}
+use Rattle.lw_text.proofs.Common.{◌≡◌, [], ◌∷◌, ◌∙◌, append-nil, refl, ap, sym, length, arith, length-append}
+use Rattle.lw_text.proofs.Common.{length-map, RowCells, cell_texts, cells_texts, remaining, remaining_texts}
+use Rattle.lw_text.proofs.Common.{no_end, ragged}
 use Rattle.lw_text.proofs.Lists.{IsSuffix-join}
 use Rattle.lw_text.proofs.Texts.{is_text}
-use Rattle.lw_text.specs.Failures.{no_end, ragged}
 use Rattle.lw_text.proofs.Faults.{Err-clause_known, ran_out}
 use Rattle.lw_text.proofs.Cells.{Cells-open, Row-ragged}
 use Rattle.lw_text.proofs.CellPlaces.{cells_more, cells_closed}
@@ -37,8 +37,8 @@ returns-then-eq g c =
         suffix = IsSuffix-join c.cells.invariant.leaves (c.parse_cell.new.cell, c.in_ok-mark.ensures.parts);
         place = refl;
         way =
-            ragged _ line
-            (ap (λ x. x ∷ remaining_texts c.parse_cell.new.self) (is_text _ _ (sym c.eq.ensures ∙ c.if-eq.true))) other refl;
+            ragged _ line (ap (λ x. x ∷ remaining_texts c.parse_cell.new.self) (is_text _ _ (sym c.eq.ensures ∙ c.if-eq.true)))
+            other refl;
       },
     )
 
@@ -62,14 +62,12 @@ cells-smaller g c = omega (
 )
 
 pub cells-preserved : goal.cells-preserved
-cells-preserved g c =
-    rw c.in_ok-push.ensures.ok
-    (record {
-      read = cells_more c.cells.invariant.read c.in_ok-mark.ensures (sym c.eq.ensures ∙ c.if-eq.false);
-      leaves =
-          IsSuffix-join c.cells.invariant.leaves
-          (IsSuffix-join (c.parse_cell.new.cell, c.in_ok-mark.ensures.parts) (c.in_ok-mark.mark ∷ [], refl));
-    })
+cells-preserved g c = rw c.in_ok-push.ensures.ok (record {
+  read = cells_more c.cells.invariant.read c.in_ok-mark.ensures (sym c.eq.ensures ∙ c.if-eq.false);
+  leaves =
+      IsSuffix-join c.cells.invariant.leaves
+      (IsSuffix-join (c.parse_cell.new.cell, c.in_ok-mark.ensures.parts) (c.in_ok-mark.mark ∷ [], refl));
+})
 
 pub parse_cell-requires : goal.parse_cell-requires
 parse_cell-requires g c = c.new-tokens.ensures

@@ -1,8 +1,8 @@
-use Rattle.lw_text.proofs.Common.{◌≡◌, ◌<◌, ◌∷◌, [], ◌∙◌, refl, subst, ap, sym, length, arith, length-append, map_push, length-map}
-use Rattle.lw_text.proofs.Common.{cells_texts, remaining_texts}
+use Rattle.lw_text.proofs.Common.{◌≡◌, ◌<◌, ◌∷◌, [], ◌∙◌, refl, subst, ap, sym, length, arith, length-append}
+use Rattle.lw_text.proofs.Common.{map_push, length-map, cells_texts, remaining_texts, FailsInRows}
+use Rattle.lw_text.proofs.Common.{too_many_rows, in_row, in_rows_after}
 use Rattle.lw_text.proofs.Lists.{IsSuffix-join}
 use Rattle.lw_text.proofs.Failures.{Fails-here, Fails-later}
-use Rattle.lw_text.specs.Failures.{FailsInRows, too_many_rows, in_row, in_rows_after}
 use Rattle.lw_text.proofs.Faults.{Err-clause_known, ran_out}
 use Rattle.lw_text.proofs.Cells.{Row-shorter, Rows-found, Rows-more, Rows-fault, Rows-many}
 use Rattle.lw_text.proofs.CellPlaces.{rows_more}
@@ -56,10 +56,10 @@ rows-preserved g c = record {
     c.rows.invariant.few,
   );
   leaves = IsSuffix-join c.rows.invariant.leaves c.in_ok-parse_row.ensures.2;
-  fails =
-      λ rest cause w.
+  fails = λ rest cause w.
       c.rows.invariant.fails rest cause
-      (in_rows_after _ (omega (arith, c.if-len-eq-MAX_ROWS.false, c.len.ensures, c.rows.invariant.few)) (sym c.at_stop.ensures ∙ c.if-at_stop.false) c.in_ok-parse_row.ensures.0
+      (in_rows_after _ (omega (arith, c.if-len-eq-MAX_ROWS.false, c.len.ensures, c.rows.invariant.few))
+      (sym c.at_stop.ensures ∙ c.if-at_stop.false) c.in_ok-parse_row.ensures.0
       (subst (λ k. FailsInRows c.args.threads rest cause k (remaining_texts c.parse_row.new.self))
       (omega (arith, ap length c.in_ok-push.ensures.ok, length-append c.rows.rows (c.in_ok-parse_row.field-0 ∷ []))) w));
 }

@@ -1,7 +1,6 @@
 use Rattle.lw_text.proofs.Common.{◌≤◌, length, Row, begins_stop, all_texts, with_spans, placed_cells}
-use Rattle.lw_text.proofs.Common.{RowsFrom, IsSuffix, TokenList, remaining, remaining_texts}
-use Rattle.lw_text.specs.Failures.{FailsInRows}
-use Rattle.lw_text.specs.declared.fault.TextCause.{TextCause}
+use Rattle.lw_text.proofs.Common.{RowsFrom, IsSuffix, TokenList, remaining, remaining_texts, FailsInRows}
+use Rattle.lw_text.proofs.Common.{TextCause}
 use Rattle.lw_text.proofs.Lists.{Passed}
 use Rattle.lw_text.proofs.cursor.Cursor.parse_rows.Given as goal
 
@@ -11,7 +10,9 @@ invariant-rows g l = record {
   cut : RowsFrom (with_spans (remaining l.fn.self)) (placed_cells l.rows) (with_spans (remaining l.self));
   few : length l.rows ≤ 64;
   leaves : IsSuffix (remaining l.fn.self) (remaining l.self);
-  fails : (rest : TokenList) (cause : TextCause) → FailsInRows l.threads rest cause (length l.rows) (remaining_texts l.self)
+  fails :
+      (rest : TokenList) (cause : TextCause)
+      → FailsInRows l.threads rest cause (length l.rows) (remaining_texts l.self)
       → FailsInRows l.threads rest cause 0 (remaining_texts l.fn.self);
 }
 

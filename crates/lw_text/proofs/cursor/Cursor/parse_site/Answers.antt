@@ -1,14 +1,14 @@
 use Rattle.lw_text.proofs.Common.{◌∷◌, [], ◌∙◌, inl, inr, refl, sym, ap, subst, arith, codes}
-use Rattle.lw_text.proofs.Common.{MatchResult-weaker, remaining, remaining_texts, ParsedSite}
+use Rattle.lw_text.proofs.Common.{MatchResult-weaker, remaining, remaining_texts, ParsedSite, in_name}
+use Rattle.lw_text.proofs.Common.{in_brackets, no_thread, in_register, BeginsAt}
 use Rattle.lw_text.proofs.Atoms.{site_none}
 use Rattle.lw_text.proofs.Lists.{IsSuffix-join}
 use Rattle.lw_text.proofs.Texts.{is_text, is_no_text}
-use Rattle.lw_text.proofs.Sites.{entered, allowed_thread, refused_thread, brackets_none, thread_refused, register_none}
-use Rattle.lw_text.proofs.Sites.{location_none}
+use Rattle.lw_text.proofs.Sites.{entered, allowed_thread, refused_thread, brackets_none, thread_refused}
+use Rattle.lw_text.proofs.Sites.{register_none, location_none}
 use Rattle.lw_text.proofs.Faults.{Err-clause_known}
-use Rattle.lw_text.proofs.Failures.{Fails-here, Fails-later, IfFirst-cons, IfFirst-nil, BeginsAt-cons, BeginsAt-nil}
-use Rattle.lw_text.specs.Failures.{in_name, in_brackets, no_thread, in_register}
-use Rattle.lw_text.specs.Views.{BeginsAt}
+use Rattle.lw_text.proofs.Failures.{Fails-here, Fails-later, IfFirst-cons, IfFirst-nil, BeginsAt-cons}
+use Rattle.lw_text.proofs.Failures.{BeginsAt-nil}
 use Rattle.lw_text.proofs.cursor.Cursor.parse_site.Goals as goal
 
 pub returns-in-Err : goal.returns-in-Err
@@ -38,8 +38,8 @@ returns-in_err-inside g c = Err-clause_known _ _ _ c.from_residual-in_err-inside
     let bracket = is_text _ _ (sym c.eq.ensures ∙ c.if-eq.true) in (
       λ s rest p there few. brackets_none c.args.arch c.args.locs.now c.in_ok-first.ensures.ok bracket lost.0 s rest p few,
       Fails-later (c.in_ok-first.first ∷ [], c.in_ok-first.ensures.token)
-          (λ rest cause w.
-          in_brackets (c.in_ok-first.ensures.ok ∙ ap (λ y. y ∷ remaining_texts c.take.new.self) bracket) w) lost.1,
+          (λ rest cause w. in_brackets (c.in_ok-first.ensures.ok ∙ ap (λ y. y ∷ remaining_texts c.take.new.self) bracket) w)
+          lost.1,
     ))
 
 pub returns-then-eq : goal.returns-then-eq
@@ -54,7 +54,8 @@ pub returns-then-not-is_allowed : goal.returns-then-not-is_allowed
 returns-then-not-is_allowed g c = λ ne.
     let refused = sym c.is_allowed.ensures ∙ c.if-not-is_allowed.true in (
       λ s rest p there few.
-          thread_refused c.args.arch c.args.locs.now c.in_ok-first.ensures.ok _ c.in-Some.ensures c.args.threads refused s rest p there,
+          thread_refused c.args.arch c.args.locs.now c.in_ok-first.ensures.ok _ c.in-Some.ensures c.args.threads refused s rest p
+          there,
       Fails-here c.args.self.now _ (BeginsAt-cons _ _ _ c.in_ok-first.ensures.token)
           (no_thread _ _ c.in_ok-first.ensures.ok refl c.in-Some.ensures (λ r. refused_thread c.args.threads _ r refused) refl),
     )
@@ -79,8 +80,8 @@ returns-in-Some g c =
     })) (λ f lost ne. (
       λ s rest p there few.
           register_none c.args.arch c.args.locs.now c.in_ok-first.ensures.ok c.in-Some.thread c.in-Some.ensures lost.0 s rest p,
-      Fails-later (c.in_ok-first.first ∷ [], c.in_ok-first.ensures.token)
-          (λ rest cause w. in_register _ _ c.in_ok-first.ensures.ok c.in-Some.ensures
+      Fails-later (c.in_ok-first.first ∷ [], c.in_ok-first.ensures.token) (λ rest cause w.
+          in_register _ _ c.in_ok-first.ensures.ok c.in-Some.ensures
           (λ r. allowed_thread c.args.threads _ r (sym c.is_allowed.ensures ∙ c.if-not-is_allowed.false)) w) lost.1,
     ))
 

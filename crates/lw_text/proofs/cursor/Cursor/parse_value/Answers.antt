@@ -1,8 +1,7 @@
-use Rattle.lw_text.proofs.Common.{codes, ◌∷◌, [], ◌∙◌, ap, remaining}
+use Rattle.lw_text.proofs.Common.{codes, ◌∷◌, [], ◌∙◌, ap, remaining, no_number}
 use Rattle.lw_text.proofs.Lists.{IsSuffix-join}
 use Rattle.lw_text.proofs.Atoms.{value_none}
 use Rattle.lw_text.proofs.Failures.{IfFirst-cons}
-use Rattle.lw_text.specs.Failures.{no_number}
 use Rattle.lw_text.proofs.cursor.Cursor.parse_value.Goals as goal
 
 pub returns-in-Some : goal.returns-in-Some

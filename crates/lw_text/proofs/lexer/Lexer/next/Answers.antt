@@ -1,7 +1,7 @@
 use Rattle.lw_text.proofs.Common.{◌<◌, arith, ap, subst, length, length-append, Trivia, [], refl, nat_tests}
+use Rattle.lw_text.proofs.Common.{open_comment, in_token}
 use Rattle.lw_text.proofs.TriviaLemmas.{Trivia-shorter}
 use Rattle.lw_text.proofs.TokenRows.{not_ended, no_first_from, no_first_open}
-use Rattle.lw_text.specs.TextFailures.{open_comment, in_token}
 use Rattle.lw_text.proofs.lexer.Lexer.next.Goals as goal
 
 pub overflow_sub-at : goal.overflow_sub-at
@@ -32,13 +32,12 @@ returns-in-Ok-clause-reads c =
     )
 
 pub returns-in_default-clause-reads : goal.returns-in_default-clause-reads
-returns-in_default-clause-reads c =
-    (
-      c.in_default.ensures.none [] refl,
-      no_first_open c.args.self.now.rest.now c.in_default.ensures.none,
-      omega arith,
-      record { rest = []; place = omega arith; way = open_comment c.in_default.ensures.none refl refl },
-    )
+returns-in_default-clause-reads c = (
+  c.in_default.ensures.none [] refl,
+  no_first_open c.args.self.now.rest.now c.in_default.ensures.none,
+  omega arith,
+  record { rest = []; place = omega arith; way = open_comment c.in_default.ensures.none refl refl },
+)
 
 pub returns-in-Err-clause-reads : goal.returns-in-Err-clause-reads
 returns-in-Err-clause-reads c = (
@@ -50,10 +49,7 @@ returns-in-Err-clause-reads c = (
   record {
     rest = c.in-Some.start.now;
     place = omega (arith, c.args.self.now.within, Trivia-shorter c.in-Some.ensures.found);
-    way =
-        in_token c.in-Some.ensures.found c.in-Some.ensures.stops
-        (c.in-Err.ensures.fails (λ e.
-        let some : 0 < length c.in-Some.start.now = grind (arith, nat_tests) in
-        omega (arith, some, ap length e)));
+    way = in_token c.in-Some.ensures.found c.in-Some.ensures.stops (c.in-Err.ensures.fails (λ e.
+        let some : 0 < length c.in-Some.start.now = grind (arith, nat_tests) in omega (arith, some, ap length e)));
   },
 )

@@ -1,7 +1,8 @@
-use Rattle.lw_text.proofs.Common.{[], ◌∙◌, ◌++◌, refl, sym, ap, subst, length, length-append, arith, IsFirstToken, arch_keyword}
+use Rattle.lw_text.proofs.Common.{[], ◌∙◌, ◌++◌, refl, sym, ap, subst, length, length-append, arith}
+use Rattle.lw_text.proofs.Common.{IsFirstToken, arch_keyword, in_keyword, in_test_name, in_notes, no_keyword}
+use Rattle.lw_text.proofs.Common.{other_keyword}
 use Rattle.lw_text.proofs.Faults.{Err-clause_known}
 use Rattle.lw_text.proofs.Failures.{FailsFrom-later}
-use Rattle.lw_text.specs.TextFailures.{in_keyword, in_test_name, in_notes, no_keyword, other_keyword}
 use Rattle.lw_text.proofs.Preambles.{no_named, no_notes}
 use Rattle.lw_text.proofs.TokenRows.{no_first, IsFirstToken-unique}
 use Rattle.lw_text.proofs.lexer.Lexer.parse_preamble.Goals as goal
@@ -15,8 +16,7 @@ returns-in_err-name c =
             (subst (λ w. IsFirstToken c.args.self.now.rest.now w c.next.new.self.rest.now)
             (sym c.in-Some-arch_from_keyword.ensures) here.0) c.in_err-name.ensures.reads.0,
         omega (arith, c.in_err-name.ensures.reads.1, ap length c.in_ok-token.ensures.same),
-        FailsFrom-later (ap length c.in_ok-token.ensures.same)
-            (λ rest cause w.
+        FailsFrom-later (ap length c.in_ok-token.ensures.same) (λ rest cause w.
             in_test_name c.in-Some-arch_from_keyword.arch _
             (subst (λ w. IsFirstToken c.args.self.now.rest.now w c.next.new.self.rest.now)
             (sym c.in-Some-arch_from_keyword.ensures) here.0) w) c.in_err-name.ensures.reads.2,
@@ -33,8 +33,7 @@ returns-in-Err c =
             (subst (λ w. IsFirstToken c.args.self.now.rest.now w c.next.new.self.rest.now)
             (sym c.in-Some-arch_from_keyword.ensures) here.0) c.in_ok-name.ensures.reads c.in-Err.ensures.reads.0,
         omega (arith, c.in-Err.ensures.reads.1, ap length (c.in_ok-name.ensures.same ∙ c.in_ok-token.ensures.same)),
-        FailsFrom-later (ap length (c.in_ok-name.ensures.same ∙ c.in_ok-token.ensures.same))
-            (λ rest cause w.
+        FailsFrom-later (ap length (c.in_ok-name.ensures.same ∙ c.in_ok-token.ensures.same)) (λ rest cause w.
             in_notes c.in-Some-arch_from_keyword.arch _ _ _
             (subst (λ w. IsFirstToken c.args.self.now.rest.now w c.next.new.self.rest.now)
             (sym c.in-Some-arch_from_keyword.ensures) here.0) c.in_ok-name.ensures.reads w.0 w.1) c.in-Err.ensures.reads.2,
@@ -44,8 +43,7 @@ returns-in-Err c =
 
 pub returns-in_default-clause-reads : goal.returns-in_default-clause-reads
 returns-in_default-clause-reads c =
-    let here = rw c.in_default.is at c.in_ok-token.ensures.reads in
-    (
+    let here = rw c.in_default.is at c.in_ok-token.ensures.reads in (
       λ arch name rest h. no_first _ (arch_keyword arch) h.0 here h.2,
       omega (arith, ap length c.in_ok-token.ensures.same),
       record { rest = []; place = omega (arith, ap length c.in_ok-token.ensures.same); way = no_keyword here refl refl },

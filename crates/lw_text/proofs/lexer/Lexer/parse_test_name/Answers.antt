@@ -1,8 +1,7 @@
 use Rattle.lw_text.proofs.Common.{◌≡◌, arith, ap, subst, length, length-append, false≢true, nat_tests}
-use Rattle.lw_text.proofs.Common.{IsTestName, ◌∙◌, sym, ◌++◌, name_ascii, refl}
-use Rattle.lw_text.proofs.Common.{[], ◌<◌, All-mono, not-true, first_byte_is, is_blank}
+use Rattle.lw_text.proofs.Common.{IsTestName, ◌∙◌, sym, ◌++◌, name_ascii, refl, [], ◌<◌, All-mono, not-true}
+use Rattle.lw_text.proofs.Common.{first_byte_is, is_blank, no_name, no_blank, bad_name}
 use Rattle.lw_text.proofs.Preambles.{ParsesTestName-parts, all_blank, no_front}
-use Rattle.lw_text.specs.TextFailures.{no_name, no_blank, bad_name}
 use Rattle.lw_text.proofs.lexer.Lexer.parse_test_name.Goals as goal
 
 pub returns-then-is_empty-clause-reads : goal.returns-then-is_empty-clause-reads
@@ -70,8 +69,8 @@ returns-then-not-is_test_name-clause-reads c =
         );
         way =
             bad_name c.prefix_of_kind.result.0.now c.prefix_of_kind-2.result.0.now c.prefix_of_kind-2.result.1.now b.parts u.parts
-            (grind (arith, nat_tests)) b.all (All-mono _ _ (λ x. not-true (is_blank x)) _ u.all) (grind (arith, nat_tests)) u.longest
-            (λ name. false≢true (c.if-not-is_test_name.ensures.1 name)) refl;
+            (grind (arith, nat_tests)) b.all (All-mono _ _ (λ x. not-true (is_blank x)) _ u.all) (grind (arith, nat_tests))
+            u.longest (λ name. false≢true (c.if-not-is_test_name.ensures.1 name)) refl;
       },
     )
 

@@ -13,13 +13,14 @@ pub returns-then-not-is_empty : goal.returns-then-not-is_empty
 returns-then-not-is_empty g c =
     let groups = c.args.self.now.outer.items in
     λ _. (
-      said_inside _ _ (reverse (map group_of groups)) (λ e. eqb-false _ _ (sym c.is_empty.ensures ∙ c.if-not-is_empty.true) (omega (
-        arith,
-        ap (λ l. length l) e,
-        length-reverse (map group_of groups),
-        length-map groups group_of,
-        c.args.self.now.outer.ok.0,
-      ))),
+      said_inside _ _ (reverse (map group_of groups))
+          (λ e. eqb-false _ _ (sym c.is_empty.ensures ∙ c.if-not-is_empty.true) (omega (
+            arith,
+            ap (λ l. length l) e,
+            length-reverse (map group_of groups),
+            length-map groups group_of,
+            c.args.self.now.outer.ok.0,
+          ))),
       refl,
     )
 

@@ -1,9 +1,9 @@
-use Rattle.lw_text.proofs.Common.{◌≡◌, ◌≢◌, ◌∙◌, IsSuffix, Memory, Unexpected, formula_of, inr, refl, syntax_of, ap, rules, subst, sym, ParsesTest, ParsesNoTest, token_texts}
+use Rattle.lw_text.proofs.Common.{◌≡◌, ◌≢◌, ◌∙◌, IsSuffix, Memory, Unexpected, formula_of, inr, refl}
+use Rattle.lw_text.proofs.Common.{syntax_of, ap, rules, subst, sym, ParsesTest, ParsesNoTest, token_texts}
+use Rattle.lw_text.proofs.Common.{FailsInTest, at_stream_fault}
 use Rattle.lw_text.proofs.Numbers.{if_none}
 use Rattle.lw_text.proofs.StreamFailures.{place_within, stream_fails}
 use Rattle.lw_text.proofs.api.Places.{texts_placed}
-use Rattle.lw_text.specs.Failures.{FailsInTest}
-use Rattle.lw_text.specs.inner.Parsed.{at_stream_fault}
 use Rattle.lw_text.proofs.token_stream.TokenStream.body.Goals as goal
 
 pub fault_of-requires-clause-place : goal.fault_of-requires-clause-place
@@ -35,15 +35,13 @@ returns-in-Some g c =
     let says = c.in-Ok.ensures.0 in (
       λ _. rw c.in-Some.is tt,
       rw c.in-Some.is at c.requires.fault,
-      λ _.
-          at_stream_fault c.in-Some.fault Unexpected c.in-Some.is refl refl
-          (inr (
-            syntax_of c.in-Ok.body says.terminals,
-            formula_of c.in-Ok.body.parts.prop,
-            subst (λ ts. ParsesTest c.args.arch ts (syntax_of c.in-Ok.body says.terminals))
-                (read ∙ sym (texts_placed c.args.self.now.tokens)) says.parts,
-            rw (← says.names) says.proposition,
-          )),
+      λ _. at_stream_fault c.in-Some.fault Unexpected c.in-Some.is refl refl (inr (
+        syntax_of c.in-Ok.body says.terminals,
+        formula_of c.in-Ok.body.parts.prop,
+        subst (λ ts. ParsesTest c.args.arch ts (syntax_of c.in-Ok.body says.terminals))
+            (read ∙ sym (texts_placed c.args.self.now.tokens)) says.parts,
+        rw (← says.names) says.proposition,
+      )),
     )
 
 pub returns-in-None : goal.returns-in-None

@@ -1,9 +1,8 @@
 use Rattle.lw_text.proofs.Common.{◌≤◌, ◌∙◌, ap, length, arith, map_push, All-from_recursion, Token, with_span}
-use Rattle.lw_text.proofs.Common.{with_spans}
+use Rattle.lw_text.proofs.Common.{with_spans, IsPlacedToken}
 use Rattle.lw_text.proofs.Lists.{ParsesMany-push}
 use Rattle.lw_text.proofs.Readings.{all_push}
 use Rattle.lw_text.proofs.TokenRows.{Read-done, Read-fault, Tokens-none, IsFirstToken-shorter}
-use Rattle.lw_text.specs.PlacedTokens.{IsPlacedToken}
 use Rattle.lw_text.proofs.Failures.{FailsFrom-later}
 use Rattle.lw_text.proofs.token_stream.TokenStream.read.Goals as goal
 
