@@ -4,10 +4,10 @@
     python3 tools/fences.py [--everything] [--exchanges] [--tries N] [--order intel|att] FILE
 
 Of an x86 test its own fences are taken, of a source test those of its compiled program. For each fence it prints which states are present
-without it that are not present with all fences; and then all smallest sets of fences that add no state. The states are those that
-the test shows: of the names in its question and in its list of names. With `--everything` they are those of all registers that the test
-uses and of all locations, whatever the question is. A fence is called spare if a law that is proved says that no outcome of any kind is new
-without it (tools/fencing/spare.py); then it is not tried.
+without it that are not present with all fences; and then all smallest sets of fences that add no state. The states are those that the test
+shows: of the names in its question and in its list of names. With `--everything` they are those of all registers that the test uses and of
+all locations, whatever the question is. Each line that says what can be left out names what was asked. A fence is called spare if a law
+that is proved says that no outcome of any kind is new without it (tools/fencing/spare.py); then it is not tried.
 
 If what the question asks about is present with all fences, or of `forall` not always, it prints at which places an MFENCE more would
 change that: all smallest sets of places. With `--exchanges` it prints of each XCHG and LOCK XADD which states are added if it is not
@@ -100,12 +100,12 @@ def place(test, fence):
     return f"P{thread} at {at}" + (f", before {behind[0]}" if behind else "")
 
 
-def lines_of_fence(row, spare):
-    """What is said of a fence that is left out alone, and whether it is spare."""
+def lines_of_fence(row, spare, asked):
+    """Returns what is said of a fence that is left out alone, and whether it is spare. Advice names what was asked, since it is read by itself."""
     if spare:
-        return [f"{row['place']}: spare: can be left out by a proved law"]
+        return [f"{row['place']}: spare: can be left out by a proved law, whatever is asked"]
     if not row["added"]:
-        return [f"{row['place']}: can be left out alone"]
+        return [f"{row['place']}: can be left out alone, by {asked}"]
     return [f"{row['place']}: needed, {len(row['added'])} more without it", *lines_of_added(row["added"], "  ")]
 
 
@@ -150,10 +150,10 @@ def place_of_load(test, place):
     return f"P{thread} at {at}, before {plain.instruction_text(test, test.threads[thread][at])}"
 
 
-def line_of_enough(test, sets):
-    """Which sets of fences are enough."""
+def line_of_enough(sets, asked):
+    """Returns which sets of fences are enough, by what was asked."""
     texts = [", ".join(f"P{thread} at {at}" for thread, at in fences) or "no fence" for fences in sets]
-    return f"Enough, with none to spare: {'; or '.join(texts)}"
+    return f"Enough, with none to spare, by {asked}: {'; or '.join(texts)}"
 
 
 def lines_of_places(test, number, states):
@@ -260,8 +260,8 @@ def show(words, text, name=given.STANDARD_INPUT):
     shown = showing_everything(test) if by_everything else test
     table = table_of(shown)
     spare = [is_spare(shown, fence) for fence in fences_of(shown)]
-    lines = [line for row in zip(table["rows"], spare) for line in lines_of_fence(*row)]
-    lines.append(line_of_enough(shown, enough_sets(shown, fences_of(shown), states_of(shown))))
+    lines = [line for row in zip(table["rows"], spare) for line in lines_of_fence(*row, asked)]
+    lines.append(line_of_enough(enough_sets(shown, fences_of(shown), states_of(shown)), asked))
     number = 0 if by_everything else unwanted(test)
     if number:
         lines += lines_of_places(test, number, table["states"])

@@ -159,15 +159,15 @@ def lines_of_added(added: List[str], indent: str) -> Iterator[str]:
         yield f"{indent}and {len(added) - MOST_SHOWN} others"
 
 
-def lines_of_fences(tests: Together, original: Original) -> Iterator[str]:
-    """What is said of each fence, and which sets of them are enough."""
+def lines_of_fences(tests: Together, original: Original, asked: str) -> Iterator[str]:
+    """Yields what is said of each fence, and which sets of them are enough, by what was asked."""
     before = {*tests.states()}
     for place in tests.fences():
         added = [line for line in tests.states_without({place}) if line not in before]
-        yield f"{original.named(place)}: " + (f"needed, {len(added)} more without it" if added else "can be left out alone")
+        yield f"{original.named(place)}: " + (f"needed, {len(added)} more without it" if added else f"can be left out alone, by {asked}")
         yield from lines_of_added(added, "  ")
     sets = [", ".join(map(original.short, it)) or "no fence" for it in tests.enough()]
-    yield f"Enough, with none to spare: {'; or '.join(sets)}"
+    yield f"Enough, with none to spare, by {asked}: {'; or '.join(sets)}"
 
 
 def lines_of_places(tests: Together, named: Callable[[Place], str]) -> Iterator[str]:
@@ -207,7 +207,7 @@ def lines_of(tests: Together, original: Original, by_everything: bool, with_exch
     everything = tests.showing(original.everything)
     asked = original.all_shown if by_everything else f"its question, {original.condition}"
     shown, named = everything if by_everything else tests, original.named
-    lines = list(lines_of_fences(shown, original))
+    lines = list(lines_of_fences(shown, original, asked))
     if not by_everything:
         lines += lines_of_places(tests, named)
     if with_exchanges:

@@ -66,7 +66,7 @@ locations [0:EAX; 1:EAX; 2:EAX; 3:EAX;]
 exists (n=1)
 """
 TOLD_OF_SB = """SB-x86, by its question, exists (0:EAX=0 /\\ 1:EAX=0): fences 0, states 4
-Enough, with none to spare: no fence
+Enough, with none to spare, by its question, exists (0:EAX=0 /\\ 1:EAX=0): no fence
 What is asked about is there, in 1 of 4 states: an MFENCE more at these places changes that
   P0 at 1, before MOV EAX,[y]; P1 at 1, before MOV EAX,[x]
 """
@@ -177,6 +177,16 @@ class Command(cases.Case):
         lines = [line for line in told.splitlines(keepends=True) if not line.startswith("Not proved: ")]
         self.assertEqual((TOLD_OF_SB, "", 0), ("".join(lines).replace(" (not proved)\n", "\n"), err, status))
 
+    def test_asked(self):
+        """Each line that says what can be left out names what was asked, since such a line is read without the first one."""
+        question, everything = "its question, ~exists (0:ECX=1 /\\ 1:ECX=1)", "all registers and locations"
+        for name, words, asked, count in (("Bakery", [], question, 2), ("Bakery", ["--everything"], everything, 0), ("FastLock", [], question, 2)):
+            lines = run(["fences.py", *words, f"examples/{name}.litmus"])[0].splitlines()
+            advice = [it for it in lines if "left out" in it or it.startswith("Enough")]
+            with self.subTest(name, asked=asked):
+                self.assertEqual(count + 1, len(advice))
+                self.assertTrue(all(f", by {asked}" in it for it in advice))
+
     def test_help(self):
         """`--help` is answered."""
         self.assertEqual(0, run(["fences.py", "--help"])[2])
@@ -257,7 +267,7 @@ class Spare(BySearch):
         out = io.StringIO()
         with mock.patch.object(sys, "stdout", out):
             fences.show(["--everything"], text)
-        self.assertEqual("P0 at 1, before MOV EBX,[z]: spare: can be left out by a proved law", out.getvalue().splitlines()[1])
+        self.assertEqual("P0 at 1, before MOV EBX,[z]: spare: can be left out by a proved law, whatever is asked", out.getvalue().splitlines()[1])
 
 
 class Makers(cases.Case):

@@ -659,8 +659,9 @@ class Compiled(cases.Case):
         self.assertEqual([f"  by its question, {asked}: 1 state more", "    0:got=5; 1:got=5; writers=2;"], lines[at + 1 : at + 3])
         self.assertEqual("a, by its question, " + asked + ": fences 0, states 1", lines[0].replace(" (not proved)", ""))
         lines = fences_of(*from_c.converted(read_source("a.c", SWAPPING), compiler, 1)).splitlines()
-        self.assertIn("P1 line 12: can be left out alone", lines)
-        self.assertEqual(["  P0 line 5"], lines[lines.index("Enough, with none to spare: no fence") + 2 :][:1])
+        asked = "its question, exists (0:r0=0 /\\ 1:r0=0)"
+        self.assertIn(f"P1 line 12: can be left out alone, by {asked}", lines)
+        self.assertEqual(["  P0 line 5"], lines[lines.index(f"Enough, with none to spare, by {asked}: no fence") + 2 :][:1])
 
     @unittest.skipUnless(spawn.is_current(), "the program is not built")
     def test_film(self):

@@ -149,7 +149,7 @@ class Printed(cases.Case):
         self.assertEqual("Guarded, by its question, exists (0:ECX=0 /\\ 1:ECX=0): fences 2, states 3", lines[0])
         needed = [f"P{thread}, line 5, mfence: needed, 1 more without it" for thread in range(2)]
         self.assertEqual([needed[0], "  0:ECX=0; 1:ECX=0;", needed[1], "  0:ECX=0; 1:ECX=0;"], lines[1:5])
-        self.assertEqual("Enough, with none to spare: P0 line 5, P1 line 5", lines[5])
+        self.assertEqual("Enough, with none to spare, by its question, exists (0:ECX=0 /\\ 1:ECX=0): P0 line 5, P1 line 5", lines[5])
         last = r"Put together from 2 tests, listed by .*, of the runs that go through each loop at most once"
         self.assertTrue(re.fullmatch(last, lines[-1]))
         self.assertEqual(0, status)
