@@ -54,8 +54,9 @@ class Names:
                 self.words[site] = {**addresses, **{it % 2**32: addresses.get(it, str(it)) for it in own}} if name[0] == "&" else addresses
 
     def line(self, line: str) -> str:
-        """Returns the line of a state."""
-        return " ".join(f"{self.sites[site]}={self.words[site].get(word, word)};" for site, word in words_in(line).items())
+        """Returns the line of a state. A register that the condition does not name has its name in lw's test."""
+        words = lambda site: self.words.get(site, {})
+        return " ".join(f"{self.sites.get(site, site)}={words(site).get(word, word)};" for site, word in words_in(line).items())
 
 
 def answer_of(made: Converter) -> Answer:

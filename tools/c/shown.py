@@ -51,17 +51,19 @@ def test_text(it: Written, made: Converter) -> str:
 
 
 def fences_of(answer: Answer, made: Converter) -> str:
-    """What tools/fences.py says of the fences and exchanges of a program, with the lines of the source."""
+    """Returns what tools/fences.py says of the fences and exchanges of a program, with the lines of the source, and states in its names."""
     if len(answer.tests) != 1:
         return fences_of_tests(answer, made)
     it, printed = answer.tests[0], io.StringIO()
     test = with_question(it)
     with redirect_stdout(printed):
         fences.show(["--exchanges"], plain.canonical_text(test))
+    names = Names(made, test)
     with_line = lambda found: f"{found[0]} ({line_of(it.lines[int(found[1])][int(found[2])])})"
-    names = [f"{name} is {site}" for name, site in Names(made, test).sites.items() if name != site]
-    text = re.sub(r"\bP(\d) at (\d+)\b", with_line, printed.getvalue())
-    return text + (f"There {', '.join(names)}.\n" if names else "")
+    text = re.sub(r"\bP(\d) at (\d+)\b", with_line, printed.getvalue()).replace(plain.condition_text(test), made.condition.text)
+    text = re.sub(r"^( +)((?:[\w:]+=\d+;[ ]?)+)$", lambda found: found[1] + names.line(found[2]), text, flags=re.M)
+    places = [f"{name} is {site}" for name, site in names.sites.items() if name != site and ":" not in name]
+    return text + (f"There {', '.join(places)}.\n" if places else "")
 
 
 def fences_of_tests(answer: Answer, made: Converter) -> str:

@@ -653,6 +653,8 @@ class Compiled(cases.Case):
         printed = fences_of(*from_c.converted(read_source("a.c", read("examples/from_c/EventCount.c")), compiler, 1))
         needed = re.findall(r"^P(\d) at \d+ \(line (\d+)\), (.*), without its lock:\n  by its question, .*: (\w+) state", printed, re.M)
         self.assertEqual([("0", "10", "LOCK XADD [sleepers],EAX", "1"), ("1", "16", "XCHG [work],EAX", "1")], needed)
+        at = "  by its question, ~exists (0:sleeps=1 /\\ 1:wakes=0): 1 state more as a plain store\n    0:sleeps=1; 1:wakes=0;\n"
+        self.assertIn(at, printed)
         lines = fences_of(*from_c.converted(read_source("a.c", read("examples/from_c/Once.c")), compiler, 1)).splitlines()
         at = lines.index("P0 line 12, without its lock:")
         asked = "~exists (0:got=0 \\/ 1:got=0 \\/ writers=2)"
