@@ -1,4 +1,5 @@
 """Runs the reader's compiler: from a source to assembly."""
+import functools
 import os
 import re
 import shlex
@@ -42,6 +43,17 @@ def compilers_for(ending: str) -> List[str]:
         return [f"rustc {level}" for level in RUST_LEVELS] if shutil.which("rustc") else []
     names = ("gcc", "clang") if ending == ".c" else ("g++", "clang++")
     return [f"{name} {level}" for name in names if shutil.which(name) for level in LEVELS]
+
+
+@functools.lru_cache(maxsize=None)
+def version_of(name: str) -> str:
+    """Returns the version that a compiler says it has, as 12.2.0, or nothing if it says none."""
+    try:
+        ran = subprocess.run([name, "--version"], stdout=subprocess.PIPE, stderr=subprocess.DEVNULL, check=False, timeout=SECONDS)
+    except (OSError, subprocess.TimeoutExpired):
+        return ""
+    found = re.search(rb"\b\d+\.\d+\.\d+\b", ran.stdout)
+    return found[0].decode() if found else ""
 
 
 def command_of(source: Source, words: List[str], weaker: int, folder: str) -> List[str]:

@@ -20,6 +20,7 @@ import subprocess
 import sys
 import tempfile
 import unittest
+from unittest import mock
 
 sys.dont_write_bytecode = True
 sys.path.insert(0, os.path.dirname(os.path.dirname(os.path.abspath(__file__))))
@@ -27,7 +28,7 @@ import from_c
 import given
 import plain
 from c.assembly import Assembly
-from c.compiler import compilers_for, with_readable_names
+from c.compiler import compilers_for, version_of, with_readable_names
 from c.condition import read_condition
 from c.convert import Converter
 from c.layout import Layout
@@ -37,11 +38,12 @@ from c.report import answer_of
 from c.shown import fences_of, film_of, schedules_of, tests_of
 from c.source import read_source
 from c.weaker import weaker_rust
+from documents import make_program_lists as program_lists
 from films import NoFilm
 from gate import cases, native_runs, random_programs
 from gate.examples import read, run
 from shared import answers, spawn
-from shared.home import HOME
+from shared.home import HOME, close
 
 RANDOM_PROGRAMS, COMPILERS_OF_RANDOM = 20, 2
 DATA = ".bss\n.align 8\nx:\n.zero 8\n.align 8\ny:\n.zero 8\n.align 8\nz:\n.zero 8\n"
@@ -577,16 +579,22 @@ class Sources(cases.Case):
         self.assertIn("not read", refused_by(lambda: read_source("a", "C SB\n{}\nP0 (int* x) { *x = 1; }\nlocations [x;]\nexists (x=0)\n")))
 
 
-def example_files(folder):
-    """The programs of a folder of examples."""
-    return sorted(glob.glob(os.path.join(HOME, "examples", folder, "*.*s" if folder == "from_rust" else "*.c")))
+def is_known(compiler, folder):
+    """Says whether the compiler is one that made the lists of a folder's README.md, of the same version."""
+    name = compiler.split()[0]
+    return f"{name} {version_of(name)}" in program_lists.versions_in(folder)
 
 
-def answer_on(path, compiler, weaker=0):
-    """The answer on a program by a compiler."""
-    with open(path, encoding="utf-8") as file:
-        source = read_source(path, file.read())
-    return from_c.converted(source, compiler, 1, weaker, os.path.dirname(path))[0]
+def verdicts_in(folder):
+    """The verdicts of the table of a folder's README.md: as it is, and with weaker orders."""
+    rows = re.findall(r"^\| \[(\w+)\.\w+\]\S* \| .* \| (\w+) \| (\w+) \| (\w+) \|$", read(f"examples/{folder}/README.md"), re.M)
+    return {name: verdicts for name, *verdicts in rows}
+
+
+# What other versions of compilers than those of the lists make of the examples, if it differs.
+OTHER_VERSIONS = []
+# What is refused: a level at which a program has too many ways.
+REFUSED = {("McsLock", "rustc -C opt-level=0")}
 
 
 class Compiled(cases.Case):
@@ -597,38 +605,76 @@ class Compiled(cases.Case):
         if not compilers_for(".c"):
             self.skipTest(skipped())
 
+    def compare(self, folder, compiler, name, wanted, told):
+        """Compares what a compiler makes of an example. If its version is not that of the lists, a difference is reported and no fault."""
+        if wanted != told and not is_known(compiler, folder):
+            OTHER_VERSIONS.append(f"examples/{folder}/{name} by {compiler}, version {version_of(compiler.split()[0])}: {told}, and not {wanted}")
+        else:
+            self.assertEqual(wanted, told)
+
+    def compare_example(self, folder, path, compilers):
+        """Compares an example's verdicts and lists by some compilers, those of level 2 with weaker orders too, with its rows in README.md."""
+        name, (_, of_lists), lists = program_lists.name_of(path), program_lists.FOLDERS[folder], program_lists.lists_in(folder)
+        for compiler in compilers:
+            if (name, compiler) in REFUSED:
+                continue
+            with self.subTest(name, compiler=compiler):
+                found = [program_lists.answer_on(path, compiler, number) for number in ((0, 1, 2) if compiler in of_lists else (0,))]
+                verdicts = [it.observation.split()[0] for it in found]
+                self.compare(folder, compiler, name, verdicts_in(folder)[name][: len(found)], verdicts)
+                if compiler in of_lists or not found[0].bounded:
+                    self.compare(folder, compiler, name, lists[name][: len(found)], program_lists.lists_of(found))
+
     def test_examples(self):
-        """Each example has the verdict that its README.md says, by every compiler, at -O0 and -O2, and with weaker orders. Its lists by all of them
-        are the same, unless runs are left out since a loop need not end."""
-        rows = re.findall(r"^\| \[(\w+)\.c\]\S* \| .* \| (\w+) \| (\w+) \| (\w+) \|$", read("examples/from_c/README.md"), re.M)
-        table = {name: verdicts for name, *verdicts in rows}
-        self.assertEqual([os.path.splitext(os.path.basename(it))[0] for it in example_files("from_c")], sorted(table))
-        for path in example_files("from_c"):
-            name, reports = os.path.splitext(os.path.basename(path))[0], set()
-            for compiler in [it for it in compilers_for(".c") if it.endswith(("-O0", "-O2"))]:
-                with self.subTest(name, compiler=compiler):
-                    found = [answer_on(path, compiler, number) for number in ((0, 1, 2) if compiler.endswith("-O2") else (0,))]
-                    self.assertEqual(table[name][: len(found)], [it.observation.split()[0] for it in found])
-                    reports |= set() if found[0].bounded else {found[0].report}
-            self.assertTrue(len(reports) <= 1)
+        """Each example has the verdicts and the lists that its README.md has, by every compiler at every level, as far as runs are not left out
+        since a loop need not end; at level 2 with weaker orders too."""
+        for folder, (ending, _) in program_lists.FOLDERS.items():
+            names = [program_lists.name_of(it) for it in program_lists.files_of(folder)]
+            self.assertEqual([names, names], [sorted(verdicts_in(folder)), sorted(program_lists.lists_in(folder))])
+            for path in program_lists.files_of(folder):
+                self.compare_example(folder, path, compilers_for(ending))
 
-    def test_rust(self):
-        """So have those in Rust, if rustc is there."""
-        table = dict(re.findall(r"^\| \[(\w+)\.rs\]\S* \| .* \| (\w+) \|$", read("examples/from_rust/README.md"), re.M))
-        self.assertEqual([os.path.splitext(os.path.basename(it))[0] for it in example_files("from_rust")], sorted(table))
-        for path in example_files("from_rust") if shutil.which("rustc") else ():
-            with self.subTest(path):
-                self.assertEqual(table[os.path.splitext(os.path.basename(path))[0]], answer_on(path, "rustc -O").observation.split()[0])
+    def test_other_version(self):
+        """A list that differs is a fault if its compiler made the lists of README.md, and is reported if it is of another version."""
+        path = os.path.join(HOME, "examples", "from_c", "EventCount.c")
+        answer_on, names = program_lists.answer_on, OTHER_VERSIONS[:]
+        other = lambda it, compiler, weaker=0: answer_on(it.replace("EventCount", "StoreBuffering"), compiler, weaker)
+        compiler = compilers_for(".c")[0].split()[0] + " -O2"
+        with mock.patch.object(program_lists, "answer_on", other), mock.patch.object(program_lists, "versions_in", lambda _folder: {"none 1.2.3"}):
+            self.compare_example("from_c", path, [compiler])
+        self.assertEqual(1, len(OTHER_VERSIONS) - len(names))
+        self.assertIn(f"examples/from_c/EventCount by {compiler}, version ", OTHER_VERSIONS[-1])
+        OTHER_VERSIONS[:] = names
 
-    def test_document(self):
-        """docs/FROM-C.md shows what its commands print, if gcc is there."""
-        blocks = re.findall(r"^```\n(% .*?)^```$", read("docs/FROM-C.md"), re.M | re.S)
-        commands = [it for block in blocks for it in re.findall(r"^% (.*)\n((?:(?!% ).*\n)*)", block, re.M)]
-        self.assertEqual(6, len(commands))
-        for line, printed in commands if shutil.which("gcc") else ():
-            ran = subprocess.run(["sh", "-c", line], stdout=subprocess.PIPE, cwd=HOME, check=False)
-            with self.subTest(line):
-                self.assertEqual(printed, ran.stdout.decode())
+    def test_pairs(self):
+        """docs/FENCES.md names the algorithms that need a fence: the stores and loads between which it is, and what weaker orders add. The others
+        have the same list with weaker orders."""
+        lists, text = program_lists.lists_in("from_c"), read("docs/FENCES.md")
+        of_four = re.findall(r"^\| (\w+) \| (.*?) \| .*? \| `(.*?)` .*\|$", text.partition("| Program | A store, then a load")[2].partition("\n\n")[0], re.M)
+        others = re.findall(r"^\| (.*?) \|", text.partition("| Program | Why |")[2].partition("\n\n")[0], re.M)
+        without_change = sorted(name for name, (_, *more) in lists.items() if not any(more))
+        self.assertEqual(without_change, sorted([*", ".join(others).split(", "), "MessagePassing"]))
+        self.assertEqual(sorted({*lists} - {*without_change}), sorted([*(it[0] for it in of_four), "StoreBuffering"]))
+        for name, pairs, added in of_four:
+            source = read_source(f"{name}.c", read(f"examples/from_c/{name}.c"))
+            made = from_c.converted(source, compilers_for(".c")[0].split()[0] + " -O2", 1)
+            needed = needed_lines(fences_of(*made))
+            with self.subTest(name):
+                self.assertEqual([[added]] * 2, [*lists[name][1:]])
+                for thread, places in re.findall(r"P(\d)[^()]*\((?:lines )?([\d, ]+)\)", pairs):
+                    first, last = map(int, places.split(", "))
+                    self.assertTrue(any(number == int(thread) and first <= line < last for number, line in needed))
+
+    def test_documents(self):
+        """docs/FROM-C.md and docs/FENCES.md show what their commands print, if gcc is there and of the version that the lists have."""
+        for page, count in (("FROM-C", 6), ("FENCES", 4)):
+            blocks = re.findall(r"^```\n(% .*?)^```$", read(f"docs/{page}.md"), re.M | re.S)
+            commands = [it for block in blocks for it in re.findall(r"^% (.*)\n((?:(?!% ).*\n)*)", block, re.M)]
+            self.assertEqual(count, len(commands))
+            for line, printed in commands if shutil.which("gcc") else ():
+                ran = subprocess.run(["sh", "-c", line], stdout=subprocess.PIPE, cwd=HOME, check=False)
+                with self.subTest(line):
+                    self.compare("from_c", "gcc", f"docs/{page}.md: {line}", printed, ran.stdout.decode())
 
     def test_show(self):
         """The tests that `--show` prints have the verdict of the program, and the other tools take them."""
@@ -732,10 +778,22 @@ class Compiled(cases.Case):
                     self.assertIn(part, out + err)
 
 
+def needed_lines(printed):
+    """The threads and the lines of the fences and exchanges that an answer needs, by what --fences prints."""
+    needed = re.findall(r"^P(\d)(?: at \d+)? \(?line (\d+)\)?.*(?:: needed, |, without its lock:\n  by its question, .*: \d)", printed, re.M)
+    return [tuple(map(int, it)) for it in needed]
+
+
 def skipped():
-    """The line that says what is left out, if no compiler is there."""
-    return None if compilers_for(".c") else "no program in C was compiled, since neither gcc nor clang is here"
+    """The lines that say what is left out, if compilers are missing, and what other versions of compilers make."""
+    lines = list(OTHER_VERSIONS)
+    if not compilers_for(".c"):
+        lines.append("no program in C was compiled, since neither gcc nor clang is here")
+    elif not compilers_for(".rs"):
+        lines.append("no program in Rust was compiled, since rustc is not here")
+    return "\n".join(lines) or None
 
 
 if __name__ == "__main__":
-    sys.exit(cases.main())
+    given.print_as_lw()
+    sys.exit(close(cases.comparisons(sys.modules["__main__"]), skipped=skipped))
