@@ -2,12 +2,17 @@
 """Runs litmus tests on this processor, and holds what is seen against the list that is proved complete.
 
     python3 tools/on_machine.py [--runs N] [--seconds S] [--until complete] [--everything] [--against FILE] [--json]
-                                [--cc CC] [--knob NAME=VALUE] FILE...
+                                [--cc CC] [--knob NAME=VALUE] [--program-cc COMMAND] [--tries N] FILE...
 
 A FILE has an x86 test, or a source test, which is run as the program that `lw compile` makes of it. Each thread's instructions are assembled
 as they are, and objdump shows before each run that the program has them and no others. Then the threads run, pinned to processors, for S
 seconds (10 if no number is named) or until N runs are done (then without a limit of time, unless S is named). With `--until complete` a run
 ends as soon as all listed states were seen.
+
+A FILE may be a program in C, C++ or Rust, or a test of herd's language C. tools/from_c.py compiles it, by the compiler of `--program-cc` (as its
+`--cc`), and converts it to tests of lw; `--tries N` goes through loops N times at most. These tests are run, and not the program's machine code: one
+after another, among which the seconds and runs are divided. What they show of the program is put together, and held against the program's list;
+all that each shows is held against its own list.
 
 The output is a histogram in the form of litmus7's logs, and after it: what kept the run from showing much, runs a second, by whom the list
 was made, how many of its states were seen, the rarest, and those that were not seen. A state that was SEEN AND NOT LISTED contradicts the
@@ -30,17 +35,16 @@ from typing import List, Optional
 
 sys.dont_write_bytecode = True
 import given
-from machine import knobs, summary
+from c.refused import Refused
+from machine import knobs, programs, summary
 from machine.faults import NotRun
 from machine.laboratory import Laboratory, Settings
 from machine.plans import Limits
 from machine.subjects import Subject, subject_of
-from many.files import is_program
 from shared import command, start
 
 SEEN_AND_NOT_LISTED, NOT_RUN, INTERRUPTED = 3, 5, 130
 SECONDS = 10.0
-IS_PROGRAM = "a program in C, C++ or Rust is no test: `tools/from_c.py --show` prints the tests that its compiler's code is"
 
 
 def knob_of(word: str):
@@ -79,14 +83,14 @@ def settings_of(words, against: Optional[Subject]) -> Settings:
 def show(laboratory: Laboratory, words, settings: Settings, file: str, text: str) -> int:
     """Runs one test, and prints what was seen. Returns the exit status."""
     try:
-        if is_program(file):
-            raise NotRun(IS_PROGRAM)
-        result = laboratory.result_of(file, text, settings)
+        result = programs.result_of_file(laboratory, file, text, settings, words.program_cc, words.tries)
     except NotRun as why:
         print(f"on_machine: {file}: {why}", file=sys.stderr)
         return NOT_RUN
+    except Refused as why:
+        return given.refuse(why.text(file))
     print(json.dumps(summary.json_of(result)) if words.json else summary.text_of(result), end="\n" if words.json else "", flush=True)
-    return SEEN_AND_NOT_LISTED if result.not_listed() else 0
+    return SEEN_AND_NOT_LISTED if result.is_contradicted() else 0
 
 
 def run_all(words, settings: Settings) -> int:
@@ -108,8 +112,20 @@ def run_against(words) -> int:
     """Reads the test of `--against`, if there is one, and runs all tests. Returns the exit status."""
     if words.against is None:
         return run_all(words, settings_of(words, None))
-    work = lambda _file, text: run_all(words, settings_of(words, subject_of(text, words.everything)))
-    return command.for_one("on_machine", words.against, work)
+    return command.for_one("on_machine", words.against, lambda file, text: run_held_against(words, file, text))
+
+
+def run_held_against(words, file: str, text: str) -> int:
+    """Runs all tests against the list of a test or a program. Returns the exit status."""
+    try:
+        is_converted = programs.is_converted(file, text)
+        its = programs.program_of(file, text, words.program_cc, words.tries).subject if is_converted else subject_of(text, words.everything)
+    except NotRun as why:
+        print(f"on_machine: {file}: {why}", file=sys.stderr)
+        return NOT_RUN
+    except Refused as why:
+        return given.refuse(why.text(file))
+    return run_all(words, settings_of(words, its))
 
 
 def main() -> int:
@@ -123,6 +139,8 @@ def main() -> int:
     reader.add_argument("--against", metavar="FILE")
     reader.add_argument("--json", action="store_true")
     reader.add_argument("--cc", type=compiler_of, default="cc")
+    reader.add_argument("--program-cc", metavar="COMMAND")
+    reader.add_argument("--tries", type=command.number_from(0), default=1, metavar="N")
     reader.add_argument("--knob", type=knob_of, action="append", default=[], metavar="NAME=VALUE")
     return run_against(reader.parse_args())
 

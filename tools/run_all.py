@@ -33,8 +33,8 @@ the original's filter leaves out do not count, and the tests that stand for gues
 and was not seen is no difference. A state that was seen and is not listed contradicts the list: it is reported, and the status is 3.
 
 `--on-machine SECONDS` runs each test for so many seconds on this processor too, one after another, as tools/on_machine.py does; a test in
-herd's form as it is converted, if that is one test without loops. A further column says how many of its listed states were seen here, `-` if
-it could not be run; why, is said on standard error.
+herd's form as it is converted, if that is one test without loops, and a program as the tests that it is converted to. A further column says
+how many of its listed states were seen here, `-` if it could not be run; why, is said on standard error.
 
 It is looked once whether the program is that of the sources, as `./lw` does for each test. Where it is not, tools/plain.py answers. Tests that
 lw refuses for their size are listed by beyond, and where that is not the program of the sources, by the search of tools/beyond.py. What is
@@ -169,15 +169,15 @@ def comparisons(done: list, words: argparse.Namespace) -> set:
     return {differing, compare.tell_of_machine(done, words.machine_log) if words.machine_log else 0}
 
 
-def rows_with_seen(done: list, seconds: float | None) -> tuple:
+def rows_with_seen(done: list, words: argparse.Namespace) -> tuple:
     """Returns the rows, with what was seen on this machine if that is requested, and the exit status."""
-    if seconds is None:
+    if words.seconds is None:
         return [it.row for it in done], 0
     from many import compare
 
     progress = Progress(len(done))
     try:
-        return compare.rows_with_seen(done, seconds, progress.step)
+        return compare.rows_with_seen(done, words.seconds, progress.step, words.cc, words.tries)
     finally:
         progress.end()
 
@@ -189,7 +189,7 @@ def work(words: argparse.Namespace) -> int:
     progress = Progress(len(chosen))
     done = lists.all_answers(chosen, lists.Choices(words.tries, words.order, words.cc), progress.step)
     progress.end()
-    table, here = rows_with_seen(done, words.seconds)
+    table, here = rows_with_seen(done, words)
     reported = [it for it in done if it.report]
     if words.form == "log":
         sys.stdout.write("".join(f"{it.report}\n" for it in reported))

@@ -37,6 +37,11 @@ class Source:
         return self.ending == ".rs"
 
 
+def is_herd_form(text: str) -> bool:
+    """Returns whether a text is a test in herd's form of C."""
+    return bool(HERD.match(without_comments(text, HERD_COMMENT)))
+
+
 def without_comments(text: str, comment: "re.Pattern[str]" = NO_CODE) -> str:
     """Returns a text with blanks for comments and quoted texts, so that positions are the same."""
     return comment.sub(lambda it: re.sub(r"[^\n]", " ", it[0]), text)
@@ -121,7 +126,7 @@ def condition_of(text: str) -> Condition:
 def read_source(path: str, text: str) -> Source:
     """Reads a source: C, C++ or Rust by the file's suffix, or C in herd's form."""
     name, ending = os.path.splitext(os.path.basename(path))
-    if HERD.match(without_comments(text, HERD_COMMENT)):
+    if is_herd_form(text):
         return from_herd_form(without_comments(text, HERD_COMMENT))
     condition = condition_of(text)
     threads = len(bodies_of(without_comments(text)))

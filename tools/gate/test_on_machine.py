@@ -5,6 +5,7 @@
 
 - Controls, which run tests: SB held against the list of SB with fences; stores past the caches, which break 2+2W and MP; a program with two
   instructions swapped, or anything else changed, which is refused. A control that needs a race is tried again, longer, up to a limit.
+- Programs in C and Rust, by the tests that they are converted to, with the same controls.
 - Runs with fewer processors than threads, under a tracer, and where the trap flag is caught.
 - The messages and statuses of the command, and the column of tools/run_all.py.
 
@@ -29,10 +30,11 @@ import plain
 from gate import cases
 from gate.examples import TOOLS, examples, read, run
 from gate.test_machine_parts import ALL, MP, codes_of, refusal, subject_of
-from machine import assembly, build, knobs, plans, processors, runs, subjects, summary
+from machine import assembly, build, knobs, plans, processors, programs, runs, subjects, summary
 from machine.faults import NotRun
 from machine.laboratory import Laboratory, Settings
 from machine.plans import Limits
+from shared import answers
 from shared.home import HOME, close
 
 # The seconds that the tries of a control last: it fails after the last one.
@@ -195,9 +197,6 @@ class Commands(cases.Case):
         out, err, status = run(["on_machine.py", "--seconds", "0.1", "tools/herd/tests/Less.litmus", "nowhere"])
         told = "tools/herd/tests/Less.litmus:6:2: 'JL' is no instruction that is read\non_machine: nowhere: No such file or directory\n"
         self.assertEqual(("", told, 1), (out, err, status))
-        program = "examples/from_c/StoreBuffering.c"
-        told = "a program in C, C++ or Rust is no test: `tools/from_c.py --show` prints the tests that its compiler's code is"
-        self.assertEqual(("", f"on_machine: {program}: {told}\n", 5), run(["on_machine.py", program]))
         self.assertEqual(("", "on_machine: the compiler 'false' fails: it says nothing\n", 5), run(["on_machine.py", "--cc", "false", "F"]))
         out, err, status = run(["on_machine.py", "--seconds", "0.1", "--against", "examples/MP-x86.litmus", "examples/SB-x86.litmus"])
         told = "it is held against a test that speaks of other names: 1:EAX 1:EBX, and not 0:EAX 1:EAX"
@@ -292,7 +291,7 @@ class Controls(cases.Case):
         out, err, status = run(["run_all.py", "--as", "json", "--on-machine", "0.3", *converted])
         told = [it["seen"] for it in json.loads(out)]
         self.assertEqual((True, "-", 0), (bool(re.fullmatch("[1-4] of 4", told[0])), told[1], status))
-        self.assertIn("Cas.litmus: a program, and a test that is converted to several or has loops, are not run on this machine", err)
+        self.assertIn("Cas.litmus: a test in herd's form that is converted to several, or has loops, is not run on this machine", err)
         for seconds in ("0", "x", "nan", ""):
             with self.subTest(seconds):
                 self.assertEqual(2, run(["run_all.py", "--on-machine", seconds, "examples/SB.litmus"])[2])
@@ -305,6 +304,168 @@ class Controls(cases.Case):
             with self.subTest(words):
                 self.assertEqual([], result.not_listed())
                 self.assertTrue(result.seen_and_listed())
+
+
+# The code of store buffering by plain stores, which a compiler that is none writes.
+PLAIN_STORES = """	.text
+	.type P0, @function
+P0:
+	movl $1, x(%rip)
+	movl y(%rip), %eax
+#lw see r0 %eax
+	ret
+	.type P1, @function
+P1:
+	movl $1, y(%rip)
+	movl x(%rip), %eax
+#lw see r0 %eax
+	ret
+	.bss
+	.align 4
+x:
+	.zero 4
+	.align 4
+y:
+	.zero 4
+"""
+HERD_C = """C SB+release
+{ x=0; y=0; }
+P0 (atomic_int* x, atomic_int* y) {
+  atomic_store_explicit(x, 1, memory_order_release);
+  int r0 = atomic_load_explicit(y, memory_order_acquire);
+}
+P1 (atomic_int* x, atomic_int* y) {
+  atomic_store_explicit(y, 1, memory_order_release);
+  int r0 = atomic_load_explicit(x, memory_order_acquire);
+}
+exists (0:r0=0 /\\ 1:r0=0)
+"""
+
+
+@unittest.skipIf(skipped() or not shutil.which("gcc"), "something is missing")
+class Programs(cases.Case):
+    """Programs in C and Rust, as the tests that they are converted to."""
+
+    @classmethod
+    def setUpClass(cls):
+        cls.room = tempfile.TemporaryDirectory(prefix="lw-machine-")
+        cls.addClassCleanup(cls.room.cleanup)
+        cls.laboratory = Laboratory(["cc"], cls.room.name)
+
+    def program_of(self, path, compiler=None, tries=1):
+        """Returns the program of a file."""
+        return programs.program_of(path, read(path), compiler, tries)
+
+    def result_of(self, program, seconds=0.3, **settings):
+        """Returns what the runs of a program show."""
+        return programs.result_of(self.laboratory, "F", program, Settings(Limits(seconds), **settings))
+
+    def write(self, name, text):
+        """Writes a file into a folder. Returns its path."""
+        path = os.path.join(self.room.name, name)
+        with open(path, "w", encoding="utf-8") as it:
+            it.write(text)
+        return path
+
+    def test_lists(self):
+        """A program has the list of tools/from_c.py, in the names of the source, however many tests it is."""
+        for name, compiler, count in (("StoreBuffering", "gcc -O0", 1), ("ChaseLev", "gcc -O2", 4), ("McsLock", "gcc -O2", 4)):
+            path = f"examples/from_c/{name}.c"
+            program = self.program_of(path, compiler)
+            states = answers.states_in(run(["from_c.py", "--cc", compiler, path])[0])
+            with self.subTest(name):
+                self.assertEqual(count, len(program.parts))
+                self.assertEqual(sorted(states), sorted(map(program.subject.line_of, program.subject.listed.states)))
+
+    def test_seen(self):
+        """What is seen is listed. A run that is given up is no run of the program, and is counted apart."""
+        paths = [f"examples/from_c/{it}.c" for it in ("TreiberStack", "ChaseLev", "Once", "EventCount")]
+        for path in paths + ["examples/from_rust/EventCount.rs"] * bool(shutil.which("rustc")):
+            result = self.result_of(self.program_of(path))
+            counted = sum(it.count for it in result.seen.states.values())
+            with self.subTest(path):
+                self.assertEqual(([], []), (result.not_listed(), list(result.others)))
+                self.assertTrue(0 < counted <= result.seen.runs)
+                told = [it for it in result.notes if it.startswith("Given up")]
+                self.assertEqual([str(result.seen.runs - counted)] * (counted < result.seen.runs), [it.split()[5] for it in told])
+
+    def test_complete(self):
+        """Until all states are seen, tests that list none that is missing are not run."""
+        program = self.program_of("examples/from_c/ChaseLev.c")
+        settings = Settings(Limits(30.0, until_complete=True))
+        done = list(programs.runs_of(self.laboratory, program, settings))
+        self.assertEqual(set(program.subject.listed.states), set(programs.seen_together(done).states))
+        self.assertTrue(len(done) < len(program.parts))
+
+    def test_herd_form(self):
+        """A test of herd's language C is a program, and its states have its names."""
+        path = self.write("sb.litmus", HERD_C)
+        out, err, status = run(["on_machine.py", "--seconds", "0.3", "--json", path])
+        made = json.loads(out)
+        self.assertEqual(("SB+release", 4, [], "", 0), (made["name"], made["listed"], made["not_listed"], err, status))
+        self.assertTrue({it["state"] for it in made["seen"]} <= {f"0:r0={a}; 1:r0={b};" for a in (0, 1) for b in (0, 1)})
+
+    def test_against(self):
+        """Store buffering by plain stores, as release makes them or a compiler that is none, is held against the list of the program with seq_cst: its
+        fourth state is seen and not listed, with status 3. The first control."""
+        code = self.write("plain.s", PLAIN_STORES)
+        fake = self.write("fake-cc", f'#!/bin/sh\nwhile [ "$1" != -o ]; do shift; done\ncp {code} "$2"\n')
+        os.chmod(fake, 0o755)
+        strong = self.program_of("examples/from_c/StoreBuffering.c", "gcc -O2").subject
+        for path, compiler in (("examples/from_c/StoreBuffering.c", fake), (self.write("sb.litmus", HERD_C), None)):
+            with open(os.path.join(HOME, path), encoding="utf-8") as it:
+                program = programs.program_of(path, it.read(), compiler, 1)
+            with self.subTest(path):
+                self.assertTrue(any(self.result_of(program, it, against=strong).not_listed() == [(0, 0)] for it in TRIES))
+        for seconds in TRIES:
+            out, err, status = run(["on_machine.py", "--seconds", str(seconds), "--against", "examples/from_c/StoreBuffering.c", path])
+            if status == 3:
+                break
+        self.assertEqual(("", 3), (err, status))
+        last = out.splitlines()[-2]
+        self.assertTrue(last.startswith(f"  {summary.NOT_LISTED}: ") and last.endswith(": 0:r0=0; 1:r0=0;"))
+
+    def test_nontemporal(self):
+        """Stores past the caches show the forbidden state of a program. The second control."""
+        past = knobs.knobs_of([("stores", 1)])
+        program = self.program_of("examples/from_c/MessagePassing.c")
+        forbidden = "1:sees_data=0; 1:sees_flag=1;"
+        told = lambda seconds: [program.subject.line_of(it) for it in self.result_of(program, seconds, knobs=past).not_listed()]
+        self.assertTrue(any(told(it) == [forbidden] for it in TRIES))
+
+    def test_given_up(self):
+        """A state of a test that its own list lacks is a contradiction, also if its run is given up. The third control."""
+        program = self.program_of("examples/from_c/TreiberStack.c")
+        short = [it._replace(listed=it.listed._replace(states=[w for w in it.listed.states if it.kept(w) is not None])) for it in program.parts]
+        for seconds in TRIES:
+            result = self.result_of(program._replace(parts=short), seconds)
+            if result.others:
+                break
+        self.assertEqual([], result.not_listed())
+        self.assertTrue(result.is_contradicted())
+        self.assertIn(": in the test TreiberStack+", result.others[0])
+        self.assertTrue(summary.lines_of(result)[-1].startswith(f"  {summary.NOT_LISTED}: "))
+
+    def test_refused(self):
+        """A program that is not converted, one of which no run is left, and one of which everything is to be looked at."""
+        waits = "#include <stdatomic.h>\natomic_int x;\nvoid P0(void) { while (!atomic_load(&x)); }\n// lw: exists (x=0)\n"
+        path, sb = self.write("waits.c", waits), "examples/from_c/StoreBuffering.c"
+        why = "no run comes to an end: each waits for what no other thread stores, or goes through a loop more often than --tries says"
+        for words, told, wanted in (
+            ([path], f"on_machine: {path}: {why}\n", 5),
+            (["--everything", sb], f"on_machine: {sb}: {programs.EVERYTHING}\n", 5),
+            (["--program-cc", "no-cc", sb], f"{sb}: the compiler 'no-cc' does not start: No such file or directory\n", 1),
+            (["--against", path, sb], f"on_machine: {path}: {why}\n", 5),
+        ):
+            with self.subTest(words):
+                self.assertEqual(("", told, wanted), run(["on_machine.py", *words]))
+
+    def test_table(self):
+        """tools/run_all.py has them in its column."""
+        out, err, status = run(["run_all.py", "--as", "csv", "--on-machine", "0.3", "examples/from_c/TreiberStack.c"])
+        self.assertTrue(re.search(r"^seen,converted$|,seen,", out.splitlines()[0]))
+        self.assertTrue(re.search(r",[12] of 2,", out.splitlines()[1]))
+        self.assertEqual((0, False), (status, "not run" in err))
 
 
 @unittest.skipIf(missing(), "something is missing")

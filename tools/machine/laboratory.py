@@ -36,6 +36,20 @@ def threads_of(subject: Subject, knobs: Knobs) -> List[Code]:
     return [assembly.with_nontemporal_stores(code) for code in threads]
 
 
+class Ran(NamedTuple):
+    """What was seen in a run, its plan, and the processors that it was made on."""
+
+    seen: runs.Seen
+    plan: Plan
+    here: processors.Processors
+
+
+def notes_on(seen: runs.Seen, ran: Ran, settings: Settings) -> List[str]:
+    """Returns what must be known of what was seen, in runs of which one is passed."""
+    control = [NONTEMPORAL] * bool(settings.knobs["stores"])
+    return control + processors.sentences_on(ran.here, len(ran.plan.threads)) + runs.sentences_on(seen, ran.plan)
+
+
 class Laboratory:
     """A compiled harness, and the processors that it runs on."""
 
@@ -50,14 +64,17 @@ class Laboratory:
         is_scarce = len(here.allowed) < len(threads)
         return Plan(subject, threads, listed, led, placements, here.has_clock, is_scarce, settings.limits, knobs)
 
+    def run(self, subject: Subject, settings: Settings, states: Sequence[tuple]) -> Ran:
+        """Runs a test, of which some states are looked for."""
+        here = processors.processors_here()
+        plan = self.plan_of(subject, settings, states, here)
+        return Ran(runs.run(self.builder.program_of(plan.threads, subject.x86.registers), plan), plan, here)
+
     def result_of(self, file: str, text: str, settings: Settings) -> Result:
         """Runs a test, and compares it with its list or that of another test."""
         subject = subject_of(text, settings.everything)
         other = settings.against
         listed = listed_against(subject, other) if other else listed_of(subject)
-        here = processors.processors_here()
-        plan = self.plan_of(subject, settings, listed.states, here)
-        seen = runs.run(self.builder.program_of(plan.threads, subject.x86.registers), plan)
-        notes = [NONTEMPORAL] * bool(settings.knobs["stores"])
-        notes += processors.sentences_on(here, len(plan.threads)) + runs.sentences_on(seen, plan)
-        return Result(file, subject, listed, seen, len(here.allowed), other.shown.name if other else "", notes)
+        ran = self.run(subject, settings, listed.states)
+        notes = notes_on(ran.seen, ran, settings)
+        return Result(file, subject, listed, ran.seen, len(ran.here.allowed), other.shown.name if other else "", notes)

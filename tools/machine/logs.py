@@ -5,7 +5,6 @@ that was seen contradicts them.
 """
 from typing import List
 
-import plain
 from machine.runs import Seen
 from machine.subjects import Subject
 
@@ -32,7 +31,7 @@ def lines_of(subject: Subject, seen: Seen) -> List[str]:
         "",
         "Witnesses",
         f"Positive: {positive}, Negative: {negative}",
-        f"Condition {plain.condition_text(test)} is {'' if is_ok else 'NOT '}validated",
+        f"Condition {subject.condition} is {'' if is_ok else 'NOT '}validated",
         f"Observation {test.name} {often} {positive} {negative}",
         f"Time {test.name} {seen.seconds:.2f}",
     ]

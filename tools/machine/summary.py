@@ -11,7 +11,7 @@ NOT_LISTED = "SEEN AND NOT LISTED"
 
 class Result(NamedTuple):
     """A run, and the test with which it is compared. `against` is the name of another test, or empty; `notes` has what must be known of the
-    run.
+    run, and `others` the lines on states of a program's tests that are seen and not listed there.
     """
 
     file: str
@@ -21,6 +21,11 @@ class Result(NamedTuple):
     processors: int
     against: str = ""
     notes: Sequence[str] = ()
+    others: Sequence[str] = ()
+
+    def is_contradicted(self) -> bool:
+        """Returns whether a state was seen that is not listed."""
+        return bool(self.not_listed() or self.others)
 
     def seen_and_listed(self) -> List[Words]:
         """Returns the listed states that were seen, the rarest first."""
@@ -58,10 +63,13 @@ def lines_of(result: Result) -> List[str]:
         sight = seen.states[words]
         lines.append(f"  rarest: {sight.count} of {seen.runs}, first after {sight.first:.3f} s {sight.kind}: {result.subject.line_of(words)}")
     lines += [f"  not seen: {result.subject.line_of(words)}" for words in result.not_seen()]
-    for words in result.not_listed():
-        sight = seen.states[words]
-        lines.append(f"  {NOT_LISTED}: {sight.count} of {seen.runs}, first after {sight.first:.3f} s {sight.kind}: {result.subject.line_of(words)}")
-    return lines
+    return [*lines, *(line_of_contradiction(seen, words, result.subject.line_of(words)) for words in result.not_listed()), *result.others]
+
+
+def line_of_contradiction(seen: Seen, words: Words, line: str) -> str:
+    """Returns the line on a state that is not listed."""
+    sight = seen.states[words]
+    return f"  {NOT_LISTED}: {sight.count} of {seen.runs}, first after {sight.first:.3f} s {sight.kind}: {line}"
 
 
 def text_of(result: Result) -> str:
@@ -89,5 +97,6 @@ def json_of(result: Result) -> Dict[str, object]:
         "seen": states,
         "not_seen": [line_of(words) for words in result.not_seen()],
         "not_listed": [line_of(words) for words in result.not_listed()],
+        "not_listed_in_tests": [it.strip() for it in result.others],
         "notes": list(result.notes),
     }

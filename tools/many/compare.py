@@ -52,26 +52,28 @@ def tell_of_machine(done: list, name: str) -> int:
     return SEEN_AND_NOT_LISTED if contradicting else 1 if not_compared or not both else 0
 
 
-def is_one_test(it) -> bool:
-    """Says whether an answer is that of one test of lw, as it is or converted, whose runs are all runs."""
-    return it.row.listed is not None and (it.row.converted is None or len(it.tests) == 1 and not it.tries)
+def is_run(it) -> bool:
+    """Says whether an answer can be run: that of a program, or of one test of lw, as it is or converted, whose runs are all runs."""
+    converted = it.row.converted
+    is_one_test = converted is None or converted.startswith("from_c.py") or len(it.tests) == 1 and not it.tries
+    return bool(it.row.listed) and is_one_test
 
 
-def rows_with_seen(done: list, seconds: float, tell) -> tuple:
+def rows_with_seen(done: list, seconds: float, tell, compiler: str | None, tries: int) -> tuple:
     """Runs each answer's test on this machine, if anything can be run. Returns the rows with what was seen, and the exit status. Files that are
-    refused are not run, nor such as are several tests, or are programs."""
+    refused are not run, nor such as are converted from herd's form to several tests."""
     rows = [it.row for it in done]
     from machine import column
     from machine.faults import NotRun
 
     try:
-        texts = {it.row.file: it.tests[0][0] if it.tests else None for it in done if is_one_test(it)}
-        made = column.column_of(texts, seconds, tell)
+        texts = {it.row.file: it.tests[0][0] if it.tests else None for it in done if is_run(it)}
+        made = column.column_of(texts, seconds, tell, compiler, tries)
     except NotRun as why:
         print(f"run_all: {why}", file=sys.stderr)
         return rows, NOT_RUN
-    others = [it.row.file for it in done if it.row.listed is not None and not is_one_test(it)]
-    left_out = [f"{it}: a program, and a test that is converted to several or has loops, are not run on this machine" for it in others]
+    others = [it.row.file for it in done if it.row.listed is not None and not is_run(it)]
+    left_out = [f"{it}: a test in herd's form that is converted to several, or has loops, is not run on this machine" for it in others]
     for line in [*made.faults, *left_out]:
         print(line, file=sys.stderr)
     seen = [it._replace(seen=made.cells.get(it.file, column.NOT_RUN)) for it in rows]

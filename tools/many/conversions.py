@@ -12,7 +12,7 @@ from typing import Iterable
 
 import from_herd
 import given
-from c.source import HERD, HERD_COMMENT, without_comments
+from c.source import is_herd_form
 from herd.convert import converted
 from herd.order import ORDERS
 from herd.text import heading_of
@@ -71,11 +71,6 @@ def without_runs(tries: int) -> str:
     return f"no run goes through every loop within {tries} tr{'ies' if tries != 1 else 'y'}"
 
 
-def is_c_of_herd(text: str) -> bool:
-    """Says whether a text is a test in herd's form of C."""
-    return bool(HERD.match(without_comments(text, HERD_COMMENT)))
-
-
 def answer_of(choices, job: tuple) -> rows.Answered:
     """Returns the answer of a file, of which lw's run is known if it was asked."""
     file, run = job
@@ -86,7 +81,7 @@ def answer_of(choices, job: tuple) -> rows.Answered:
         return rows.refused(file, f"{file}: {why.strerror or why}")
     try:
         text = given.decoded(read)
-        if is_program(file) or is_c_of_herd(text):
+        if is_program(file) or is_herd_form(text):
             return answer_of_program(file, text, choices)
         return answer_of_test(file, text, choices, run)
     except given.Fault as fault:
