@@ -2,8 +2,8 @@
 """Runs many tests side by side, and prints a table of what is answered.
 
     python3 tools/run_all.py [--as text|csv|json|log] [--shard I/N] [--expect-ok] [--tries N] [--order intel|att] [--cc COMMAND]
-                             [--against LOG] [--machine-log LOG] [--on-machine SECONDS] [FOLDER|FILE]...
-    python3 tools/run_all.py [--as text|csv|json] [--expect-ok] --merge TABLE...
+                             [--expect TABLE] [--against LOG] [--machine-log LOG] [--on-machine SECONDS] [FOLDER|FILE]...
+    python3 tools/run_all.py [--as text|csv|json] [--expect-ok] [--expect TABLE] --merge TABLE...
 
 Of a folder all files that end in .litmus, .c, .cc, .cpp, .cxx or .rs are run. If neither is named, standard input has the name of a file in each
 line. The table has of each test its name, what is asked (Allowed, Forbidden or Required), the verdict, the observation, the number of states,
@@ -24,6 +24,11 @@ no run is left, since none goes through every loop within N tries, has the verdi
 shards together into one, sorted by files. It refuses tables that are not all of one split, and prints nothing then. Tables that are of no shards
 are put together if they have no file in common.
 
+`--expect-ok` expects the verdict `Ok` of each file, and `--expect TABLE` what a table says: each line has the name of a test, or a file's path or its
+end, and a word. A verdict is Ok, No, None or Refused. An observation is Never, Sometimes or Always; Allowed is either of the last two, Forbidden is
+Never and Required is Always, as in files of kinds for herd's tools. A `#` begins a comment. Files that are not in the table are to be Ok if
+`--expect-ok` is there too. What is not as expected is said on standard error.
+
 `--against LOG` compares with the reports of an earlier run (`--as log`), or with a log of herd's tools: it tells on standard error of
 which tests states are missing here, and of which there are too many. Registers may have other names of the same (`rax` for `EAX`). A test
 that tools/from_herd.py has converted is compared in the names of the original test: renamed registers have their names again, states that
@@ -40,10 +45,10 @@ It is looked once whether the program is that of the sources, as `./lw` does for
 lw refuses for their size are listed by beyond, and where that is not the program of the sources, by the search of tools/beyond.py. What is
 not proved is said on standard error too.
 
-The status is the first of these that applies: 3 if a machine showed a state that is not listed; with `--expect-ok`, 7 if a verdict is `No`;
+The status is the first of these that applies: 3 if a machine showed a state that is not listed; 7 if something is not as `--expect-ok` or `--expect` have it;
 6 if no run of a file is left, so that it has no verdict; 5 if `--on-machine` can't run anything, for want of a C compiler or objdump;
 2 if the command is none; 1 if a file is refused, if something differs from LOG of `--against`, or if a test of both speaks of other names,
-or no test at all is in LOG of `--machine-log`, or if tables are not put together. Python 3.8 is enough, on any system.
+or no test at all is in LOG of `--machine-log`, or no file in TABLE of `--expect`, or if tables are not put together. Python 3.8 is enough, on any system.
 """
 from __future__ import annotations
 
@@ -54,6 +59,7 @@ import time
 sys.dont_write_bytecode = True
 import given
 from many import files, lists, rows
+from many.expected import Expected, NoExpectations
 from many.statuses import NO_VERDICT, NOT_OK, SEEN_AND_NOT_LISTED, status_of
 from many.table import print_table
 from shared import command, start
@@ -115,6 +121,7 @@ def words_of() -> argparse.Namespace:
     reader.add_argument("--shard", type=shard_of, metavar="I/N")
     reader.add_argument("--merge", nargs="+", metavar="TABLE")
     reader.add_argument("--expect-ok", action="store_true")
+    reader.add_argument("--expect", type=name_of, metavar="TABLE")
     reader.add_argument("--tries", type=command.number_from(0), default=1, metavar="N")
     reader.add_argument("--order", choices=("intel", "att"))
     reader.add_argument("--cc", type=name_of, metavar="COMMAND")
@@ -124,16 +131,20 @@ def words_of() -> argparse.Namespace:
     return words
 
 
-def tell_of(table: list, is_ok_expected: bool) -> set:
-    """Reports on standard error which files are refused and, if Ok is expected, whose verdict is No. Returns the exit statuses."""
-    refused = [it for it in table if it.verdict == rows.REFUSED]
-    without = [it for it in table if it.verdict == rows.NO_VERDICT]
-    other = [it for it in table if is_ok_expected and it.verdict not in (rows.AS_ASKED, rows.REFUSED, rows.NO_VERDICT)]
+def tell_of(table: list, expected: Expected) -> set:
+    """Reports on standard error which files are refused, and what is not as expected. Returns the exit statuses."""
+    other = expected.unmet(table)
+    refused = [it for it in table if it.verdict == rows.REFUSED and not expected.is_expected(it)]
+    without = [it for it in table if it.verdict == rows.NO_VERDICT and not expected.is_expected(it)]
     for it in [*refused, *without]:
         print(rows.line_of(it), file=sys.stderr)
-    for it in other:
-        print(f"{it.file}: the verdict is {it.verdict}, and Ok is expected: {it.observation}", file=sys.stderr)
-    return {1 if refused else 0, NO_VERDICT if without else 0, NOT_OK if other else 0}
+    for it, word in other:
+        print(f"{it.file}: the verdict is {it.verdict}, and {word} is expected" + (f": {it.observation}" if it.observation else ""), file=sys.stderr)
+    missing = expected.missing()
+    if missing:
+        print(f"run_all: {expected.name}: no file here is meant by {', '.join(missing)}", file=sys.stderr)
+    is_none_met = bool(missing) and len(missing) == len(expected.table)
+    return {1 if refused or is_none_met else 0, NO_VERDICT if without else 0, NOT_OK if other else 0}
 
 
 def tell_notes(done: list) -> None:
@@ -150,13 +161,13 @@ def merge(words: argparse.Namespace) -> int:
     from many.merge import NoTable, merged
 
     try:
-        table = merged(words.merge)
-    except NoTable as why:
+        table, expected = merged(words.merge), Expected(words.expect, words.expect_ok)
+    except (NoTable, NoExpectations) as why:
         return given.refuse(f"run_all: {why}")
     print_table(table, words.form)
     sys.stdout.flush()
     seen = {SEEN_AND_NOT_LISTED for it in table if it.seen and "not listed" in it.seen}
-    return status_of({0} | seen | tell_of(table, words.expect_ok))
+    return status_of({0} | seen | tell_of(table, expected))
 
 
 def comparisons(done: list, words: argparse.Namespace) -> set:
@@ -184,6 +195,10 @@ def rows_with_seen(done: list, words: argparse.Namespace) -> tuple:
 
 def work(words: argparse.Namespace) -> int:
     """Runs the files, and prints what is requested. Returns the exit status."""
+    try:
+        expected = Expected(words.expect, words.expect_ok, words.shard is not None)
+    except NoExpectations as why:
+        return given.refuse(f"run_all: {why}")
     named = files.files_of(words.names)
     chosen = files.part_of(named, words.shard) if words.shard else named
     progress = Progress(len(chosen))
@@ -196,7 +211,7 @@ def work(words: argparse.Namespace) -> int:
     print_table(table, words.form, words.shard, len(set(named)))
     sys.stdout.flush()
     tell_notes(done)
-    return status_of({here} | tell_of(table, words.expect_ok) | comparisons(reported, words))
+    return status_of({here} | tell_of(table, expected) | comparisons(reported, words))
 
 
 def main() -> int:

@@ -39,6 +39,7 @@ from shared.home import HOME, close
 
 # The seconds that the tries of a control last: it fails after the last one.
 TRIES = (1, 2, 4, 8)
+SHORT_TRIES = (0.2, 1, 4, 8)
 # A library to be loaded before the C library: signals of traps are not passed to their handlers, as in some sandboxes.
 CATCHES_TRAPS = r"""
 #define _GNU_SOURCE
@@ -287,10 +288,11 @@ class Controls(cases.Case):
         self.assertEqual(("seen", 0), (head, status))
         self.assertEqual([True, True], [bool(re.fullmatch("[123] of 3", it)) for it in cells])
         self.assertEqual(["method"], run(["run_all.py", "--as", "csv", "examples/CoRR-x86.litmus"])[0].splitlines()[0].split(",")[-1:])
-        converted = ["tools/herd/tests/SB-att.litmus", "tools/herd/tests/Cas.litmus"]
+        converted = ["tools/herd/tests/SB-att.litmus", "tools/herd/tests/Cas.litmus", *["examples/from_c/TreiberStack.c"] * bool(shutil.which("gcc"))]
         out, err, status = run(["run_all.py", "--as", "json", "--on-machine", "0.3", *converted])
         told = [it["seen"] for it in json.loads(out)]
         self.assertEqual((True, "-", 0), (bool(re.fullmatch("[1-4] of 4", told[0])), told[1], status))
+        self.assertEqual([True] * len(converted[2:]), [bool(re.fullmatch("[12] of 2", it)) for it in told[2:]])
         self.assertIn("Cas.litmus: a test in herd's form that is converted to several, or has loops, is not run on this machine", err)
         for seconds in ("0", "x", "nan", ""):
             with self.subTest(seconds):
@@ -356,7 +358,7 @@ class Programs(cases.Case):
         """Returns the program of a file."""
         return programs.program_of(path, read(path), compiler, tries)
 
-    def result_of(self, program, seconds=0.3, **settings):
+    def result_of(self, program, seconds=0.2, **settings):
         """Returns what the runs of a program show."""
         return programs.result_of(self.laboratory, "F", program, Settings(Limits(seconds), **settings))
 
@@ -379,7 +381,7 @@ class Programs(cases.Case):
 
     def test_seen(self):
         """What is seen is listed. A run that is given up is no run of the program, and is counted apart."""
-        paths = [f"examples/from_c/{it}.c" for it in ("TreiberStack", "ChaseLev", "Once", "EventCount")]
+        paths = [f"examples/from_c/{it}.c" for it in ("TreiberStack", "ChaseLev")]
         for path in paths + ["examples/from_rust/EventCount.rs"] * bool(shutil.which("rustc")):
             result = self.result_of(self.program_of(path))
             counted = sum(it.count for it in result.seen.states.values())
@@ -399,11 +401,11 @@ class Programs(cases.Case):
 
     def test_herd_form(self):
         """A test of herd's language C is a program, and its states have its names."""
-        path = self.write("sb.litmus", HERD_C)
-        out, err, status = run(["on_machine.py", "--seconds", "0.3", "--json", path])
-        made = json.loads(out)
-        self.assertEqual(("SB+release", 4, [], "", 0), (made["name"], made["listed"], made["not_listed"], err, status))
+        result = programs.result_of_file(self.laboratory, "sb.litmus", HERD_C, Settings(Limits(0.2)), None, 1)
+        made = summary.json_of(result)
+        self.assertEqual(("SB+release", 4, [], []), (made["name"], made["listed"], made["not_listed"], made["not_listed_in_tests"]))
         self.assertTrue({it["state"] for it in made["seen"]} <= {f"0:r0={a}; 1:r0={b};" for a in (0, 1) for b in (0, 1)})
+        self.assertIn("Condition exists (0:r0=0 /\\ 1:r0=0) is ", summary.text_of(result))
 
     def test_against(self):
         """Store buffering by plain stores, as release makes them or a compiler that is none, is held against the list of the program with seq_cst: its
@@ -416,8 +418,8 @@ class Programs(cases.Case):
             with open(os.path.join(HOME, path), encoding="utf-8") as it:
                 program = programs.program_of(path, it.read(), compiler, 1)
             with self.subTest(path):
-                self.assertTrue(any(self.result_of(program, it, against=strong).not_listed() == [(0, 0)] for it in TRIES))
-        for seconds in TRIES:
+                self.assertTrue(any(self.result_of(program, it, against=strong).not_listed() == [(0, 0)] for it in SHORT_TRIES))
+        for seconds in SHORT_TRIES:
             out, err, status = run(["on_machine.py", "--seconds", str(seconds), "--against", "examples/from_c/StoreBuffering.c", path])
             if status == 3:
                 break
@@ -431,13 +433,13 @@ class Programs(cases.Case):
         program = self.program_of("examples/from_c/MessagePassing.c")
         forbidden = "1:sees_data=0; 1:sees_flag=1;"
         told = lambda seconds: [program.subject.line_of(it) for it in self.result_of(program, seconds, knobs=past).not_listed()]
-        self.assertTrue(any(told(it) == [forbidden] for it in TRIES))
+        self.assertTrue(any(told(it) == [forbidden] for it in SHORT_TRIES))
 
     def test_given_up(self):
         """A state of a test that its own list lacks is a contradiction, also if its run is given up. The third control."""
         program = self.program_of("examples/from_c/TreiberStack.c")
         short = [it._replace(listed=it.listed._replace(states=[w for w in it.listed.states if it.kept(w) is not None])) for it in program.parts]
-        for seconds in TRIES:
+        for seconds in SHORT_TRIES:
             result = self.result_of(program._replace(parts=short), seconds)
             if result.others:
                 break
@@ -451,21 +453,11 @@ class Programs(cases.Case):
         waits = "#include <stdatomic.h>\natomic_int x;\nvoid P0(void) { while (!atomic_load(&x)); }\n// lw: exists (x=0)\n"
         path, sb = self.write("waits.c", waits), "examples/from_c/StoreBuffering.c"
         why = "no run comes to an end: each waits for what no other thread stores, or goes through a loop more often than --tries says"
-        for words, told, wanted in (
-            ([path], f"on_machine: {path}: {why}\n", 5),
-            (["--everything", sb], f"on_machine: {sb}: {programs.EVERYTHING}\n", 5),
-            (["--program-cc", "no-cc", sb], f"{sb}: the compiler 'no-cc' does not start: No such file or directory\n", 1),
-            (["--against", path, sb], f"on_machine: {path}: {why}\n", 5),
-        ):
-            with self.subTest(words):
-                self.assertEqual(("", told, wanted), run(["on_machine.py", *words]))
-
-    def test_table(self):
-        """tools/run_all.py has them in its column."""
-        out, err, status = run(["run_all.py", "--as", "csv", "--on-machine", "0.3", "examples/from_c/TreiberStack.c"])
-        self.assertTrue(re.search(r"^seen,converted$|,seen,", out.splitlines()[0]))
-        self.assertTrue(re.search(r",[12] of 2,", out.splitlines()[1]))
-        self.assertEqual((0, False), (status, "not run" in err))
+        self.assertEqual(why, refusal(self.program_of, path))
+        self.assertEqual(programs.EVERYTHING, refusal(lambda: self.result_of(self.program_of(sb), everything=True)))
+        self.assertEqual(("", f"on_machine: {path}: {why}\n", 5), run(["on_machine.py", "--against", path, sb]))
+        told = f"{sb}: the compiler 'no-cc' does not start: No such file or directory\n"
+        self.assertEqual(("", told, 1), run(["on_machine.py", "--program-cc", "no-cc", sb]))
 
 
 @unittest.skipIf(missing(), "something is missing")

@@ -6,7 +6,8 @@
 - A folder with tests of lw, one of them past the limits, tests in herd's form with compare-and-swap and loops, C, and files that are refused:
   a row for each file, in all forms, with how it was converted and by which method; its status, its notes and its causes.
 - Shards, put together, are the whole; tables that are not of one split, or not whole, are refused.
-- Verdicts that are not Ok, and files without a verdict, have statuses of their own. An earlier run of the folder does not differ.
+- Verdicts that are not Ok, or not as a table has them, and files without a verdict, have statuses of their own. An earlier run of the folder does
+  not differ.
 
 Programs are left out if there is no gcc. tools/check_documents.py calls all this (tools/gate/cases.py).
 """
@@ -24,7 +25,8 @@ sys.dont_write_bytecode = True
 sys.path.insert(0, os.path.dirname(os.path.dirname(os.path.abspath(__file__))))
 from gate import cases
 from gate.examples import read, run
-from many import conversions, files, lists, rows, statuses, table
+from many import conversions, expected, files, lists, rows, statuses, table
+from many.expected import Expected
 from shared import answers, logs, spawn
 from shared.home import HOME
 
@@ -260,6 +262,56 @@ class Statuses(cases.Case):
         self.assertEqual(("", 0), run(["run_all.py", "--expect-ok", "examples/SB-x86.litmus"])[1:])
         self.assertEqual(("", 0), run(["run_all.py", "examples/SB.litmus"])[1:])
 
+    def test_expected_by_table(self):
+        """A table says of each test or file what is expected: a verdict or an observation. What is otherwise has a line and status 7."""
+        with tempfile.TemporaryDirectory() as room:
+            names = ["examples/SB.litmus", "examples/SB-x86.litmus", "tools/herd/tests/Less.litmus"]
+            for lines, status, told in (
+                ("# kinds\nSB No  # by interleaving\nSB-x86 Sometimes\nLess Refused\n", 0, ""),
+                ("examples/SB.litmus Forbidden\nSB-x86.litmus Allowed\ntests/Less.litmus Refused\n", 0, ""),
+                ("SB Ok\nLess Refused\n", 7, "examples/SB.litmus: the verdict is No, and Ok is expected: Never 0 3\n"),
+                ("SB-x86 Forbid\nLess Refused\n", 7, "examples/SB-x86.litmus: the verdict is Ok, and Forbid is expected: Sometimes 1 3\n"),
+                ("SB-x86 Required\nexamples/SB-x86.litmus Allow\nLess Refused\n", 0, ""),
+                ("Less Ok\n", 7, f"{names[2]}: the verdict is Refused, and Ok is expected\n"),
+                ("SB Refused\nLess Refused\n", 7, "examples/SB.litmus: the verdict is No, and Refused is expected: Never 0 3\n"),
+                ("SB No\n", 1, f"{names[2]}:6:2: 'JL'"),
+                ("MP Never\n", 1, ": no file here is meant by MP\n"),
+            ):
+                path = write(room, "kinds.txt", lines)
+                _, err, ended = run(["run_all.py", "--expect", path, *names])
+                with self.subTest(lines):
+                    self.assertEqual(status, ended)
+                    self.assertTrue(told in err and (told or "expected" not in err))
+            path = write(room, "kinds.txt", "SB No\n")
+            self.assertEqual(("", 0), run(["run_all.py", "--expect-ok", "--expect", path, *names[:2]])[1:])
+            told = "examples/SB.litmus: the verdict is No, and Ok is expected: Never 0 3\n"
+            table = write(room, "table", run(["run_all.py", "--as", "json", *names[:2]])[0])
+            self.assertEqual((told, 7), run(["run_all.py", "--expect-ok", "--merge", table])[1:])
+            self.assertEqual(("", 0), run(["run_all.py", "--expect-ok", "--expect", path, "--merge", table])[1:])
+            self.assertEqual(("", 0), run(["run_all.py", "--expect", path, "--shard", "1/2", *names[:2]])[1:])
+
+    def test_no_table(self):
+        """A table that is none is refused, with its line."""
+        with tempfile.TemporaryDirectory() as room:
+            words = ", ".join(expected.WORDS)
+            for lines, told in (
+                ("SB\n", f":1: a line has a name and one of {words}\n"), ("\nSB Maybe\n", f":2: a line has a name and one of {words}\n"),
+                ("SB Ok\nSB No\n", ":2: 'SB' is expected to be Ok before\n"),
+            ):
+                path = write(room, "kinds.txt", lines)
+                with self.subTest(lines):
+                    self.assertEqual(("", f"run_all: {path}{told}", 1), run(["run_all.py", "--expect", path, "examples/SB.litmus"]))
+            self.assertEqual("run_all: nowhere: No such file or directory\n", run(["run_all.py", "--expect", "nowhere", "examples/SB.litmus"])[1])
+
+    def test_names(self):
+        """The text says of which file a row is, if two tests have one name, and only then."""
+        with tempfile.TemporaryDirectory() as room:
+            path = write(room, "other.litmus", read("examples/SB.litmus"))
+            lines = run(["run_all.py", "examples/SB.litmus", path])[0].splitlines()
+            self.assertEqual(["Test", "File", "Asked"], lines[0].split()[:3])
+            self.assertEqual([["SB", "examples/SB.litmus"], ["SB", path]], [it.split()[:2] for it in lines[1:]])
+            self.assertEqual(["Test", "Asked"], run(["run_all.py", "examples/SB.litmus"])[0].split()[:2])
+
     def test_sequence(self):
         """What a machine contradicts comes first; then a verdict that is not Ok, a file without a verdict, and one that is refused."""
         row = rows.refused_row("a", "why")
@@ -267,9 +319,9 @@ class Statuses(cases.Case):
         with mock.patch.object(sys, "stderr", io.StringIO()):
             import run_all
 
-            told = [statuses.status_of({0} | run_all.tell_of(verdicts[at:], True)) for at in (0, 1, 2, 3)]
+            told = [statuses.status_of({0} | run_all.tell_of(verdicts[at:], Expected(None, True))) for at in (0, 1, 2, 3)]
             self.assertEqual([7, 7, 6, 1], told)
-            self.assertEqual(6, statuses.status_of(run_all.tell_of(verdicts, False)))
+            self.assertEqual(6, statuses.status_of(run_all.tell_of(verdicts, Expected(None, False))))
             self.assertEqual(answers.NO_VERDICT, statuses.NO_VERDICT)
             self.assertEqual(3, statuses.status_of({statuses.SEEN_AND_NOT_LISTED, 7, 6}))
 

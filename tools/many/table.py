@@ -6,7 +6,7 @@ import sys
 from many.files import Shard
 from many.rows import ALWAYS, MORE
 
-HEADS = dict(zip((*ALWAYS[1:], *MORE), ("Test", "Asked", "Verdict", "Observation", "States", "ms", "Method", "Seen here", "Converted", "Cause")))
+HEADS = dict(zip((*ALWAYS, *MORE), ("File", "Test", "Asked", "Verdict", "Observation", "States", "ms", "Method", "Seen here", "Converted", "Cause")))
 # The columns of numbers in the table of text.
 RIGHT = ("states", "milliseconds")
 
@@ -17,9 +17,12 @@ def columns_of(rows: list) -> list:
 
 
 def text_of(rows: list) -> str:
-    """Returns the table in columns. The column of what was seen on this machine is the first, and the name of the file is left out."""
-    columns = columns_of(rows)[1:]
-    columns.sort(key=lambda it: it != "seen")
+    """Returns the table in columns. The column of what was seen on this machine is the first. The file follows the test's name, if two tests have
+    one name, and is left out otherwise.
+    """
+    is_unique = len({it.name for it in rows}) == len(rows)
+    file, name, *others = columns_of(rows)
+    columns = [*(["seen"] if "seen" in others else []), name, *([] if is_unique else [file]), *(it for it in others if it != "seen")]
     cells = [tuple(HEADS[it] for it in columns)]
     cells += [tuple("-" if getattr(row, it) is None else str(getattr(row, it)) for it in columns) for row in rows]
     widths = [max(map(len, column)) for column in zip(*cells)]
