@@ -58,7 +58,8 @@ in this list on.
   (tools/gate/test_answers.py); fences and runs of tests that are converted (tools/gate/test_original.py).
 - Tests on this processor, with controls that have to show what is not listed (tools/gate/test_machine_parts.py, test_on_machine.py),
   and for the page (tools/gate/test_seen_here.py).
-- The wheel of tools/make_wheel.py, installed by pip, and the package of tools/make_deb.py, unpacked by dpkg-deb (tools/gate/test_packages.py).
+- The wheel of tools/make_wheel.py, installed by pip, and the package of tools/make_deb.py, unpacked by dpkg-deb (tools/gate/test_packages.py); its
+  completions by the shells that are here (tools/gate/test_completion.py).
 - The web page, by a plain client, and where there is a browser in that too (tools/gate/check_page.py); what its code answers, and the page in
   a browser alone (tools/gate/check_site.py).
 
@@ -83,7 +84,7 @@ from documents import believe, make_pages, make_readmes, make_times, measure_lis
 from gate import (
     cases, check_beyond, check_build, check_card, check_edits, check_graph, check_lab, check_lemmas, check_library, check_many, check_names,
     check_pack, check_page, check_quiz, check_site, check_slides, check_tables, check_wings, proof_layout, test_answers, test_assume,
-    test_build, test_commands, test_editor, test_fences, test_free_names, test_from_c, test_herd, test_machine_parts, test_names,
+    test_build, test_commands, test_completion, test_editor, test_fences, test_free_names, test_from_c, test_herd, test_machine_parts, test_names,
     test_on_machine, test_original, test_packages, test_plain, test_python, test_replay_state, test_run_all, test_seen_here, test_shapes,
     test_wings,
 )
@@ -672,6 +673,7 @@ def last_checks():
     """Those for which it matters how long things take: one after another, when all others are through."""
     yield cases.comparisons(test_plain)
     yield cases.comparisons(test_commands)
+    yield cases.comparisons(test_completion)
     yield cases.comparisons(test_editor)
     yield cases.comparisons(test_replay_state)
     yield cases.comparisons(test_build)
@@ -711,7 +713,7 @@ def comparisons(is_quick):
 
 def left_out():
     """The lines that tell which checks were skipped."""
-    parts = (test_from_c, test_run_all, test_on_machine, check_lab, check_page, check_site, check_library, check_pack, test_packages)
+    parts = (test_completion, test_from_c, test_run_all, test_on_machine, check_lab, check_page, check_site, check_library, check_pack, test_packages)
     return filter(None, (it.skipped() for it in parts))
 
 

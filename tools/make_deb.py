@@ -4,7 +4,7 @@
     python3 tools/make_deb.py FOLDER
 
 `apt install ./lw_*.deb` gives the commands `lw` and `beyond`, which are the proved programs; the tools as commands, `lw-fences` for
-tools/fences.py and so on; a manual page for each and completion for bash; the library for C, with include/lw.h and a file for pkg-config
+tools/fences.py and so on; a manual page for each, and completions for bash, zsh and fish; the library for C, with include/lw.h and a file for pkg-config
 (`cc use.c $(pkg-config --cflags --libs lw)`), and for Python (`import lw`); and the documents, examples and tools in /usr/share/lw. It needs
 glibc, of the version that the programs need, and Python.
 
@@ -21,13 +21,12 @@ import tarfile
 
 sys.dont_write_bytecode = True
 import pack
-from packing import manual, tree
+from packing import completion, manual, tree
 from shared import start
 from shared.home import HOME
 
 DEBIAN = os.path.join(HOME, "tools", "packing", "debian")
 SHARE, LIB, PYTHON = "usr/share/lw", "usr/lib/x86_64-linux-gnu", "usr/lib/python3/dist-packages"
-COMPLETIONS = "usr/share/bash-completion/completions"
 CONTROL = f"""Package: lw
 Version: {{version}}
 Architecture: amd64
@@ -97,15 +96,16 @@ def library(version):
 
 def commands(files):
     """Returns the tools as commands, and the manual pages and completions of all commands."""
-    found = {f"{COMPLETIONS}/lw": read("completion.bash")}
     names = [os.path.basename(it) for it in (tree.LW, tree.BEYOND) if it in files]
-    pages = {name: read(f"{name}.1") for name in names}
+    found, pages, options = {}, {name: read(f"{name}.1") for name in names}, {}
     for tool in tree.TOOLS:
         command, path = tree.command_of(tool), tree.path_of(tool)
         found[f"usr/bin/{command}"] = COMMAND.format(path=path).encode()
         pages[command] = manual.page_of(tool, files[path].decode()).encode()
+        options[command] = completion.options_of(files[path].decode())
     found.update({f"usr/share/man/man1/{name}.1.gz": zipped(page) for name, page in pages.items()})
-    return {**found, **{f"{COMPLETIONS}/{name}": Link(f"{COMPLETIONS}/lw") for name in pages if name != "lw"}}
+    found.update({name: text.encode() for name, text in completion.files_of(options).items()})
+    return {**found, **{name: Link(target) for name, target in completion.links_of(pages).items()}}
 
 
 def documents(files, origin):

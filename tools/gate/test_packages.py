@@ -39,7 +39,7 @@ import pack
 from editor import grammar
 from gate import cases, check_library, container
 from gate.examples import read
-from packing import manual, tree
+from packing import completion, manual, tree
 from page import web_files
 from shared import start
 from shared.home import HOME, PROGRAM
@@ -85,21 +85,6 @@ PARTED = (
     ("beyond", "schedules --method", "schedules --method", None),
     ("beyond", "--budget 10", "--budget 10", None),
 )
-# Words on which completion is asked for the last, and what it offers.
-COMPLETED = (
-    ("lw s", "states schedules"),
-    ("lw replay P0 -", "--protocol"),
-    ("lw replay P0 --protocol mo", "moesi"),
-    ("lw states F", ""),
-    ("beyond --b", "--budget"),
-    ("beyond --budget 1", ""),
-    ("beyond --search sch", "schedules"),
-    ("beyond m", "marks"),
-    ("lw-fences --e", "--everything --exchanges"),
-)
-COMPLETE = 'COMP_WORDS=($2); COMP_CWORD=$((${#COMP_WORDS[@]} - 1)); . "$1" && _lw && echo "${COMPREPLY[*]}"'
-
-
 def lacking():
     """What is not built, or None."""
     is_there = check_library.is_there() and web_files.module() and os.path.exists(PROGRAM)
@@ -409,18 +394,19 @@ class Debian(Packed):
         self.assertIn("\\&.so \\efB\n\\&'br\n", page)
         self.assertIn(".IP \\(bu 2\none\ngoes on\n.IP \\(bu 2\ntwo\n", page)
 
-    @unittest.skipUnless(shutil.which("bash"), "bash is missing")
     def test_completion(self):
-        """bash completes commands, and the options that a tool's --help names."""
-        path, bin = f"{self.at}/{make_deb.COMPLETIONS}/lw", os.path.join(self.room, "bin")
-        os.mkdir(bin)
-        with open(f"{bin}/lw-fences", "w", encoding="utf-8") as it:
-            it.write(f'#!/bin/sh\nexec {sys.executable} {self.at}/usr/share/lw/tools/fences.py "$@"\n')
-        os.chmod(f"{bin}/lw-fences", 0o755)
-        for words, wanted in COMPLETED:
-            with self.subTest(words):
-                told = run(["bash", "-c", COMPLETE, "bash", path, words], env={"PATH": f"{bin}:/usr/bin:/bin"})
-                self.assertEqual((f"{wanted}\n", 0), told)
+        """It has the completions of three shells, where Debian has such files, and each command's name leads to them (tools/gate/test_completion.py
+        tries them)."""
+        commands = sorted(os.listdir(f"{self.at}/usr/bin"))
+        options = {tree.command_of(it): completion.options_of(self.files[tree.path_of(it)].decode()) for it in tree.TOOLS}
+        for name, text in completion.files_of(options).items():
+            folder, ending = os.path.dirname(name), ".fish" * name.endswith(".fish")
+            names = ["_lw"] if "/zsh/" in name else [f"{it}{ending}" for it in commands]
+            with self.subTest(name):
+                self.assertEqual(names, sorted(os.listdir(f"{self.at}/{folder}")))
+                for path in (f"{self.at}/{folder}/{it}" for it in names):
+                    with open(path, encoding="utf-8") as it:
+                        self.assertEqual(text, it.read())
 
 
 if __name__ == "__main__":

@@ -1,0 +1,176 @@
+#!/usr/bin/env python3
+"""Whether bash, zsh and fish complete the words of the programs and the options of the tools, by the files that the package for Debian has.
+
+    python3 tools/gate/test_completion.py, or python3 -m unittest tools.gate.test_completion
+
+- The table has the options that the --help of each tool names, and the words that the programs take.
+- Each shell that is here offers what the table says. zsh is tried by its function, and in a terminal.
+
+The programs are not needed. tools/check_documents.py calls all this (tools/gate/cases.py).
+"""
+import os
+import pty
+import re
+import select
+import shutil
+import subprocess
+import sys
+import tempfile
+import time
+import unittest
+
+sys.dont_write_bytecode = True
+sys.path.insert(0, os.path.dirname(os.path.dirname(os.path.abspath(__file__))))
+import given
+from gate import cases
+from gate.examples import read
+from packing import completion, tree
+from shared.home import HOME, close
+
+# Words on which completion is asked for the last, and what it offers; FILES if it offers files.
+FILES = "(files)"
+COMPLETED = (
+    ("lw s", "states schedules"),
+    ("lw replay P0 --", "--protocol"),
+    ("lw replay P0 --protocol mo", "moesi"),
+    ("lw states F", ""),
+    ("beyond --b", "--budget"),
+    ("beyond --budget 1", ""),
+    ("beyond --search sch", "schedules"),
+    ("beyond m", "marks"),
+    ("beyond marks m", ""),
+    ("lw-fences --e", "--everything --exchanges"),
+    ("lw-run-all --expect", "--expect --expect-ok"),
+    ("lw-on-machine --program", "--program-cc"),
+    ("lw-fences exam", FILES),
+)
+BASH = 'COMP_WORDS=($2); COMP_CWORD=$((${#COMP_WORDS[@]} - 1)); compopt() { echo "(files)"; }; . "$1" && _lw && echo "${COMPREPLY[*]}"'
+# What zsh's own functions do, for one word: compadd offers the words that begin with it.
+ZSH = """emulate zsh
+compadd() { shift; print -r -- ${(M)@:#$PREFIX*} }
+_files() { print -r -- "(files)" }
+words=(${(z)2}); CURRENT=$#words; PREFIX=$words[-1]
+. $1
+"""
+SECONDS = 20
+
+
+def tools():
+    """Returns the options of each tool, by its command."""
+    return {tree.command_of(it): completion.options_of(read(tree.path_of(it))) for it in tree.TOOLS}
+
+
+def missing():
+    """Returns the shells that are not here."""
+    return [it for it in ("bash", "zsh", "fish") if not shutil.which(it)]
+
+
+def skipped():
+    """Returns the line that says which shells were not tried, if any were not."""
+    return f"completions of {', '.join(missing())} were not tried, since they are not here" if missing() else None
+
+
+class Table(cases.Case):
+    """The table."""
+
+    def test_options(self):
+        """A tool has the options that its --help names, and --help."""
+        for tool in tree.TOOLS:
+            ran = subprocess.run([sys.executable, tree.path_of(tool), "--help"], cwd=HOME, capture_output=True, check=False)
+            told = {*completion.OPTION.findall((ran.stdout + ran.stderr).decode()), "--help"}
+            with self.subTest(tool):
+                self.assertEqual(sorted(told), tools()[tree.command_of(tool)])
+
+    def test_words(self):
+        """The words of the programs are those of their manual pages."""
+        for program in completion.PROGRAMS:
+            page = re.sub(r"\\f.|\\", "", read(f"tools/packing/debian/{program}.1"))
+            words = {word for row in completion.ROWS if row.program == program for word in row.words}
+            with self.subTest(program):
+                self.assertEqual([], sorted(it for it in words if not re.search(rf"(?<![\w-]){it}\b", page)))
+                self.assertTrue({*completion.OPTION.findall(page)} <= words)
+
+
+class Shells(cases.Case):
+    """The shells that are here."""
+
+    @classmethod
+    def setUpClass(cls):
+        room = tempfile.TemporaryDirectory(prefix="lw-completion-")
+        cls.addClassCleanup(room.cleanup)
+        cls.room, cls.paths = room.name, {}
+        for name, text in completion.files_of(tools()).items():
+            path = os.path.join(room.name, os.path.basename(name))
+            cls.paths[name.split("/")[2].partition("-")[0]] = path
+            with open(path, "w", encoding="utf-8") as it:
+                it.write(text)
+
+    def told(self, *words):
+        """Returns what a shell prints. It has a folder of its own for its settings."""
+        settings = {"PATH": os.environ["PATH"], "HOME": self.room, "LC_ALL": "C.UTF-8", "TERM": "dumb"}
+        ran = subprocess.run(words, stdout=subprocess.PIPE, stderr=subprocess.STDOUT, env=settings, cwd=HOME, check=False, timeout=SECONDS)
+        return ran.stdout.decode()
+
+    def compare(self, offered):
+        """Compares what a shell offers with the table. `offered` returns it for some words."""
+        for words, wanted in COMPLETED:
+            with self.subTest(words):
+                self.assertEqual(sorted(wanted.split()), sorted(offered(words)))
+
+    @unittest.skipIf("bash" in missing(), "bash is missing")
+    def test_bash(self):
+        """bash completes."""
+        self.compare(lambda words: self.told("bash", "--norc", "-c", BASH, "bash", self.paths["bash"], words).split())
+
+    @unittest.skipIf("zsh" in missing(), "zsh is missing")
+    def test_zsh(self):
+        """zsh completes, by its function."""
+        self.compare(lambda words: self.told("zsh", "-f", "-c", ZSH, "zsh", self.paths["zsh"], words).split())
+
+    @unittest.skipIf("zsh" in missing(), "zsh is missing")
+    def test_zsh_in_terminal(self):
+        """zsh finds the function by its first line, and completes a word in a terminal."""
+        for words, whole in (("lw sch", "lw schedules "), ("lw-fences --ev", "lw-fences --everything "), ("beyond --search sta", "beyond --search states ")):
+            with self.subTest(words):
+                self.assertIn(whole, self.typed(words, whole))
+
+    def typed(self, words, whole):
+        """Returns what a terminal shows in which zsh runs and words are typed, with a tab after them, until it shows the whole."""
+        child, terminal = pty.fork()
+        if not child:
+            os.execvpe("zsh", ["zsh", "-f", "-i"], {"PATH": os.environ["PATH"], "HOME": self.room, "TERM": "dumb", "PS1": "> "})
+        try:
+            folder = os.path.dirname(self.paths["zsh"])
+            os.write(terminal, f"fpath=({folder} $fpath); autoload -U compinit; compinit -u -d {self.room}/dump; print ready $((1+1))\n".encode())
+            self.until(terminal, "ready 2")
+            os.write(terminal, f"{words}\t".encode())
+            return self.until(terminal, whole)
+        finally:
+            os.kill(child, 9)
+            os.waitpid(child, 0)
+            os.close(terminal)
+
+    @staticmethod
+    def until(terminal, text):
+        """Returns what a terminal shows, without its controls, until it shows a text, or some seconds are over."""
+        shown, end = "", time.monotonic() + SECONDS
+        while time.monotonic() < end and text not in shown:
+            if select.select([terminal], [], [], 0.3)[0]:
+                shown = re.sub(r"\x1b\[[0-9;?]*[a-zA-Z]|\r", "", shown + os.read(terminal, 4096).decode("utf-8", "replace"))
+        return shown
+
+    @unittest.skipIf("fish" in missing(), "fish is missing")
+    def test_fish(self):
+        """fish completes."""
+
+        def offered(words):
+            lines = self.told("fish", "--no-config", "-c", "source $argv[1]; complete -C $argv[2]", self.paths["fish"], words).splitlines()
+            found = [it.partition("\t")[0] for it in lines]
+            return [FILES] if found == ["examples/"] else found
+
+        self.compare(offered)
+
+
+if __name__ == "__main__":
+    given.print_as_lw()
+    sys.exit(close(cases.comparisons(sys.modules["__main__"]), skipped=skipped))
