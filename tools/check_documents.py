@@ -713,7 +713,7 @@ def comparisons(is_quick):
 
 def left_out():
     """The lines that tell which checks were skipped."""
-    parts = (test_completion, test_from_c, test_run_all, test_on_machine, check_lab, check_page, check_site, check_library, check_pack, test_packages)
+    parts = (test_completion, test_editor, test_from_c, test_run_all, test_on_machine, check_lab, check_page, check_site, check_library, check_pack, test_packages)
     return filter(None, (it.skipped() for it in parts))
 
 

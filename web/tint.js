@@ -58,10 +58,11 @@ function nodeOf(token, tints, thread) {
   if (observed) return el("span", { class: threadClass(observed[1]) }, token);
   if (/^\s|^[^\w$]/.test(token)) return token;
   if (REGISTER.test(token)) return thread === null ? token : el("span", { class: threadClass(thread) }, token);
-  if (FENCES.test(token)) return el("span", { class: "fencing" }, token);
-  if (KEYWORDS.test(token) || token === "SRC" || token === "X86") return el("span", { class: "keyword" }, token);
+  // A location may be called as an instruction of the other language: `lock` of a source test.
   const kind = tints.of(token);
   if (kind) return el("span", { class: kind }, token);
+  if (FENCES.test(token)) return el("span", { class: "fencing" }, token);
+  if (KEYWORDS.test(token) || token === "SRC" || token === "X86") return el("span", { class: "keyword" }, token);
   return /^\$?\d/.test(token) ? el("span", { class: "number" }, token) : token;
 }
 

@@ -7,23 +7,30 @@
 - The files that are made of the table are as they would be written.
 - The grammar gives each token of each example the scope of its kind, as the reader has the tokens, by a small reader of such grammars
   (`Colours`).
+- By Oniguruma, whose regular expressions VS Code's engine has, each expression is one, and the scopes are the same, if the library is here.
 
 The programs are not needed. tools/check_documents.py calls all this (tools/gate/cases.py).
 """
+import glob
 import json
 import os
 import re
+import shutil
+import subprocess
 import sys
+import tempfile
+import unittest
 
 sys.dont_write_bytecode = True
 sys.path.insert(0, os.path.dirname(os.path.dirname(os.path.abspath(__file__))))
+import given
 import plain
 from editor import grammar, words
-from gate import cases
+from gate import cases, oniguruma
 from gate.examples import examples, read
 from interpreter.reading import RESERVED, heading_of
 from interpreter.tokens import skip_notes, tokens_of
-from shared.home import HOME
+from shared.home import HOME, close
 
 # Of a kind of token the scopes that it may have.
 NUMBERS = ("constant.numeric", "entity.name.section")
@@ -45,12 +52,32 @@ TYPED = (
 )
 
 
+# Of a class of the page the scopes that it may have: 0:EAX is one piece there, and three here.
+OF_PAGE = {
+    "comment": ("comment.block",),
+    "keyword": ("keyword.control", "keyword.control.question", "storage.type", "constant.language", "keyword.operator.logical"),
+    "fencing": ("keyword.other.fence",),
+    "number": ("constant.numeric",),
+    "loc": ("variable.other",),
+    "head": ("entity.name.section",),
+    "thr": ("variable.language", "entity.name.section", "punctuation.separator"),
+    "bar": ("punctuation.separator",),
+}
+# In place of the page's own ways to make elements, and what prints the pieces of texts.
+DOM = "export const el = (_name, more, ...inside) => ({ kind: more.class ?? null, text: inside.join('') });\n"
+COLOURS_OF_PAGE = """import fs from "node:fs";
+import { textNodes, tintsOf } from "./tint.js";
+const pieces = (text) => textNodes(text, tintsOf(text)).map((it) => (typeof it === "string" ? [it, null] : [it.text, it.kind]));
+console.log(JSON.stringify(JSON.parse(fs.readFileSync(0, "utf8")).map(pieces)));
+"""
+
+
 class Colours:
     """The scopes that a grammar gives the letters of a text. A rule matches within a line; of the first matches the rule that is first has it, and the
     end of what is open comes before all."""
 
-    def __init__(self, made):
-        self.rules, self.repository, self.compiled = made["patterns"], made["repository"], {}
+    def __init__(self, made, compiler=re.compile):
+        self.rules, self.repository, self.compiled, self.compiler = made["patterns"], made["repository"], {}, compiler
 
     def scopes(self, text):
         """Of each letter its innermost scope, or None."""
@@ -61,7 +88,7 @@ class Colours:
 
     def matched(self, pattern, line, at):
         if pattern not in self.compiled:
-            self.compiled[pattern] = re.compile(pattern)
+            self.compiled[pattern] = self.compiler(pattern)
         return self.compiled[pattern].search(line, at)
 
     def expanded(self, rules):
@@ -105,6 +132,16 @@ class Colours:
             begin, end = (place - match.start() for place in match.span(int(number)))
             scopes[begin:end] = [it["name"]] * (end - begin)
         return scopes
+
+
+def patterns_of(value):
+    """All regular expressions of a grammar, of a value of JSON."""
+    if isinstance(value, list):
+        return [it for each in value for it in patterns_of(each)]
+    if not isinstance(value, dict):
+        return []
+    own = [it for key, it in value.items() if key in ("match", "begin", "end", "while")]
+    return own + [it for each in value.values() for it in patterns_of(each)]
 
 
 def wanted(language, kind, token, is_address):
@@ -195,5 +232,80 @@ class Grammar(cases.Case):
                 self.assertEqual(scopes, told)
 
 
+@unittest.skipUnless(shutil.which("node"), "node is missing")
+class Page(cases.Case):
+    """The colours of the page, by its own code."""
+
+    def coloured(self, texts):
+        """Of each text the pieces that the page shows, each with its class, or nothing."""
+        with tempfile.TemporaryDirectory(prefix="lw-editor-") as room:
+            shutil.copytree(os.path.join(HOME, "web"), room, dirs_exist_ok=True)
+            for name, content in (("package.json", '{"type": "module"}'), ("dom.js", DOM), ("colours.js", COLOURS_OF_PAGE)):
+                with open(os.path.join(room, name), "w", encoding="utf-8") as it:
+                    it.write(content)
+            ran = subprocess.run(["node", os.path.join(room, "colours.js")], input=json.dumps(texts).encode(), stdout=subprocess.PIPE, check=True)
+        return json.loads(ran.stdout)
+
+    def test_examples(self):
+        """Each word of each example has a scope of the kind that the page shows it as, except in a test's name, which the page takes for words."""
+        colours, named = Colours(grammar.grammar()), examples()
+        for (name, text), pieces in zip(named, self.coloured([text for _, text in named])):
+            scopes, at, wrong = colours.scopes(text), 0, []
+            for piece, kind in pieces:
+                its = {it and it[: -len(".lw")] for it in scopes[at : at + len(piece)]}
+                at += len(piece)
+                wanted_here = [scopes_here for of_page, scopes_here in OF_PAGE.items() if (kind or "").startswith(of_page)]
+                if wanted_here and its != {"entity.name.type"} and not its <= {*wanted_here[0]}:
+                    wrong.append((piece, kind, its))
+            with self.subTest(name):
+                self.assertEqual(([], len(text)), (wrong, at))
+
+
+class Engine(cases.Case):
+    """The grammar by the regular expressions of VS Code's engine, which are Oniguruma's."""
+
+    def setUp(self):
+        """Leaves these out if the library is not here."""
+        self.library = oniguruma.library()
+        if not self.library:
+            self.skipTest(skipped())
+
+    def test_compiled(self):
+        """Each regular expression of the grammar is one of Oniguruma's, and what is none is refused."""
+        with open(os.path.join(HOME, grammar.FOLDER, "lw.tmLanguage.json"), encoding="utf-8") as it:
+            patterns = patterns_of(json.load(it))
+        self.assertTrue(len(patterns) > 30)
+        for it in patterns:
+            with self.subTest(it):
+                self.assertTrue(self.library.compiled(it))
+        for it in ("(", "(?P<name>x)", "[z-a]"):
+            try:
+                told = str(self.library.compiled(it))
+            except oniguruma.Fault as why:
+                told = why.args[0]
+            self.assertIn(f"{it}: ", told)
+
+    def test_matches(self):
+        """A match is where Oniguruma finds it, in letters, with its groups."""
+        found = self.library.compiled(r"(ä)(b)?(c)").search("ääcb ac", 1)
+        self.assertEqual([(1, 3), (1, 2), (-1, -1), (2, 3)], [found.span(it) for it in range(4)])
+        self.assertEqual(("äc", None), (found[0], self.library.compiled("(?!)").search("ab", 0)))
+
+    def test_scopes(self):
+        """Each example, and each text with traps, has the same scopes as by Python's expressions."""
+        by_python, by_library = Colours(grammar.grammar()), Colours(grammar.grammar(), self.library.compiled)
+        texts = [*examples(), *((text.split()[1], text) for text, _, _ in TYPED)]
+        texts += [(os.path.basename(it), read(it)) for it in sorted(glob.glob(os.path.join(HOME, "tools", "herd", "tests", "*.litmus")))]
+        for name, text in texts:
+            with self.subTest(name):
+                self.assertEqual(by_python.scopes(text), by_library.scopes(text))
+
+
+def skipped():
+    """The line that says what is left out, if Oniguruma is not here."""
+    return None if oniguruma.library() else "the grammar for editors was not tried by Oniguruma, which is not here (Debian: libonig5)"
+
+
 if __name__ == "__main__":
-    sys.exit(cases.main())
+    given.print_as_lw()
+    sys.exit(close(cases.comparisons(sys.modules["__main__"]), skipped=skipped))

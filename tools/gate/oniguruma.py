@@ -1,0 +1,108 @@
+"""Oniguruma, the library of regular expressions by which VS Code reads grammars, if the system has it.
+
+Patterns are compiled as VS Code's engine compiles them: in Oniguruma's own syntax, with numbered groups, over UTF-8.
+"""
+import ctypes
+import ctypes.util
+from typing import Optional, Tuple
+
+NAMES = ("libonig.so.5", ctypes.util.find_library("onig"))
+CAPTURE_GROUP = 1 << 8
+MOST_MESSAGE = 256
+
+
+class Region(ctypes.Structure):
+    """Where a match and its groups begin and end, in bytes."""
+
+    _fields_ = [
+        ("allocated", ctypes.c_int), ("count", ctypes.c_int), ("begins", ctypes.POINTER(ctypes.c_int)), ("ends", ctypes.POINTER(ctypes.c_int)),
+        ("root", ctypes.c_void_p),
+    ]
+
+
+class Fault(Exception):
+    """A pattern that is not taken, and why."""
+
+
+class Library:
+    """The library."""
+
+    def __init__(self, dll: ctypes.CDLL):
+        self.dll = dll
+        dll.onig_region_new.restype = ctypes.POINTER(Region)
+        dll.onig_version.restype = ctypes.c_char_p
+        self.utf8 = ctypes.byref(ctypes.c_char.in_dll(dll, "OnigEncodingUTF8"))
+        self.syntax = ctypes.byref(ctypes.c_char.in_dll(dll, "OnigSyntaxOniguruma"))
+        dll.onig_initialize((ctypes.c_void_p * 1)(ctypes.cast(self.utf8, ctypes.c_void_p)), 1)
+
+    @property
+    def version(self) -> str:
+        """Returns the version of the library."""
+        return self.dll.onig_version().decode()
+
+    def compiled(self, pattern: str) -> "Pattern":
+        """Returns a pattern that is compiled."""
+        code, made = pattern.encode(), ctypes.c_void_p()
+        text, information = ctypes.create_string_buffer(code), ctypes.create_string_buffer(64)
+        begin = ctypes.addressof(text)
+        bounds = ctypes.c_void_p(begin), ctypes.c_void_p(begin + len(code))
+        status = self.dll.onig_new(ctypes.byref(made), *bounds, CAPTURE_GROUP, self.utf8, self.syntax, information)
+        if status:
+            message = ctypes.create_string_buffer(MOST_MESSAGE)
+            self.dll.onig_error_code_to_str(message, status, information)
+            raise Fault(f"{pattern}: {message.value.decode()}")
+        return Pattern(self, made)
+
+
+class Match:
+    """A match, as Python's has it: where it and its groups are, in letters."""
+
+    def __init__(self, line: bytes, region: Region):
+        letters = lambda place: len(line[:place].decode()) if place >= 0 else -1
+        self.spans = [(letters(region.begins[it]), letters(region.ends[it])) for it in range(region.count)]
+        self.text = line.decode()
+
+    def span(self, group: int = 0) -> Tuple[int, int]:
+        """Returns where a group begins and ends."""
+        return self.spans[group]
+
+    def start(self, group: int = 0) -> int:
+        """Returns where a group begins."""
+        return self.spans[group][0]
+
+    def end(self, group: int = 0) -> int:
+        """Returns where a group ends."""
+        return self.spans[group][1]
+
+    def __getitem__(self, group: int) -> str:
+        begin, end = self.spans[group]
+        return self.text[begin:end]
+
+
+class Pattern:
+    """A compiled pattern."""
+
+    def __init__(self, library: Library, made: ctypes.c_void_p):
+        self.library, self.made = library, made
+
+    def search(self, line: str, at: int) -> Optional[Match]:
+        """Returns the first match in a line from a place on, or None."""
+        dll, code = self.library.dll, line.encode()
+        text, region = ctypes.create_string_buffer(code), dll.onig_region_new()
+        begin = ctypes.addressof(text)
+        end, start = ctypes.c_void_p(begin + len(code)), ctypes.c_void_p(begin + len(line[:at].encode()))
+        try:
+            found = dll.onig_search(self.made, ctypes.c_void_p(begin), end, start, end, region, 0)
+            return Match(code, region.contents) if found >= 0 else None
+        finally:
+            dll.onig_region_free(region, 1)
+
+
+def library() -> Optional[Library]:
+    """Returns the library, or None if the system has none."""
+    for name in filter(None, NAMES):
+        try:
+            return Library(ctypes.CDLL(name))
+        except (OSError, ValueError):
+            continue
+    return None
