@@ -403,7 +403,7 @@ class Debian(Packed):
             folder, ending = os.path.dirname(name), ".fish" * name.endswith(".fish")
             names = ["_lw"] if "/zsh/" in name else [f"{it}{ending}" for it in commands]
             with self.subTest(name):
-                self.assertEqual(names, sorted(os.listdir(f"{self.at}/{folder}")))
+                self.assertEqual(sorted(names), sorted(os.listdir(f"{self.at}/{folder}")))
                 for path in (f"{self.at}/{folder}/{it}" for it in names):
                     with open(path, encoding="utf-8") as it:
                         self.assertEqual(text, it.read())
