@@ -4,7 +4,7 @@
     python3 tools/documents/make_program_lists.py
 
 A table has the final states of each program, and those that weaker memory orders add. Its head names the compilers and their versions. gcc and
-clang have to make the same lists, or nothing is written. tools/gate/test_from_c.py compares the tables with what compilers make.
+clang have to make the same lists, or nothing is written; lw and beyond have to be built. tools/gate/test_from_c.py compares the tables with what compilers make.
 """
 import glob
 import os
@@ -19,13 +19,13 @@ from c.compiler import version_of
 from c.report import Answer
 from c.source import read_source
 from c.weaker import WEAKER
-from shared import answers
+from shared import answers, spawn
 from shared.home import HOME
 
 # Of each folder the ending of its programs, and the compilers of its table.
 FOLDERS = {"from_c": (".c", ("gcc -O2", "clang -O2")), "from_rust": (".rs", ("rustc -C opt-level=2",))}
 TABLE = re.compile(r"^\| Program \| The list by.*\n(?:\|.*\n)+", re.M)
-BOUNDED, NONE = "(each loop at most once)", "none"
+BOUNDED, NOT_PROVED, NONE = "(each loop at most once)", "(not proved)", "none"
 # The states of a program as it is, and those that each kind of weaker orders adds.
 Lists = Tuple[List[str], ...]
 
@@ -67,6 +67,7 @@ def row_of(path: str, found: List[Answer]) -> str:
     """Returns the row of a program."""
     first, *others = map(cell_of, lists_of(found))
     name, mark = os.path.basename(path), f" {BOUNDED}" if found[0].bounded else ""
+    mark += "" if answers.are_proved(found[0].makers) else f" {NOT_PROVED}"
     return f"| [{name}]({name}) | {first}{mark} | {' | '.join(others)} |"
 
 
@@ -107,7 +108,9 @@ def lists_in(folder: str) -> Dict[str, Lists]:
 
 
 def main() -> None:
-    """Writes both tables."""
+    """Writes both tables. The programs are to be those of the sources, since a table says which lists are not proved."""
+    if not (spawn.is_current() and spawn.is_current("beyond")):
+        raise SystemExit("the programs are not those of the sources: run ./lw and ./beyond")
     sys.setrecursionlimit(from_c.RECURSION)
     for folder in FOLDERS:
         with open(readme_of(folder), encoding="utf-8") as it:
