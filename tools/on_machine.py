@@ -23,8 +23,8 @@ list, and the status is 3. Nothing is said of other processors, and a state that
 test of the same names: a control, as is `--knob stores=nontemporal`. Other knobs say what a run may do; a wrong one names all.
 
 The list is made by lw, by beyond if lw refuses the test for its size, and otherwise by the search of tools/beyond.py, which is not proved;
-the output says which. A C compiler and objdump are needed: without one of them, or if what is compiled is not the test, a line says so and
-the status is 5. A file that has no test ends with status 1, and one line `FILE:LINE:COLUMN: cause`. Linux on x86-64, Python 3.8.
+the output says which. That a program is converted rightly is not proved. A C compiler and objdump are needed: without one of them, if what is
+compiled is not the test, or if no run of a program is left, a line says so and the status is 5. A file that has no test ends with status 1, and one line `FILE:LINE:COLUMN: cause`. Linux on x86-64, Python 3.8.
 """
 import argparse
 import json

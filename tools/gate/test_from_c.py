@@ -650,12 +650,12 @@ class Compiled(cases.Case):
         """docs/FENCES.md names the algorithms that need a fence: the stores and loads between which it is, and what weaker orders add. The others
         have the same list with weaker orders."""
         lists, text = program_lists.lists_in("from_c"), read("docs/FENCES.md")
-        of_four = re.findall(r"^\| (\w+) \| (.*?) \| .*? \| `(.*?)` .*\|$", text.partition("| Program | A store, then a load")[2].partition("\n\n")[0], re.M)
-        others = re.findall(r"^\| (.*?) \|", text.partition("| Program | Why |")[2].partition("\n\n")[0], re.M)
+        of_three = re.findall(r"^\| \[(\w+)\]\S+ \| (.*?) \| .*? \| `(.*?)` .*\|$", text.partition("| Program | A store, then a load")[2].partition("\n\n")[0], re.M)
+        others = re.findall(r"\[(\w+)\]", text.partition("| Program | Why |")[2].partition("\n\n")[0])
         without_change = sorted(name for name, (_, *more) in lists.items() if not any(more))
-        self.assertEqual(without_change, sorted([*", ".join(others).split(", "), "MessagePassing"]))
-        self.assertEqual(sorted({*lists} - {*without_change}), sorted([*(it[0] for it in of_four), "StoreBuffering"]))
-        for name, pairs, added in of_four:
+        self.assertEqual(without_change, sorted([*others, "MessagePassing"]))
+        self.assertEqual(sorted({*lists} - {*without_change}), sorted([*(it[0] for it in of_three), "StoreBuffering"]))
+        for name, pairs, added in of_three:
             source = read_source(f"{name}.c", read(f"examples/from_c/{name}.c"))
             made = from_c.converted(source, compilers_for(".c")[0].split()[0] + " -O2", 1)
             needed = needed_lines(fences_of(*made))
