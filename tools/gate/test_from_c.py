@@ -665,6 +665,25 @@ class Compiled(cases.Case):
                     first, last = map(int, places.split(", "))
                     self.assertTrue(any(number == int(thread) and first <= line < last for number, line in needed))
 
+    def test_orders(self):
+        """The instructions of C's orders are those of the table in docs/FENCES.md, by each compiler at -O1 to -O3."""
+        bodies = {
+            "atomic_store(&x, 1)": True, "atomic_thread_fence(memory_order_seq_cst)": True, "atomic_exchange_explicit(&x, 1, memory_order_relaxed)": True,
+            "int e = 0; atomic_compare_exchange_strong_explicit(&x, &e, 1, memory_order_relaxed, memory_order_relaxed)": True,
+            "atomic_fetch_add_explicit(&x, 1, memory_order_relaxed)": True, "atomic_store_explicit(&x, 1, memory_order_release)": False,
+            "atomic_store_explicit(&x, 1, memory_order_relaxed)": False, "return atomic_load(&x)": False,
+            "atomic_thread_fence(memory_order_acq_rel)": False, "atomic_thread_fence(memory_order_release)": False,
+        }
+        functions = "".join(f"int f{number}(void) {{ {body}; return 0; }}\n" for number, body in enumerate(bodies))
+        text = f"#include <stdatomic.h>\natomic_int x;\n{functions}"
+        for compiler in [it for it in compilers_for(".c") if not it.endswith("-O0")]:
+            words = [*compiler.split(), "-fcf-protection=none", "-S", "-x", "c", "-o", "-", "-"]
+            made = subprocess.run(words, input=text.encode(), stdout=subprocess.PIPE, check=True).stdout.decode()
+            for number, (body, waits) in enumerate(bodies.items()):
+                code = re.search(rf"^f{number}:[^\n]*\n(.*?)^\s*ret", made, re.M | re.S)[1]
+                with self.subTest(body, compiler=compiler):
+                    self.assertEqual(waits, bool(re.search(r"\b(?:lock|xchg\w*|mfence)\b", code)))
+
     def test_documents(self):
         """docs/FROM-C.md and docs/FENCES.md show what their commands print, if gcc is there and of the version that the lists have."""
         for page, count in (("FROM-C", 6), ("FENCES", 4)):
