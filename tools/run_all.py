@@ -59,8 +59,7 @@ import time
 sys.dont_write_bytecode = True
 import given
 from many import files, lists, rows
-from many.expected import Expected, NoExpectations
-from many.statuses import NO_VERDICT, NOT_OK, SEEN_AND_NOT_LISTED, status_of
+from many.statuses import NO_VERDICT, NOT_OK, SEEN_AND_NOT_LISTED, NoTable, status_of
 from many.table import print_table
 from shared import command, start
 
@@ -131,20 +130,34 @@ def words_of() -> argparse.Namespace:
     return words
 
 
-def tell_of(table: list, expected: Expected) -> set:
-    """Reports on standard error which files are refused, and what is not as expected. Returns the exit statuses."""
-    other = expected.unmet(table)
-    refused = [it for it in table if it.verdict == rows.REFUSED and not expected.is_expected(it)]
-    without = [it for it in table if it.verdict == rows.NO_VERDICT and not expected.is_expected(it)]
-    for it in [*refused, *without]:
-        print(rows.line_of(it), file=sys.stderr)
-    for it, word in other:
+def expected_by(words: argparse.Namespace):
+    """Returns what is expected of the rows, or None if nothing is."""
+    if not (words.expect or words.expect_ok):
+        return None
+    from many.expected import Expected
+
+    return Expected(words.expect, words.expect_ok, words.shard is not None)
+
+
+def tell_of_expected(table: list, expected) -> int:
+    """Reports on standard error what is not as expected, and names of the table that mean no file. Returns the exit status."""
+    unmet = expected.unmet(table)
+    for it, word in unmet:
         print(f"{it.file}: the verdict is {it.verdict}, and {word} is expected" + (f": {it.observation}" if it.observation else ""), file=sys.stderr)
     missing = expected.missing()
     if missing:
         print(f"run_all: {expected.name}: no file here is meant by {', '.join(missing)}", file=sys.stderr)
-    is_none_met = bool(missing) and len(missing) == len(expected.table)
-    return {1 if refused or is_none_met else 0, NO_VERDICT if without else 0, NOT_OK if other else 0}
+    return NOT_OK if unmet else 1 if missing and len(missing) == len(expected.table) else 0
+
+
+def tell_of(table: list, expected) -> set:
+    """Reports on standard error which files are refused, and what is not as expected. Returns the exit statuses."""
+    unexpected = [it for it in table if not (expected and expected.is_expected(it))]
+    refused = [it for it in unexpected if it.verdict == rows.REFUSED]
+    without = [it for it in unexpected if it.verdict == rows.NO_VERDICT]
+    for it in [*refused, *without]:
+        print(rows.line_of(it), file=sys.stderr)
+    return {1 if refused else 0, NO_VERDICT if without else 0, tell_of_expected(table, expected) if expected else 0}
 
 
 def tell_notes(done: list) -> None:
@@ -158,12 +171,9 @@ def tell_notes(done: list) -> None:
 
 def merge(words: argparse.Namespace) -> int:
     """Merges tables, and prints the result. Returns the exit status."""
-    from many.merge import NoTable, merged
+    from many.merge import merged
 
-    try:
-        table, expected = merged(words.merge), Expected(words.expect, words.expect_ok)
-    except (NoTable, NoExpectations) as why:
-        return given.refuse(f"run_all: {why}")
+    table, expected = merged(words.merge), expected_by(words)
     print_table(table, words.form)
     sys.stdout.flush()
     seen = {SEEN_AND_NOT_LISTED for it in table if it.seen and "not listed" in it.seen}
@@ -195,10 +205,7 @@ def rows_with_seen(done: list, words: argparse.Namespace) -> tuple:
 
 def work(words: argparse.Namespace) -> int:
     """Runs the files, and prints what is requested. Returns the exit status."""
-    try:
-        expected = Expected(words.expect, words.expect_ok, words.shard is not None)
-    except NoExpectations as why:
-        return given.refuse(f"run_all: {why}")
+    expected = expected_by(words)
     named = files.files_of(words.names)
     chosen = files.part_of(named, words.shard) if words.shard else named
     progress = Progress(len(chosen))
@@ -219,6 +226,8 @@ def main() -> int:
     words = words_of()
     try:
         return merge(words) if words.merge else work(words)
+    except NoTable as why:
+        return given.refuse(f"run_all: {why}")
     except OSError as why:
         return given.refuse(f"run_all: {why.filename}: {why.strerror}")
 

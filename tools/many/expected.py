@@ -8,6 +8,7 @@ from __future__ import annotations
 import os
 
 from many import rows
+from many.statuses import NoTable
 
 VERDICTS = (rows.AS_ASKED, "No", rows.NO_VERDICT, rows.REFUSED)
 # Of each word the observations that it allows.
@@ -20,10 +21,6 @@ OBSERVATIONS = {
 WORDS = (*VERDICTS, *OBSERVATIONS)
 
 
-class NoExpectations(Exception):
-    """Why a table of expected verdicts is not taken."""
-
-
 def expectations_in(name: str) -> dict:
     """Reads a table. Returns of each name its word."""
     found = {}
@@ -34,9 +31,9 @@ def expectations_in(name: str) -> dict:
             if not its and not word:
                 continue
             if not its or word not in WORDS:
-                raise NoExpectations(f"{place}: a line has a name and one of {', '.join(WORDS)}")
+                raise NoTable(f"{place}: a line has a name and one of {', '.join(WORDS)}")
             if found.setdefault(its, word) != word:
-                raise NoExpectations(f"{place}: '{its}' is expected to be {found[its]} before")
+                raise NoTable(f"{place}: '{its}' is expected to be {found[its]} before")
     return found
 
 

@@ -5,10 +5,7 @@ import json
 
 from many.files import shard_in
 from many.rows import Row
-
-
-class NoTable(Exception):
-    """Why tables are not merged."""
+from many.statuses import NoTable
 
 
 def table_in(name: str) -> list:
