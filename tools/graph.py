@@ -40,11 +40,13 @@ MOST_CYCLES = 6
 MOST_DRAWN = 3
 MOST_NAMED = 4  # so many reads of the initial word have a name at their arrow
 LETTERS = "abcdefghijklmnopqrstuvwxyz"
+NONE_FORBIDDEN = "x86-TSO allows every state that some candidate execution has."
 NAMES = {"po": "program order", "rf": "reads-from", "co": "coherence order", "fr": "from-reads"}
 # Relations are told apart by their names and by how their lines are broken: colours are those of threads and locations.
 STYLE = """
 path { fill: none; stroke: #1b1b1b; stroke-width: 1.4 } path.po { stroke: #8a8a8a } path.co { stroke-dasharray: 8 4 } path.fr { stroke-dasharray: 3 3 }
-path.marked { stroke: #1b1b1b; stroke-width: 3.2; stroke-dasharray: none } marker path[class] { stroke-dasharray: none }
+path.marked { stroke: #1b1b1b; stroke-width: 3.2 } path.co.marked { stroke-dasharray: 11 6 } path.fr.marked { stroke-dasharray: 4 5 }
+marker path[class] { stroke-dasharray: none }
 text.relation { font-weight: bold; paint-order: stroke; stroke: #fff; stroke-width: 4 }
 @media (prefers-color-scheme: dark) {
 path, path.marked { stroke: #ececec } path.po { stroke: #8d939c } text.relation { stroke: #16181c }
@@ -290,12 +292,12 @@ def in_order(broken):
 
 
 def say_why(test, words, ways):
-    """The lines on a state that the axioms forbid."""
-    number = sum(it.times for it in ways)
+    """Returns the lines on a state that the axioms forbid."""
     line = " ".join(f"{plain.site_name(test, site)}={shown(word)};" for site, word in zip(plain.observed(test), words))
-    lines = [f"{line} {number} candidate execution{'s' if number > 1 else ''}, and x86-TSO allows none:"]
+    lines = [f"x86-TSO forbids {line}"]
     for it in ways[:MOST_CYCLES]:
-        lines += [f"  {it.axiom} in {it.times}: {it.cycle}", *(f"    {event}" for event in it.events)]
+        breaking = "1 candidate execution breaks" if it.times == 1 else f"{it.times} candidate executions break"
+        lines += [f"  {breaking} {it.axiom}: {it.cycle}", *(f"    {event}" for event in it.events)]
     if len(ways) > MOST_CYCLES:
         lines.append(f"  and {len(ways) - MOST_CYCLES} other cycles")
     return lines
@@ -311,8 +313,7 @@ def why_not(test, state):
     if wanted is not None and tuple(wanted[site] for site in plain.observed(test)) in allowed:
         return ["x86-TSO allows this state: `lw schedules` lists it with a schedule."], 1, []
     if not broken:
-        told = "no candidate execution has it: no thread can read or write such words" if wanted else "the axioms allow all that candidates have"
-        return [f"{state}: {told}."], 0, []
+        return [f"No thread reads or writes such words: no candidate execution ends in {state}" if wanted else NONE_FORBIDDEN], 0, []
     states = in_order(broken)
     drawn = [it for _, ways in states for it in ways[:MOST_DRAWN]][:MOST_DRAWN]
     cycles = [(picture_of(it.execution, f"{test.name}: {it.cycle}", it.broken), f"{it.axiom}: {it.cycle}") for it in drawn]

@@ -8,7 +8,15 @@ import { tell } from "./told.js";
 // The height of a line of a picture, and what is empty below its events.
 const LINE = 19;
 const EMPTY = 10;
-const RELATIONS = [["po", "program order"], ["rf", "reads from"], ["co", "coherence order"], ["fr", "from-reads"]];
+// The arrows that a graph may have, each by its name there and in words. `rfi` and `init` are drawn as `rf` is.
+const ARROWS = [
+  ["po", "po", "program order"],
+  ["rf", "rf", "reads from"],
+  ["rf", "rfi", "reads its own thread's store"],
+  ["rf", "init", "reads the initial value"],
+  ["co", "co", "written before"],
+  ["fr", "fr", "read before that write"],
+];
 const WITH_CYCLE = "This run as a graph. The bold arrows are a cycle: no interleaving ends this way. ";
 const WITHOUT_CYCLE = "This run as a graph. It has no cycle: a run by interleaving can end this way, too. ";
 const SVG = "http://www.w3.org/2000/svg";
@@ -50,10 +58,21 @@ function colour(text, tints) {
   if (kind) text.classList.add(...kind.split(" "));
 }
 
-/** What the arrows of a graph mean: how each kind is drawn, its name, and that in words. */
-export function legend() {
-  const shown = ([kind, words]) => el("span", { class: `relation ${kind}` }, arrow(), el("b", {}, kind), ` ${words}`);
-  return el("p", { class: "legend" }, RELATIONS.map(shown));
+/** Returns the name of an arrow of a graph: its relation, `rfi` if a thread reads its own store, or `init` if it begins at no event. */
+function nameOf({ dataset: { from, to }, classList }) {
+  const kind = ["po", "rf", "co", "fr"].find((it) => classList.contains(it));
+  if (!from) return "init";
+  return kind === "rf" && from.split(":")[0] === to.split(":")[0] ? "rfi" : kind;
+}
+
+/** Returns a legend of the arrows in some graphs, and of no others: how each is drawn, its name, and that in words. */
+export function legend(...graphs) {
+  const drawn = graphs.flatMap((it) => [...it.querySelectorAll("path[data-to]")]);
+  const names = new Set(drawn.map(nameOf));
+  const shown = ([kind, name, words]) => el("span", { class: `relation ${kind}` }, arrow(), el("b", {}, name), ` ${words}`);
+  const cycle = drawn.some((it) => it.classList.contains("marked"));
+  const bold = cycle && el("span", { class: "relation cycle" }, arrow(), el("b", {}, "bold"), " the cycle");
+  return el("p", { class: "legend" }, ARROWS.filter(([, name]) => names.has(name)).map(shown), bold);
 }
 
 function arrow() {
@@ -83,5 +102,5 @@ function partsOf(answer, tints) {
   const missing = said.slice(1).map((it) => it.replace(/^(\w+), then (\w+): no fence between$/, "Between $1 and $2 there is no fence. "));
   const told = el("details", {}, el("summary", {}, "In words"), el("pre", {}, answer.words.join("\n")));
   const keep = button("Save this graph", () => save("execution.svg", "image/svg+xml", answer.graph));
-  return [el("p", { class: "graph-head" }, words, missing, plainMark()), graph, legend(), el("div", { class: "row" }, told, keep)];
+  return [el("p", { class: "graph-head" }, words, missing, plainMark()), graph, legend(graph), el("div", { class: "row" }, told, keep)];
 }

@@ -10,7 +10,8 @@ const NAMES = { po: "program order", rf: "reads-from", co: "coherence order", fr
 // Relations are told apart by their names and by how their lines are broken: colours are those of threads and locations.
 const STYLE = `
 path { fill: none; stroke: #1b1b1b; stroke-width: 1.4 } path.po { stroke: #8a8a8a } path.co { stroke-dasharray: 8 4 } path.fr { stroke-dasharray: 3 3 }
-path.marked { stroke: #1b1b1b; stroke-width: 3.2; stroke-dasharray: none } marker path[class] { stroke-dasharray: none }
+path.marked { stroke: #1b1b1b; stroke-width: 3.2 } path.co.marked { stroke-dasharray: 11 6 } path.fr.marked { stroke-dasharray: 4 5 }
+marker path[class] { stroke-dasharray: none }
 text.relation { font-weight: bold; paint-order: stroke; stroke: #fff; stroke-width: 4 }
 @media (prefers-color-scheme: dark) {
 path, path.marked { stroke: #ececec } path.po { stroke: #8d939c } text.relation { stroke: #16181c }

@@ -74,6 +74,6 @@ export class Why {
     const head = el("p", { class: "why-head" }, of, el("b", {}, lines[0]), " ", plainMark());
     const told = el("details", { open: !drawn.length }, el("summary", {}, "In words"), el("pre", {}, lines.join("\n")));
     if (!drawn.length) return [head, told];
-    return [head, el("p", { class: "small" }, CIRCLE), el("div", { class: "figures" }, drawn), legend(), told];
+    return [head, el("p", { class: "small" }, CIRCLE), el("div", { class: "figures" }, drawn), legend(...drawn), told];
   }
 }

@@ -9,6 +9,7 @@ import { observed, siteKey, siteName, wordAt } from "./propositions.js";
 const MOST = 400000;
 const MOST_CYCLES = 6;
 const MOST_DRAWN = 3;
+const NONE_FORBIDDEN = "x86-TSO allows every state that some candidate execution has.";
 
 /** The words that a report's line tells, by site; the line has to name exactly what the test shows. */
 function stateOf(test, line) {
@@ -48,13 +49,13 @@ function forbiddenStates(test, wanted) {
   return { allowed, broken: [...broken.values()] };
 }
 
-/** The lines on a state that the axioms forbid. */
+/** Returns the lines on a state that the axioms forbid. */
 function sayWhy(test, { words, ways }) {
-  const number = ways.reduce((sum, it) => sum + it.times, 0);
   const line = observed(test).map((site, at) => `${siteName(test, site)}=${shown(words[at])};`).join(" ");
-  const lines = [`${line} ${number} candidate execution${number > 1 ? "s" : ""}, and x86-TSO allows none:`];
+  const lines = [`x86-TSO forbids ${line}`];
   for (const { axiom, cycle, events, times } of ways.slice(0, MOST_CYCLES)) {
-    lines.push(`  ${axiom} in ${times}: ${cycle}`, ...events.map((it) => `    ${it}`));
+    const breaking = times === 1 ? "1 candidate execution breaks" : `${times} candidate executions break`;
+    lines.push(`  ${breaking} ${axiom}: ${cycle}`, ...events.map((it) => `    ${it}`));
   }
   return ways.length > MOST_CYCLES ? [...lines, `  and ${ways.length - MOST_CYCLES} other cycles`] : lines;
 }
@@ -87,8 +88,7 @@ export function whyNot(test, state) {
     return { lines: ["x86-TSO allows this state: `lw schedules` lists it with a schedule."], cycles: [] };
   }
   if (!found.broken.length) {
-    const told = wanted ? "no candidate execution has it: no thread can read or write such words" : "the axioms allow all that candidates have";
-    return { lines: [`${state}: ${told}.`], cycles: [] };
+    return { lines: [wanted ? `No thread reads or writes such words: no candidate execution ends in ${state}` : NONE_FORBIDDEN], cycles: [] };
   }
   const states = inOrder(found.broken);
   const drawn = states.flatMap(({ ways }) => ways.slice(0, MOST_DRAWN)).slice(0, MOST_DRAWN);

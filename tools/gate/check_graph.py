@@ -210,11 +210,14 @@ def check_tool():
         ran = run(*words)
         yield f"graph.py {' '.join(words)}", (status, True), (ran.returncode, bool(ran.stderr if status == 2 or not ran.stdout else ran.stdout))
     ran = run("--why-not", "all", f"{HOME}/examples/MP-x86.litmus")
-    wanted = "1:EAX=1; 1:EBX=0; 1 candidate execution, and x86-TSO allows none:\n  global happens-before in 1: "
+    wanted = "x86-TSO forbids 1:EAX=1; 1:EBX=0;\n  1 candidate execution breaks global happens-before: "
     yield "why MP does not end so", (0, True), (ran.returncode, ran.stdout.startswith(wanted + "a -po-> b -rf-> c -po-> d -fr-> a\n"))
     ran = run("--why-not", "0:r0=0; 1:r0=0;", SOURCE)
-    front = "0:r0=0; 1:r0=0; 1 candidate execution, and x86-TSO allows none:\n"
+    front = "x86-TSO forbids 0:r0=0; 1:r0=0;\n"
     yield "why SB does not end so, in its own names", (0, True), (ran.returncode, ran.stdout.startswith(front))
+    ran = run("--why-not", "0:r0=7; 1:r0=0;", SOURCE)
+    wanted = "No thread reads or writes such words: no candidate execution ends in 0:r0=7; 1:r0=0;\n"
+    yield "a state of words that no thread has", (0, wanted), (ran.returncode, ran.stdout)
     ran = run("--why-not", "0:r0=0;", SOURCE)
     yield "a source test shows its own names", True, "the test shows 0:r0=..; 1:r0=..;" in ran.stderr
     text = run("--text", "P0 P0 P1 P1 D0 D1", SB).stdout

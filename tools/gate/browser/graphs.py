@@ -12,6 +12,21 @@ const strokes = [...document.querySelectorAll("svg.graph > path")].map((it) => g
 const names = [...document.querySelectorAll("#watching span.loc, #watching .badge-thread")].map((it) => getComputedStyle(it).color);
 return [[...new Set(strokes)], [...new Set(names)]];
 """
+# The relations that a place's legend explains; and the names of the arrows in its graphs, `init` for one that begins at no event.
+LEGEND = """
+const place = document.querySelector(arguments[0]);
+const threadOf = (at) => at.split(":")[0];
+const nameOf = ({ dataset: { from, to }, classList: [kind] }) =>
+  !from ? "init" : kind === "rf" && threadOf(from) === threadOf(to) ? "rfi" : kind;
+const drawn = [...place.querySelectorAll("svg.graph > path[data-to]")];
+const names = [...new Set([...drawn.map(nameOf), ...drawn.some((it) => it.classList.contains("marked")) ? ["bold"] : []])];
+return [[...place.querySelectorAll(".legend b")].map((it) => it.textContent).sort(), names.sort()];
+"""
+# Of the bold arrows of each relation whether their lines are broken.
+BROKEN = """
+const bold = [...document.querySelectorAll(arguments[0] + " svg.graph > path.marked")];
+return Object.fromEntries(bold.map((it) => [it.classList[0], getComputedStyle(it).strokeDasharray !== "none"]));
+"""
 POINT = "document.querySelector(arguments[0]).dispatchEvent(new PointerEvent('pointerover', { bubbles: true }))"
 POINTED = "return [...document.querySelectorAll('.pointed')].map((it) => `${it.tagName.toLowerCase()} ${it.textContent.trim()}`)"
 
@@ -50,6 +65,32 @@ class Readable(PageCase):
         self.assertEqual([], [it for it in relations if it in names])
 
 
+class Explained(PageCase):
+    """The legend of a graph."""
+
+    def test_legend(self):
+        """The legend names the arrows that are drawn, and no others: those within a thread and from initial values too."""
+        user = self.user
+        for link, place in (("SB-x86", "#graph-place"), ("n6-x86", "#graph-place"), ("2%2B2W-x86", "#graph-place"), ("MP-x86&view=why", "#why")):
+            user.open_listed(f"#example={link}")
+            user.find(f"{place} svg.graph")
+            shown, drawn = user.run(LEGEND, place)
+            self.assertEqual(drawn, shown, link)
+        user.open_listed("#example=n6-x86")
+        user.find("#graph-place svg.graph")
+        self.assertIn("rfi", user.run(LEGEND, "#graph-place")[0])
+
+    def test_bold(self):
+        """A bold arrow has the broken line of its relation."""
+        user = self.user
+        user.open_listed("#example=SB-x86")
+        user.find("#graph-place svg.graph")
+        self.assertEqual({"po": False, "fr": True}, user.run(BROKEN, "#graph-place"))
+        user.open_listed("#example=2%2B2W-x86&view=why")
+        user.find("#why svg.graph")
+        self.assertEqual({"po": False, "co": True}, user.run(BROKEN, "#why"))
+
+
 class Pointed(PageCase):
     """What the pointer is on is lit wherever it appears."""
 
@@ -75,4 +116,4 @@ class Pointed(PageCase):
         self.assertEqual("loc-1", user.run("return document.documentElement.dataset.lit"))
 
 
-SUBJECTS = (Readable, Pointed)
+SUBJECTS = (Readable, Explained, Pointed)

@@ -117,7 +117,7 @@ class Verdicts(PageCase):
         user = self.user
         user.open_listed("#example=MP-x86")
         user.click("table.strip .never .watch")
-        self.assertSays("1:EAX=1; 1:EBX=0; 1 candidate execution, and x86-TSO allows none:", "#why .why-head")
+        self.assertSays("x86-TSO forbids 1:EAX=1; 1:EBX=0;", "#why .why-head")
 
     def test_missing_is_asked_about(self):
         """A state that is missing is shown only if the condition asks about it."""

@@ -24,7 +24,7 @@ class WhyNot(PageCase):
         user.click("#tab-why")
         self.assertEqual(["1", "0"], [it.get_attribute("value") for it in user.all("#why input")])
         user.click(".why-not")
-        self.assertSays("1:EAX=1; 1:EBX=0; 1 candidate execution, and x86-TSO allows none:", "#why .why-head")
+        self.assertSays("x86-TSO forbids 1:EAX=1; 1:EBX=0;", "#why .why-head")
         self.assertEqual("global happens-before: a -po-> b -rf-> c -po-> d -fr-> a", user.text("#why figcaption"))
         self.assertEqual(4, user.run("return document.querySelectorAll('#why figure path.marked').length"))
 
@@ -35,7 +35,7 @@ class WhyNot(PageCase):
             user.open_listed(f"#example={name}")
             user.click("#tab-why")
             user.click(".why-not")
-            self.assertSays("candidate execution", "#why .why-head")
+            self.assertSays("x86-TSO forbids ", "#why .why-head")
             self.assertIn("Of the compiled program, with the source's names: ", user.text("#why .why-head"))
             self.assertEqual([], user.all("#why .notice"))
 
