@@ -1,7 +1,8 @@
 // The editor of a test: its text in colours below a field in which only the cursor shows, line numbers, and the mark of a fault, on its
-// line and below its character. On paper the whole text is in its place, which shows a part.
+// line and below its token. On paper the whole text is in its place, which shows a part.
 
 import { el } from "./dom.js";
+import { tokenAt } from "./faults.js";
 import { textNodes, tintsOf } from "./tint.js";
 
 // How many lines are in sight at least, and at most.
@@ -35,7 +36,7 @@ export class Editor {
     this.draw();
   }
 
-  /** The id of an element on this test. */
+  /** Returns the id of an element that belongs to this test. */
   id(name) {
     return name;
   }
@@ -50,7 +51,7 @@ export class Editor {
     this.mark(null);
   }
 
-  /** The reader has changed the text: `changed` is told what stood there before. */
+  /** Takes note that the reader has changed the text, and calls `changed` with the text before. */
   change(changed) {
     const before = this.known;
     this.known = this.text;
@@ -58,7 +59,7 @@ export class Editor {
     changed(before);
   }
 
-  /** Marks the character of a fault, or none. */
+  /** Marks the token of a fault, or none. */
   mark(fault) {
     this.fault = fault;
     this.area.setAttribute("aria-invalid", fault ? "true" : "false");
@@ -78,7 +79,7 @@ export class Editor {
     this.marks.replaceChildren();
     if (this.fault) {
       const at = this.fault.index;
-      const marked = String.fromCodePoint(this.text.codePointAt(at) ?? 32);
+      const marked = tokenAt(this.text, at) || " ";
       const mark = el("mark", {}, marked.trim() ? marked : " ");
       this.marks.append(this.text.slice(0, at), mark, marked === "\n" ? "\n" : "", this.text.slice(at + marked.length));
     }

@@ -1,6 +1,7 @@
 // What is told where there is no answer: a fault, with its place and the sentence of docs/FORMAT.md for it, or an error.
 
 import { button, byId, el, sentence } from "./dom.js";
+import { faultWords } from "./faults.js";
 import { table } from "./supplies.js";
 
 let sentences = {};
@@ -9,24 +10,24 @@ export async function loadSentences() {
   sentences = await table("sentences");
 }
 
-/** The sentence of docs/FORMAT.md for a cause: its kind is text, cell, schedule, limit or end. */
+/** Returns the sentence of docs/FORMAT.md for a cause: its kind is text, cell, schedule, limit or end. */
 function sentenceOf(kind, number) {
   return sentences[`${kind} ${number}`] ?? "";
 }
 
-/** Why an event can't be carried out, as a sentence, by the number of its cause. */
+/** Returns why an event can't be carried out, as a sentence, by the number of its cause. */
 export function refusalOf(event, { number }) {
   const [kind, thread] = event;
   const who = { P: `P${thread} can't go on`, D: `P${thread}'s buffer can't drain`, E: `P${thread}'s cache can't give up its line` }[kind];
   return `${who}: ${sentenceOf("end", number)}.`;
 }
 
-/** What a reader is told of an answer that is none: in the panel, or of a fault of the text in the editor at that. */
+/** Says why there is no answer: in the panel, or at the editor if its text has a fault. */
 export function tell(answer, panel, editor) {
   const { fault } = answer;
   if (editor.isAlone && isInText(fault)) {
     tellInEditor(fault, editor);
-    panel.append(el("p", { class: "small" }, `No answer: line ${fault.row} has a fault.`));
+    panel.append(el("p", { class: "no-answer" }, `No answer: line ${fault.row} of the text has a fault.`));
   } else panel.append(el("p", { class: "notice", role: "alert" }, fault ? wordsOf(fault, editor.text) : errorWords(answer)));
 }
 
@@ -34,13 +35,13 @@ function isInText(fault) {
   return fault?.kind === "text" || fault?.kind === "cell";
 }
 
-/** An error in words. That an event of a schedule is refused is said with the sentence of its cause. */
+/** Returns an error in words. A refused event of a schedule is named with the sentence of its cause. */
 function errorWords({ error, refused }) {
   if (!refused) return sentence(error);
   return sentence(`Event ${refused.at + 1} of the schedule, \`${refused.event}\`, is refused. ${refusalOf(refused.event, refused)}`);
 }
 
-/** Of a fault in a text, that the row before it has no `;` at its end, where that is so. */
+/** Returns that the row before a fault has no `;` at its end, if that is so. */
 function endOfRowBefore({ kind, row }, text) {
   const lines = text.split("\n").slice(0, row - 1);
   const at = lines.findLastIndex((it) => it.trim());
@@ -49,19 +50,26 @@ function endOfRowBefore({ kind, row }, text) {
   return sentence(`Line ${at + 1} has no \`;\` at its end: perhaps that is the fault. `);
 }
 
-/** A fault in words: its place, its cause with the sentence of docs/FORMAT.md, and lw's own line if the fault is none of the text. */
+// Why a list is refused, by the name of the limit.
+const LIMITS = {
+  TooManyItems: "One choice of its branches and words has more than 128 events and fences",
+  TooManyOrders: "Its conflicts can be ordered in more than 1,048,576 ways",
+};
+
+/** Returns a fault in words: its place, what is wrong, and lw's own line. */
 function wordsOf(fault, text) {
-  const place = fault.row ? `Line ${fault.row}, column ${fault.column}: ` : "";
-  const cause = fault.name ? [el("b", {}, fault.name), ": ", sentence(sentenceOf(fault.kind, fault.number))] : [];
-  const limit = fault.kind === "limit" ? "The list could take too long, so it is refused: " : "";
-  const line = isInText(fault) ? "" : el("code", { class: "told" }, fault.line);
-  return [place, limit, ...cause, fault.name ? ". " : "", ...endOfRowBefore(fault, text), line];
+  const line = el("code", { class: "told" }, fault.line);
+  if (fault.kind === "limit") return [`The list could take too long, so it is refused. ${LIMITS[fault.name]}. `, line];
+  const place = fault.row ? el("b", {}, `Line ${fault.row}, column ${fault.column}: `) : "";
+  const known = isInText(fault) ? faultWords(fault, text) : null;
+  const cause = known ? sentence(`${known} `) : fault.name ? [fault.name, ": ", sentence(sentenceOf(fault.kind, fault.number)), ". "] : [];
+  return [place, ...cause, ...endOfRowBefore(fault, text), line];
 }
 
 function tellInEditor(fault, editor) {
   editor.mark(fault);
   byId("fault").replaceChildren(
-    el("p", { class: "notice", title: fault.line }, wordsOf(fault, editor.text), " ", button("Go to it", () => editor.goToFault())),
+    el("p", { class: "notice" }, wordsOf(fault, editor.text), " ", button("Go to it", () => editor.goToFault())),
   );
 }
 

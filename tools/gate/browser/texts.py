@@ -13,18 +13,37 @@ class Faults(PageCase):
     TEXT = "SRC Mine (* é *)\n{}\n P0 ;\n (* é *) x = 1 ;\nexists (x=1)\n"
 
     def test_place(self):
-        """A fault has its line and column, once, and is marked on its line and at its character."""
+        """A fault is said in a sentence with its place and lw's own line, and marked on its line and at its token; the old verdict goes."""
         user = self.user
         user.open_listed()
         user.run_text(self.TEXT)
-        self.assertSays("Line 4, column 12: Form: a token that fits none of the statements", "#fault")
+        self.assertSays("Line 4, column 12: = does not fit here. Write := in place of it. lw: cell 1 Form at 39", "#fault")
+        self.assertEqual([], user.texts("#outcome .verdict"))
         self.assertEqual(["✗ 4"], user.texts(".numbers .faulty"))
         self.assertEqual("=", user.run("return document.querySelector('.marks mark').textContent"))
         self.assertFalse("has no ;" in user.text("#fault"))
         self.assertEqual(1, len(user.all(".notice")))
-        self.assertEqual(["No answer: line 4 has a fault."], user.texts("#outcome .list-place"))
+        self.assertEqual(["No answer: line 4 of the text has a fault."], user.texts("#outcome .list-place"))
         user.click("#fault button")
         self.assertEqual("text", user.focused().get_attribute("id"))
+
+    def test_token(self):
+        """The whole token of a fault is marked, and what is expected there is said."""
+        user = self.user
+        user.open_listed()
+        rows = lambda row: f"X86 A\n{{}}\n P0 ;\n {row} ;\nexists (0:EAX=1)\n"
+        for text, token, said in (
+            (rows("INC EAX"), "INC", "lw has no instruction of this name."),
+            (rows("MOV [x],[y]"), "[", "An instruction has one location at most: load it into a register first."),
+            (rows("MOV EAX,flag"), "flag", "flag is no register, and one is needed here: EAX, EBX, ECX, EDX, ESI or EDI."),
+            (rows("MOV [x],$1").replace("exists (0:EAX=1)", "exists (x==1)"), "=", "does not fit into the question."),
+            (rows("MOV [x],$1 | MFENCE"), ";", "This row has too few or too many cells"),
+            (rows("MOV [x],$1").replace("exists", "exist"), "", "The text ends too early."),
+        ):
+            user.run_text(text)
+            self.assertSays(said, "#fault")
+            self.assertEqual(token, user.run("return document.querySelector('.marks mark').textContent").strip())
+            self.assertIn("lw: ", user.text("#fault .told"))
 
     def test_end_of_row(self):
         """A row that lacks its end is named."""
@@ -185,6 +204,20 @@ class Gallery(PageCase):
         self.assertTrue(all("chase" in it.lower() for it in user.texts("#gallery .example b")))
         user.click("#gallery .close")
         self.assertSoon([], lambda: user.all("#gallery"))
+
+    def test_enter(self):
+        """Enter opens the example whose name is written, or the only one that is found; the dialog keeps its size while one searches."""
+        user = self.user
+        for written, name in (("sb-x86", "SB-x86"), ("publication early x86", "Publication+early-x86")):
+            user.open_listed("#example=MP")
+            user.click("#open-gallery")
+            height = user.find("#gallery").size["height"]
+            user.find("#search").send_keys(written)
+            self.assertSoon(True, lambda: user.texts("#gallery [role=status]")[0].endswith(" found"))
+            self.assertEqual(height, user.find("#gallery").size["height"])
+            user.press(user.keys.ENTER)
+            self.assertSoon(name, lambda: user.text("#example-name"))
+            self.assertEqual([], user.all("#gallery"))
 
     def test_taken(self):
         """An example that is clicked is shown and listed."""
