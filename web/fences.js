@@ -2,7 +2,7 @@
 // without it; that says nothing of whether a test with all its fences is right, so it says in how many states the condition holds.
 
 import { ask } from "./ask.js";
-import { el, plainMark, sentence } from "./dom.js";
+import { button, el, plainMark, sentence } from "./dom.js";
 import { Film, watchButton } from "./film.js";
 import * as guess from "./guess.js";
 import { mappedNames } from "./register_names.js";
@@ -12,22 +12,25 @@ import { tell, tellNothing } from "./told.js";
 const MOST_SHOWN = 4;
 
 export class Fences {
-  constructor(panel, editor) {
-    this.editor = editor;
+  /** Fills the panel. It calls `take` with a text for the editor. */
+  constructor(panel, editor, take) {
+    Object.assign(this, { editor, take });
     this.place = el("div", {});
+    this.more = el("div", { class: "more-fences" });
     this.film = new Film(editor);
     this.everything = el("input", { type: "checkbox", id: "everything", change: () => this.ask() });
-    const choice = el("label", {}, this.everything, " Look at all registers and locations, whatever the question is");
-    panel.append(el("p", { class: "row" }, choice), this.place, this.film.place);
+    const choice = el("label", {}, this.everything, " Compare all registers and locations, not only those of the question");
+    panel.append(this.place, this.more, el("p", { class: "row" }, choice), this.film.place);
   }
 
   clear() {
     this.askedOf = null;
     this.place.replaceChildren();
+    this.more.replaceChildren();
     this.film.clear();
   }
 
-  /** Asks, unless what is shown is of the same text. What runs by itself takes at most so many milliseconds. */
+  /** Asks, unless what is shown is of the same text. What runs by itself may take at most `most` milliseconds. */
   askOnce(most = null) {
     return this.askedOf === this.editor.text ? null : this.ask(most);
   }
@@ -48,6 +51,40 @@ export class Fences {
     if (!answer.table) return this.fail(answer);
     this.isSearched = search;
     this.place.append(...this.parts(answer));
+    if (!answer.table.answered_by.includes("plain")) this.offerMore(answer);
+  }
+
+  /** Offers to find where further fences would forbid what an x86 test asks about, unless that is forbidden. */
+  offerMore({ language, table, condition }) {
+    const isForall = condition.startsWith("forall");
+    if (language === "SRC" || table.positive === (isForall ? table.states : 0)) return;
+    const words = isForall ? "Which fences would make it hold always?" : "Which fences would forbid it?";
+    this.more.replaceChildren(button(words, () => this.showMore(isForall), { class: "main find-fences" }));
+  }
+
+  /** Shows the fewest further fences that would forbid what a test asks about. */
+  async showMore(isForall) {
+    const fields = { text: this.editor.text, search: this.isSearched };
+    const answer = await ask(this.editor, "more fences", fields, { place: this.more });
+    if (!answer) return;
+    this.more.replaceChildren();
+    if (!answer.fenced) return tell(answer, this.more, this.editor);
+    this.more.append(...this.partsOfMore(answer.fenced, isForall));
+  }
+
+  /** Returns what is said of the sets of places for fences. */
+  partsOfMore({ sets, more }, isForall) {
+    const wanted = isForall ? "make the condition hold in every state" : "forbid it";
+    if (!sets.length) return [el("p", { class: "next-step" }, el("b", {}, `No further MFENCE would ${wanted}.`))];
+    const rows = sets.map(({ places, text, states }) => {
+      const put = places.map((it) => it.replace(/^(P\d) at \d+, before (.*)$/, "in $1 before `$2`")).join(" and ");
+      const result = isForall ? `it holds in all ${statesOf(states)}` : `it holds in none of ${statesOf(states)}`;
+      return el("li", {}, `An MFENCE `, sentence(put), `: ${result}. `, button("Try it", () => this.take(text), { class: "take" }));
+    });
+    const others = more ? [el("p", { class: "small" }, `And ${more} other sets of as many fences.`)] : [];
+    const head = el("p", { class: "next-step" }, el("b", {}, `The fewest fences that ${wanted}:`));
+    const made = el("p", { class: "small" }, "The page itself puts the fences into the text ", plainMark(), ". The lists come from lw.");
+    return [head, el("ul", { class: "fence-sets" }, rows), ...others, made];
   }
 
   /** Says why there is no table, and offers a search if it would take too long. */
@@ -62,7 +99,7 @@ export class Fences {
 
   parts(answer) {
     const { table, condition, texts } = answer;
-    const by = this.everything.checked ? "all registers and locations" : el("code", {}, condition);
+    const by = this.everything.checked ? "by all registers and locations?" : ["by the question ", el("code", {}, condition), "?"];
     const head = el("tr", {}, ["Fence", "Left out alone", "States that are there without it"].map((it) => el("th", { scope: "col" }, it)));
     const names = namesOf(table);
     const rows = table.rows.map((it, at) => this.rowOf(names[at], it, texts[at]));
@@ -72,15 +109,16 @@ export class Fences {
     const refused = "lw refuses some lists by their count of orders; these come from the page's own interpreter ";
     const lists = isPlain ? [refused, plainMark(), "."] : [`All lists come from lw${this.isSearched ? ", by a search" : ""}.`];
     return [
-      el("p", {}, "By ", by, isSource ? [", of the compiled program. ", sentence(mappedNames(JSON.stringify([condition, table])))] : "."),
+      el("p", {}, `Which fences of ${isSource ? "the compiled program" : "the test"} are needed, `, by,
+        isSource ? [" ", sentence(mappedNames(JSON.stringify([condition, table])))] : ""),
       table.rows.length ? el("div", { class: "wide" }, shown) : "",
       el("p", { class: "verdict", role: "status" }, el("strong", {}, verdictOf(answer, names))),
-      el("p", { class: "small" }, "Texts without some fences are made by the page ", plainMark(), ". ", ...lists),
+      table.rows.length ? el("p", { class: "small" }, "The page itself leaves the fences out of the text ", plainMark(), ". ", ...lists) : "",
       isPlain ? this.offer() : "",
     ];
   }
 
-  /** The row of a fence, by its name, given the text without it. */
+  /** Returns the row of a fence, by its name, given the text without it. */
   rowOf(name, { added }, text) {
     const alone = added.length ? `adds ${statesOf(added.length)}` : "changes nothing";
     const of = [`without the fence of ${name} `, plainMark(), " "];
@@ -93,7 +131,7 @@ function statesOf(number) {
   return number === 1 ? "1 state" : `${number} states`;
 }
 
-/** What the page calls the fences: by what stands behind each, since their numbers count instructions from 0. */
+/** Returns what the page calls the fences: by the instruction after each, since their numbers count instructions from 0. */
 function namesOf({ rows }) {
   const names = rows.map(({ place }) => place.replace(/^(P\d) at \d+$/, "$1, at its end").replace(/ at \d+/, ""));
   return names.map((name, at) => {
@@ -102,7 +140,7 @@ function namesOf({ rows }) {
   });
 }
 
-/** Which fences are enough for the states that there are with all of them; and in how many of these the condition holds. */
+/** Returns which fences are enough for the states that exist with all of them, and in how many of these the condition holds. */
 function verdictOf({ table, language }, names) {
   const { rows, enough, states, positive } = table;
   const what = language === "SRC" ? "the compiled program" : "the test";
@@ -117,7 +155,7 @@ function verdictOf({ table, language }, names) {
     const kept = names.filter((_, at) => enough.some((it) => `${rows[at].place},`.startsWith(`${it},`)));
     return [`Enough for the same ${statesOf(states)}, with none to spare: ${kept.join("; ")}. With these${holding}them.`];
   }
-  const needed = isOne ? "The fence is needed: without it" : "Each fence is needed: without any one of them";
+  const needed = isOne ? "The fence is needed: without it" : "Every fence is needed: if any one of them is left out,";
   return [`${needed} ${what} ends in more states. With ${isOne ? "it" : "all"}${holding}${statesOf(states)}.`];
 }
 

@@ -9,6 +9,7 @@ import { canonicalText, sourceCells, x86Cells } from "./canonical.js";
 import { effectOf, refusal } from "./effects.js";
 import { executionOf } from "./executions.js";
 import { cellsOf, filmOf, sourceFilm } from "./films.js";
+import { setsOfFences } from "./fencing.js";
 import { graphOf, wordsOf } from "./graphs.js";
 import { endingOf, isTooDeep, listOrNull, reportOf, scheduleTo } from "./lists.js";
 import { pictureOf, stripOf } from "./pictures.js";
@@ -24,15 +25,17 @@ import { whyNot } from "./why_not.js";
 
 // One byte more than a text may have.
 const MOST_TEXT = 65537;
+// Of how many events at most it is found which registers they have put words into.
+const MOST_LOOKED_AT = 100;
 
-/** The report; with `search` by a search, of which `passed` says how far it is. */
+/** Returns the report, with `search` by a search; `passed` is called with words on how far that is. */
 function answerStates(program, text, { search = false }, passed) {
   const report = reportOf(program, text, { search, passed });
   const language = languageOf(text);
   return { report, language, words: verdictOf(language, report) };
 }
 
-/** The film to a state; of a source test that of its compiled program, and that of the source run. */
+/** Returns the film to a state; of a source test that of its compiled program, and that of the source run. */
 function answerFilm(program, text, { state, protocol, search = false }, passed) {
   const schedule = scheduleTo(program, text, state, { search, passed });
   const isSource = languageOf(text) === "SRC";
@@ -43,7 +46,7 @@ function answerFilm(program, text, { state, protocol, search = false }, passed) 
   return { state, schedule, films };
 }
 
-/** A state with what led to it, what it ends in, and what the machine can do next: each event, with the cause where it is refused. */
+/** Returns a state with what led to it, in what it ends, and what the machine can do next: each event, with its cause if it is refused. */
 function answerMoves(program, text, { schedule, protocol }) {
   const state = program.replayed(text, schedule, protocol);
   if (state.end.kind === "Stopped") throw refusalOf(state.end, eventsIn(schedule));
@@ -56,16 +59,30 @@ function answerMoves(program, text, { schedule, protocol }) {
   });
   const cells = cellsOf(program, text);
   const ending = endingOf(text, state);
-  return { state, ...lastOf(program, text, { schedule, protocol }, cells, state), ending, moves, cells, language };
+  const put = registersPut(program, text, { schedule, protocol }, cells);
+  return { state, ...lastOf(program, text, { schedule, protocol }, cells, state), put, ending, moves, cells, language };
 }
 
-/** That an event of a schedule is refused: which, and why. */
+/** Returns of each thread the registers that the events of a schedule have put words into, or null if there are too many events to look at. */
+function registersPut(program, text, { schedule, protocol }, cells) {
+  const events = eventsIn(schedule);
+  if (events.length > MOST_LOOKED_AT) return null;
+  const states = program.statesAlong(text, events, protocol);
+  const put = cells.map(() => []);
+  for (const [at, event] of events.entries()) {
+    const { thread, register } = effectOf(event, cells, states[at], states[at + 1]);
+    if (register !== undefined && !put[thread].includes(register)) put[thread].push(register);
+  }
+  return put;
+}
+
+/** Returns that an event of a schedule is refused: which, and why. */
 function refusalOf({ at, number, cause }, events) {
   const refused = { event: events[at], at, number, cause };
   return new NoAnswer(`Event ${at + 1} of the schedule, ${events[at]}, is refused: ${refusal(number)}.`, { refused });
 }
 
-/** The state before the last event of a schedule, and what that event does; of none the state itself, and null. */
+/** Returns the state before the last event of a schedule, and what that event does; without an event the state itself, and null. */
 function lastOf(program, text, { schedule, protocol }, cells, state) {
   const events = eventsIn(schedule);
   const last = events.pop();
@@ -74,12 +91,12 @@ function lastOf(program, text, { schedule, protocol }, cells, state) {
   return { before, effect: effectOf(last, cells, before, state) };
 }
 
-/** The events of a thread; of an x86 test, which has a content, drains and evictions too. */
+/** Returns the events of a thread; of an x86 test, which has a content, drains and evictions too. */
 function eventsOf(thread, content) {
   return content ? [`P${thread}`, `D${thread}`, ...content.map(([name]) => `E${thread}:${name}`)] : [`P${thread}`];
 }
 
-/** A test beside what it is compiled to, with fences and without. */
+/** Returns a test beside what it is compiled to, with fences and without. */
 function answerCompile(program, text) {
   const compiled = program.ask(["compile"], text);
   const test = readTest(compiled);
@@ -90,7 +107,7 @@ function answerCompile(program, text) {
   return language === "SRC" ? { ...answer, cells_of_source: sourceCells(readTest(textOf(text))) } : answer;
 }
 
-/** The table of the fences that matter, where its lists come from (with `search` by a search), and of each row the text without its fence. */
+/** Returns the table of fences, with where its lists come from (with `search` by a search), and of each row the text without its fence. */
 function answerFences(program, text, { everything, search = false }, passed) {
   const test = readTest(program.ask(["compile"], text));
   const listOf = (canonical) => listOrNull(program, bytesOf(canonical), { search, passed });
@@ -99,13 +116,20 @@ function answerFences(program, text, { everything, search = false }, passed) {
   return { table: tableOfFences(asked, listOf), condition: conditionText(test), texts, language: languageOf(text) };
 }
 
-/** A picture of the last state of a schedule, or a strip of all of them. */
+/** Returns where fences more would answer the question of an x86 test; of a source test, whose compiler adds them, nothing. */
+function answerMoreFences(program, text, { search = false }, passed) {
+  if (languageOf(text) === "SRC") return { fenced: null };
+  const listOf = (canonical) => listOrNull(program, bytesOf(canonical), { search, passed });
+  return { fenced: setsOfFences(readTest(program.ask(["compile"], text)), listOf) };
+}
+
+/** Returns a picture of the last state of a schedule, or a strip of all its states. */
 function answerPicture(program, text, { schedule, protocol, strip }) {
   const film = filmOf(program, text, schedule, protocol);
   return { picture: strip ? stripOf(film) : pictureOf(film, film.events.length) };
 }
 
-/** The execution of a run to its end, of a source test one of its compiled program, as a picture and in words. */
+/** Returns the execution of a run to its end, of a source test one of its compiled program, as a picture and in words. */
 function answerGraph(program, text, { schedule }) {
   const canonical = program.ask(["compile"], text);
   const film = filmOf(program, bytesOf(canonical), schedule, "mesi");
@@ -118,7 +142,7 @@ function answerGraph(program, text, { schedule }) {
   return { graph, words: wordsOf(execution), hasCycle: Boolean(execution.cycle()) };
 }
 
-/** Why a test does not end in a state. A source test's registers are those of its compiled program, by their numbers. */
+/** Returns why a test does not end in a state. A source test's registers are those of its compiled program, by their numbers. */
 function answerWhyNot(program, text, { state }) {
   const language = languageOf(text);
   const test = readTest(program.ask(["compile"], text));
@@ -148,12 +172,13 @@ const QUESTIONS = {
   moves: answerMoves,
   compile: answerCompile,
   fences: answerFences,
+  "more fences": answerMoreFences,
   picture: answerPicture,
   graph: answerGraph,
   "why not": answerWhyNot,
 };
 
-/** The answer of a program to a question. What takes long calls `passed` with words on how far it is. */
+/** Returns the answer of a program to a question. What takes long calls `passed` with words on how far it is. */
 export function answerTo(program, question, { text, ...more }, passed = () => null) {
   try {
     return QUESTIONS[question](program, bytesOf(text).subarray(0, MOST_TEXT), more, passed);

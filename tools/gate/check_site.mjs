@@ -196,12 +196,22 @@ function questionsOn(text) {
     ["compile", {}],
     ["fences", { everything: false }],
     ["fences", { everything: true }],
+    ...moreFencesOf(text),
     ["film", { state: "x=77;", protocol: "mesi" }],
     ...films,
     ...chosen.map(({ schedule }) => ["graph", { schedule }]),
     ...refusalsOf(text, entries.map(({ state }) => state)),
     ...runsOf(text, chosen.at(-1)?.schedule ?? ""),
   ];
+}
+
+// The most accesses of a test in which places for fences are looked for.
+const FEW_ACCESSES = 14;
+
+/** Returns the question where fences more would answer that of a test, if the test is small. */
+function moreFencesOf(text) {
+  const number = (String(text).match(/\[|:=/g) ?? []).length;
+  return number <= FEW_ACCESSES ? [["more fences", {}]] : [];
 }
 
 // A test of so many accesses and fences, compiled, has few executions.
@@ -581,7 +591,7 @@ const BY_TURNS = "by interleaving, in which the threads take turns,";
 const VERDICTS = [
   ["SB", `Can a run ${BY_TURNS} end this way?`, false, null, "no", "Forbidden.",
     "There is no run by interleaving in which P0 reads `y=0` and P1 reads `x=0`."],
-  ["SB-x86", "Can a run on x86-TSO end this way?", true, 0, "yes", "Allowed.", "There is a run in which P0 reads `y=0` and P1 reads `x=0`."],
+  ["SB-x86", "Can a run on x86-TSO end this way?", true, 0, "can", "Allowed.", "There is a run in which P0 reads `y=0` and P1 reads `x=0`."],
   ["MP-x86", "Can a run on x86-TSO end this way?", false, null, "no", "Forbidden.", "There is no run in which P1 reads `y=1`, then `x=0`."],
   ["Counter", `Does every run ${BY_TURNS} end this way?`, true, null, "yes", "Always.", "In every run by interleaving memory ends with `x=2`."],
 ];

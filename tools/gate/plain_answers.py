@@ -217,8 +217,17 @@ def answer_moves(text, schedule, protocol):
             moves.append({"event": event, "thread": thread, "refused": refused})
     film = film_of(text, schedule, protocol)
     effect, before = (film["effects"] or [None])[-1], film["states"][-2:][0]
-    told = {"state": state, "before": before, "effect": effect, "ending": ending_of(text, state)}
+    told = {"state": state, "before": before, "effect": effect, "put": registers_put(film), "ending": ending_of(text, state)}
     return {**told, "moves": moves, "cells": film["cells"], "language": language_of(text)}
+
+
+def registers_put(film):
+    """Returns of each thread the registers that the events of a film have put words into; None if there are more than 100 events."""
+    put = [[] for _ in film["cells"]]
+    for it in film["effects"]:
+        if it.get("register") is not None and it["register"] not in put[it["thread"]]:
+            put[it["thread"]].append(it["register"])
+    return put if len(film["effects"]) <= 100 else None
 
 
 def answer_compile(text):
@@ -243,6 +252,26 @@ def answer_fences(text, everything):
     # The page makes lists that the program refuses by a plain interpreter of its own, and not by a search.
     table["answered_by"] = sorted({it if it == "program" else "plain" for it in table["answered_by"]})
     return {"table": table, "condition": plain.condition_text(test), "texts": texts, "language": language_of(text)}
+
+
+def answer_more_fences(text):
+    """Returns the places of fences that would answer the question, as tools/fences.py finds them; of a source test nothing."""
+    if language_of(text) == "SRC":
+        return {"fenced": None}
+    test = plain.read_test(ask(["compile"], text))
+    fences.lists.clear()
+    fenced = lambda places: fences.with_fences(test, sorted(places))
+    sets = fences.helping_sets(test) if fences.unwanted(test) else []
+    shown = [
+        {
+            "places": [fences.place_of_load(test, place) for place in places],
+            "text": plain.canonical_text(fenced(places)),
+            "states": len(fences.states_of(fenced(places))),
+        }
+        for places in sets[:6]
+    ]
+    number = len(fences.places_of(test))
+    return {"fenced": {"number": number, "isAnswered": not fences.unwanted(test), "sets": shown, "more": len(sets) - len(shown)}}
 
 
 def answer_picture(text, schedule, protocol, strip):
@@ -279,6 +308,7 @@ QUESTIONS = {
     "moves": answer_moves,
     "compile": answer_compile,
     "fences": answer_fences,
+    "more fences": answer_more_fences,
     "picture": answer_picture,
     "graph": answer_graph,
     "why not": answer_why_not,
