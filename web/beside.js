@@ -58,7 +58,7 @@ export class Beside {
     this.giveKeys(null);
   }
 
-  /** From now on the keys that step through a run step through that of this side, or through both if there is none. */
+  /** Gives the keys that step through a run to a side, or to both together if there is none. */
   giveKeys(side) {
     for (const it of this.sides) {
       it.sheet.hasKeys = it === side;
@@ -66,9 +66,9 @@ export class Beside {
     }
   }
 
-  /** Sets beside the first test the example that comes next in the list. */
+  /** Sets beside the first test the example to compare it with. */
   open() {
-    this.take({ beside: this.examples.nextTo(this.examples.name) });
+    this.take({ beside: this.examples.partnerOf(this.examples.name || nameOf(this.editor.text)) });
     this.second.select.focus();
   }
 
@@ -137,7 +137,8 @@ export class Beside {
     const { why, both, alone = [null, null] } = reports.every(Boolean) ? differenceOf(...reports) : {};
     for (const [at, side] of this.sides.entries()) side.states.mark(alone[at]);
     const [first, second] = alone.map((lines) => lines?.length);
-    const numbers = `In both: ${both}. Only left: ${first}. Only right: ${second}. `;
+    const states = (number) => (number === 1 ? "1 state" : `${number} states`);
+    const numbers = `${states(both)} in both, ${first} only left, ${second} only right. `;
     this.compared.replaceChildren(...(why ? [why] : both === undefined ? [] : [numbers, plainMark()]));
   }
 }

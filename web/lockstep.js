@@ -3,7 +3,7 @@
 
 import { button, el } from "./dom.js";
 
-/** How many events two schedules have in common, at most, from each pair of places on. */
+/** Returns how many events two schedules have in common, at most, from each pair of places on. */
 function commonFrom(first, second) {
   const table = Array.from({ length: first.length + 1 }, () => new Array(second.length + 1).fill(0));
   for (let i = first.length - 1; i >= 0; i -= 1) {
@@ -14,7 +14,7 @@ function commonFrom(first, second) {
   return table;
 }
 
-/** The steps of two schedules together: pairs of a step of each, from the start to both ends. */
+/** Returns the steps of two schedules together: pairs of a step of each, from the start to both ends. */
 export function stepsTogether(first, second) {
   const common = commonFrom(first, second);
   const pairs = [[0, 0]];
@@ -30,7 +30,7 @@ export function stepsTogether(first, second) {
 }
 
 export class Lockstep {
-  /** `used` is called when the reader steps both. */
+  /** Makes the controls of both runs. `used` is called when the reader steps both. */
   constructor(runs, used) {
     Object.assign(this, { runs, used, pairs: [[0, 0]], at: 0 });
     const to = (text, at, attributes) => button(text, () => this.jump(at()), attributes);
@@ -49,7 +49,7 @@ export class Lockstep {
     return this.runs.every((it) => it.isOpen && it.step !== null);
   }
 
-  /** A run is another one, or at another step. */
+  /** Shows the place of both runs, after one of them is another run or at another step. */
   follow() {
     this.place.hidden = !this.isReady;
     if (!this.isReady) return;
@@ -69,7 +69,7 @@ export class Lockstep {
     this.used();
     const [i, j] = this.pairs[Math.max(0, Math.min(wanted, this.pairs.length - 1))];
     const [first, second] = this.runs;
-    for (const it of this.runs) it.view.player.stop();
+    for (const it of this.runs) it.view.player.touch();
     await Promise.all([first.step === i ? null : first.go(i), second.step === j ? null : second.go(j)]);
   }
 

@@ -42,7 +42,7 @@ export class Side {
     this.select = el("select", { id: listed, change: () => chosen(this.select.value) });
     const head = el("div", { class: "head row" }, this.title, el("label", { for: listed, class: "hidden" }, label), this.select);
     this.place = el("section", { class: "side", "aria-labelledby": titled }, head, this.sheet.place);
-    this.states = new States(this.place, this.sheet, revealed, { drawn, moved });
+    this.states = new States(this.place, this.sheet, revealed, { drawn, moved, firstStep: 0 });
   }
 
   /** Shows a test, and which of the options it is. Where it was there before, all that was shown of it stays. */

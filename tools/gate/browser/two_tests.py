@@ -1,4 +1,6 @@
 """Two tests side by side."""
+from urllib.parse import quote
+
 from gate.browser.lists import IN_SIGHT
 from gate.browser.looks import IDS, OVERFLOW, UNNAMED
 from gate.browser.page_case import PageCase
@@ -13,14 +15,18 @@ STEPS = "return [...document.querySelectorAll('.side .step')].map((it) => it.tex
 class Compared(PageCase):
     """What both have, and each alone."""
 
-    def test_next_example(self):
-        """The next example is set beside a test, and its choice has the focus."""
+    def test_partner(self):
+        """The same test with fences is set beside a test, or the nearest by its name; its choice has the focus, and both runs are at the start."""
         user = self.user
+        for name, other in (("MP-x86", "MP+xchg-x86"), ("SB+own+mfences-x86", "SB+own-x86"), ("SB", "SB-x86"), ("CoRR-x86", "CoRR")):
+            user.open_listed(f"#example={quote(name)}")
+            user.click("#set-beside")
+            self.assertSoon([name, other], lambda: user.texts(".side h2"))
         user.open_listed("#example=SB-x86")
         user.click("#set-beside")
-        self.assertSoon(["SB-x86", "SB+own"], lambda: user.texts(".side h2"))
+        self.assertSoon(["SB-x86", "SB+mfences-x86"], lambda: user.texts(".side h2"))
         self.assertEqual("second-example", user.focused().get_attribute("id"))
-        user.choose("#second-example", "SB+mfences-x86")
+        self.assertSoon(["Step 0 of 6", "Step 0 of 8"], lambda: user.run(STEPS))
         self.assertIn("&beside=SB%2Bmfences-x86", user.link())
         self.assertEqual("SB-x86 beside SB+mfences-x86 - lw", user.driver.title)
 
@@ -29,7 +35,7 @@ class Compared(PageCase):
         user = self.user
         user.resize(1280, 720)
         user.open(BOTH)
-        self.assertSays("In both: 3. Only left: 1. Only right: 0. not proved", ".compared")
+        self.assertSays("3 states in both, 1 only left, 0 only right. not proved", ".compared")
         self.assertEqual(["Allowed.", "Forbidden."], user.texts(".side .verdict strong"))
         self.assertEqual(["only here +"], user.texts(".side:first-child .alone-row"))
         self.assertTrue(user.run(IN_SIGHT, ".side h2, .side .program, .side .verdict, .side table.strip"))
@@ -44,7 +50,7 @@ class Compared(PageCase):
         user.choose("#second-example", "=bare")
         self.assertSoon(["SB", "SB"], lambda: user.texts(".side h2"))
         self.assertEqual("=bare", user.value("#second-example"))
-        self.assertSays("In both: 3. Only left: 0. Only right: 1. not proved", ".compared")
+        self.assertSays("3 states in both, 0 only left, 1 only right. not proved", ".compared")
         user.open(user.link())
         self.assertSoon(["SRC SB", "X86 SB"], lambda: [it[:6] for it in user.texts(".side .program")])
 
@@ -157,7 +163,7 @@ class OneAgain(PageCase):
         user.choose("#first-example", "SB")
         user.choose("#second-example", "")
         self.assertSoon(["SB", "Own"], lambda: user.texts(".side h2"))
-        self.assertSays("Line 4, column 4: Form: a token that fits none of the statements", ".side:last-child .notice")
+        self.assertSays("Line 4, column 4: = does not fit here. Write := in place of it. ", ".side:last-child .notice")
         self.assertTrue(bool(user.find(".side:first-child table.strip")))
         user.click("#close-beside")
         user.click("#bring-back")

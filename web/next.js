@@ -1,0 +1,22 @@
+// What to look at next: the same test with fences, or without what was added to it; and what there is to read.
+
+import { button, byId, el } from "./dom.js";
+import { documents } from "./supplies.js";
+
+/** Returns what is said of the example to which the next step leads. */
+function wordsOf(examples, name, partner) {
+  if (examples.fencedOf(name) === partner) return "the same test with fences: ";
+  if (partner === `${name}-x86`) return "the same for x86, without the compiler's fences: ";
+  return "the same test without what was added: ";
+}
+
+/** Shows the next step from an example; `choose` opens one, and `compare` sets one beside the test. */
+export function showNextStep(examples, name, { choose, compare }) {
+  const partner = examples.tests.has(name) ? examples.relativeOf(name) : undefined;
+  const step = partner && [
+    "Next: ", wordsOf(examples, name, partner), button(partner, () => choose(partner), { class: "link", id: "next-test" }), ", or ",
+    button("compare both", () => compare(partner), { class: "link", id: "next-compare" }), ". ",
+  ];
+  const tutorial = documents.includes("tutorial.html") && [el("a", { href: "tutorial.html", target: "_blank" }, "Tutorial"), " "];
+  byId("next").replaceChildren(...[step, tutorial].filter(Boolean).flat());
+}
