@@ -6,9 +6,9 @@ import { threadClass } from "./tint.js";
 const PAUSE = 1000;
 
 export class Player {
-  /** `id` makes the ids of the buttons, `go` goes to a step, `isSeen` says whether the run is in sight; `more` is shown at the end. */
+  /** Makes the row. `id` makes the ids of the buttons, `go` goes to a step, `isSeen` says whether the run is in sight; `more` is shown at the end. */
   constructor(id, { go, isSeen, more }) {
-    Object.assign(this, { go, isSeen, step: 0, events: [], timer: null });
+    Object.assign(this, { go, isSeen, step: 0, events: [], timer: null, isFresh: false });
     const to = (text, step, attributes) => button(text, () => this.jump(step()), attributes);
     const first = to("|◀", () => 0, { "aria-label": "To the start", title: "To the start (Home)" });
     const last = to("▶|", () => this.events.length, { "aria-label": "To the end", title: "To the end (End)" });
@@ -29,7 +29,7 @@ export class Player {
     Object.assign(this, { events, step, places });
     this.back.disabled = step === 0;
     this.forward.disabled = step === events.length;
-    this.count.textContent = isOpen && step === events.length ? `${step}` : `${step} / ${events.length}`;
+    this.count.textContent = isOpen && step === events.length ? "" : `${step} / ${events.length}`;
     this.drawSchedule();
     if (step === events.length) this.stop();
   }
@@ -56,8 +56,19 @@ export class Player {
   }
 
   jump(step) {
-    this.stop();
+    this.touch();
     this.go(step);
+  }
+
+  /** Begins with another run, which the reader has not stepped through yet. */
+  begin() {
+    this.isFresh = true;
+  }
+
+  /** Stops: the reader steps through the run. */
+  touch() {
+    this.isFresh = false;
+    this.stop();
   }
 
   /** Goes along the schedule with a pointer that is held down. */
@@ -67,9 +78,10 @@ export class Player {
     if (event.buttons && over && this.schedule.contains(over) && step !== this.step) this.jump(step);
   }
 
-  /** Goes on by itself, from the start if the run has ended. A run that is out of sight stops. */
+  /** Plays the run: from its start if the reader has not stepped through it yet or if it has ended. Stops if the run is out of sight. */
   play() {
-    if (this.step === this.events.length) this.go(0);
+    if (this.isFresh || this.step === this.events.length) this.go(0);
+    this.isFresh = false;
     this.playing.textContent = "❚❚ Pause";
     this.timer = setInterval(() => (this.isSeen() ? this.go(this.step + 1) : this.stop()), PAUSE);
   }

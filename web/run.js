@@ -23,10 +23,16 @@ const PRESSED = "button, input, summary, a, label";
 // Of each editor the run that is shown.
 const shown = new WeakMap();
 
-/** The step at which most stores wait: there is the most to see. */
+/** Returns the step at which most stores wait, since there is the most to see. */
 function tellingStep(frames) {
   const waiting = frames.map(({ state }) => state.threads.reduce((sum, it) => sum + (it.buffer?.length ?? 0), 0));
   return Math.max(0, waiting.indexOf(Math.max(...waiting)));
+}
+
+/** Returns of each thread the registers that have words of the run, given those before an event with an effect. */
+function putAfter(before, effect) {
+  const register = effect?.register;
+  return before.map((names, thread) => (register !== undefined && thread === effect.thread ? [...new Set([...names, register])] : names));
 }
 
 const protocolOf = (name) => (PROTOCOLS.includes(name) ? name : "mesi");
@@ -34,10 +40,12 @@ const protocolOf = (name) => (PROTOCOLS.includes(name) ? name : "mesi");
 export class Run {
   /**
    * `reached` is called with the line of a state in which a run by hand has ended, `drawn` when another run is shown, `moved` when it is at
-   * another step.
+   * another step. `truthOf` says of the line of a state whether the condition holds there, or null if the list does not say.
    */
-  constructor(editor, { isLinked = true, reached = () => null, drawn = () => null, moved = () => null, graphPlace = null } = {}) {
-    Object.assign(this, { editor, reached, drawn, moved, isLinked: isLinked && editor.isAlone, isOpen: false, isLocked: false, protocol: "mesi" });
+  constructor(editor, { isLinked = true, graphPlace = null, ...called } = {}) {
+    const nothing = () => null;
+    Object.assign(this, { editor, reached: nothing, drawn: nothing, moved: nothing, truthOf: nothing, ...called });
+    Object.assign(this, { isLinked: isLinked && editor.isAlone, isOpen: false, isLocked: false, protocol: "mesi" });
     Object.assign(this, { kept: new Map(), queue: Promise.resolve(), ticket: 0 });
     this.view = new RunView(this, graphPlace);
     this.place = this.view.place;
@@ -75,6 +83,7 @@ export class Run {
   openListed(program) {
     const film = this.listed.films[program];
     const frames = film.states.map((state, at) => ({ state, before: film.states[Math.max(at - 1, 0)], effect: film.effects[at - 1] ?? null }));
+    for (const [at, it] of frames.entries()) it.put = putAfter(frames[at - 1]?.put ?? film.cells.map(() => []), it.effect);
     Object.assign(this, { isByHand: false, program, isX86: program === "x86", isSource: "source" in this.listed.films });
     this.open(film.text, film.cells, film.events, frames);
   }
@@ -125,6 +134,7 @@ export class Run {
     this.cells = cells.map((column, thread) => column.map((it) => ({ ...it, text: names(it.text, thread) })));
     this.slots = cells.map((column) => column.filter(({ text: code }) => /^(?:\w+: *)*MOV \[/.test(code)).length);
     this.view.menu.reset();
+    this.view.player.begin();
     this.view.layOut();
     this.drawn();
   }
@@ -156,7 +166,7 @@ export class Run {
     return null;
   }
 
-  /** The answer on where a schedule leads, and what can be done there. */
+  /** Returns the answer on where a schedule leads, and what can be done there. */
   leadTo(text, schedule) {
     return ask(this.editor, "moves", { text, schedule, protocol: this.protocol }, { name: "where a schedule leads" });
   }
@@ -171,7 +181,7 @@ export class Run {
     return this.events.slice(0, step).join(" ");
   }
 
-  /** Shows a step. What moves from one step to the next is seen to move. */
+  /** Shows a step. What moves from one step to the next is animated. */
   async go(wanted) {
     const most = this.events.length;
     const step = wanted === "telling" ? tellingStep(this.frames) : Math.max(0, Math.min(Math.floor(Number(wanted) || 0), most));
@@ -192,7 +202,7 @@ export class Run {
     if (!this.view.player.timer) this.learning = setTimeout(() => this.learn(ticket), isKnown ? 0 : LEARN);
   }
 
-  /** Shows the same step anew: what is shown of it has changed. */
+  /** Shows the same step again, after a choice has changed how it is shown. */
   redraw() {
     const focused = document.activeElement;
     this.view.layOut();
@@ -212,7 +222,7 @@ export class Run {
     this.kept.set(this.keyOf(schedule), answer);
   }
 
-  /** What can be done after a number of events: each event, with its cause if it is refused. */
+  /** Returns what can be done after a number of events: each event, with its cause if it is refused. */
   movesAt(step) {
     const schedule = this.scheduleTo(step);
     const key = this.keyOf(schedule);
@@ -257,6 +267,7 @@ export class Run {
     const move = answer?.moves?.find((it) => it.event === event);
     if (!move || !this.isOpen) return;
     if (move.refused) return this.view.refuse(event, move.refused);
+    this.view.player.touch();
     if (this.events[this.step] !== event) {
       this.events = [...this.events.slice(0, this.step), event];
       this.frames.length = this.step + 1;
@@ -265,7 +276,7 @@ export class Run {
     await this.go(this.step + 1);
   }
 
-  /** From here on the run is the reader's own. */
+  /** Makes the rest of the run the reader's own. */
   leaveSchedule() {
     if (this.isByHand) return;
     Object.assign(this, { isByHand: true, program: this.isSource && this.program === "x86" ? "compiled" : "test" });
@@ -288,7 +299,7 @@ export class Run {
     return !document.hidden && this.place.getClientRects().length > 0;
   }
 
-  /** Keys step, where they mean nothing else: arrows, and what presenters send. Digits carry out an instruction, with Shift they drain. */
+  /** Steps by keys, if they mean nothing else: arrows, and what presenters send. Digits carry out an instruction, with Shift they drain. */
   key(event) {
     if (!this.isOpen || !this.isSeen() || !this.editor.hasKeys || event.altKey || event.ctrlKey || event.metaKey) return;
     const { key, target } = event;

@@ -18,7 +18,7 @@ const LISTED = [["x86", "the compiled program, on x86-TSO"], ["source", "the sou
 const LOCKED = "First say what you expect: then the machine runs.";
 
 export class RunView {
-  /** `graphPlace` is where the graph is drawn, if it is apart from the machine; then it is drawn from the beginning. */
+  /** Makes the parts. `graphPlace` is where the graph is drawn, if it is apart from the machine; then it is drawn from the beginning. */
   constructor(run, graphPlace) {
     Object.assign(this, { run, hasGraph: graphPlace !== null, isGraphAside: graphPlace !== null });
     const id = (name) => run.editor.id(name);
@@ -58,7 +58,7 @@ export class RunView {
     if (this.hasGraph && !run.isLocked) this.drawGraph();
   }
 
-  /** Which program of a source test runs. */
+  /** Returns the choice of which program of a source test runs. */
   programChoice() {
     const { run } = this;
     if (!run.isSource) return null;
@@ -122,7 +122,7 @@ export class RunView {
   }
 }
 
-/** Of each event of a run the place of its instruction, as far as it is known; a drain has that of its store. */
+/** Returns of each event of a run the place of its instruction, as far as it is known; a drain has that of its store. */
 function placesOf({ events, frames, cells }) {
   const stores = cells.map(() => []);
   return events.map((event, at) => {
@@ -136,7 +136,7 @@ function placesOf({ events, frames, cells }) {
   });
 }
 
-/** What the machine is drawn by: the registers that are used in the whole run, and how many entries have left each buffer. */
+/** Returns what the machine is drawn from: the registers that are used in the whole run, how many entries have left each buffer, and more. */
 function shownOf(run) {
   const { cells, frame, frames, tints, slots, step, events, isByHand } = run;
   const known = isByHand ? [frame.state, frame.before] : frames.flatMap((it) => [it.state, it.before]);
@@ -144,5 +144,6 @@ function shownOf(run) {
   const drained = cells.map((_, thread) => events.slice(0, step).filter((it) => it === `D${thread}`).length);
   // A compiled program's registers have the numbers of the source's.
   const inSource = run.isSource && run.isX86 ? (name) => `r${registerNumber(name)}` : null;
-  return { ...frame, cells, tints, slots, used, drained, inSource, event: step ? events[step - 1] : null };
+  const isPut = (thread, name) => !frame.put || frame.put[thread].includes(name);
+  return { ...frame, cells, tints, slots, used, drained, inSource, isPut, event: step ? events[step - 1] : null };
 }

@@ -17,14 +17,14 @@ const NOTHING_LEFT = ["Ended", "BufferEmpty", "NotHeld"];
 // Of how many threads, slots and lines at most the machine is shown large.
 const ROOMY = { threads: 2, slots: 2, lines: 5 };
 
-/** The registers that a thread's code names, or that have a word other than 0 in one of these states. */
+/** Returns the registers that a thread's code names, or that have a word other than 0 in one of some states. */
 export function usedRegisters(cells, states, thread) {
   const named = new Set(cells[thread].flatMap((it) => it.text.match(/\w+/g) ?? []));
   for (const state of states) for (const [name, word] of state.threads[thread].registers) if (word) named.add(name);
   return named;
 }
 
-/** Whether registers are shown above the store buffer: in a narrow box, if there are many of them, or if entries are long. */
+/** Returns whether registers are shown above the store buffer: in a narrow box, if there are many of them or if entries are long. */
 function isStacked({ cells }, number) {
   return cells.length > 2 && (number > 2 || hasLongStores(cells));
 }
@@ -37,7 +37,7 @@ function isTight({ cells, slots }) {
   return cells.length > ROOMY.threads || slots.some((it) => it > ROOMY.slots);
 }
 
-/** Whether so many threads have so many registers that only a dense machine has room. */
+/** Returns whether the threads have so many registers that only a dense machine has room. */
 function isDense({ cells, state, used }) {
   const registers = state.threads.map((it, thread) => it.registers.filter(([name]) => used[thread].has(name)).length);
   return cells.length > 3 ? Math.max(...registers) > 2 : cells.length > 2 && Math.max(...registers) > 4;
@@ -47,7 +47,7 @@ function isRoomy(shown) {
   return !isTight(shown) && shown.cells.every((it) => it.length <= ROOMY.lines);
 }
 
-/** How high the threads' boxes are at least, in letters of the page's size. If there is less room, the page is scrolled. */
+/** Returns how high the threads' boxes are at least, in letters of the page's size. If there is less room, the page is scrolled. */
 export function leastHeight(shown) {
   const { cells, slots, used, state } = shown;
   const [threads, dense] = [cells.length, isDense(shown)];
@@ -64,7 +64,7 @@ export function leastHeight(shown) {
 }
 
 export class Stage {
-  /** `act` is called with the event that is clicked, `refuse` with an event that can't be carried out, and why. */
+  /** Makes an empty machine. It calls `act` with the event that is clicked, and `refuse` with an event that can't be carried out, and why. */
   constructor(act, refuse) {
     Object.assign(this, { act, refuse, moves: new Map() });
     this.place = el("div", { class: "machine" });
@@ -74,6 +74,7 @@ export class Stage {
   /**
    * Draws a state. `shown` has the `cells`, the `state` and that `before` it, the `event` between them with its `effect`, which registers
    * are `used`, the `tints`, how many entries have left each buffer (`drained`), and `direction`: 1 for a step forward, -1 back, 0 for a jump.
+   * `isPut` says of a thread and the name of a register whether an event has put a word into it.
    */
   draw(shown) {
     const focused = this.place.contains(document.activeElement) ? document.activeElement.dataset.event : null;
@@ -104,7 +105,7 @@ export class Stage {
     this.mark();
   }
 
-  /** Before the machine has answered nothing is refused; a click waits for its answer. */
+  /** Forgets what can be done: until the machine has answered nothing is refused, and a click waits for its answer. */
   forgetMoves() {
     this.moves = new Map();
   }
@@ -155,7 +156,7 @@ export class Stage {
     return el("ol", { class: "code", "aria-label": "code" }, cells.map((it) => this.lineOf(it, place, thread)), end);
   }
 
-  /** A line of code; the next instruction is a button. */
+  /** Returns a line of code; the next instruction is a button. */
   lineOf(cell, place, thread) {
     const { tints, effect, event, before } = this.shown;
     const isLabel = cell.text.endsWith(":");
@@ -179,25 +180,28 @@ export class Stage {
     const old = new Map(before.threads[thread].registers);
     const rows = registers.map(([name, word]) => {
       const isPut = word !== old.get(name) || (effect?.thread === thread && effect.register === name);
-      const attributes = { class: `register${isPut ? " changed" : ""}`, "data-key": `r:${thread}:${name}` };
+      const isInitial = !isPut && !this.shown.isPut(thread, name);
+      const attributes = { class: `register${isPut ? " changed" : ""}${isInitial ? " initial" : ""}`, "data-key": `r:${thread}:${name}` };
       const source = this.shown.inSource?.(name);
       const inSource = source && el("span", { class: "in-source", title: "its name in the source" }, ` ${source}`);
-      return el("li", attributes, el("span", { class: "name" }, name), inSource, " ", valueOf(word), said(isPut && "put"));
+      const initial = isInitial && el("span", { class: "at-first", title: "its initial value: no instruction has written it yet" }, " initial");
+      return el("li", attributes, el("span", { class: "name" }, name), inSource, " ", valueOf(word), initial, said(isPut && "put"));
     });
     return el("ul", { class: "registers", "aria-label": "registers" }, rows);
   }
 
-  /** The queue: the newest entry on top, the oldest below, next to memory. */
+  /** Returns the queue: the newest entry on top, the oldest below, next to memory. */
   buffer(entries, thread) {
     const room = Math.max(Math.min(this.shown.slots[thread], MOST_SLOTS), entries.length, 1);
     const empty = Array.from({ length: room - entries.length }, () => el("li", { class: "slot", "aria-hidden": "true" }));
     const full = entries.map((_, at) => el("li", {}, this.entryOf(entries, at, thread))).reverse();
     const label = entries.length ? "store buffer, the oldest entry last" : "store buffer: empty";
     const caption = el("span", { class: "caption" }, el("span", { class: "long-word" }, "store "), "buffer");
-    return el("div", { class: "buffer" }, caption, el("ol", { "aria-label": label }, [...empty, ...full]));
+    const kind = this.shown.slots[thread] ? "buffer" : "buffer without-stores";
+    return el("div", { class: kind }, caption, el("ol", { "aria-label": label }, [...empty, ...full]));
   }
 
-  /** An entry of a store buffer; the oldest is a button. */
+  /** Returns an entry of a store buffer; the oldest is a button. */
   entryOf(entries, at, thread) {
     const { before, effect, tints, drained } = this.shown;
     const [name, word] = entries[at];
@@ -212,7 +216,7 @@ export class Stage {
     return this.buttonOf(`D${thread}`, label, attributes, inner, el("span", { class: "drain", "aria-hidden": "true" }, "↓"));
   }
 
-  /** The lines of a thread's cache, each a button that gives it up. */
+  /** Returns the lines of a thread's cache, each a button that gives it up. */
   lines(now, thread) {
     const old = new Map(this.shown.before.threads[thread].lines);
     const rows = now.map(([name, letter]) => {
@@ -248,7 +252,7 @@ export class Stage {
 
   // Motion.
 
-  /** Moves what the step between two states has moved; back it goes the other way. `step` is the later of the two. */
+  /** Moves the words that the step between two states has moved, or back if `direction` is -1. `step` is the later of the two. */
   move(was, step, direction) {
     const placed = (key) => this.find(`[data-key="${CSS.escape(key)}"]`);
     for (const it of this.place.querySelectorAll(".entry[data-key]")) if (was.has(it.dataset.key)) settle(it, was.get(it.dataset.key));
@@ -266,7 +270,7 @@ function valueOf(word) {
   return el("span", { class: "value" }, String(word));
 }
 
-/** What a reader is told who does not see colours. */
+/** Returns words for readers who do not see colours. */
 function said(words) {
   return words ? el("span", { class: "hidden" }, ` ${words}`) : null;
 }

@@ -63,10 +63,26 @@ class Clicks(PageCase):
         begin(user, "#example=SB-x86&view=hand")
         self.assertSays("Found 0 of 4 states.", "#outcome .found")
         user.carry_out("P0", "P0", "P1", "P1", "D0", "D1")
-        self.assertStep("The run has ended. The condition holds. not proved")
+        self.assertStep("The run has ended. The condition holds.")
+        self.assertFalse("not proved" in user.step())
         self.assertSays("Found 1 of 4 states.", "#outcome .found")
         self.assertEqual(["EAX 0", "EAX 0"], [it.replace(" put", "") for it in user.texts("#watching .register")])
         self.assertEqual(["0 · · ·", "0 · · ·"], [it.split(" ", 1)[1] for it in user.texts("table.strip tbody tr")[:2]])
+
+    def test_nothing_is_given_away(self):
+        """Who looks for the states sees the question, and neither the verdict nor the comment; a button shows the answer, and so does the list."""
+        user = self.user
+        begin(user, "#example=SB-x86&view=hand")
+        self.assertSays("Can a run on x86-TSO end this way? P0 reads y=0 and P1 reads x=0.", "#outcome .verdict")
+        self.assertEqual(([], []), (user.all("#about p"), user.all(".number-of-step")))
+        user.click(".unveil")
+        self.assertSays("Allowed.", "#outcome .verdict")
+        user.open_listed("#example=CoRR-x86&view=hand")
+        for events in ("P0 D0 P1 P1", "P1 P0 D0 P1", "P1 P1 P0 D0"):
+            user.carry_out(*events.split())
+            user.click(".transport [aria-label='To the start']")
+        self.assertSays("These are all: no run ends otherwise.", "#outcome .found")
+        self.assertSays("Forbidden.", "#outcome .verdict")
 
     def test_refused(self):
         """An event that is refused does nothing, and says why in a sentence: by a click and by a key."""

@@ -65,7 +65,8 @@ class Steps(PageCase):
         user = self.user
         user.open_listed(LISTED)
         user.press(user.keys.END)
-        self.assertStep("The run has ended. The condition holds. not proved")
+        self.assertStep("The run has ended. The condition holds.")
+        self.assertFalse("not proved" in user.step())
         self.assertEqual(["EAX 0", "EAX 0"], [it.replace(" put", "") for it in user.texts("#watching .register")])
 
     def test_buttons(self):
@@ -106,6 +107,35 @@ class Steps(PageCase):
         user.click("table.strip .watch")
         self.assertEqual("▶ Play", user.text("#play"))
         user.driver.execute_cdp_cmd("Emulation.setEmulatedMedia", {"features": []})
+
+
+class Starts(PageCase):
+    """What a run begins with."""
+
+    def test_play(self):
+        """Play begins at the start the first time, and later where the reader is."""
+        user = self.user
+        user.open_listed("#example=SB-x86")
+        self.assertStep("Step 3 of 6:")
+        user.click("#play")
+        self.assertStep("Step 0 of 6:")
+        self.assertStep("Step 2 of 6:")
+        user.click("#play")
+        user.click("#schedule [data-step='4']")
+        user.click("#play")
+        self.assertStep("Step 5 of 6:")
+
+    def test_initial(self):
+        """A register that no instruction has written yet looks otherwise than one that has read the same word."""
+        user = self.user
+        user.open_listed(f"{LISTED}&step=0")
+        self.assertSoon(["EAX 0 initial"] * 2, lambda: lit(user, ".register"))
+        user.press(user.keys.ARROW_RIGHT, user.keys.ARROW_RIGHT)
+        self.assertSoon(["EAX 0 put", "EAX 0 initial"], lambda: lit(user, ".register"))
+        user.press(user.keys.ARROW_RIGHT)
+        self.assertSoon(["EAX 0", "EAX 0 initial"], lambda: lit(user, ".register"))
+        user.open_listed("#example=SB-x86&view=hand&schedule=P0+P0+P1")
+        self.assertSoon(["EAX 0", "EAX 0 initial"], lambda: lit(user, ".register"))
 
 
 class Sources(PageCase):
@@ -216,4 +246,4 @@ def cells(user, css):
     return user.run(CELLS, css)
 
 
-SUBJECTS = (Steps, Sources, Caches, Pictures)
+SUBJECTS = (Steps, Starts, Sources, Caches, Pictures)
