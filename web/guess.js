@@ -5,7 +5,7 @@ import { ask } from "./ask.js";
 import { conditionWords } from "./condition_words.js";
 import { button, byId, el } from "./dom.js";
 import { propositionOf } from "./reports.js";
-import { codeNodes, tintedSentence, tintsOf } from "./tint.js";
+import { codeNodes, testName, tintedSentence, tintsOf } from "./tint.js";
 import { tell } from "./told.js";
 
 const KEY = "guesses";
@@ -81,7 +81,7 @@ export function question(text, place, { report, words }, id, show) {
   const tints = tintsOf(text);
   const inWords = conditionWords(text);
   const formula = el("code", {}, codeNodes(propositionOf(report), tints, null));
-  const condition = el("p", { class: "asked" }, inWords ? [tintedSentence(`${inWords}. `, tints), formula] : formula);
+  const condition = el("p", { class: "asked" }, testName(text), inWords ? [tintedSentence(`${inWords}. `, tints), formula] : formula);
   const choices = el("p", { class: "row" }, yes, choice("No", false, "no"), choice("Just show it", null, "just-show"));
   place.tabIndex = -1;
   wait(text, place, el("div", { class: "predict" }, asked, condition, choices), show);

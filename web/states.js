@@ -7,12 +7,12 @@ import { keyOf } from "./differences.js";
 import { button, el, plainMark, sentence } from "./dom.js";
 import * as guess from "./guess.js";
 import { missingState } from "./missing.js";
-import { asPrinted, leftOut, saveReport } from "./reports.js";
+import { asPrinted, leftOut, propositionOf, saveReport } from "./reports.js";
 import { Run } from "./run.js";
 import { isTooLong, searchOffer } from "./search.js";
 import { SeenHere } from "./seen_here.js";
 import { Strip } from "./strip.js";
-import { codeNodes, tintedSentence, tintsOf } from "./tint.js";
+import { codeNodes, testName, tintedSentence, tintsOf } from "./tint.js";
 import { tell, tellNothing } from "./told.js";
 import { countWords, headlineOf } from "./verdicts.js";
 
@@ -23,26 +23,34 @@ const BY = {
   enumerated: ["complete (proved)", "The orders of what conflicts were enumerated. That lists all final states and no others, which is proved."],
   searched: ["complete (proved), by a search", "The machine's states were searched. That lists all final states and no others, which is proved."],
 };
-const SIGNS = { yes: "✓", no: "⊘", wrong: "!" };
-const VEILED = "Your guess is kept. Watch shows the answer, and so does a list that you have found by hand.";
+const SIGNS = { can: "○", yes: "✓", no: "⊘", wrong: "!" };
+const VEILED = "The answer comes when you have found all states by hand, or in Watch.";
 const unmarked = () => [
   "States are not marked, since the page's own reader ", plainMark(), " does not find as many in which the condition holds as lw counts.",
 ];
+
+/** Returns what is said of the reader's guess. */
+function guessedWords(isRight) {
+  return el("p", { class: `said ${isRight ? "right" : "wrong"}` }, isRight ? "✓ As you said." : "✗ Not as you said.");
+}
 
 export class States {
   /**
    * `revealed` is called when a list is shown, and when it is gone: `report` is that list, or null. `why` is called with a missing state,
    * `drawn` when another run is shown, `moved` when it is at another step. Runs are shown in `runPanel`, and their graph in `graphPlace`.
+   * `firstStep` is the step at which the first run is shown: "telling", or a number. `next` is shown below the run.
    */
-  constructor(panel, editor, revealed = () => null, { why = null, runPanel = panel, graphPlace = null, ...called } = {}) {
-    Object.assign(this, { editor, revealed, report: null, isByHand: false, isSearched: false, isVeiled: false, found: new Set() });
+  constructor(panel, editor, revealed = () => null, more = {}) {
+    const { why = null, runPanel = panel, graphPlace = null, firstStep = "telling", next = null, ...called } = more;
+    Object.assign(this, { editor, revealed, firstStep, report: null, isByHand: false, isSearched: false, isVeiled: false, found: new Set() });
     this.verdict = el("div", { role: "status", tabindex: "-1", class: "verdicts" });
     this.list = el("div", { class: "list-place" });
     this.strip = new Strip(editor, { choose: (line) => this.choose(line), why });
-    this.run = new Run(editor, { reached: (line, program) => this.reach(line, program), graphPlace, ...called });
+    const reached = (line, program) => this.reach(line, program);
+    this.run = new Run(editor, { reached, truthOf: (line) => this.truthOf(line), graphPlace, ...called });
     panel.append(this.verdict, this.list, this.strip.place);
     this.here = new SeenHere(editor);
-    runPanel.append(this.run.place, this.here.place);
+    runPanel.append(this.run.place, el("div", { class: "row after-run" }, this.here.place, next));
   }
 
   clear() {
@@ -79,6 +87,7 @@ export class States {
   fail(answer, text, link, isSearched) {
     if (answer.fault) guess.settle(text);
     tell(answer, this.list, this.editor);
+    if (answer.fault) this.verdict.replaceChildren();
     const search = () => this.ask(link, { search: true });
     if (isSearched || isTooLong(answer)) this.list.append(searchOffer(search, this.editor.id("search-instead")));
     if (!isTooLong(answer)) return false;
@@ -89,24 +98,23 @@ export class States {
     return true;
   }
 
-  /** Asks what the reader expects; meanwhile the machine is shown before its run. */
+  /** Asks what the reader expects, and shows the machine before its run meanwhile. */
   question(answer, text, link) {
     this.clear();
     guess.question(text, this.list, answer, (name) => this.editor.id(name), () => this.revealGuessed(answer, link));
     this.run.begin({}, { isLocked: true });
   }
 
-  /** Shows the list once the guess is made. Who looks for the states by hand is not shown the verdict yet. */
+  /** Shows the list after the guess. The verdict is kept back if the reader looks for the states by hand. */
   revealGuessed(answer, link) {
     const isHere = this.list.contains(document.activeElement);
     this.list.replaceChildren();
-    this.isVeiled = this.isByHand && guess.guessOn(this.editor.text) !== null;
     this.reveal(answer, link);
     if (isHere) this.verdict.focus({ preventScroll: true });
   }
 
   reveal({ report, language, words }, link) {
-    Object.assign(this, { report, language, words });
+    Object.assign(this, { report, language, words, isVeiled: this.isByHand || link?.view === "hand" });
     this.tellVerdict();
     this.list.replaceChildren(leftOut(report) ?? "", report.is_marked ? "" : el("p", { class: "small" }, unmarked()));
     this.here.offer(this.isByHand ? null : this.editor.text);
@@ -118,13 +126,35 @@ export class States {
     if (!state) return this.run.clear();
     this.strip.select(state);
     const { protocol = "mesi", run = null } = link ?? {};
-    const step = link?.state ? Number(link.step) || 0 : "telling";
+    const step = link?.state ? Number(link.step) || 0 : this.firstStep;
     return this.run.show(state, { step, run, protocol, search: this.isSearched });
   }
 
   tellVerdict() {
-    if (this.isVeiled) this.verdict.replaceChildren(el("p", { class: "veiled" }, VEILED));
+    if (this.isVeiled) this.tellQuestion();
     else this.tellAnswer();
+  }
+
+  /** Says what the reader looks for by hand, and nothing of the answer. */
+  tellQuestion() {
+    const { report, words } = this;
+    const { text } = this.editor;
+    const tints = tintsOf(text);
+    const inWords = conditionWords(text);
+    const kept = guess.guessOn(text) === null ? "" : "Your guess is kept. ";
+    this.verdict.className = "verdicts veiled";
+    this.verdict.replaceChildren(
+      el("p", { class: "verdict" }, el("span", { class: "sign", "aria-hidden": "true" }, "?"),
+        el("span", {}, el("strong", {}, words.question), " ", inWords && el("span", { class: "in-words" }, tintedSentence(`${inWords}.`, tints)))),
+      el("p", { class: "asked" }, testName(text), el("code", {}, codeNodes(propositionOf(report), tints, null)), " ",
+        el("span", { class: "by" }, `${kept}${VEILED} `), button("Show the answer", () => this.unveil(), { class: "unveil" })),
+    );
+  }
+
+  /** Keeps the verdict back: the reader looks for the states. */
+  veil() {
+    this.isVeiled = true;
+    this.tellVerdict();
   }
 
   /** Shows the verdict that was kept back. */
@@ -143,19 +173,25 @@ export class States {
     const [by, way] = BY[this.isSearched ? "searched" : "enumerated"];
     this.verdict.className = `verdicts ${kind}`;
     this.verdict.replaceChildren(
+      said === null ? "" : guessedWords(said === words.is_so),
       el("p", { class: "verdict" }, el("span", { class: "sign", "aria-hidden": "true" }, SIGNS[kind]),
         el("span", {}, el("strong", {}, word), " ", el("span", { class: "in-words", title: words.bounds }, tintedSentence(sentence, tints)))),
-      el("p", { class: "asked" }, el("code", {}, codeNodes(report.condition, tints, null)),
+      el("p", { class: "asked" }, testName(text), el("code", {}, codeNodes(report.condition, tints, null)),
         el("span", { class: "count-words" }, ` ${countWords(report)}`), " ",
         el("span", { class: "by", title: way }, el("span", { class: "long-by" }, "The list is "), `${by}.`),
-        said === null ? "" : el("b", { class: "said" }, said === words.is_so ? " ✓ As you said." : " ✗ Not as you said.")),
+        report.is_proved ? "" : [" ", el("span", { class: "by" }, "Its ticks are "), plainMark(), "."]),
     );
   }
 
-  /** The state whose run shows what the verdict says, or else the first; undefined if there is none. */
+  /** Returns the state whose run shows what the verdict says, or else the first; undefined if there is none. */
   get telling() {
     const { states } = this.report;
     return states.find((it) => it.index === this.words.telling) ?? states[0];
+  }
+
+  /** Returns the line of a state that the condition asks about, or null if no run ends in one or states are not marked. */
+  get asked() {
+    return this.telling && this.words.telling !== null ? this.telling.line : null;
   }
 
   choose(line) {
@@ -168,7 +204,7 @@ export class States {
     if (this.report) this.strip.mark(lines);
   }
 
-  /** What is told of the whole list, and the list as lw prints it; one that is long as a file. */
+  /** Returns what is said of the whole list, and the list as lw prints it; a long list is saved as a file. */
   printed() {
     const { report, words } = this;
     if (!report) return [];
@@ -178,17 +214,18 @@ export class States {
 
   // By hand.
 
-  /** From now on the reader looks for the states: those that are found are shown. */
+  /** Begins a run by hand: the reader looks for the states, and the list shows those that are found. */
   beginByHand(link = {}) {
     this.isByHand = true;
     if (!this.report) return null;
+    if (this.found.size < this.report.number) this.veil();
     this.strip.hide(this.found);
     this.strip.select(null);
     this.tellFound();
     return this.run.begin(link);
   }
 
-  /** All states are shown again. */
+  /** Shows all states again. */
   endByHand() {
     if (!this.isByHand) return;
     this.isByHand = false;
@@ -201,7 +238,7 @@ export class States {
     this.run.show(this.telling.line, { step: "telling", search: this.isSearched });
   }
 
-  /** A run by hand has ended in a state. */
+  /** Takes note of the state in which a run by hand has ended. */
   reach(line, program) {
     if (!this.report) return;
     const key = keyOf(line);
@@ -215,7 +252,12 @@ export class States {
     this.tellFound(isNew);
   }
 
-  /** The state of the list with a key, by a table that is made once for a list. */
+  /** Returns whether the condition holds in a state of the list, or null if the list has no such state or no marks. */
+  truthOf(line) {
+    return this.report ? (this.stateOf(keyOf(line))?.holds ?? null) : null;
+  }
+
+  /** Returns the state of the list with a key, by a table that is made once for each list. */
   stateOf(key) {
     if (this.tableOf !== this.report) {
       this.tableOf = this.report;
@@ -224,7 +266,7 @@ export class States {
     return this.byKey.get(key);
   }
 
-  /** The run has ended in a state that the list has not, as a run of a program without its fences may. */
+  /** Says that a run has ended in a state that is not in the list, as a run of a program without its fences may. */
   tellOther(line, program) {
     if (this.report.left_out) return;
     const why = program === "bare" ? " Without its fences the program ends in it too." : "";

@@ -3,6 +3,7 @@
 
 import { el } from "./dom.js";
 import { readTest } from "./tests.js";
+import { nameOf } from "./tokens.js";
 import { FENCES, KEYWORDS, REGISTER } from "./words.js";
 
 // How many colours there are, and which locations have the same in every test.
@@ -46,6 +47,11 @@ export function tintsOf(text) {
 export function siteNode(name, tints) {
   const thread = /^(\d):/.exec(name)?.[1];
   return el("span", { class: thread === undefined ? tints.of(name) : threadClass(thread) }, name);
+}
+
+/** Returns the name of a test, for views that show it nowhere else. */
+export function testName(text) {
+  return el("b", { class: "test-name" }, `${nameOf(text)} `);
 }
 
 /** A piece of code of a thread, in colours. */

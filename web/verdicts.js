@@ -17,7 +17,7 @@ const BOUNDS = {
 const SHOWING = { "Allowed Ok": true, "Forbidden No": true, "Required No": false };
 
 /**
- * The words on a report, and whether the answer to the question is yes; and which state shows what the verdict says, where one does and
+ * Returns the words on a report, and whether the answer to the question is yes; and which state shows what the verdict says, if one does and
  * states are marked.
  */
 export function verdictOf(language, report) {
@@ -32,7 +32,10 @@ export function verdictOf(language, report) {
   };
 }
 
-/** The verdict: its kind, the word for it, and the sentence on what runs do; the condition may be put into words. */
+/**
+ * Returns the verdict: its kind (`can`, `yes`, `no`, or `wrong` if it is against the test), the word for it, and the sentence on what runs do.
+ * The condition may be put into words.
+ */
 export function headlineOf(language, { asked, verdict }, condition = null) {
   const isOk = verdict === "Ok";
   const runs = language === "SRC" ? " by interleaving" : "";
@@ -42,10 +45,10 @@ export function headlineOf(language, { asked, verdict }, condition = null) {
   if (asked === "Required" && isOk) return ["yes", "Always.", `In every run${runs} ${what}.`];
   if (asked === "Required") return ["no", "Not always.", `Not in every run${runs} ${what}.`];
   if (asked === "Forbidden") return isOk ? ["no", "Forbidden.", none] : ["wrong", "Allowed, against the test.", some];
-  return isOk ? ["yes", "Allowed.", some] : ["no", "Forbidden.", none];
+  return isOk ? ["can", "Allowed.", some] : ["no", "Forbidden.", none];
 }
 
-/** In how many states the condition holds. */
+/** Returns a sentence that says in how many states the condition holds. */
 export function countWords({ positive, number }) {
   const shown = (it) => it.toLocaleString("en");
   const states = `${shown(number)} final state${number === 1 ? "" : "s"}`;

@@ -104,7 +104,9 @@ class Kept(PageCase):
         open_anew(user, "#example=SB-x86&predict=1&view=hand")
         user.click("#yes")
         self.assertSays("Found 0 of 4 states.", "#outcome .found")
-        self.assertEqual(([], []), (user.all("#outcome .verdict"), user.texts("table.strip .holds")))
+        shown = f"{user.text('#outcome .verdict > span:last-child')} {user.text('#outcome .asked code')}"
+        self.assertEqual((QUESTION, []), (shown, user.texts("table.strip .holds")))
+        self.assertSays("Your guess is kept.", "#outcome .by")
         user.click("#tab-states")
         self.assertSays("The condition holds in 1 of 4 final states.", "#outcome .asked")
 
