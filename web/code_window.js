@@ -1,10 +1,13 @@
-// The part of a thread's code that is in sight, if not all of it has room: the next instruction is always in it. There is no scroll bar: the
-// box says which lines are shown, and the lines at its edges are pale.
+// The part of a thread's code that is in sight, if not all of it has room: the next instruction is always in it, and the first line is whole.
+// There is no scroll bar: the box says which lines are shown, and the last line is pale if others follow it.
 
 /** Puts the next instruction of each thread's code into sight, and says which lines are there. */
 export function showNext(place) {
   for (const code of place.querySelectorAll(".code")) {
     const next = code.querySelector(".next, .reached");
+    // Room after the last line lets every line be the first in sight.
+    code.style.paddingBottom = "";
+    if (code.scrollHeight > code.clientHeight + 1) code.style.paddingBottom = `${code.firstElementChild.offsetHeight}px`;
     if (next) scrollTo(code, next);
     tellLines(code);
   }
@@ -16,18 +19,22 @@ export function watchCodes(place) {
   new ResizeObserver(() => showNext(place)).observe(place);
 }
 
-/** Scrolls a line into sight inside its box, with one line around it, and nothing else. */
+/** Scrolls a line into sight inside its box, with one line around it, and nothing else. The first line in sight is whole. */
 function scrollTo(code, line) {
-  const top = line.offsetTop;
-  if (top < code.scrollTop + 4) code.scrollTop = Math.max(0, top - line.offsetHeight);
-  else if (top + 2 * line.offsetHeight > code.scrollTop + code.clientHeight) code.scrollTop = top - code.clientHeight + 2 * line.offsetHeight;
+  const { offsetTop: top, offsetHeight: height } = line;
+  const tops = [...code.children].map((it) => it.offsetTop);
+  let wanted = code.scrollTop;
+  if (top < wanted + 4) wanted = Math.max(0, top - height);
+  else if (top + 2 * height > wanted + code.clientHeight) wanted = Math.min(top, top - code.clientHeight + 2 * height);
+  code.scrollTop = tops.find((it) => it >= wanted - 1) ?? wanted;
 }
 
+/** Says which lines of a code are in sight. */
 function tellLines(code) {
-  const isWhole = code.scrollHeight <= code.clientHeight + 1;
+  const isWhole = code.style.paddingBottom === "";
   const [top, bottom] = [code.scrollTop, code.scrollTop + code.clientHeight];
   code.classList.toggle("more-above", !isWhole && top > 2);
-  code.classList.toggle("more-below", !isWhole && bottom < code.scrollHeight - 2);
+  code.classList.toggle("more-below", !isWhole && bottom < code.lastElementChild.offsetTop + code.lastElementChild.offsetHeight - 2);
   const lines = [...code.children].slice(0, -1);
   const middle = (it) => it.offsetTop + it.offsetHeight / 2;
   const seen = lines.flatMap((it, at) => (middle(it) > top && middle(it) < bottom ? [at + 1] : []));

@@ -1,5 +1,4 @@
-// A test beside what it is compiled to, with its fences and without; and the lists of all of them side by side, each as it comes,
-// with a film to each state.
+// A test beside what it is compiled to, with its fences and without; and below each its list, as it comes, with a film to each state.
 
 import { ask } from "./ask.js";
 import { button, el, plainMark, sentence } from "./dom.js";
@@ -47,26 +46,33 @@ export class Compile {
     if (!answer.compiled) return tell(answer, this.place, this.editor);
     this.tints = tintsOf(text);
     const lists = this.listsOf(answer, text);
-    this.place.append(...this.parts(answer), el("div", { class: "columns" }, lists.map((it) => it.place)));
+    const codes = this.codesOf(answer);
+    const columns = lists.map((it, at) => el("div", {}, codes[at], it.place));
+    this.place.append(this.wordsOn(answer), el("div", { class: "columns" }, columns));
     const [bare, compiled] = ["bare", "compiled"].map((name) => lists.find((it) => it.name === name));
     await Promise.all(lists.map((it) => it.ask({ most, listed: () => bare?.markWhatIsNewTo(compiled) })));
   }
 
-  parts(answer) {
+  /** Returns what is said of the texts that are shown. */
+  wordsOn(answer) {
     const isSource = answer.language === "SRC";
     const number = answer.fences.length;
     const said = number === 0 ? "There is no fence." : number === 1 ? "There is one fence." : `There are ${number} fences.`;
     const source = "The source test, what it is compiled to, and that without its fences.";
     const shown = isSource ? source : "The test, and the same without its fences.";
-    return [
-      el("p", { role: "status" }, shown, " ", said, " ", isSource ? sentence(mappedNames(answer.compiled)) : ""),
-      el("div", { class: "columns" }, isSource ? this.code("Source", answer.cells_of_source) : null,
-        this.code(isSource ? "x86, with its fences" : "x86, as it is", answer.cells, answer.compiled),
-        number ? this.code(["x86, without fences ", plainMark()], answer.bare_cells, answer.bare) : null),
-    ];
+    return el("p", { role: "status" }, shown, " ", said, " ", isSource ? sentence(mappedNames(answer.compiled)) : "");
   }
 
-  /** The code of all threads, each a column; a fence is marked. */
+  /** Returns the code of each text: of the source, of what it is compiled to, and of that without its fences. */
+  codesOf(answer) {
+    const isSource = answer.language === "SRC";
+    const found = [this.code(isSource ? "x86, with its fences" : "x86, as it is", answer.cells, answer.compiled)];
+    if (isSource) found.unshift(this.code("Source", answer.cells_of_source));
+    if (answer.fences.length) found.push(this.code(["x86, without fences ", plainMark()], answer.bare_cells, answer.bare));
+    return found;
+  }
+
+  /** Returns the code of all threads, each a column; a fence is marked. */
   code(title, cells, text = null) {
     const height = Math.max(...cells.map((it) => it.length), 0);
     const rows = Array.from({ length: height }, (_, at) => el("tr", {}, cells.map((column, thread) => cellOf(column[at], this.tints, thread))));
@@ -76,21 +82,21 @@ export class Compile {
     return el("div", {}, el("div", { class: "wide" }, code), take);
   }
 
-  /** The lists that stand side by side. */
+  /** Returns the list of each text, in the order of their codes. */
   listsOf({ language, compiled, bare, fences }, text) {
     const isSource = language === "SRC";
     const { editor } = this;
     const watch = (of, run = null) => ({ text: shown, isSearched }, line) => this.film.show(line, { text: shown, of, run, search: isSearched });
-    const [title, asItIs] = isSource ? ["States with fences", "of the compiled program "] : ["States as it is", ""];
+    const [title, asItIs] = isSource ? ["With fences", "of the compiled program "] : ["As it is", ""];
     const lists = [new List("compiled", title, compiled, { editor, watch: watch([asItIs]) })];
-    if (isSource) lists.unshift(new List("source", "States of the source, by interleaving", text, { editor, watch: watch([], "source") }));
+    if (isSource) lists.unshift(new List("source", "By interleaving", text, { editor, watch: watch([], "source") }));
     const without = ["of the program without fences ", plainMark(), " "];
-    if (fences.length) lists.push(new List("bare", "States without fences", bare, { editor, watch: watch(without) }));
+    if (fences.length) lists.push(new List("bare", "Without fences", bare, { editor, watch: watch(without) }));
     return lists;
   }
 }
 
-/** The list of a text, which is asked for by itself. */
+/** Shows the list of a text, which is asked for by itself. */
 class List {
   constructor(name, title, text, { editor, watch }) {
     Object.assign(this, { name, title, text, editor, watch, report: null, isSearched: false });
@@ -126,7 +132,8 @@ class List {
   draw() {
     const { report, isSearched } = this;
     this.strip.wide = this.place.closest("[role=tabpanel]");
-    const title = el("h3", {}, `${this.title}: ${report.number.toLocaleString("en")}${isSearched ? ", by a search" : ""}`);
+    const states = report.number === 1 ? "1 state" : `${report.number.toLocaleString("en")} states`;
+    const title = el("h3", {}, `${this.title}: ${states}${isSearched ? ", by a search" : ""}`);
     this.place.replaceChildren(title, this.strip.place, leftOut(report) ?? "");
     this.strip.show(report, tintsOf(this.text), null);
   }
@@ -140,7 +147,7 @@ class List {
   }
 }
 
-/** A cell of the code. A fence is marked, and not by its colour alone. */
+/** Returns a cell of the code. A fence is marked, and not only by its colour. */
 function cellOf(cell, tints, thread) {
   const text = codeNodes(cell?.text ?? "", tints, thread);
   if (!cell || !/MFENCE$/.test(cell.text)) return el("td", {}, text);

@@ -5,8 +5,9 @@ import { button, el, plainMark } from "./dom.js";
 import { save } from "./output.js";
 import { tell } from "./told.js";
 
-// The height of a line of a picture, and what is empty below its events.
+// The height of a line of a picture, the width of a letter, and what is empty below its events.
 const LINE = 19;
+const LETTER = 7.9;
 const EMPTY = 10;
 // The arrows that a graph may have, each by its name there and in words. `rfi` and `init` are drawn as `rf` is.
 const ARROWS = [
@@ -18,15 +19,19 @@ const ARROWS = [
   ["fr", "fr", "read before that write"],
 ];
 const WITH_CYCLE = "This run as a graph. The bold arrows are a cycle: no interleaving ends this way. ";
-const WITHOUT_CYCLE = "This run as a graph. It has no cycle: a run by interleaving can end this way, too. ";
+const WITHOUT_CYCLE = "This run as a graph. It has no cycle: interleaving can end this way, too. ";
+// How many graphs were shown so far.
+let shownGraphs = 0;
 const SVG = "http://www.w3.org/2000/svg";
 
 /**
- * A picture for the page, whose style sheet has its colours, since the page's policy takes no style from a picture; and the lines of text
- * below it.
+ * Returns a picture for the page, whose style sheet has its colours, since the page's policy takes no style from a picture; and the lines of
+ * text below it.
  */
 export function shownGraph(text, tints) {
-  const bare = text.split(/<\/?style>/).filter((_, at) => at % 2 === 0).join("");
+  shownGraphs += 1;
+  // The heads of arrows of a graph that is hidden are not drawn in another one, so each graph has its own.
+  const bare = text.split(/<\/?style>/).filter((_, at) => at % 2 === 0).join("").replace(/(?<=id="|url\(#)to-/g, `to-${shownGraphs}-`);
   const svg = new DOMParser().parseFromString(bare, "image/svg+xml").documentElement;
   svg.setAttribute("class", "graph");
   svg.setAttribute("role", "img");
@@ -42,12 +47,13 @@ export function shownGraph(text, tints) {
   return { graph: el("div", { class: "graph-scroll" }, shown), said };
 }
 
-/** How wide a picture's events and arrows are: lines below them may be longer. */
+/** Returns how wide a picture's events, arrows and their names are: lines below them may be longer. */
 function widthOf(svg) {
+  const named = [...svg.querySelectorAll("text.relation")].map((it) => Number(it.getAttribute("x")) + it.textContent.length * LETTER - 10);
   const rights = [...svg.querySelectorAll("g rect")].map((it) => Number(it.getAttribute("x")) + Number(it.getAttribute("width")));
   const points = (path) => [...path.getAttribute("d").matchAll(/([\d.]+) [\d.]+/g)].map(([, x]) => Number(x));
   const reached = [...svg.querySelectorAll("path[d]")].flatMap(points);
-  return Math.ceil(Math.max(100, ...rights, ...reached)) + 14;
+  return Math.ceil(Math.max(100, ...rights, ...reached, ...named)) + 14;
 }
 
 /** Gives a text of a picture the colour of its thread or location. */
@@ -91,15 +97,17 @@ export async function graphOf(editor, text, schedule, place, tints) {
   if (!answer) return;
   place.replaceChildren();
   if (answer.isUnended) place.append(el("p", { class: "small" }, "The graph is drawn when the run has ended."));
-  else if (answer.graph) place.append(...partsOf(answer, tints));
+  else if (answer.graph) place.append(...graphParts(answer, tints));
   else tell(answer, place, editor);
   place.dispatchEvent(new Event("drawn"));
 }
 
-function partsOf(answer, tints) {
+/** Returns what is shown of the execution of a run: what its graph says, the graph with its legend, and the same in words. */
+export function graphParts(answer, tints) {
   const { graph, said } = shownGraph(answer.graph, tints);
   const words = answer.hasCycle ? WITH_CYCLE : WITHOUT_CYCLE;
-  const missing = said.slice(1).map((it) => it.replace(/^(\w+), then (\w+): no fence between$/, "Between $1 and $2 there is no fence. "));
+  const pairs = said.slice(1).map((it) => it.replace(/^(\w+), then (\w+): no fence between$/, "between $1 and $2"));
+  const missing = pairs.length ? `No fence is ${pairs.join(", nor ")}. ` : "";
   const told = el("details", {}, el("summary", {}, "In words"), el("pre", {}, answer.words.join("\n")));
   const keep = button("Save this graph", () => save("execution.svg", "image/svg+xml", answer.graph));
   return [el("p", { class: "graph-head" }, words, missing, plainMark()), graph, legend(graph), el("div", { class: "row" }, told, keep)];

@@ -22,7 +22,7 @@ path, path.marked { stroke: #ececec } path.po { stroke: #8d939c } text.relation 
 
 export const shown = (word) => (word === null || word === undefined ? "?" : String(word));
 
-/** The letters of an execution's events, and what each does. */
+/** Names an execution's events by letters, and says what each does. */
 export class Names {
   constructor(execution) {
     this.execution = execution;
@@ -30,7 +30,7 @@ export class Names {
     this.letters = new Map(execution.events().map((it, at) => [it, letterAt(at)]));
   }
 
-  /** What an event does: R, W or U (a locked instruction) with a location and its words, or MFENCE. */
+  /** Returns what an event does: R, W or U (a locked instruction) with a location and its words, or MFENCE. */
   deed(event) {
     const { kind, location } = this.execution.instruction(event);
     if (kind === "mfence") return "MFENCE";
@@ -44,19 +44,19 @@ export class Names {
     return `${this.letters.get(event)}: P${threadOf(event)} ${this.deed(event)}`;
   }
 
-  /** A cycle in letters: a -fr-> b -po-> a. */
+  /** Returns a cycle in letters: a -fr-> b -po-> a. */
   cycle(edges) {
     return this.letters.get(edges[0].source) + edges.map((it) => ` -${it.kind}-> ${this.letters.get(it.target)}`).join("");
   }
 }
 
-/** The edges that the others do not follow from: those without an event between. */
+/** Returns the edges that do not follow from the others: those without an event between. */
 function near(edges) {
   const leads = (a, b) => edges.some((it) => it.source === a && it.target === b);
   return edges.filter(({ source, target }) => !edges.some(({ target: mid }) => leads(source, mid) && leads(mid, target)));
 }
 
-/** Of each read the edge to the first write after the one that it reads from. */
+/** Returns of each read the edge to the first write after the one that it reads from. */
 function nearFr(execution) {
   const found = new Map();
   for (const it of execution.frEdges()) if (!found.has(it.source)) found.set(it.source, it);
@@ -65,12 +65,12 @@ function nearFr(execution) {
 
 const isSameEdge = (one) => (other) => one.kind === other.kind && one.source === other.source && one.target === other.target;
 
-/** The pairs of program order in a cycle that x86-TSO does not keep. */
+/** Returns the pairs of program order in a cycle that x86-TSO does not preserve. */
 function missingFences(execution, cycle) {
   return (cycle ?? []).filter((it) => it.kind === "po" && !execution.isPreserved(it));
 }
 
-/** The lines of an execution in words, with what the axioms say of it. */
+/** Returns the lines of an execution in words, with what the axioms say of it. */
 export function wordsOf(execution) {
   const [names, cycle] = [new Names(execution), execution.cycle()];
   const letter = (event) => names.letters.get(event);
@@ -96,27 +96,27 @@ function verdictOf(execution, names) {
 
 // The picture.
 
-/** A number to a tenth. */
+/** Rounds a number to a tenth. */
 function rounded(number) {
   return Math.floor(number * 10 + 0.5) / 10;
 }
 
-/** A point, as a path has it. */
+/** Returns a point as a path has it. */
 function spot([x, y]) {
   return `${digits(rounded(x))} ${digits(rounded(y))}`;
 }
 
-/** The place of an event in its test, by which a page finds its instruction. */
+/** Returns the place of an event in its test, by which a page finds its instruction. */
 function placeOf(event) {
   return `${threadOf(event)}:${positionOf(event)}`;
 }
 
-/** Whether an edge is of a thread that reads its own store. */
+/** Returns whether an edge says that a thread reads its own store. */
 function isInternal({ kind, source, target }) {
   return kind === "rf" && threadOf(source) === threadOf(target);
 }
 
-/** An arrow along the curves of a route. */
+/** Draws an arrow along the curves of a route. */
 function drawEdge(drawing, layout, route, isMarked) {
   const { kind, source, target } = route.edge;
   const [first, ...others] = layout.curvesOf(route);
@@ -126,20 +126,20 @@ function drawEdge(drawing, layout, route, isMarked) {
   drawing.elements.push(`<path class="${kind ?? "rf"}${isMarked ? " marked" : ""}" ${ends} marker-end="url(#to-${kind ?? "rf"})" d="${path}"/>`);
 }
 
-/** The name of a relation at its arrow. */
+/** Writes the name of a relation at its arrow. */
 function drawLabel(drawing, layout, route, name) {
   const [x, y] = layout.placeLabel(route, name.length);
   drawing.text(rounded(x - (name.length * LETTER) / 2), rounded(y + 4), name, "relation");
 }
 
-/** The heads of the arrows, by relation. */
+/** Returns the heads of the arrows, by relation. */
 function markers() {
   const size = 'viewBox="0 0 8 8" refX="7" refY="4" markerWidth="9" markerHeight="9" orient="auto" markerUnits="userSpaceOnUse"';
   const head = (kind) => `<marker id="to-${kind}" ${size}><path class="${kind}" d="M1 1 L7 4 L1 7"/></marker>`;
   return `<defs>${Object.keys(NAMES).map(head).join("")}</defs>`;
 }
 
-/** The events, thread by thread. */
+/** Draws the events, thread by thread. */
 function drawEvents(drawing, layout, execution, texts, inCycle) {
   for (const [thread, events] of layout.threads.entries()) {
     drawing.text(...layout.titleAt(thread), `P${thread}`, "title");
@@ -154,13 +154,13 @@ function drawEvents(drawing, layout, execution, texts, inCycle) {
   }
 }
 
-/** The edges that a picture has: those of the relations, and those of a cycle that is marked. */
+/** Returns the edges of a picture: those of the relations, and those of a marked cycle. */
 function drawnEdges(execution, marked) {
   const edges = [...near(execution.po()), ...execution.rfEdges(), ...near(execution.coEdges()), ...nearFr(execution)];
   return [...edges, ...marked.filter((it) => !edges.some(isSameEdge(it)))];
 }
 
-/** What is said below a picture. */
+/** Returns the lines below a picture. */
 function linesBelow(names, cycle, broken, missing) {
   const noFence = (it) => `${names.letters.get(it.source)}, then ${names.letters.get(it.target)}: no fence between`;
   if (broken) return [`Marked: a cycle, against ${broken.axiom}.`];
@@ -168,7 +168,7 @@ function linesBelow(names, cycle, broken, missing) {
   return [said, ...missing.map(noFence)];
 }
 
-/** The picture of an execution; if x86-TSO forbids it, with the cycle of the axiom that it breaks, and otherwise with one of interleaving. */
+/** Returns the picture of an execution, with the cycle of the axiom that it breaks if x86-TSO forbids it, or else one of interleaving. */
 export function graphOf(execution, title, broken = null) {
   const [names, cycle] = [new Names(execution), broken?.cycle ?? execution.cycle() ?? []];
   const missing = broken ? [] : missingFences(execution, cycle);

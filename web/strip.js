@@ -16,7 +16,7 @@ const FEW_COLUMNS = 6;
 const VERDICT = 29;
 const LETTER = 0.57;
 const TITLES = 6.4;
-const [WIDE_COLUMN, NARROW_COLUMN, NEVER_COLUMN] = [3, 2.5, 4.2];
+const [WIDE_COLUMN, NARROW_COLUMN, NEVER_COLUMN] = [3, 2, 4.2];
 const AROUND_ROWS = 18;
 
 const MARKED = "in which states the condition holds";
@@ -37,7 +37,7 @@ export class Strip {
     this.place.replaceChildren();
   }
 
-  /** Shows a report; `missing` is a state that it has not, or null. */
+  /** Shows a report; `missing` is a state that is not in it, or null. */
   show(report, tints, missing) {
     Object.assign(this, { report, tints, names: namesOf(report), missing, rows: null });
     this.draw();
@@ -54,7 +54,7 @@ export class Strip {
     this.draw();
   }
 
-  /** Marks the states that another list has not. */
+  /** Marks the states that are not in another list. */
   mark(alone) {
     this.alone = alone && new Set(alone);
     this.draw();
@@ -64,14 +64,14 @@ export class Strip {
     return this.found === null || this.found.has(keyOf(line));
   }
 
-  /** The state that is missing, if it is shown as a column. */
+  /** Returns the missing state, if it is shown as a column. */
   get ghost() {
     return this.why && this.found === null ? this.missing : null;
   }
 
   // How it is shown.
 
-  /** How wide the list is as columns, and as rows. */
+  /** Returns how wide the list is as columns, and as rows. */
   widths() {
     const { length } = this.report.states;
     const names = Math.max(TITLES, ...this.names.map((it) => it.length * LETTER)) + 1;
@@ -114,7 +114,8 @@ export class Strip {
     const { report, names } = this;
     const { states } = report;
     const head = el("tr", {}, el("th", { scope: "row", class: "corner" }, "state"), states.map((it) => this.headOf(it)), this.headOfGhost());
-    const body = [...names.map((name, at) => this.rowOf(name, at)), report.is_marked ? this.marks() : null, this.alone ? this.alones() : null];
+    const hasMarks = report.is_marked && report.positive > 0;
+    const body = [...names.map((name, at) => this.rowOf(name, at)), hasMarks ? this.marks() : null, this.alone?.size ? this.alones() : null];
     const kind = states.length > FEW_COLUMNS ? "strip many" : "strip";
     const clicked = (event) => {
       const column = event.target.closest("td")?.dataset.column;
@@ -155,7 +156,7 @@ export class Strip {
     return this.report.states.map((state, at) => el("td", { class: `${kind} ${this.kindOf(state)}`, "data-column": String(at) }, textOf(state)));
   }
 
-  /** The row of a name: its word in each state. */
+  /** Returns the row of a name: its word in each state. */
   rowOf(name, at) {
     const { ghost } = this;
     const word = (line) => String(wordsOf(line)[at][1]);
@@ -163,7 +164,7 @@ export class Strip {
     return el("tr", {}, el("th", { scope: "row" }, siteNode(name, this.tints)), cells, ghost ? el("td", { class: "never" }, word(ghost)) : null);
   }
 
-  /** The row that says in which states the condition holds. */
+  /** Returns the row that says in which states the condition holds. */
   marks() {
     const mark = (state) => (state.holds ? "✓" : el("span", { class: "hidden" }, "false"));
     const cells = this.cellsOf((state) => (this.isShown(state) ? mark(state) : ""), "mark");
@@ -171,7 +172,7 @@ export class Strip {
     return el("tr", { class: "marks-row" }, title, cells, this.ghost ? el("td", { class: "never" }) : null);
   }
 
-  /** The row that says which states another list has not. */
+  /** Returns the row that says which states are not in another list. */
   alones() {
     const title = el("th", { scope: "row", class: "small" }, this.aloneWords);
     return el("tr", { class: "alone-row" }, title, this.cellsOf((state) => (this.alone.has(state.line) ? "+" : "")));

@@ -1,9 +1,11 @@
-// Why a test does not end in a state that the reader names, with the cycle that forbids it drawn.
+// Why a test does not end in a state: the cycle that forbids it, drawn. The state that the condition asks about is answered at once; of one
+// that a run ends in, that run is drawn.
 
 import { ask } from "./ask.js";
 import { questionOf } from "./condition_words.js";
 import { button, el, plainMark } from "./dom.js";
-import { legend, shownGraph } from "./execution_graph.js";
+import { graphParts, legend, shownGraph } from "./execution_graph.js";
+import * as guess from "./guess.js";
 import { missingState } from "./missing.js";
 import { wordsOf } from "./replays.js";
 import { namesOf } from "./reports.js";
@@ -11,41 +13,62 @@ import { siteNode, tintsOf } from "./tint.js";
 import { tell } from "./told.js";
 import { headingOf } from "./tokens.js";
 
-const NONE_MISSING =
-  "Of the words that the list shows no combination is missing, or the list is too long to look for one. Write others.";
-const CIRCLE = "Each arrow means “comes before”. The bold ones go round in a circle, so no run can end this way.";
+const CIRCLE = "Each arrow means “comes before”. The bold ones form a cycle, so no run can end this way.";
 
 export class Why {
-  constructor(editor) {
-    Object.assign(this, { editor, fields: [] });
+  /** `watch` is called with the line of a state whose run the reader wants to watch. */
+  constructor(editor, watch) {
+    Object.assign(this, { editor, watch, fields: [], report: null, askedOf: null });
     this.form = el("div", { class: "why-form" });
     this.answers = el("div", { class: "why-answers", role: "status" });
     this.place = el("div", { class: "why" }, this.form, this.answers);
   }
 
   clear() {
+    Object.assign(this, { report: null, askedOf: null, missing: null, chosen: null, fields: [] });
     this.answers.replaceChildren();
     this.form.replaceChildren();
   }
 
-  /** Offers a report's names, with the words of a state that it has not. */
-  offer(report) {
+  /**
+   * Offers fields for the words of a state of a report. They hold the state that the condition asks about: one that the list lacks, or else
+   * `telling`, one that it has; or any state that it lacks.
+   */
+  offer(report, telling = null) {
     this.clear();
     if (!report?.states.length) return;
+    this.report = report;
     this.tints = tintsOf(this.editor.text);
-    const missing = missingState(report, questionOf(this.editor.text)) ?? missingState(report);
-    const words = new Map(missing === null ? [] : wordsOf(missing));
+    this.missing = missingState(report, questionOf(this.editor.text));
+    const state = this.missing ?? telling ?? missingState(report) ?? report.states[0].line;
+    const words = new Map(wordsOf(state));
     this.fields = namesOf(report).map((name) => ({ name, field: this.fieldOf(name, words.get(name)) }));
     const fields = this.fields.map(({ name, field }) => el("label", { class: "site-field" }, siteNode(name, this.tints), "=", field));
     const asked = button("Why not?", () => this.ask(), { class: "main why-not" });
-    const all = button("All that can't be", () => this.answer("all"));
+    const all = button("Every forbidden state", () => this.answer("all"), { title: "Each state that some execution has and x86-TSO forbids" });
     this.form.append(el("span", {}, "Why does no run end in"), ...fields, el("span", {}, "?"), asked, all);
-    if (missing === null) this.answers.append(el("p", { class: "small" }, NONE_MISSING));
   }
 
   fieldOf(name, word) {
     const enter = (event) => event.key === "Enter" && this.ask();
     return el("input", { type: "text", inputmode: "numeric", value: word ?? "", size: "3", "aria-label": name, keydown: enter });
+  }
+
+  /**
+   * Answers on the state that is offered, unless that was done already. If the list lacks no state that the condition asks about, it is the
+   * state that is `chosen` in the list, if there is one.
+   */
+  askOnce(chosen = null) {
+    if (this.report === null) return this.tellAwaited();
+    const isOther = this.missing === null && chosen !== null && chosen !== this.chosen;
+    this.chosen = chosen;
+    if (isOther) return this.set(chosen);
+    return this.askedOf === null ? this.ask() : null;
+  }
+
+  /** Says that the reader has to predict first. */
+  tellAwaited() {
+    if (guess.isAwaited(this.editor.text)) this.answers.replaceChildren(el("p", {}, "First say above what you expect."));
   }
 
   /** Asks about a state. */
@@ -59,21 +82,39 @@ export class Why {
     return this.answer(this.fields.map(({ name, field }) => `${name}=${field.value.trim()};`).join(" "));
   }
 
+  /** Answers on a state, or on `all`. What was answered before is gone meanwhile. */
   async answer(state) {
+    this.askedOf = state;
+    this.answers.replaceChildren();
+    if (this.report.states.some(({ line }) => line === state)) return this.answerAllowed(state);
     const { text } = this.editor;
     const answer = await ask(this.editor, "why not", { text, state }, { place: this.answers });
-    if (!answer) return;
+    if (!answer) return null;
     this.answers.replaceChildren();
     if (!answer.lines) return tell(answer, this.answers, this.editor);
-    this.answers.append(...this.partsOf(answer, headingOf(text).language === "SRC"));
+    return this.answers.append(...this.partsOf(answer, headingOf(text).language === "SRC"));
+  }
+
+  /** Says that a run ends in a state, and draws that run. */
+  async answerAllowed(state) {
+    const { text } = this.editor;
+    const watched = button("Watch that run", () => this.watch(state), { class: "main watch-allowed" });
+    const head = el("p", { class: "why-head" }, el("b", {}, "A run ends in this state: "), el("code", {}, state), " ", watched);
+    const drawn = el("div", { class: "why-run" });
+    this.answers.append(head, drawn);
+    const film = await ask(this.editor, "film", { text, state, protocol: "mesi" }, { place: drawn, name: "the run to the state" });
+    if (!film?.films || this.askedOf !== state) return;
+    const answer = await ask(this.editor, "graph", { text, schedule: film.schedule }, { place: drawn, name: "the graph of that run" });
+    if (!answer || this.askedOf !== state) return;
+    drawn.replaceChildren(...(answer.graph ? graphParts(answer, this.tints) : []));
   }
 
   partsOf({ lines, cycles }, isSource) {
     const drawn = cycles.map(({ graph, words }) => el("figure", {}, shownGraph(graph, this.tints).graph, el("figcaption", {}, words)));
     const of = isSource ? "Of the compiled program, with the source's names: " : "";
     const head = el("p", { class: "why-head" }, of, el("b", {}, lines[0]), " ", plainMark());
-    const told = el("details", { open: !drawn.length }, el("summary", {}, "In words"), el("pre", {}, lines.join("\n")));
-    if (!drawn.length) return [head, told];
+    const told = el("details", { open: !drawn.length && lines.length > 1 }, el("summary", {}, "In words"), el("pre", {}, lines.join("\n")));
+    if (!drawn.length) return [head, lines.length > 1 ? told : ""];
     return [head, el("p", { class: "small" }, CIRCLE), el("div", { class: "figures" }, drawn), legend(...drawn), told];
   }
 }

@@ -11,7 +11,7 @@ const MOST_CYCLES = 6;
 const MOST_DRAWN = 3;
 const NONE_FORBIDDEN = "x86-TSO allows every state that some candidate execution has.";
 
-/** The words that a report's line tells, by site; the line has to name exactly what the test shows. */
+/** Returns the words in a report's line, by site. Throws NoAnswer unless the line names exactly what the test shows. */
 function stateOf(test, line) {
   const pairs = [...line.matchAll(/([^\s=;]+)=(\d+);/g)].map(([, name, word]) => [name, Number(word)]);
   const found = new Map(pairs);
@@ -24,7 +24,7 @@ function stateOf(test, line) {
   return new Map(sites.map((site, at) => [siteKey(site), found.get(names[at])]));
 }
 
-/** Of each state that candidate executions have, and the axioms allow in none: how many break which axiom by which cycle. */
+/** Returns the states that the axioms allow; and of each that they allow in no candidate execution how many break which axiom by which cycle. */
 function forbiddenStates(test, wanted) {
   const [allowed, broken, sites] = [new Set(), new Map(), observed(test)];
   for (const it of candidates(test, MOST)) {
@@ -60,7 +60,7 @@ function sayWhy(test, { words, ways }) {
   return ways.length > MOST_CYCLES ? [...lines, `  and ${ways.length - MOST_CYCLES} other cycles`] : lines;
 }
 
-/** Of the states that are forbidden, in their order, the ways in which each is, the shortest first. */
+/** Returns the forbidden states in their order, each with the ways in which it is forbidden, the shortest first. */
 function inOrder(broken) {
   const key = ({ words }) => words.map((word) => word ?? -1);
   const before = (a, b) => {
@@ -72,8 +72,8 @@ function inOrder(broken) {
 }
 
 /**
- * The lines that say why a test does not end in a state, or in each that some candidate has (`all`); and the `cycles` that are told first,
- * each as a graph with its words.
+ * Returns the lines that say why a test does not end in a state, or in each that some candidate has (`all`); and the `cycles` that are named
+ * first, each as a graph with its words.
  */
 export function whyNot(test, state) {
   const wanted = state === "all" ? null : stateOf(test, state);

@@ -48,6 +48,18 @@ class FirstView(PageCase):
         for css in ("#text", "#outcome .verdict", "table.strip", "#watching .code li", "#watching .buffer", "#watching .memory"):
             self.assertTrue(self.user.run(IN_SIGHT, css), css)
 
+    def test_says_what_it_is(self):
+        """A line says what the page is and for whom, and another what to look at next, which is opened or set beside."""
+        user = self.user
+        user.open_listed()
+        self.assertIn("All ways a small parallel program can end on an x86 processor: proved, for students and programmers.", user.text("#what"))
+        self.assertSays("Next: the same test with fences: SB+mfences-x86, or compare both.", "#next")
+        user.click("#next-test")
+        self.assertSays("Forbidden.", "#outcome .verdict")
+        self.assertSays("Next: the same test without what was added: SB-x86", "#next")
+        user.click("#next-compare")
+        self.assertSoon(["SB+mfences-x86", "SB-x86"], lambda: user.texts(".side h2"))
+
     def test_says_where_it_runs(self):
         """What the page is, its words and its keys are a click away."""
         user = self.user
@@ -90,7 +102,7 @@ class Verdicts(PageCase):
         self.assertEqual("SRC SB\n{}\n P0 ", user.value()[:14])
         self.assertSays("The condition holds in none of 3 final states.", "#outcome .asked")
         self.assertEqual("Forbidden. There is no run by interleaving in which P0 reads y=0 and P1 reads x=0.", verdict(user))
-        self.assertEqual(["0:r0 0 1 1 0", "1:r0 1 0 1 0", "condition holds false false false"], columns(user))
+        self.assertEqual(["0:r0 0 1 1 0", "1:r0 1 0 1 0"], columns(user))
 
     def test_x86(self):
         """The state that interleaving lacks is marked."""

@@ -18,12 +18,13 @@ class WhyNot(PageCase):
     """Why a test does not end in a state."""
 
     def test_drawn(self):
-        """The cycle that forbids a state is told and drawn."""
+        """The state that the condition asks about is answered at once: the cycle that forbids it is told and drawn; no other graph is in sight."""
         user = self.user
         user.open_listed("#example=MP-x86")
+        user.find("#graph-place svg.graph")
         user.click("#tab-why")
         self.assertEqual(["1", "0"], [it.get_attribute("value") for it in user.all("#why input")])
-        user.click(".why-not")
+        self.assertEqual([], user.all("#graph-place"))
         self.assertSays("x86-TSO forbids 1:EAX=1; 1:EBX=0;", "#why .why-head")
         self.assertEqual("global happens-before: a -po-> b -rf-> c -po-> d -fr-> a", user.text("#why figcaption"))
         self.assertEqual(4, user.run("return document.querySelectorAll('#why figure path.marked').length"))
@@ -34,21 +35,36 @@ class WhyNot(PageCase):
         for name in ("SB", "MP", "LB", "IRIW", "Peterson"):
             user.open_listed(f"#example={name}")
             user.click("#tab-why")
-            user.click(".why-not")
             self.assertSays("x86-TSO forbids ", "#why .why-head")
             self.assertIn("Of the compiled program, with the source's names: ", user.text("#why .why-head"))
             self.assertEqual([], user.all("#why .notice"))
 
     def test_none_missing(self):
-        """If no state is missing, none is proposed; a state that is there is said to be allowed."""
+        """A state that a run ends in is said to be one, with that run drawn, which is watched; of a list that lacks none it is the chosen one."""
         user = self.user
         user.open_listed("#example=SB-x86")
         user.click("#tab-why")
-        self.assertEqual(["", ""], [it.get_attribute("value") for it in user.all("#why input")])
+        self.assertSays(f"A run ends in this state: {MISSED}", "#why .why-head")
+        self.assertEqual(4, len(user.wait(lambda: user.all("#why svg path.marked"))))
+        user.click("#tab-states")
+        user.click("table.strip tbody tr:first-child td[data-column='2']")
+        user.click("#tab-why")
+        self.assertSays("A run ends in this state: 0:EAX=1; 1:EAX=0;", "#why .why-head")
+        user.click(".watch-allowed")
+        self.assertSoon("true", lambda: user.find("#tab-states").get_attribute("aria-selected"))
+        user.find("#watching .machine")
+
+    def test_other_words(self):
+        """A state of words that no thread has is answered in one sentence, and what was answered before is gone."""
+        user = self.user
+        user.open_listed("#example=MP-x86&view=why")
+        user.find("#why figure")
         for it in user.all("#why input"):
-            it.send_keys("0")
+            it.clear()
+            it.send_keys("7")
         user.click(".why-not")
-        self.assertSays("x86-TSO allows this state", "#why .why-answers")
+        self.assertSays("No thread reads or writes such words: no candidate execution ends in 1:EAX=7; 1:EBX=7;", "#why .why-head")
+        self.assertEqual([], user.all("#why figure"))
 
 
 class Compiling(PageCase):
@@ -124,7 +140,7 @@ class Fences(PageCase):
         """Each fence with what it takes away, which is watched."""
         user = self.user
         user.open_listed("#example=SB&view=fences")
-        needed = "Each fence is needed: without any one of them the compiled program ends in more states. "
+        needed = "Every fence is needed: if any one of them is left out, the compiled program ends in more states. "
         self.assertSays(f"{needed}With all the condition holds in none of 3 states.", "#fences .verdict")
         rows = [f"P{it}, before MOV EAX,[{'yx'[it]}] adds 1 state {MISSED} Watch" for it in (0, 1)]
         self.assertEqual(rows, user.texts("#fences tbody tr"))
@@ -148,6 +164,21 @@ class Fences(PageCase):
             self.assertEqual(verdict, user.text("#fences .verdict"))
         names = user.texts("#fences tbody th")
         self.assertEqual(len(names), len(set(names)))
+
+    def test_more(self):
+        """Of a test whose question is answered otherwise, the fewest fences that would change that are offered, and tried."""
+        user = self.user
+        user.open_listed("#example=SB-x86&view=fences")
+        user.click(".find-fences")
+        self.assertSays("The fewest fences that forbid it:", "#fences .next-step")
+        said = "An MFENCE in P0 before MOV EAX,[y] and in P1 before MOV EAX,[x]: it holds in none of 3 states. Try it"
+        self.assertEqual([said], user.texts("#fences .fence-sets li"))
+        user.click("#fences .take")
+        self.assertSays("Forbidden.", "#outcome .verdict")
+        self.assertEqual(2, user.value().count("MFENCE"))
+        user.open_listed("#example=MP-x86&view=fences")
+        self.assertSays("The program has no MFENCE", "#fences .verdict")
+        self.assertEqual([], user.all("#fences .find-fences"))
 
     def test_search(self):
         """Where lw refuses a list, a search is offered, and then all lists come from lw."""
