@@ -6,14 +6,24 @@
 const PAUSE = 200;
 const KEY = "address";
 
-let kept = new URLSearchParams(keptForReload() ?? location.hash.slice(1));
+// What names an example, whose name has no blank.
+const NAMES = ["example", "beside"];
+
+let kept = parsed(keptForReload() ?? location.hash.slice(1));
 let timer = null;
 // The address as it was written or followed last. Where it is another, a link is about to be followed, and is not written over.
 let known = location.hash;
 keep();
 addEventListener("pageshow", keep);
 
-/** What was kept for a reload, where this is one. */
+/** Returns what the part of an address after `#` says. In the name of an example a bare `+` is a plus. */
+function parsed(text) {
+  const found = new URLSearchParams(text);
+  for (const name of NAMES) if (found.has(name)) found.set(name, found.get(name).replaceAll(" ", "+"));
+  return found;
+}
+
+/** Returns what was kept for a reload, if this is one. */
 function keptForReload() {
   try {
     return performance.getEntriesByType("navigation")[0]?.type === "reload" ? sessionStorage.getItem(KEY) : null;
@@ -30,7 +40,7 @@ function keep() {
   }
 }
 
-/** What the address says, as an object of texts. */
+/** Returns what the address says, as an object of texts. */
 export function read() {
   return Object.fromEntries(kept);
 }
@@ -69,7 +79,7 @@ export function onLink(act) {
     timer = null;
     const before = read();
     known = location.hash;
-    kept = new URLSearchParams(location.hash.slice(1));
+    kept = parsed(location.hash.slice(1));
     keep();
     act(before);
   });

@@ -15,7 +15,7 @@ const PICKS = [
 ];
 
 export class Gallery {
-  /** `chosen` is called with the name of an example, or with none for the reader's own test. */
+  /** Fills the dialog. It calls `chosen` with the name of an example, or with none for the reader's own test. */
   constructor(examples, chosen) {
     Object.assign(this, { examples, chosen });
     this.place = byId("gallery");
@@ -26,6 +26,7 @@ export class Gallery {
       "aria-label": "Search the examples",
       autocomplete: "off",
       input: () => this.draw(),
+      keydown: (event) => event.key === "Enter" && this.enter(event),
     });
     this.body = el("div", { class: "gallery-body" });
     this.count = el("p", { class: "small", role: "status" });
@@ -45,12 +46,23 @@ export class Gallery {
     this.search.focus();
   }
 
+  /** Opens the example whose name is written, or the only one that is found; of several the first gets the focus. */
+  enter(event) {
+    event.preventDefault();
+    const written = this.search.value.trim().toLowerCase();
+    const exact = [...this.examples.tests.keys()].find((it) => it.toLowerCase() === written);
+    const found = [...this.body.querySelectorAll(".example")];
+    const only = written && found.length === 1 ? found[0].dataset.name : undefined;
+    if (exact ?? only) this.take(exact ?? only);
+    else if (written) found[0]?.focus();
+  }
+
   take(name) {
     this.place.close();
     this.chosen(name);
   }
 
-  /** Whether nothing may be shown that gives an answer away. */
+  /** Returns whether nothing may be shown that gives an answer away. */
   get isPredicting() {
     return byId("predict").checked;
   }
@@ -61,7 +73,7 @@ export class Gallery {
     else this.drawAll();
   }
 
-  /** What is found by all words: in the names, and unless the reader predicts also in what is said of the tests. */
+  /** Shows what is found by all words: in the names, and unless the reader predicts also in what is said of the tests. */
   drawFound(words) {
     const textOf = (it, family) => `${it.name} ${this.isPredicting ? "" : `${it.shows} ${it.about} ${family.name}`}`.toLowerCase();
     const fits = (it, family) => words.every((word) => textOf(it, family).includes(word));
@@ -109,6 +121,6 @@ export class Gallery {
   exampleOf({ name, shows }) {
     const kind = name === this.examples.name ? "example here" : "example";
     const inner = [el("b", {}, name), el("span", {}, this.isPredicting ? "" : sentence(shows))];
-    return el("button", { type: "button", class: kind, click: () => this.take(name) }, inner);
+    return el("button", { type: "button", class: kind, "data-name": name, click: () => this.take(name) }, inner);
   }
 }

@@ -44,6 +44,20 @@ class Links(PageCase):
         user.open_listed(user.link())
         self.assertStep("Step 6 of 6:")
 
+    def test_names(self):
+        """A bare plus in the name of an example is a plus; of an example that does not exist it is said, and it shows the first test."""
+        user = self.user
+        user.open_listed("#example=SB+mfences-x86")
+        self.assertEqual("SB+mfences-x86", user.text("#example-name"))
+        self.assertEqual([], user.all("#unknown p"))
+        user.open("#example=SB-x86&beside=SB+mfences-x86")
+        self.assertSoon(["SB-x86", "SB+mfences-x86"], lambda: user.texts(".side h2"))
+        user.open_listed("#example=SB-ARM")
+        self.assertSays("There is no example named SB-ARM.", "#unknown .notice")
+        self.assertEqual("SB-x86", user.text("#example-name"))
+        user.open_listed("#example=MP-x86")
+        self.assertEqual([], user.all("#unknown p"))
+
     def test_pasted(self):
         """A link that is pasted is followed, also right after a change."""
         user = self.user
