@@ -5,7 +5,7 @@ import * as address from "./address.js";
 import { forget } from "./ask.js";
 import { Beside } from "./beside.js";
 import { Compile } from "./compile.js";
-import { byId } from "./dom.js";
+import { byId, el } from "./dom.js";
 import { Editor } from "./editor.js";
 import { Examples } from "./examples.js";
 import { Fences } from "./fences.js";
@@ -23,6 +23,8 @@ import { States } from "./states.js";
 import { hasServer, keep, table } from "./supplies.js";
 import { Tabs, VIEWS } from "./tabs.js";
 import { loadSentences, tellNothing } from "./told.js";
+import { showNextStep } from "./next.js";
+import { listenToPrint } from "./paper.js";
 import { nameOf } from "./tokens.js";
 import { hasModule } from "./ways.js";
 import { Why } from "./why.js";
@@ -37,39 +39,41 @@ const NOWHERE = { text: null, example: null, state: null, step: null, run: null,
 const editor = new Editor(byId("editor"), changed);
 const own = new Own(editor, (text) => take(text, { text }, true));
 const present = new Present();
-const why = new Why(editor);
+const why = new Why(editor, watchState);
 const states = new States(byId("outcome"), editor, () => revealed(), {
   why: askWhy,
   runPanel: byId("watching"),
   drawn: fitLater,
   graphPlace: byId("graph-place"),
+  next: byId("next"),
 });
 const panels = {
   compile: new Compile(byId("compile"), editor, (text) => take(text, { text })),
-  fences: new Fences(byId("fences"), editor),
+  fences: new Fences(byId("fences"), editor, (text) => take(text, { text })),
 };
 const tabs = new Tabs(opened);
 let examples;
 let beside;
 let typing = null;
 
-/** What is shown on a projector fits whenever it has changed. */
+/** Fits what is shown on a projector, after it has changed. */
 function fitLater() {
   requestAnimationFrame(() => present.fit());
 }
 
 // What is asked.
 
-/** A list is shown, or is gone: with it comes what is asked of it. */
+/** Offers what can be asked about the list, after it is shown or gone. */
 function revealed() {
   const report = states?.report ?? null;
-  why.offer(report);
+  why.offer(report, report && states.asked);
+  if (report && tabs.view === "why") why.askOnce();
   byId("printed-place").hidden = report === null;
   byId("printed-place").open = false;
   byId("printed").replaceChildren();
 }
 
-/** The text was changed by hand: what was answered is of another text, and pales till the answer on this one is there. */
+/** Pales what was answered on the text before the reader changed it, and lists the new one after a pause. */
 function changed(before) {
   guess.change(before, editor.text);
   forgetAnswers();
@@ -79,11 +83,12 @@ function changed(before) {
   typing = setTimeout(() => list({ isKept: true, most: MOST_BY_ITSELF }), TYPING);
 }
 
-/** Ends what is asked, and clears what is told of the text in the editor. */
+/** Ends all questions, and clears what is said of the text in the editor. */
 function forgetAnswers() {
   clearTimeout(typing);
   forget(editor);
   byId("said").textContent = "";
+  byId("unknown").replaceChildren();
   tellNothing(editor);
   for (const panel of Object.values(panels)) panel.clear();
 }
@@ -95,12 +100,12 @@ function clear() {
   pale(false);
 }
 
-/** Pales what was answered on another text, or shows it as before. */
+/** Pales what was answered on another text, or shows it again. */
 function pale(isStale) {
   for (const name of ["answers", "graph-place"]) byId(name).classList.toggle("stale", isStale);
 }
 
-/** Lists the states, and shows a run: that of a link, if there is one. What runs by itself is ended after `most` milliseconds. */
+/** Lists the states and shows a run: that of a link, if there is one. Ends what runs by itself after `most` milliseconds. */
 async function list({ link = null, isKept = false, most = null } = {}) {
   clearTimeout(typing);
   if (beside?.isOpen) return;
@@ -108,7 +113,7 @@ async function list({ link = null, isKept = false, most = null } = {}) {
   present.fit();
 }
 
-/** Lists the states, since the reader asks for it. In one column the answer comes into sight. */
+/** Lists the states at the reader's request. Scrolls to the answer if there is one column. */
 async function listAsked() {
   await list({ isKept: true });
   scrollToAnswers();
@@ -121,21 +126,30 @@ function scrollToAnswers() {
 
 /** Asks why no run ends in a state that is missing. */
 function askWhy(line) {
-  tabs.choose("why");
+  tabs.show("why");
+  address.put({ view: "why" });
+  byId("tab-why").focus({ preventScroll: true });
   why.set(line);
 }
 
-/** A tab was chosen: what it shows is asked. */
+/** Shows the run that is listed to a state. */
+function watchState(line) {
+  tabs.choose(VIEWS[0]);
+  states.choose(line);
+}
+
+/** Asks for what a tab shows, after it was chosen. */
 function opened(view) {
   address.put({ view: view === VIEWS[0] ? null : view });
   if (view === "hand") states.beginByHand();
   else if (view === "states") states.endByHand();
+  else if (view === "why") why.askOnce(states.strip.line);
   else panels[view]?.askOnce();
 }
 
 // Which test it is.
 
-/** Puts a text into the editor, says in the address which, and lists its states. What was there can be gone back to. */
+/** Puts a text into the editor, writes it into the address, and lists its states. The browser's Back returns to the text before. */
 async function take(text, where, isOwn = false) {
   own.keep();
   editor.text = text;
@@ -149,7 +163,10 @@ async function take(text, where, isOwn = false) {
 
 /** Shows which example the text in the editor is, if it is one, whether it is the reader's own, and what stands beside it. */
 function show(example, isOwn) {
-  examples?.show(example, editor.text);
+  if (examples) {
+    examples.show(example, editor.text);
+    showNextStep(examples, example, { choose, compare: (name) => beside.take({ beside: name }) });
+  }
   own.put(isOwn);
   beside?.follow();
 }
@@ -162,12 +179,19 @@ function follow() {
   editor.text = examples.textOf(example) ?? link.text ?? examples.textOf(FIRST);
   clear();
   byId("predict").checked = link.predict === "1";
+  tellUnknown([link.text === undefined && link.example, link.beside].filter((it) => it && examples.textOf(it) === undefined));
   const isOwn = !example && link.text !== undefined;
   show(example || (isOwn ? "" : FIRST), isOwn);
   states.isByHand = link.view === "hand";
   tabs.show(VIEWS.includes(link.view) ? link.view : VIEWS[0]);
   if (!beside.isOpen) panels[tabs.view]?.askOnce(MOST_BY_ITSELF);
   list({ link: link.state || link.view === "hand" ? link : null, most: MOST_BY_ITSELF });
+}
+
+/** Says that a link names examples that do not exist. */
+function tellUnknown(names) {
+  const words = `There is no example named ${names[0]}. The button at the top opens all examples.`;
+  byId("unknown").replaceChildren(...(names[0] ? [el("p", { class: "notice" }, words)] : []));
 }
 
 /** Follows a link from where the reader is. If it says the same of the first test, all that is shown of that stays. */
@@ -214,7 +238,7 @@ function listenToTools() {
   byId("printed-place").addEventListener("toggle", ({ target }) => target.open && byId("printed").replaceChildren(...states.printed()));
 }
 
-/** What the reader likes: to predict is kept in the address, the size of type and the caches by the browser. */
+/** Listens to the reader's choices: predicting is kept in the address, the other choices by the browser. */
 function listenToChoices() {
   byId("predict").addEventListener("change", ({ target }) => {
     address.put({ predict: target.checked ? "1" : null });
@@ -230,7 +254,7 @@ function listenToChoices() {
   scale();
 }
 
-/** Skips to the answers. The address keeps where the reader is, so the link is not followed. */
+/** Skips to the answers without following the link, since the address says where the reader is. */
 function listenToSkip() {
   byId("skip").addEventListener("click", (event) => {
     event.preventDefault();
@@ -251,6 +275,7 @@ async function begin() {
   listenToTools();
   listenToChoices();
   listenToSkip();
+  listenToPrint(() => (beside?.isOpen ? beside.sides.map((it) => it.states) : [states]));
   about(byId("about-dialog"));
   const [families] = await Promise.all([table("examples"), loadSentences()]);
   examples = new Examples(families);

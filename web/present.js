@@ -53,7 +53,7 @@ export class Present {
     byId("present").focus();
   }
 
-  /** The largest type in which all fits. */
+  /** Chooses the largest type in which all fits. */
   fit() {
     if (!this.isOpen) return;
     const isOne = !document.body.classList.contains("two");
@@ -73,7 +73,7 @@ export class Present {
     this.fits(small);
   }
 
-  /** Whether all fits in a size of type. */
+  /** Returns whether all fits in a size of type, and leaves the page in that size. */
   fits(size) {
     const root = document.documentElement;
     root.style.fontSize = `${size}px`;

@@ -143,6 +143,9 @@ class Windows(PageCase):
             self.assertTrue(bool(user.all("#watching .code .next .line")))
             text = "const it = document.querySelector('.printed'); return [it.textContent, it.scrollHeight <= it.clientHeight]"
             self.assertEqual([user.value(), True], user.run(text))
+            self.assertIn("Peterson in lw, a proved workbench", user.text("#paper h2"))
+            self.assertIn(f"The run of Peterson: {user.schedule()}, shown after ", user.text("#paper"))
+            self.assertIn(user.run("return location.href"), user.text("#paper"))
         finally:
             user.driver.execute_cdp_cmd("Emulation.setEmulatedMedia", {"media": ""})
 

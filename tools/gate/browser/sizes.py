@@ -111,7 +111,7 @@ class Phone(PageCase):
         self.assertEqual("true", user.find("#unfold").get_attribute("aria-expanded"))
         user.run_text("SRC A\n{}\n P0 ;\n x = 1 ;\nexists (x=1)\n")
         user.click("#unfold")
-        self.assertSays("Line 4, column 4: Form", "#fault")
+        self.assertSays("Line 4, column 4: = does not fit here.", "#fault")
 
     def test_wide_again(self):
         """In a wide window the text is beside the machine again."""

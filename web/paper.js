@@ -1,0 +1,27 @@
+// What is printed above the rest: which test it is, the schedule of the run that is shown, and a link to what is shown.
+
+import * as address from "./address.js";
+import { byId, el } from "./dom.js";
+import { nameOf } from "./tokens.js";
+
+/** Returns a line that says which run of a test is shown, and at which step; or nothing if there is none. */
+function lineOf({ editor, run }) {
+  if (!run.isOpen || run.isLocked || run.step === null) return null;
+  const schedule = run.events.length ? run.events.join(" ") : "no event";
+  return el("p", {}, `The run of ${nameOf(editor.text)}: `, el("code", {}, schedule), `, shown after ${run.step} of ${run.events.length} events.`);
+}
+
+/** Fills what is printed above the rest whenever the page is printed; `shown` returns the tests with their runs. */
+export function listenToPrint(shown) {
+  const fill = () => {
+    const tests = shown();
+    const names = tests.map(({ editor }) => nameOf(editor.text)).join(" beside ");
+    byId("paper").replaceChildren(
+      el("h2", {}, names, el("span", {}, " in lw, a proved workbench for litmus tests on x86-TSO")),
+      ...tests.map(lineOf).filter(Boolean),
+      el("p", {}, "This page: ", el("code", {}, address.link())),
+    );
+  };
+  addEventListener("beforeprint", fill);
+  matchMedia("print").addEventListener("change", ({ matches }) => matches && fill());
+}
