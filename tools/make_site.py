@@ -9,8 +9,8 @@ several a browser uses the first that it takes. There is no server: the module r
 Nothing is loaded from elsewhere.
 
 A page that was opened as a file may load neither JSON nor modules of JavaScript, so those of web/ are put together to one classic
-script each for the page and its worker, and tables and modules come in scripts too: packed, as gzip in base64. In a folder the page asks
-for a module when it is there, and for the second only if the browser does not take the first.
+script each for the page and its worker, and tables and modules come in scripts too: all of it packed, as gzip in base64. In a folder the page
+asks for a module when it is there, and for the second only if the browser does not take the first.
 """
 import base64
 import gzip
@@ -35,6 +35,15 @@ STYLE_COMMENT = re.compile(r"/\*.*?\*/\n?", re.S)
 EXPORT = re.compile(r"^export ((?:async )?(?:function\*?|class|const) (\w+))", re.M)
 # The documents that a site of files has beside the page, by their names there.
 DOCUMENTS = {"card.html": "CARD", "lab.html": "LAB", "terms.html": "GLOSSARY", "tutorial.html": "TUTORIAL"}
+# Unpacks a script in the browser, and runs it.
+UNPACKING = """"use strict";
+(async () => {
+const bytes = Uint8Array.from(atob(PACKED), (it) => it.charCodeAt(0));
+const script = document.createElement("script");
+script.text = await new Response(new Blob([bytes]).stream().pipeThrough(new DecompressionStream("gzip"))).text();
+document.body.append(script);
+})();
+"""
 # What a page of files may not do: send anything by a network.
 POLICY = "connect-src 'none'; object-src 'none'; frame-src 'none'; base-uri 'none'; form-action 'none'"
 
@@ -94,6 +103,11 @@ def packed(content):
     return base64.b64encode(gzip.compress(content, mtime=0)).decode()
 
 
+def unpacking(script):
+    """Returns a script that unpacks another one and runs it: the page's own code is a third as long when it is packed."""
+    return UNPACKING.replace("PACKED", in_script(packed(script.encode())))
+
+
 def scripts(modules, is_kept, web, documents=()):
     """The scripts of the page, in their order: what `site` is, which web/supplies.js takes, the page's own code, and the modules."""
     tables = {"examples": web_files.families(), "sentences": web_files.sentences(), "worker": bundle("worker", web)}
@@ -107,7 +121,7 @@ def scripts(modules, is_kept, web, documents=()):
         # In a folder each module is a file that the page asks for itself; in one file they are after the page.
         "moduleFiles": names if is_kept else [],
     }
-    made = {"tables.js": f"globalThis.site = {in_script(site)};\n", "page.js": bundle("main", web)}
+    made = {"tables.js": f"globalThis.site = {in_script(site)};\n", "page.js": unpacking(bundle("main", web))}
     for name, module in zip(names, modules):
         made[name] = f"globalThis.site.modules.push({in_script(packed(module))});\nglobalThis.site.came?.();\n"
     return made
