@@ -10,7 +10,7 @@ Nothing is loaded from elsewhere.
 
 A page that was opened as a file may load neither JSON nor modules of JavaScript, so those of web/ are put together to one classic
 script each for the page and its worker, and tables and modules come in scripts too: all of it packed, as gzip in base64. In a folder the page
-asks for a module when it is there, and for the second only if the browser does not take the first.
+asks for a module as soon as the tables are there, and for the second only if the browser does not take the first.
 """
 import base64
 import gzip
@@ -43,6 +43,16 @@ const script = document.createElement("script");
 script.text = await new Response(new Blob([bytes]).stream().pipeThrough(new DecompressionStream("gzip"))).text();
 document.body.append(script);
 })();
+"""
+# Asks for the first module before the page's own code is there. The page waits for `site.coming`.
+FETCHING = """globalThis.site.coming = new Promise((resolve, reject) => {
+const script = document.createElement("script");
+script.src = FILE;
+script.onload = resolve;
+script.onerror = () => reject(new Error(FILE + " does not come"));
+document.head.append(script);
+});
+globalThis.site.coming.catch(() => null);
 """
 # What a page of files may not do: send anything by a network.
 POLICY = "connect-src 'none'; object-src 'none'; frame-src 'none'; base-uri 'none'; form-action 'none'"
@@ -118,10 +128,11 @@ def scripts(modules, is_kept, web, documents=()):
         "documents": sorted(documents),
         "modules": [],
         "numberOfModules": len(modules),
-        # In a folder each module is a file that the page asks for itself; in one file they are after the page.
-        "moduleFiles": names if is_kept else [],
+        # In a folder the page asks itself for each module after the first; in one file they are after the page.
+        "moduleFiles": ["", *names[1:]] if is_kept else [],
     }
-    made = {"tables.js": f"globalThis.site = {in_script(site)};\n", "page.js": unpacking(bundle("main", web))}
+    first = FETCHING.replace("FILE", in_script(names[0])) if is_kept and names else ""
+    made = {"tables.js": f"globalThis.site = {in_script(site)};\n{first}", "page.js": unpacking(bundle("main", web))}
     for name, module in zip(names, modules):
         made[name] = f"globalThis.site.modules.push({in_script(packed(module))});\nglobalThis.site.came?.();\n"
     return made

@@ -25,8 +25,9 @@ export async function table(name) {
 
 /** The bytes of each module that there is, the one that is wanted most first. */
 export async function* modules() {
-  // The modules are large: the page is there before them, and asks for another only if the browser does not take the first.
+  // The modules are large: the first comes while the page begins, and another is asked for only if the browser does not take the first.
   for (let at = 0; at < (site?.numberOfModules ?? 0); at += 1) {
+    if (at === 0) await site.coming;
     if (site.moduleFiles[at]) await fetchScript(site.moduleFiles[at]);
     while (site.modules.length <= at) await new Promise((resolve) => (site.came = resolve));
     yield unpacked(site.modules[at]);

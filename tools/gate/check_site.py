@@ -41,8 +41,8 @@ NODE = shutil.which("node")
 SMALLEST = b"\0asm\1\0\0\0"
 # The most bytes of the site of one file.
 MOST_BYTES = 1_000_000
-# The most bytes that a browser loads of a site of files before its first answer: at 1.6 Mbit/s they take some 2.6 seconds.
-MOST_LOADED = 530_000
+# The most bytes that a browser loads of a site of files before its first answer: at 1.6 Mbit/s they take some 2.2 seconds.
+MOST_LOADED = 440_000
 LOADED = ("index.html", "style.css", "tables.js", "page.js", "workbench1.js")
 BUNDLED = {
     "main.js": 'import { two } from "./other.js";\nimport * as whole from "./other.js";\ntold.push(two(), whole.one, typeof site);\n',
