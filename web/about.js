@@ -5,13 +5,13 @@ import { documents } from "./supplies.js";
 
 const TERMS = [
   ["store buffer", "where a processor keeps its stores before others can see them: a queue, the oldest first; the processor itself reads from it"],
-  ["drain", "the oldest entry of a store buffer goes to memory: `D0` in a schedule, where `P0` is the next instruction of P0"],
+  ["drain", "the oldest entry of a store buffer goes to memory; in a schedule `D0` is a drain of P0, and `P0` its next instruction"],
   ["final state", "what the registers and locations that the test asks about have when all threads and buffers are done"],
   ["condition", "what the test asks about a final state. `exists`: can a run end this way; `~exists`: can none; `forall`: does every run"],
   ["fence", "an instruction that waits until the own store buffer is empty: `MFENCE`, `XCHG`, `LOCK XADD`"],
   ["interleaving", "the threads take turns on one memory, without store buffers"],
   ["complete (proved)", "the list has every final state and no other: found by the orders of what conflicts, or by a search of the machine's states"],
-  ["not proved", "found by the page's own code: graphs, what is left of a program without its fences; and marks, if the program on this machine answers"],
+  ["not proved", "found by the page's own code: graphs, why a state is missing, texts with other fences, and how two lists differ"],
 ];
 const KEYS = [
   ["← →", "a step back, a step forward"],
@@ -26,7 +26,8 @@ const DOCUMENTS = [
 ];
 const WHAT =
   "lw answers a question about a small parallel program, a litmus test: in which states can it end? On x86 a store waits in its processor's " +
-  "store buffer, while loads after it go ahead; so there are final states that no interleaving explains.";
+  "store buffer, while loads after it go ahead; so there are final states that no interleaving explains. It is for students of concurrency and " +
+  "for programmers of lock-free code.";
 const PROVED = "Reports, schedules, compiled texts and each step of a run come from a program that is proved correct";
 const PLAIN = ". What the page's own code finds, which is not proved, is marked ";
 

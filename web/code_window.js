@@ -1,14 +1,20 @@
 // The part of a thread's code that is in sight, if not all of it has room: the next instruction is always in it, and the first line is whole.
 // There is no scroll bar: the box says which lines are shown, and the last line is pale if others follow it.
 
+// What part of a line may be missing at the end of a code that is shown as a whole.
+const SPARE = 0.35;
+
 /** Puts the next instruction of each thread's code into sight, and says which lines are there. */
 export function showNext(place) {
   for (const code of place.querySelectorAll(".code")) {
     const next = code.querySelector(".next, .reached");
     // Room after the last line lets every line be the first in sight.
     code.style.paddingBottom = "";
-    if (code.scrollHeight > code.clientHeight + 1) code.style.paddingBottom = `${code.firstElementChild.offsetHeight}px`;
-    if (next) scrollTo(code, next);
+    const height = code.firstElementChild.offsetHeight;
+    const isWhole = code.scrollHeight <= code.clientHeight + SPARE * height;
+    if (!isWhole) code.style.paddingBottom = `${height}px`;
+    if (isWhole) code.scrollTop = 0;
+    else if (next) scrollTo(code, next);
     tellLines(code);
   }
 }

@@ -100,7 +100,7 @@ export class Fences {
   parts(answer) {
     const { table, condition, texts } = answer;
     const by = this.everything.checked ? "by all registers and locations?" : ["by the question ", el("code", {}, condition), "?"];
-    const head = el("tr", {}, ["Fence", "Left out alone", "States that are there without it"].map((it) => el("th", { scope: "col" }, it)));
+    const head = el("tr", {}, ["Fence", "If only it is left out", "States that are new then"].map((it) => el("th", { scope: "col" }, it)));
     const names = namesOf(table);
     const rows = table.rows.map((it, at) => this.rowOf(names[at], it, texts[at]));
     const shown = el("table", {}, el("thead", {}, head), el("tbody", {}, rows));
@@ -153,7 +153,8 @@ function verdictOf({ table, language }, names) {
   }
   if (enough.length < rows.length) {
     const kept = names.filter((_, at) => enough.some((it) => `${rows[at].place},`.startsWith(`${it},`)));
-    return [`Enough for the same ${statesOf(states)}, with none to spare: ${kept.join("; ")}. With these${holding}them.`];
+    const needed = `These are enough for the same ${statesOf(states)}, and none of them can be left out: ${kept.join("; ")}.`;
+    return [`${needed} With them${holding}these states.`];
   }
   const needed = isOne ? "The fence is needed: without it" : "Every fence is needed: if any one of them is left out,";
   return [`${needed} ${what} ends in more states. With ${isOne ? "it" : "all"}${holding}${statesOf(states)}.`];

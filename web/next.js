@@ -5,7 +5,7 @@ import { documents } from "./supplies.js";
 
 /** Returns what is said of the example to which the next step leads. */
 function wordsOf(examples, name, partner) {
-  if (examples.fencedOf(name) === partner) return "the same test with fences: ";
+  if (examples.fencedOf(name) === partner) return `the same test with ${/\+.*(?:xchg|xadd)/.test(partner) ? "locked instructions" : "fences"}: `;
   if (partner === `${name}-x86`) return "the same for x86, without the compiler's fences: ";
   return "the same test without what was added: ";
 }

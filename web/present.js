@@ -4,8 +4,9 @@
 
 import { byId } from "./dom.js";
 
-// The least size of type in pixels, the least of one test as a part of the height of the window, and the most.
+// The least size of type in pixels, of one test and of two, the least of one test as a part of the height of the window, and the most.
 const LEAST = 18;
+const LEAST_OF_TWO = 13;
 const LEAST_OF_HEIGHT = 0.024;
 const MOST = 44;
 // Where the graph may be, the best first: beside the machine, beside all, or nowhere.
@@ -57,7 +58,7 @@ export class Present {
   fit() {
     if (!this.isOpen) return;
     const isOne = !document.body.classList.contains("two");
-    const least = isOne ? Math.max(LEAST, LEAST_OF_HEIGHT * innerHeight) : LEAST;
+    const least = isOne ? Math.max(LEAST, LEAST_OF_HEIGHT * innerHeight) : LEAST_OF_TWO;
     let [small, large] = [least, Math.max(MOST, least * 2)];
     const { dataset } = document.documentElement;
     for (const place of GRAPH_PLACES) {

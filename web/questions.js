@@ -46,8 +46,11 @@ function answerFilm(program, text, { state, protocol, search = false }, passed) 
   return { state, schedule, films };
 }
 
-/** Returns a state with what led to it, in what it ends, and what the machine can do next: each event, with its cause if it is refused. */
-function answerMoves(program, text, { schedule, protocol }) {
+/**
+ * Returns a state with what led to it, in what it ends, and what the machine can do next: each event, with its cause if it is refused; with
+ * `whole` also of each thread the registers that events have put words into.
+ */
+function answerMoves(program, text, { schedule, protocol, whole = false }) {
   const state = program.replayed(text, schedule, protocol);
   if (state.end.kind === "Stopped") throw refusalOf(state.end, eventsIn(schedule));
   const language = languageOf(text);
@@ -59,7 +62,7 @@ function answerMoves(program, text, { schedule, protocol }) {
   });
   const cells = cellsOf(program, text);
   const ending = endingOf(text, state);
-  const put = registersPut(program, text, { schedule, protocol }, cells);
+  const put = whole ? registersPut(program, text, { schedule, protocol }, cells) : null;
   return { state, ...lastOf(program, text, { schedule, protocol }, cells, state), put, ending, moves, cells, language };
 }
 

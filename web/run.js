@@ -168,7 +168,7 @@ export class Run {
 
   /** Returns the answer on where a schedule leads, and what can be done there. */
   leadTo(text, schedule) {
-    return ask(this.editor, "moves", { text, schedule, protocol: this.protocol }, { name: "where a schedule leads" });
+    return ask(this.editor, "moves", { text, schedule, protocol: this.protocol, whole: true }, { name: "where a schedule leads" });
   }
 
   // Where in it the reader is.
@@ -190,7 +190,7 @@ export class Run {
     if (!this.frames[step]) {
       const answer = await this.movesAt(step);
       if (!answer?.state || ticket !== this.ticket) return;
-      this.frames[step] = answer;
+      this.frames[step] = { ...answer, put: answer.put ?? this.putAt(step, answer.effect) };
     }
     const direction = this.step === null || Math.abs(step - this.step) !== 1 ? 0 : step - this.step;
     Object.assign(this, { step, ending: null });
@@ -200,6 +200,12 @@ export class Run {
     clearTimeout(this.learning);
     const isKnown = this.kept.has(this.keyOf(this.scheduleTo(step)));
     if (!this.view.player.timer) this.learning = setTimeout(() => this.learn(ticket), isKnown ? 0 : LEARN);
+  }
+
+  /** Returns the registers that events have put words into up to a step whose event has an effect, or null if that is not known. */
+  putAt(step, effect) {
+    const before = this.frames[step - 1]?.put;
+    return before ? putAfter(before, effect) : null;
   }
 
   /** Shows the same step again, after a choice has changed how it is shown. */
@@ -227,7 +233,8 @@ export class Run {
     const schedule = this.scheduleTo(step);
     const key = this.keyOf(schedule);
     if (!this.kept.has(key)) {
-      const asked = ask(this.editor, "moves", { text: this.text, schedule, protocol: this.protocol }).then((answer) => {
+      const whole = !this.frames[step]?.put && !this.frames[step - 1]?.put;
+      const asked = ask(this.editor, "moves", { text: this.text, schedule, protocol: this.protocol, whole }).then((answer) => {
         if (!answer?.moves) this.kept.delete(key);
         return answer;
       });

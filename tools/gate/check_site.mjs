@@ -231,7 +231,7 @@ function runsOf(text, listed) {
   const schedule = !/^\s*SRC/.test(text) ? listed : / P0 \|/.test(text) ? "P0 P1 P0 P1" : "P0";
   const events = schedule.split(" ");
   const half = events.slice(0, events.length >> 1).join(" ");
-  const moves = [half, "", schedule, `${schedule} P3`, "P0 Q1"].map((it, at) => ["moves", { schedule: it, protocol: PROTOCOLS[at % 2] }]);
+  const moves = [half, "", schedule, `${schedule} P3`, "P0 Q1"].map((it, at) => ["moves", { schedule: it, protocol: PROTOCOLS[at % 2], whole: at % 3 !== 1 }]);
   const pictures = [true, false].map((strip) => ["picture", { schedule: half, protocol: "moesi", strip }]);
   const refused = { schedule: `${half} D0 E0:x D1 D0`, protocol: "mesi" };
   return [...moves, ...pictures, ...[true, false].map((strip) => ["picture", { ...refused, strip }])];

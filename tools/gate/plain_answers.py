@@ -199,8 +199,9 @@ def answer_film(text, state, protocol):
     return {"state": state, "schedule": schedule, "films": shown}
 
 
-def answer_moves(text, schedule, protocol):
-    """A state with what led to it, what it ends in, and what the machine can do next: each event, with the cause where it is refused."""
+def answer_moves(text, schedule, protocol, whole=False):
+    """Returns a state with what led to it, in what it ends, and what the machine can do next: each event, with its cause if it is refused; of a
+    whole answer also the registers that events have put words into."""
     state = replayed(text, schedule, protocol)
     if state["end"]["kind"] == "Stopped":
         refused = {name: state["end"][name] for name in ("at", "number", "cause")}
@@ -217,7 +218,7 @@ def answer_moves(text, schedule, protocol):
             moves.append({"event": event, "thread": thread, "refused": refused})
     film = film_of(text, schedule, protocol)
     effect, before = (film["effects"] or [None])[-1], film["states"][-2:][0]
-    told = {"state": state, "before": before, "effect": effect, "put": registers_put(film), "ending": ending_of(text, state)}
+    told = {"state": state, "before": before, "effect": effect, "put": registers_put(film) if whole else None, "ending": ending_of(text, state)}
     return {**told, "moves": moves, "cells": film["cells"], "language": language_of(text)}
 
 

@@ -157,8 +157,8 @@ class Fences(PageCase):
             ("SB+mfence-x86", "The fence changes nothing: with it and without it the test ends in the same 4 states, and "
              "the condition holds in 1 of them."),
             ("R+mfence-x86", "The fence is needed: without it the test ends in more states. With it the condition holds in none of 3 states."),
-            ("Bakery", "Enough for the same 3 states, with none to spare: P0, before MOV EAX,[n1]; P1, before MOV EBX,[c0]. "
-             "With these the condition holds in none of them."),
+            ("Bakery", "These are enough for the same 3 states, and none of them can be left out: P0, before MOV EAX,[n1]; "
+             "P1, before MOV EBX,[c0]. With them the condition holds in none of these states."),
         ):
             user.open(f"#example={quote(example)}&view=fences")
             self.assertEqual(verdict, user.text("#fences .verdict"))
