@@ -16,8 +16,8 @@ const MADE = { compiled: "what it is compiled to", bare: "that without its fence
 
 export class Beside {
   /**
-   * `choose` puts an example into the editor, or with no name the reader's own test; `copyLink` copies the address; `drawn` is called when
-   * another run is shown.
+   * Makes both sides. `choose` puts an example into the editor, or with no name the reader's own test; `copyLink` copies the address; `drawn` is
+   * called when another run is shown.
    */
   constructor(editor, examples, own, { choose, copyLink, drawn }) {
     Object.assign(this, { editor, examples, own, isOpen: false, made: null });
@@ -49,7 +49,7 @@ export class Beside {
     this.place.append(title, el("div", { class: "row both" }, controls), this.told, sides);
   }
 
-  /** Keys go to what was used last: one side, or both together. */
+  /** Listens to the button that compares, and gives the keys to what was used last: one side, or both together. */
   listen() {
     byId("set-beside").addEventListener("click", () => this.open());
     for (const side of this.sides) {

@@ -113,7 +113,7 @@ export class Fences {
         isSource ? [" ", sentence(mappedNames(JSON.stringify([condition, table])))] : ""),
       table.rows.length ? el("div", { class: "wide" }, shown) : "",
       el("p", { class: "verdict", role: "status" }, el("strong", {}, verdictOf(answer, names))),
-      table.rows.length ? el("p", { class: "small" }, "The page itself leaves the fences out of the text ", plainMark(), ". ", ...lists) : "",
+      el("p", { class: "small" }, table.rows.length ? ["The page itself leaves the fences out of the text ", plainMark(), ". "] : "", ...lists),
       isPlain ? this.offer() : "",
     ];
   }

@@ -18,17 +18,17 @@ let edited = null;
 // What waits for guesses: each with its text, what is shown meanwhile, and what is done then.
 let waiting = [];
 
-/** Whether a guess on a text is waited for. */
+/** Returns whether a guess on a text is awaited. */
 export function isAwaited(text) {
   return byId("predict").checked && !guesses.has(text) && text !== edited;
 }
 
-/** What the reader, who wants to predict, has said of a text, or null. */
+/** Returns what the reader, who wants to predict, has said of a text, or null. */
 export function guessOn(text) {
   return byId("predict").checked ? (guesses.get(text) ?? null) : null;
 }
 
-/** The reader has said what to expect of a text, or nothing can be expected of it. */
+/** Keeps what the reader expects of a text, or that nothing can be expected of it. */
 export function settle(text, said) {
   guesses.set(text, said);
   store();
@@ -51,7 +51,7 @@ function store() {
   }
 }
 
-/** The reader has changed a text by hand. */
+/** Takes note that the reader has changed a text by hand. */
 export function change(before, after) {
   edited = guesses.get(before) !== undefined || before === edited ? after : null;
 }

@@ -73,7 +73,7 @@ export class Lockstep {
     await Promise.all([first.step === i ? null : first.go(i), second.step === j ? null : second.go(j)]);
   }
 
-  /** Keys step both, unless one of the two has them. */
+  /** Steps both by keys, unless one of the two has them. */
   key(event) {
     const { key, target } = event;
     if (!this.isReady || this.runs.some((it) => it.editor.hasKeys) || event.altKey || event.ctrlKey || event.metaKey) return;

@@ -161,7 +161,7 @@ function answerWhyNot(program, text, { state }) {
 
 const inSource = (words) => renamed(words, REGISTERS.X86, REGISTERS.SRC);
 
-/** Words in which registers have their names of another language, by their numbers. */
+/** Returns words in which registers have their names of another language, by their numbers. */
 function renamed(words, from, to) {
   return words.replace(/\b([0-3]):([A-Za-z]\w*)\b/g, (name, thread, register) => {
     const number = from.indexOf(register);

@@ -39,8 +39,8 @@ const protocolOf = (name) => (PROTOCOLS.includes(name) ? name : "mesi");
 
 export class Run {
   /**
-   * `reached` is called with the line of a state in which a run by hand has ended, `drawn` when another run is shown, `moved` when it is at
-   * another step. `truthOf` says of the line of a state whether the condition holds there, or null if the list does not say.
+   * Makes a place for a run. `reached` is called with the line of a state in which a run by hand has ended, `drawn` when another run is shown,
+   * `moved` when it is at another step. `truthOf` says of the line of a state whether the condition holds there, or null if the list does not say.
    */
   constructor(editor, { isLinked = true, graphPlace = null, ...called } = {}) {
     const nothing = () => null;

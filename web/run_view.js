@@ -118,7 +118,7 @@ export class RunView {
   async drawGraph() {
     const { run } = this;
     if (run.isX86) return graphOf(run.editor, run.text, run.events.join(" "), this.graph, run.tints);
-    return this.graph.replaceChildren(el("p", { class: "small" }, "A graph is drawn of a run of an x86 program."));
+    return this.graph.replaceChildren(el("p", { class: "small" }, "Only a run of an x86 program has a graph."));
   }
 }
 

@@ -32,8 +32,8 @@ class Sheet {
 
 export class Side {
   /**
-   * `chosen` is called with what is chosen in the list of tests, `revealed` when the states are shown and when they are gone, `drawn` when
-   * another run is shown, `moved` when a run is at another step.
+   * Makes an empty side. `chosen` is called with what is chosen in the list of tests, `revealed` when the states are shown and when they are gone,
+   * `drawn` when another run is shown, `moved` when a run is at another step.
    */
   constructor(name, label, { chosen, revealed, drawn, moved }) {
     this.sheet = new Sheet(name);

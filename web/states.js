@@ -36,9 +36,9 @@ function guessedWords(isRight) {
 
 export class States {
   /**
-   * `revealed` is called when a list is shown, and when it is gone: `report` is that list, or null. `why` is called with a missing state,
-   * `drawn` when another run is shown, `moved` when it is at another step. Runs are shown in `runPanel`, and their graph in `graphPlace`.
-   * `firstStep` is the step at which the first run is shown: "telling", or a number. `next` is shown below the run.
+   * Makes the places for a verdict, a list and a run. `revealed` is called when a list is shown, and when it is gone: `report` is that list, or null.
+   * `why` is called with a missing state, `drawn` when another run is shown, `moved` when it is at another step. Runs are shown in `runPanel`, and
+   * their graph in `graphPlace`. `firstStep` is the step at which the first run is shown: "telling", or a number. `next` is shown below the run.
    */
   constructor(panel, editor, revealed = () => null, more = {}) {
     const { why = null, runPanel = panel, graphPlace = null, firstStep = "telling", next = null, ...called } = more;

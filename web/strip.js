@@ -24,8 +24,8 @@ const NOT_PROVED = `${MARKED}: found by the page's own code, which is not proved
 
 export class Strip {
   /**
-   * `choose` is called with the line of a state, `why` with the line of one that is missing. The list is as wide as `wide`; what a state
-   * is that another list has not is said by `aloneWords`.
+   * Makes a place for a list. `choose` is called with the line of a state, `why` with the line of one that is missing. The list is as wide as `wide`;
+   * what a state is that another list has not is said by `aloneWords`.
    */
   constructor(editor, { choose, why = null, name = "row", wide = null, aloneWords = "only here" }) {
     Object.assign(this, { editor, choose, why, name, wide, aloneWords, report: null, alone: null, found: null, line: null });

@@ -3,27 +3,27 @@
 
 const site = globalThis.site ?? null;
 
-/** Whether a server stands behind the page, which can be asked too. */
+/** Says whether the page has a server, which can be asked too. */
 export const hasServer = site === null;
 
-/** The documents that a made site carries, by the names of their files. */
+/** Names the documents that a made site carries, by their files. */
 export const documents = site?.documents ?? [];
 
 const tables = site && unpacked(site.tables).then((bytes) => JSON.parse(new TextDecoder().decode(bytes)));
 
-/** The bytes that are packed: gzip in base64. */
+/** Returns the bytes of a packed text: gzip in base64. */
 async function unpacked(text) {
   const bytes = Uint8Array.from(atob(text), (letter) => letter.charCodeAt(0));
   const stream = new Blob([bytes]).stream().pipeThrough(new DecompressionStream("gzip"));
   return new Uint8Array(await new Response(stream).arrayBuffer());
 }
 
-/** A table of the documents: of the examples, or of the sentences on faults. */
+/** Returns a table of the documents: of the examples, or of the sentences on faults. */
 export async function table(name) {
   return site ? (await tables)[name] : (await fetch(`${name}.json`)).json();
 }
 
-/** The bytes of each module that there is, the one that is wanted most first. */
+/** Yields the bytes of each module, the preferred one first. */
 export async function* modules() {
   // The modules are large: the first comes while the page begins, and another is asked for only if the browser does not take the first.
   for (let at = 0; at < (site?.numberOfModules ?? 0); at += 1) {
@@ -46,7 +46,7 @@ function fetchScript(name) {
   });
 }
 
-/** A worker that runs worker.js. A page that was opened as a file may start none but from its own memory. */
+/** Returns a worker that runs worker.js. A page that was opened as a file may start one only from its own memory. */
 export async function newWorker() {
   if (!site) return new Worker("worker.js", { type: "module" });
   const address = URL.createObjectURL(new Blob([(await tables).worker], { type: "text/javascript" }));

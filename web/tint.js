@@ -12,7 +12,7 @@ const FIXED = ["x", "y", "z", "w"];
 const MOST_COLOURED = 20000;
 const TOKEN = /\(\*|\*\)|\d+:[A-Za-z]\w*|0x[\da-fA-F]+|\$?\d+|[A-Za-z_]\w*|\s+|:=|[^\sA-Za-z_0-9]/g;
 
-/** The colours of the locations of a test: those of the four usual names are the same in all tests. */
+/** Chooses the colours of the locations of a test: those of the four usual names are the same in all tests. */
 class Tints {
   constructor(names) {
     const sorted = [...new Set(names)].sort();
@@ -20,7 +20,7 @@ class Tints {
     this.numbers = new Map(sorted.map((name) => [name, FIXED.includes(name) ? FIXED.indexOf(name) : (free.shift() ?? COLOURS - 1)]));
   }
 
-  /** The class of a location, or nothing where there is none of the name. */
+  /** Returns the class of a location, or an empty text if no location has the name. */
   of(name) {
     return this.numbers.has(name) ? `loc loc-${this.numbers.get(name)}` : "";
   }
@@ -32,7 +32,7 @@ export function threadClass(thread) {
 
 let last = { text: null, tints: new Tints([]) };
 
-/** The colours of a text's locations; of a text that is no test those that were there before. */
+/** Returns the colours of a text's locations; of a text that is no test those of the last one. */
 export function tintsOf(text) {
   if (text === last.text) return last.tints;
   try {
@@ -43,7 +43,7 @@ export function tintsOf(text) {
   return last.tints;
 }
 
-/** A site of a state, `0:EAX` or `x`, in its colour. */
+/** Returns a site of a state, `0:EAX` or `x`, in its colour. */
 export function siteNode(name, tints) {
   const thread = /^(\d):/.exec(name)?.[1];
   return el("span", { class: thread === undefined ? tints.of(name) : threadClass(thread) }, name);
@@ -54,7 +54,7 @@ export function testName(text) {
   return el("b", { class: "test-name" }, `${nameOf(text)} `);
 }
 
-/** A piece of code of a thread, in colours. */
+/** Returns a piece of code of a thread, in colours. */
 export function codeNodes(text, tints, thread) {
   return [...text.matchAll(TOKEN)].map(([it]) => nodeOf(it, tints, thread));
 }
@@ -72,7 +72,7 @@ function nodeOf(token, tints, thread) {
   return /^\$?\d/.test(token) ? el("span", { class: "number" }, token) : token;
 }
 
-/** A whole text in colours: what each thread has is known by the bars between the cells. */
+/** Returns a whole text in colours: the bars between the cells say what each thread has. */
 export function textNodes(text, tints) {
   if (text.length > MOST_COLOURED) return [text];
   const nodes = [];
@@ -97,7 +97,7 @@ export function textNodes(text, tints) {
   return nodes;
 }
 
-/** A sentence whose code, between backquotes, is in colours. */
+/** Returns a sentence whose code, between backquotes, is in colours. */
 export function tintedSentence(text, tints) {
   const thread = /^P(\d)/.exec(text)?.[1] ?? null;
   return text.split("`").flatMap((part, at) => {

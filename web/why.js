@@ -16,7 +16,7 @@ import { headingOf } from "./tokens.js";
 const CIRCLE = "Each arrow means “comes before”. The bold ones form a cycle, so no run can end this way.";
 
 export class Why {
-  /** `watch` is called with the line of a state whose run the reader wants to watch. */
+  /** Makes an empty panel. It calls `watch` with the line of a state whose run the reader wants to watch. */
   constructor(editor, watch) {
     Object.assign(this, { editor, watch, fields: [], report: null, askedOf: null });
     this.form = el("div", { class: "why-form" });

@@ -271,6 +271,7 @@ class Projector(PageCase):
         user = self.user
         self.present("#example=SB-x86", 1280, 720)
         self.assertEqual("exists (0:EAX=0 /\\ 1:EAX=0)", user.text("#outcome .asked code"))
+        self.assertEqual("SB-x86", user.text("#outcome .test-name"))
         user.find("#answers > #graph-place svg.graph")
         self.assertSoon(True, lambda: user.run(IN_SIGHT, "svg.graph, #watching .machine, #watching .events"))
         user.press(user.keys.ESCAPE)

@@ -199,7 +199,7 @@ class Fences(PageCase):
         self.assertSays("In the compiled program EAX is r0 of the source.", "#compile p")
         user.click("#tab-states")
         user.choose("#film-run", "x86")
-        self.assertSoon(["EAX r0 0"], lambda: sorted({it.replace(" put", "") for it in user.texts("#watching .register")}))
+        self.assertSoon(["EAX r0 0"], lambda: sorted({" ".join(it.split()[:3]) for it in user.texts("#watching .register")}))
 
     def test_several_in_a_thread(self):
         """Two fences of one thread."""

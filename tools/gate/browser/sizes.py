@@ -1,4 +1,5 @@
 """What is in sight, in windows of all sizes: the verdict, the step, the next instruction and memory; and no scroll bar inside another."""
+from gate.browser.lists import IN_SIGHT
 from gate.browser.page_case import PageCase
 
 SIZES = ((1280, 720), (1920, 1080), (1024, 640), (390, 844), (360, 640))
@@ -18,6 +19,17 @@ const isInScrolled = (it) => {
 return [...document.querySelectorAll("#test, #test *, #answers, #answers *")]
   .filter((it) => it.checkVisibility() && !it.closest(".rows-box") && isScrolled(it) && isInScrolled(it)).map((it) => it.id || it.className);
 """
+# What is scrolled by a bar of its own, the page included.
+BARS = """
+const isScrolled = (it) => {
+  const style = getComputedStyle(it);
+  const [down, across] = [it.scrollHeight > it.clientHeight + 1, it.scrollWidth > it.clientWidth + 1];
+  const goes = (way, is) => is && (it === document.scrollingElement || /auto|scroll/.test(style[way]));
+  return it.clientHeight > 0 && style.scrollbarWidth !== "none" && (goes("overflowY", down) || goes("overflowX", across));
+};
+return [document.scrollingElement, ...document.querySelectorAll("main, main *")]
+  .filter((it) => it.checkVisibility() && isScrolled(it)).map((it) => it.id || it.className || it.tagName);
+"""
 # Of the machine, once it is in sight: the next instructions and the words of memory that are out of sight or covered.
 COVERED = """
 document.querySelector("#watching .run").scrollIntoView({ block: "start" });
@@ -26,8 +38,8 @@ const isSeen = (it) => {
   const seen = document.elementFromPoint((left + right) / 2, (top + bottom) / 2);
   return top >= 0 && bottom <= innerHeight + 1 && (it.contains(seen) || seen?.contains(it));
 };
-const wanted = arguments[0] ? "#watching .memory .word, #watching .step" : "#watching .memory .word, #watching .code .next, #watching .step";
-return [...document.querySelectorAll(wanted)].filter((it) => !isSeen(it)).map((it) => it.className + " " + it.textContent);
+const wanted = document.querySelectorAll("#watching .memory .word, #watching .code .next, #watching .step");
+return [...wanted].filter((it) => !isSeen(it)).map((it) => it.className + " " + it.textContent);
 """
 
 
@@ -46,12 +58,10 @@ class InSight(PageCase):
         for width, height in SIZES:
             for name in NAMES:
                 self.open_at(name, width, height)
-                # Of four threads in a narrow window two are beside each other: not all of their code is in sight with memory.
-                is_double = width < 600 and name in ("n7-x86", "IRIW-x86")
-                self.assertEqual([], self.user.run(COVERED, is_double), (name, width))
+                self.assertEqual([], self.user.run(COVERED), (name, width))
                 for _ in range(3):
                     self.user.click("#forward")
-                self.assertEqual([], self.user.run(COVERED, is_double), (name, width))
+                self.assertEqual([], self.user.run(COVERED), (name, width))
 
     def test_no_bars_inside(self):
         """Nothing has a scroll bar inside another one."""
@@ -59,6 +69,41 @@ class InSight(PageCase):
             for name in NAMES:
                 self.open_at(name, width, height)
                 self.assertEqual([], self.user.run(NESTED), (name, width))
+
+    def test_compile(self):
+        """What tests are compiled to has one scroll bar at most, at 1280 by 720; of two threads all three codes are beside each other."""
+        user = self.user
+        user.resize(1280, 720)
+        for name in ("SB", "Peterson", "IRIW"):
+            user.open(f"#example={name}&view=compile")
+            user.find("#compile .states-place *")
+            user.wait(lambda: not user.all(".asking"), "the lists")
+            self.assertTrue(len(user.run(BARS)) <= 1, (name, user.run(BARS)))
+            if name != "IRIW":
+                self.assertEqual(1, len({it.rect["y"] for it in user.all("#compile .columns > div")}))
+
+    def test_list(self):
+        """A list of 15 states is in sight as a whole at 1280 by 720."""
+        self.open_at("IRIW-x86", 1280, 720)
+        self.assertEqual(15, len(self.user.all("#outcome table.strip thead .watch:not(.never .watch)")))
+        self.assertTrue(self.user.run(IN_SIGHT, "#outcome table.strip td, #watching .memory"))
+
+    def test_code_begins_whole(self):
+        """The first line of a code in sight is whole, and all lines are shown if they have room."""
+        user = self.user
+        cut = """
+        const isCut = (code) => [...code.children].some((it) => {
+          const [line, box] = [it, code].map((one) => one.getBoundingClientRect());
+          return line.top < box.top - 2 && line.bottom > box.top + 2;
+        });
+        return [...document.querySelectorAll("#watching .code")].some(isCut);
+        """
+        for name in ("ChaseLev-x86", "n6-x86"):
+            self.open_at(name, 1280, 720)
+            for _ in range(6):
+                self.assertFalse(user.run(cut), (name, user.step()))
+                user.click("#forward")
+        self.assertEqual([], [it for it in user.texts("#watching .lines-in-sight") if it])
 
     def test_long_code(self):
         """Of long code it is said which lines are shown, and the next one is among them at each step."""

@@ -12,6 +12,16 @@ OWN = "SRC Own\n{}\n P0 ;\n x = 1 ;\nexists (x=1)\n"
 STEPS = "return [...document.querySelectorAll('.side .step')].map((it) => it.textContent.split(':')[0])"
 
 
+# What lies over what it should not: memory over registers, and the button that closes the view over anything that can be used or read.
+LIES_OVER = """
+const boxOf = (it) => it.getBoundingClientRect();
+const overlap = (one, other) => one.left < other.right - 1 && other.left < one.right - 1 && one.top < other.bottom - 1 && other.top < one.bottom - 1;
+const pairs = [[".memory", ".register"], ["#end-present", "button:not(#end-present), .verdict, .asked, table, .memory"]];
+const below = (it, css) => [...document.querySelectorAll(css)].filter((other) => other.checkVisibility() && overlap(boxOf(it), boxOf(other)));
+return pairs.flatMap(([upper, lower]) => [...document.querySelectorAll(upper)].flatMap((it) => below(it, lower).map((other) => other.className)));
+"""
+
+
 class Compared(PageCase):
     """What both have, and each alone."""
 
@@ -82,7 +92,8 @@ class Films(PageCase):
     def test_projector(self):
         """On a projector all of both is in sight, also of four threads."""
         user = self.user
-        for link, (width, height) in ((BOTH, (1280, 720)), ("#example=IRIW-x86&beside=IRIW", (1400, 1300))):
+        four = "#example=IRIW-x86&beside=IRIW"
+        for link, (width, height) in ((BOTH, (1280, 720)), (four, (1280, 720)), (four, (1400, 1300))):
             user.resize(width, height)
             user.open(link)
             user.wait(lambda: len(user.all(".side .machine")) == 2, "both runs")
@@ -91,6 +102,7 @@ class Films(PageCase):
             user.wait(lambda: "present" in user.run("return document.documentElement.className"), "the view is there")
             user.press(user.keys.END)
             self.assertTrue(user.run(IN_SIGHT, ".side, .side .verdict, .side .states-place, .side .machine"), link)
+            self.assertEqual([], user.run(LIES_OVER), link)
             user.press(user.keys.ESCAPE)
             self.assertSoon(False, lambda: "present" in user.run("return document.documentElement.className"))
 
