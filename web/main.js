@@ -46,6 +46,7 @@ const states = new States(byId("outcome"), editor, () => revealed(), {
   drawn: fitLater,
   graphPlace: byId("graph-place"),
   next: byId("next"),
+  veiled: (isVeiled) => byId("about").classList.toggle("kept-back", isVeiled),
 });
 const panels = {
   compile: new Compile(byId("compile"), editor, (text) => take(text, { text })),

@@ -41,8 +41,8 @@ export class States {
    * their graph in `graphPlace`. `firstStep` is the step at which the first run is shown: "telling", or a number. `next` is shown below the run.
    */
   constructor(panel, editor, revealed = () => null, more = {}) {
-    const { why = null, runPanel = panel, graphPlace = null, firstStep = "telling", next = null, ...called } = more;
-    Object.assign(this, { editor, revealed, firstStep, report: null, isByHand: false, isSearched: false, isVeiled: false, found: new Set() });
+    const { why = null, runPanel = panel, graphPlace = null, firstStep = "telling", next = null, veiled = () => null, ...called } = more;
+    Object.assign(this, { editor, revealed, veiled, firstStep, report: null, isByHand: false, isSearched: false, isVeiled: false, found: new Set() });
     this.verdict = el("div", { role: "status", tabindex: "-1", class: "verdicts" });
     this.list = el("div", { class: "list-place" });
     this.strip = new Strip(editor, { choose: (line) => this.choose(line), why });
@@ -60,6 +60,7 @@ export class States {
     this.run.clear();
     this.here.offer(null);
     Object.assign(this, { report: null, isVeiled: false, found: new Set() });
+    this.veiled(false);
     this.revealed();
   }
 
@@ -131,6 +132,7 @@ export class States {
   }
 
   tellVerdict() {
+    this.veiled(this.isVeiled);
     if (this.isVeiled) this.tellQuestion();
     else this.tellAnswer();
   }

@@ -17,7 +17,7 @@ export class Tabs {
   /** Shows a tab with its panel. */
   show(view) {
     this.view = view;
-    byId("answers").dataset.view = view;
+    document.body.dataset.view = view;
     for (const it of VIEWS) {
       const tab = byId(`tab-${it}`);
       tab.setAttribute("aria-selected", String(it === view));
