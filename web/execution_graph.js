@@ -31,7 +31,7 @@ const SVG = "http://www.w3.org/2000/svg";
 export function shownGraph(text, tints) {
   shownGraphs += 1;
   // The heads of arrows of a graph that is hidden are not drawn in another one, so each graph has its own.
-  const bare = text.split(/<\/?style>/).filter((_, at) => at % 2 === 0).join("").replace(/(?<=id="|url\(#)to-/g, `to-${shownGraphs}-`);
+  const bare = text.split(/<\/?style>/).filter((_, at) => at % 2 === 0).join("").replace(/(id="|url\(#)to-/g, `$1to-${shownGraphs}-`);
   const svg = new DOMParser().parseFromString(bare, "image/svg+xml").documentElement;
   svg.setAttribute("class", "graph");
   svg.setAttribute("role", "img");
