@@ -1,7 +1,7 @@
 // The text of a test as it is shown where nobody writes in it: in rows that have a cell for each thread, the cells of a thread stand one
 // below the other. Nothing but blanks is added.
 
-/** The cells of a line of the table, or null where it is none. */
+/** Returns the cells of a line of the table, or null if it is none. */
 function cellsOf(line) {
   const row = /^\s*(.*?)\s*;\s*$/.exec(line);
   return row && row[1].split("|").map((cell) => cell.trim());

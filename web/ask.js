@@ -44,7 +44,7 @@ class Asked {
     this.limit = setTimeout(() => this.end({ error: words }), most);
   }
 
-  /** What is shown till the answer is there: after a while how long it takes, how to end it, and the other way to an answer. */
+  /** Returns what is shown until the answer arrives: after a while how long it takes, how to end it, and the other way to an answer. */
   line() {
     const said = el("span", {}, "…");
     const line = el("p", { class: "row asking", role: "status" }, said);
@@ -75,7 +75,7 @@ function askedOn(editor) {
 }
 
 /**
- * The answer: an object that has `fault` or `error` if there is no other; null if the same was asked anew meanwhile. Till it is there, a
+ * Returns the answer: an object that has `fault` or `error` if there is no other; null if the same was asked again meanwhile. Until then a
  * `place` shows that it is waited for. What is asked for at several places has a `name` for each. `most` is the most milliseconds that it
  * may take, if the reader has not asked for it.
  */

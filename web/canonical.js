@@ -4,7 +4,7 @@
 import { conditionText, siteName, sortedSites } from "./propositions.js";
 import { REGISTERS } from "./token_reader.js";
 
-/** An instruction in the canonical text. */
+/** Returns an instruction in the canonical text. */
 export function instructionText(test, it) {
   const names = REGISTERS.X86;
   const register = names[it.register] ?? "";
@@ -17,14 +17,14 @@ export function instructionText(test, it) {
   return it.kind === "mfence" ? "MFENCE" : `${it.kind.toUpperCase()} L${it.target}`;
 }
 
-/** The cells of a thread in the canonical text. */
+/** Returns the cells of a thread in the canonical text. */
 function cellsOfThread(test, code) {
   const targets = new Set(code.map((it) => it.target));
   const cells = code.map((it, at) => (targets.has(at) ? `L${at}: ` : "") + instructionText(test, it));
   return targets.has(code.length) ? [...cells, `L${code.length}:`] : cells;
 }
 
-/** The canonical text of an x86 test. */
+/** Returns the canonical text of an x86 test. */
 export function canonicalText(test) {
   const row = (cells) => ` ${cells.join(" | ")} ;`;
   const columns = test.threads.map((code) => cellsOfThread(test, code));
@@ -39,14 +39,14 @@ export function canonicalText(test) {
   return [...lines, conditionText(test)].map((line) => `${line}\n`).join("");
 }
 
-/** Of each thread its cells in a canonical text: row k has instruction k. */
+/** Returns of each thread its cells in a canonical text: row k has instruction k. */
 export function x86Cells(canonical) {
   const lines = canonical.slice(canonical.indexOf("\n}\n") + 3).split("\n").filter((line) => line.startsWith(" "));
   const [head, ...rows] = lines.map((line) => line.slice(1, -2).split(" | "));
   return head.map((_, thread) => rows.map((row, at) => ({ text: row[thread], at })).filter((it) => it.text));
 }
 
-/** Of each thread its cells that are not empty, and the number of the statement of each; a label alone has the next one's. */
+/** Returns of each thread its cells that are not empty, each with the number of its statement; a cell with only a label has the next one's. */
 export function sourceCells(test) {
   return test.columns.map((cells) => {
     let at = 0;
@@ -58,14 +58,14 @@ export function sourceCells(test) {
   });
 }
 
-/** Whether a statement stands behind a cell's labels. */
+/** Returns whether a statement follows a cell's labels. */
 function hasStatement(cell) {
   let at = 0;
   while (cell[at + 1]?.text === ":") at += 2;
   return at < cell.length;
 }
 
-/** A cell of a source test, spelled anew. */
+/** Spells a cell of a source test. */
 function cellText(cell) {
   const text = cell.map((it) => it.text).join(" ").replaceAll(" : ", ": ");
   return text.endsWith(" :") ? `${text.slice(0, -2)}:` : text;

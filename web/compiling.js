@@ -2,13 +2,13 @@
 // here once more to find the source run that a compiled program's run stands for. Not proved; the run is shown only if its replay
 // by lw ends in the same state.
 
-/** The positions that may follow a statement. */
+/** Returns the positions that may follow a statement. */
 function followers(statement, at) {
   if (statement.target === undefined) return [at + 1];
   return statement.kind === "goto" ? [statement.target] : [at + 1, statement.target];
 }
 
-/** The positions of the loads that some way through a thread reaches from a store with nothing between that waits for it. */
+/** Returns the positions of the loads that some way through a thread reaches from a store, with nothing between that waits for it. */
 function fencedLoads(statements) {
   const fenced = new Set();
   const reached = new Set();
@@ -24,7 +24,7 @@ function fencedLoads(statements) {
   return fenced;
 }
 
-/** How many instructions a source statement becomes, without a fence. */
+/** Returns how many instructions a source statement becomes, without a fence. */
 function numberOfInstructions({ kind, register, value, left }) {
   if (kind === "store" || kind === "load" || kind === "set" || kind === "goto") return 1;
   if (kind === "swap" || kind === "fetchadd") return value.register === register ? 1 : 2;
@@ -32,7 +32,7 @@ function numberOfInstructions({ kind, register, value, left }) {
   return 2;
 }
 
-/** The numbers of the first instructions of a compiled thread's statements. */
+/** Returns the numbers of the first instructions of a compiled thread's statements. */
 export function beginsOf(statements) {
   const fenced = fencedLoads(statements);
   let at = 0;

@@ -10,7 +10,7 @@ const MOST_ATOMS = 6;
 const READS = ["load", "xchg", "xadd", "swap", "fetchadd"];
 const SETS = ["set", "add", "sum"];
 
-/** The test that a text is, or null if the page's own reader does not read it. */
+/** Reads a text as a test. Returns null if the page's own reader does not read it. */
 function testOf(text) {
   try {
     return readTest(text);
@@ -19,7 +19,7 @@ function testOf(text) {
   }
 }
 
-/** The atoms of a conjunction, or null if it is none. */
+/** Returns the atoms of a conjunction, or null if it is none. */
 function atomsOf({ kind, parts, site, word }) {
   if (kind === "is") return [{ site, word }];
   if (kind !== "and") return null;
@@ -27,7 +27,7 @@ function atomsOf({ kind, parts, site, word }) {
   return found.includes(null) ? null : found.flat();
 }
 
-/** The read whose word a register has at the end of every run: its place and its location; or null. */
+/** Returns the read whose word a register has at the end of every run: its place and its location; or null. */
 function readInto(test, { thread, register }) {
   const code = test.threads[thread];
   if (code.some((it) => it.target !== undefined)) return null;
@@ -35,7 +35,7 @@ function readInto(test, { thread, register }) {
   return writes.length === 1 && READS.includes(writes[0].kind) ? writes[0] : null;
 }
 
-/** What one thread does: its reads in the order of its code, and the words that it ends with. */
+/** Says what one thread does: its reads in the order of its code, and the words that it ends with. */
 function wordsOfThread(test, thread, atoms) {
   const found = atoms.map(({ site, word }) => ({ site, word, read: readInto(test, site) }));
   const reads = found.filter((it) => it.read).sort((a, b) => a.read.at - b.read.at);
@@ -46,7 +46,7 @@ function wordsOfThread(test, thread, atoms) {
   return `P${thread} ${parts.join(" and ")}`;
 }
 
-/** The condition in words, in which code is between backquotes; or null. */
+/** Returns the condition in words, in which code is between backquotes; or null. */
 export function conditionWords(text) {
   const test = testOf(text);
   const atoms = test && atomsOf(test.proposition);
@@ -59,7 +59,7 @@ export function conditionWords(text) {
 }
 
 /**
- * What a test asks about: `isAsked` says of a state's line whether the condition asks about it, and `words` which words it names at each
+ * Returns what a test asks about: `isAsked` says of a state's line whether the condition asks about it, and `words` which words it names at each
  * site, by name. Of a text that is not read, all states are asked about.
  */
 export function questionOf(text) {
@@ -75,7 +75,7 @@ export function questionOf(text) {
   return { isAsked: (line) => holds(test.proposition, outcomeOf(test, line)) === wanted, words };
 }
 
-/** The outcome that a report's line says. */
+/** Returns the outcome that a report's line says. */
 function outcomeOf(test, line) {
   const outcome = { registers: test.threads.map(() => ({})), words: {} };
   const byName = new Map(wordsOf(line));
@@ -84,7 +84,7 @@ function outcomeOf(test, line) {
   return outcome;
 }
 
-/** The registers that a test's list shows. */
+/** Returns the registers that a test's list shows. */
 function sitesOf(test) {
   const found = new Map();
   const add = (site) => site.location === undefined && found.set(siteKey(site), site);

@@ -6,7 +6,7 @@ import { registerNumber, wordsOf } from "./replays.js";
 const OTHER_NAMES = "The states are not compared, since the tests show different registers and locations.";
 const NOT_WHOLE = "The states are not compared, since not all of them are shown.";
 
-/** What a line says, whatever the language and the sequence of its names: pairs of a name and a word. */
+/** Returns what a line says, whatever the language and the order of its names: pairs of a name and a word. */
 function pairsOf(line) {
   const pairs = wordsOf(line).map(([name, word]) => {
     const [, thread, register] = /^(\d):(\w+)$/.exec(name) ?? [];
@@ -15,7 +15,7 @@ function pairsOf(line) {
   return pairs.sort();
 }
 
-/** A key of the state that a line says: the same for two lines if they say the same, in either language. */
+/** Returns a key of the state that a line says: the same for two lines if they say the same, in either language. */
 export function keyOf(line) {
   return String(pairsOf(line));
 }
@@ -24,7 +24,7 @@ function namesOf({ states }) {
   return String(pairsOf(states[0]?.line ?? "").map(([name]) => name));
 }
 
-/** How many states are in both of two reports, and of each report the lines that it has `alone`; or `why` they can't be compared. */
+/** Returns how many states are in both of two reports, and the lines that only one of them has (`alone`); or `why` they can't be compared. */
 export function differenceOf(...reports) {
   if (reports.some((it) => it.left_out)) return { why: NOT_WHOLE };
   if (namesOf(reports[0]) !== namesOf(reports[1])) return { why: OTHER_NAMES };

@@ -1,6 +1,6 @@
 // Makes elements. Whatever a test says becomes text nodes, and nothing else.
 
-/** An element with attributes, and children that are elements, texts or lists of them. A function is a listener, `true` is set. */
+/** Makes an element with attributes, and children that are elements, texts or lists of them. A function is a listener, `true` is set. */
 export function el(tag, attributes = {}, ...children) {
   const made = document.createElement(tag);
   for (const [name, value] of Object.entries(attributes)) {
@@ -16,12 +16,12 @@ export function button(text, act, attributes = {}) {
   return el("button", { type: "button", click: act, ...attributes }, text);
 }
 
-/** A sentence of the documents: what stands between backquotes is code. */
+/** Returns a sentence of the documents, in which text between backquotes is code. */
 export function sentence(text) {
   return text.split("`").map((part, at) => (at % 2 ? el("code", {}, part) : part));
 }
 
-/** The mark of what is not proved. */
+/** Makes the mark of what is not proved. */
 export function plainMark() {
   return el("span", { class: "plain", title: "found by the page's own code, which is not proved" }, "not proved");
 }

@@ -25,7 +25,7 @@ export function refusal(number) {
   return REFUSALS[number].replaceAll("`", "");
 }
 
-/** The effect of an event, given the states before it and behind it. */
+/** Returns the effect of an event, given the states before and after it. */
 export function effectOf(event, cells, before, after) {
   const thread = Number(event[1]);
   return { thread, ...effectOfThread(event, thread, cells, before, after) };
@@ -47,34 +47,34 @@ class Step {
     this.name = `P${thread}`;
   }
 
-  /** The word of a number, with a `$` before it or without, or of a register. */
+  /** Returns the word of a number, with a `$` before it or without, or of a register. */
   value(text) {
     return this.registers.get(text) ?? Number(text.replace("$", ""));
   }
 
-  /** Whether the step leaves a word in a register. */
+  /** Returns whether the step leaves a word in a register. */
   leaves(register, word) {
     return new Map(this.left.registers).get(register) === word;
   }
 
-  /** What memory has at a location, as a load finds it. */
+  /** Returns what memory has at a location, as a load finds it. */
   memory(location, state = this.before) {
     return new Map(state.content).get(location);
   }
 
-  /** What memory has of a location is in a cache: in the own one, if that holds it, else in that of its owner, if there is one. */
+  /** Returns the cache that has the word of a location: the own one if it holds the line, or else that of the owner, if there is one. */
   cache(location) {
     const letters = this.before.threads.map(({ lines }) => new Map(lines).get(location) ?? "I");
     const owner = letters.findIndex((it) => it === "M" || it === "O");
     return letters[this.thread] !== "I" ? { cache: this.thread } : owner < 0 ? {} : { cache: owner };
   }
 
-  /** The number of the newest entry of a location in the own store buffer, or -1. */
+  /** Returns the number of the newest entry of a location in the own store buffer, or -1. */
   newest(location) {
     return (this.place.buffer ?? []).map(([name]) => name).lastIndexOf(location);
   }
 
-  /** What still waits of a location in the buffers of others. */
+  /** Says what still waits of a location in the buffers of others. */
   waiting(location) {
     const entries = this.before.threads.flatMap(({ buffer }, thread) =>
       thread === this.thread ? [] : (buffer ?? []).filter(([name]) => name === location).map(([, word]) => ({ thread, word })),
@@ -104,7 +104,7 @@ const FORMS = [
   [/^goto (\w+)$/, (step, label) => ({ words: `${step.name} goes to \`${label}\`` })],
 ];
 
-/** What a statement does, or null where that is not known. */
+/** Returns what a statement does, or null if that is not known. */
 function statement(step, text) {
   for (const [form, effect] of FORMS) {
     const parts = form.exec(text);
@@ -146,7 +146,7 @@ function compare(step, register, value) {
   return { words: `${step.name} compares \`${register}=${one}\` with ${other}: they ${found}` };
 }
 
-/** A jump to an instruction, whose number is in its label. */
+/** Says what a jump does to an instruction, whose number is in its label. */
 function jump(step, label) {
   const jumps = step.left.at === Number(label.slice(1));
   return { words: jumps ? `${step.name} jumps to \`${label}\`` : `${step.name} does not jump` };
@@ -171,7 +171,7 @@ function fetchAdd(step, register, location, value) {
   return exchange(step, register, location, (step.memory(location) + step.value(value)) % WORD);
 }
 
-/** The oldest entry of a store buffer leaves it. */
+/** Says what a drain does: the oldest entry of a store buffer leaves it. */
 function drain(thread, before, after) {
   const [location, word] = before.threads[thread].buffer[0];
   const isThere = new Map(after.content).get(location) === word;

@@ -15,7 +15,7 @@ export const positionOf = (event) => event % EVENTS;
 const eventOf = (thread, position) => thread * EVENTS + position;
 const edgeOf = (kind) => ([source, target]) => ({ kind, source, target });
 
-/** There are more candidate executions than were to be looked at. */
+/** There are more candidate executions than the caller allows. */
 export class TooMany extends Error {}
 
 export class Execution {
@@ -24,7 +24,7 @@ export class Execution {
     this.ends = this.findWords();
   }
 
-  /** The same with other coherence orders, which no word depends on. */
+  /** Returns the same execution with other coherence orders, on which no word depends. */
   withOrders(co) {
     return Object.assign(Object.create(Execution.prototype), this, { co });
   }
@@ -33,14 +33,14 @@ export class Execution {
     return this.test.threads[threadOf(event)][positionOf(event)];
   }
 
-  /** The accesses to memory and the fences, thread by thread. */
+  /** Returns the accesses to memory and the fences, thread by thread. */
   events() {
     return eventsOf(this.paths).filter((it) => hasPlace(this.instruction(it)));
   }
 
   // Words.
 
-  /** Of each thread its registers at its end, or null where a jump goes another way. */
+  /** Returns of each thread its registers at its end, or null if a jump goes another way. */
   findWords() {
     for (;;) {
       const before = JSON.stringify([...this.written]);
@@ -101,7 +101,7 @@ export class Execution {
     });
   }
 
-  /** Whether a pair of program order is kept by all threads' view: all but a store and then a load. */
+  /** Returns whether all threads see a pair of program order in its order: every pair except a store and then a load. */
   isPreserved({ source, target }) {
     return !(this.instruction(source).kind === "store" && this.instruction(target).kind === "load");
   }
@@ -117,7 +117,7 @@ export class Execution {
     return [...this.po().filter((it) => this.isPreserved(it)), ...external, ...this.coEdges(), ...this.frEdges()];
   }
 
-  /** The first axiom that the execution breaks, with a shortest cycle; null where it keeps both. */
+  /** Returns the first axiom that the execution breaks, with a shortest cycle; null if it keeps both. */
   broken() {
     const coherence = cycleIn(this.coherence());
     if (coherence) return { axiom: "coherence", cycle: coherence };
@@ -125,7 +125,7 @@ export class Execution {
     return order && { axiom: "global happens-before", cycle: order };
   }
 
-  /** A shortest cycle of all relations together: there is one where the execution is not sequentially consistent. */
+  /** Returns a shortest cycle of all relations together: there is one if the execution is not sequentially consistent. */
   cycle() {
     return cycleIn([...this.po(), ...this.rfEdges(), ...this.coEdges(), ...this.frEdges()]);
   }
@@ -162,7 +162,7 @@ function writtenWord(it, registers, read) {
   return it.kind === "xchg" ? registers[it.register] : total(read, registers[it.register]);
 }
 
-/** The position, the registers and the zero flag after an instruction that reads a word, if it reads one. */
+/** Returns the position, the registers and the zero flag after an instruction that reads a word, if it reads one. */
 function stateAfter(it, position, { registers, zero }, read) {
   const at = position + 1;
   if (it.target !== undefined) {
@@ -184,7 +184,7 @@ function stateAfter(it, position, { registers, zero }, read) {
 
 // Cycles.
 
-/** The edges of a shortest cycle, or null. */
+/** Returns the edges of a shortest cycle, or null. */
 export function cycleIn(edges) {
   const leaving = new Map();
   for (const it of edges) {
@@ -197,7 +197,7 @@ export function cycleIn(edges) {
   return found.reduce((best, it) => (it.length < best.length ? it : best));
 }
 
-/** Whether no cycle is there: events that lead nowhere are taken away until none is left. */
+/** Returns whether there is no cycle: events without a successor are removed until none is left. */
 function isAcyclic(leaving) {
   let left = [...leaving].map(([source, targets]) => [source, [...targets.keys()]]);
   while (left.length) {
@@ -209,7 +209,7 @@ function isAcyclic(leaving) {
   return true;
 }
 
-/** A shortest cycle through an event, or null. */
+/** Returns a shortest cycle through an event, or null. */
 function cycleFrom(start, leaving) {
   const cameBy = new Map();
   const waiting = [start];
@@ -233,7 +233,7 @@ function wayBack(start, last, cameBy) {
 
 // All candidate executions.
 
-/** Every choice of one of each list, the last list's going round fastest. */
+/** Yields every choice of one item of each list; the last list's item changes first. */
 function* choices(lists) {
   if (!lists.length) return yield [];
   const [first, ...others] = lists;
@@ -245,7 +245,7 @@ function permutations(row) {
   return row.flatMap((it, at) => permutations([...row.slice(0, at), ...row.slice(at + 1)]).map((rest) => [it, ...rest]));
 }
 
-/** The flow paths of a thread's code. */
+/** Returns the flow paths of a thread's code. */
 function pathsOf(code, at = 0) {
   if (at === code.length) return [[]];
   const { kind, target } = code[at];
@@ -253,7 +253,7 @@ function pathsOf(code, at = 0) {
   return followers.flatMap((next) => pathsOf(code, next).map((path) => [at, ...path]));
 }
 
-/** All candidate executions of a test. TooMany is thrown after `most` of them. */
+/** Yields all candidate executions of a test. Throws TooMany after `most` of them. */
 export function* candidates(test, most) {
   let number = 0;
   for (const paths of choices(test.threads.map((code) => pathsOf(code)))) {
@@ -281,7 +281,7 @@ export function* candidates(test, most) {
 
 // The execution of a run.
 
-/** The execution of a run of an x86 test to its end, by the words of its schedule, each of which can be done. */
+/** Returns the execution of a run of an x86 test to its end, by the words of its schedule, each of which can be done. */
 export function executionOf(test, schedule) {
   const at = test.threads.map(() => 0);
   const waiting = test.threads.map(() => []);

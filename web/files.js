@@ -7,7 +7,7 @@ const MARKS = [
 ];
 const LATIN = "The file is not in UTF-8, and lw refuses it. It is read as Latin-1 here; save it anew for lw.";
 
-/** The text of a file's bytes, and what is to be told of it. */
+/** Returns the text of a file's bytes, and what is to be said of it. */
 export function textOfFile(bytes) {
   for (const [mark, encoding, told] of MARKS) {
     if (mark.every((it, at) => bytes[at] === it)) return { text: new TextDecoder(encoding).decode(bytes), told };

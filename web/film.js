@@ -4,7 +4,7 @@ import { button } from "./dom.js";
 import { isStill } from "./motion.js";
 import { Run } from "./run.js";
 
-/** The button that shows a run to a state. */
+/** Makes the button that shows a run to a state. */
 export function watchButton(state, act) {
   return button("Watch", act, { class: "watch", "aria-label": `Watch a run to ${state}` });
 }

@@ -13,12 +13,12 @@ import { NoTest } from "./tokens.js";
 
 const MOST_STEPS = 1000;
 
-/** Of each thread the code that the page shows: of an x86 test that of its canonical text. */
+/** Returns of each thread the code that the page shows: of an x86 test that of its canonical text. */
 export function cellsOf(program, text) {
   return languageOf(text) === "X86" ? x86Cells(program.ask(["compile"], text)) : sourceCells(readTest(textOf(text)));
 }
 
-/** The film of a schedule. */
+/** Returns the film of a schedule. */
 export function filmOf(program, text, schedule, protocol) {
   const given = eventsIn(schedule);
   if (given.length > MOST_STEPS) {
@@ -33,7 +33,7 @@ export function filmOf(program, text, schedule, protocol) {
   return { language: languageOf(text), text: textOf(text), cells, events, effects, states, refused, protocol };
 }
 
-/** The schedule of the source run that a compiled program's run stands for: a step where an instruction begins a statement. */
+/** Returns the schedule of the source run that a compiled program's run represents: a step for each instruction that begins a statement. */
 function sourceSchedule(test, film) {
   const begins = test.threads.map((statements) => new Set(beginsOf(statements)));
   const isBegin = (event, at) => {
@@ -43,7 +43,7 @@ function sourceSchedule(test, film) {
   return film.events.filter(isBegin).join(" ");
 }
 
-/** The film of the source run to a state, or null where that run is not known to end there. */
+/** Returns the film of the source run to a state, or null if that run is not known to end there. */
 export function sourceFilm(program, text, compiledFilm, state) {
   try {
     const film = filmOf(program, text, sourceSchedule(readTest(textOf(text)), compiledFilm), "mesi");

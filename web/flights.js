@@ -3,7 +3,7 @@
 
 import { threadClass } from "./tint.js";
 
-/** The flights of a step, each `from` a key `to` a key, with its `word` and the `kind` that has its colour. */
+/** Returns the flights of a step, each `from` a key `to` a key, with its `word` and the `kind` that has its colour. */
 export function flightsOf({ event, effect, state, before, drained, tints }) {
   if (!event || !effect) return [];
   const { thread } = effect;
@@ -15,13 +15,13 @@ export function flightsOf({ event, effect, state, before, drained, tints }) {
 const instructionOf = ({ thread, old }) => `c:${thread}:${old.at}`;
 const shown = (name, word) => `${name}=${word}`;
 
-/** The oldest entry goes to memory. */
+/** Returns the flight of the oldest entry to memory. */
 function flightOfDrain({ thread, old, drained, tints }) {
   const [name, word] = old.buffer[0];
   return { from: `b:${thread}:${drained - 1}`, to: `m:${name}`, word: shown(name, word), kind: tints.of(name) };
 }
 
-/** A store goes into the buffer. */
+/** Returns the flight of a store into the buffer. */
 function flightsOfStore(step) {
   const { thread, old, now, drained, tints } = step;
   if (!now.buffer || now.buffer.length <= old.buffer.length) return [];
@@ -30,7 +30,7 @@ function flightsOfStore(step) {
   return [{ from: instructionOf(step), to, word: shown(name, word), kind: tints.of(name) }];
 }
 
-/** What a register gets comes from memory, from an entry of the own buffer, or from the instruction itself. */
+/** Returns the flight of a word to a register: from memory, from an entry of the own buffer, or from the instruction itself. */
 function flightsOfLoad(step) {
   const { thread, old, now, drained, tints, effect } = step;
   if (!effect.register) return [];
@@ -41,7 +41,7 @@ function flightsOfLoad(step) {
   return [{ from: `b:${thread}:${drained + effect.entry}`, to, word, kind: tints.of(old.buffer[effect.entry][0]) }];
 }
 
-/** What changes in memory at once: a locked instruction, or a store by turns. */
+/** Returns the flight of a word that changes memory at once: of a locked instruction, or of a store by turns. */
 function flightsToMemory(step) {
   const old = new Map(step.before.content);
   const changed = step.state.content.filter(([name, word]) => old.get(name) !== word);

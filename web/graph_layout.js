@@ -22,7 +22,7 @@ const NARROWER = 0.85; // a picture is turned if it is so much narrower then
 const PLACES = [0.24, 0.34, 0.16, 0.46, 0.58, 0.7, 0.8, 0.88, 0.1, 0.94, 0.05];
 const OFFSETS = [0, -12, 12];
 
-/** A point of a cubic curve. */
+/** Returns a point of a cubic curve. */
 function onCurve([a, b, c, d], part) {
   const rest = 1 - part;
   const at = (axis) =>
@@ -31,7 +31,7 @@ function onCurve([a, b, c, d], part) {
 }
 
 export class GraphLayout {
-  /** `texts` are those of the events, `edges` what is drawn, `initial` the reads of the initial word. */
+  /** Lays out an execution. `texts` are those of the events, `edges` what is drawn, `initial` the reads of the initial word. */
   constructor(execution, texts, edges, initial) {
     const events = execution.events();
     this.threads = execution.paths.map((_, thread) => events.filter((it) => threadOf(it) === thread));
@@ -79,7 +79,7 @@ export class GraphLayout {
     return from < to ? this.join(route, 1, 0) : this.join(route, 0, 1);
   }
 
-  /** How many edges go around a side between the same two events already. */
+  /** Returns how many edges already go around a side between the same two events. */
   numberOfPair(...events) {
     const key = events.sort((a, b) => a - b).join(" ");
     this.pairs.set(key, (this.pairs.get(key) ?? -1) + 1);
@@ -99,7 +99,7 @@ export class GraphLayout {
     this.ends.set(key, [...(this.ends.get(key) ?? []), end]);
   }
 
-  /** The arrow from the initial word to a read. */
+  /** Returns the arrow from the initial word to a read. */
   startOf(event, number) {
     const route = { edge: { source: event, target: event }, number, way: "start", ports: [0, 0] };
     this.addEnd(event, 0, { route, end: 1 });
@@ -136,7 +136,7 @@ export class GraphLayout {
     return this.isTurned ? [along, across] : [across, along];
   }
 
-  /** Where the box of an event begins, along the two axes. */
+  /** Returns where the box of an event begins, along the two axes. */
   spot(event) {
     return [this.lefts[threadOf(event)], this.begin + this.rows.get(event) * this.pitch];
   }
@@ -145,7 +145,7 @@ export class GraphLayout {
     return this.turned(this.spot(event));
   }
 
-  /** Where the name of a thread begins, at its base. */
+  /** Returns where the name of a thread begins, at its base. */
   titleAt(thread) {
     return this.isTurned ? [EDGE, this.lefts[thread] + 18] : [this.lefts[thread], EDGE + LINE - 4];
   }
@@ -210,7 +210,7 @@ export class GraphLayout {
 
   // The labels.
 
-  /** Where the middle of a label of so many letters is, near an edge: inside the picture, over no box and no other label. */
+  /** Returns the middle of a label of so many letters near an edge: inside the picture, over no box and no other label. */
   placeLabel(route, letters) {
     const width = letters * LETTER + 4;
     const spots = this.spotsOf(route, width);
@@ -221,7 +221,7 @@ export class GraphLayout {
     return found;
   }
 
-  /** Where a label may be: at a part of its edge, or beside a straight arrow. */
+  /** Returns the spots for a label: at parts of its edge, or beside a straight arrow. */
   spotsOf(route, width) {
     const curves = this.curvesOf(route);
     const [[x, y]] = curves[0];
@@ -231,7 +231,7 @@ export class GraphLayout {
     return OFFSETS.flatMap((offset) => points.map(([left, top]) => [left + beside[0], top + beside[1] + offset]));
   }
 
-  /** Where the label of an arrow from an initial word may be: first on that side of it on which no other arrow ends. */
+  /** Returns the spots for the label of an arrow from an initial word: first on the side of it on which no other arrow ends. */
   spotsOfStart({ edge, ports }, [x, y], width) {
     const isLast = ports[1] > this.spot(edge.source)[1] + this.deep / 2;
     const [sideways, downwards] = [width / 2 + 4, 11];
@@ -247,13 +247,13 @@ function line(begin, end) {
   return [begin, third(1 / 3), third(2 / 3), end];
 }
 
-/** A curve that leaves and arrives across the threads. */
+/** Returns a curve that leaves and arrives across the threads. */
 function swing(begin, end) {
   const half = (end[0] - begin[0]) / 2;
   return [begin, [begin[0] + half, begin[1]], [end[0] - half, end[1]], end];
 }
 
-/** A curve out of a side and back to it, whose points are at most so far out. */
+/** Returns a curve out of a side and back to it, whose points are at most so far out. */
 function aroundSide(begin, end, { sides, rows, beside }, most) {
   const out = Math.min(20 + 8 * rows + 12 * beside, most) * (sides[0] ? 1 : -1);
   return [begin, [begin[0] + out, begin[1]], [end[0] + out, end[1]], end];

@@ -3,13 +3,13 @@
 
 const NAMES = "span.loc, span.thr, .entry, .word, .badge-thread, text.loc, text.thr, b.thr";
 
-/** The class of the thread or location whose name an element shows, or null. */
+/** Returns the class of the thread or location whose name an element shows, or null. */
 function kindOf(target) {
   const name = target.closest?.(NAMES)?.getAttribute("class") ?? "";
   return /\b(?:loc|thr)-\d\b/.exec(name)?.[0] ?? null;
 }
 
-/** The name in the coloured text of an editor that is below a point: the field above it takes the pointer itself. */
+/** Returns the name in the coloured text of an editor that is below a point, since the field above it takes the pointer. */
 function nameBelow(colours, { clientX, clientY }) {
   const isThere = ({ left, right, top, bottom }) => left <= clientX && clientX <= right && top <= clientY && clientY <= bottom;
   return [...colours.querySelectorAll("span.loc, span.thr")].find((it) => isThere(it.getBoundingClientRect())) ?? null;

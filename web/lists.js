@@ -11,7 +11,7 @@ const MOST_STATES = 200000;
 // The most states that the module is asked to mark.
 const MOST_MARKED = 4096;
 
-/** Whether an error says that a test is nested too deeply for this browser's stack. */
+/** Returns whether an error says that a test is nested too deeply for this browser's stack. */
 export function isTooDeep(error) {
   return error instanceof RangeError || error?.name === "InternalError";
 }
@@ -21,7 +21,7 @@ function testOf(text) {
 }
 
 /**
- * The marks of so many states, of which the proposition holds in some: of a state's line and index whether it holds there, or null where that
+ * Returns the marks of so many states, of which the proposition holds in some: of a state's line and index whether it holds there, or null if that
  * is not known; and whether that is proved.
  */
 function marksOf(program, text, how, { number, positive }) {
@@ -31,12 +31,12 @@ function marksOf(program, text, how, { number, positive }) {
   return { isProved: true, holds: (line, index) => holdsBy(marked[index], line) };
 }
 
-/** Whether the proposition holds in a state by its line in the marked list, or null if that is another state's. */
+/** Returns whether the proposition holds in a state by its line in the marked list, or null if that is another state's. */
 function holdsBy(marked, line) {
   return marked?.slice(2) === line ? marked[0] === "+" : null;
 }
 
-/** The same as the page finds it by reading the test. */
+/** Returns the same marks as the page finds them by reading the test. */
 function foundHere(text) {
   try {
     const test = testOf(text);
@@ -56,7 +56,9 @@ function put(outcome, site, word) {
   else if (site) outcome.registers[site.thread][site.register] = word;
 }
 
-/** The report of a test; `how` says by which way it is listed. Kept are the first states, as many with a true proposition, and the last lines. */
+/**
+ * Returns the report of a test; `how` says by which way it is listed. It has the first states, as many with a true proposition, and the last lines.
+ */
 export function reportOf(program, text, how) {
   const lines = program.list("states", text, how).split("\n").slice(0, -1);
   const head = lines.slice(0, 2);
@@ -75,7 +77,7 @@ export function reportOf(program, text, how) {
   return { ...partsOf(head, number, states, tail, positive === holding), positive, is_proved: isProved };
 }
 
-/** A report's parts. States are marked only if as many were found as the report counts. */
+/** Returns a report's parts. States are marked only if as many were found as the report counts. */
 function partsOf(head, number, states, tail, isWhole) {
   const isMarked = isWhole && states.every((it) => it.holds !== null);
   return {
@@ -93,7 +95,7 @@ function partsOf(head, number, states, tail, isWhole) {
 }
 
 /**
- * The lines of the states of a text, and in how many of them its condition holds; or null where it is refused, or needs more memory than
+ * Returns the lines of the states of a text, and in how many of them its condition holds; or null if it is refused, or needs more memory than
  * there is. `how` says by which way it is listed.
  */
 export function listOrNull(program, text, how) {
@@ -107,14 +109,14 @@ export function listOrNull(program, text, how) {
   }
 }
 
-/** The schedule that is listed to a state. */
+/** Returns the schedule that is listed to a state. */
 export function scheduleTo(program, text, wanted, how) {
   const lines = program.list("schedules", text, how).split("\n").slice(2);
   for (let at = 0; at + 1 < lines.length; at += 2) if (lines[at] === wanted) return lines[at + 1].trim();
   throw new NoAnswer("The test does not end in that state.");
 }
 
-/** Of a final run its state's line, the condition, and whether the proposition is found true there; null where that is not known. */
+/** Returns of a final run its state's line, the condition, and whether the proposition is found true there; null if that is not known. */
 export function endingOf(text, state) {
   if (state.end.kind !== "Final") return null;
   try {

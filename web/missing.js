@@ -6,7 +6,7 @@ import { wordsOf } from "./replays.js";
 const MOST_LOOKED_AT = 2000;
 const MOST_TRIED = 20000;
 
-/** The words of each site, those that the question names first: these, and the words that it has in the states of a report. */
+/** Returns the words of each site: first those that the question names, then those that it has in the states of a report. */
 function columnsOf({ states }, named) {
   const lines = states.map(({ line }) => wordsOf(line));
   return (lines[0] ?? []).map(([name], at) => {
@@ -17,7 +17,7 @@ function columnsOf({ states }, named) {
 }
 
 /**
- * A state that a report has not and that the question asks about, or, with no question, any of words that its states have; null if none is
+ * Returns a state that a report lacks and that the question asks about, or, with no question, any of words that its states have; null if none is
  * found, or not all states are known.
  */
 export function missingState(report, { isAsked, words } = { isAsked: () => true, words: new Map() }) {

@@ -29,7 +29,7 @@ const ROOM_TOO_SMALL = 2;
 export class Trap extends Error {}
 
 export class Workbench {
-  /** It has films and marks, which the program `lw` has not. */
+  /** Says that it has films and marks, which the program `lw` has not. */
   hasFilmsAndMarks = true;
   room = "the browser gives it";
   kept = null;
@@ -39,7 +39,7 @@ export class Workbench {
   }
 
   /**
-   * The answer to words as on the command line of `lw`, or `--budget N states`, `--budget N schedules` and `--budget N marks` as on that of
+   * Returns the answer to words as on the command line of `lw`, or `--budget N states`, `--budget N schedules` and `--budget N marks` as on that of
    * `beyond`: the status, whether a fault is told, and the bytes of the answer or of the fault. `film` takes what `replay` takes, and answers
    * the pages of all prefixes of the schedule. A text that is no bytes, and words that are no command, throw
    * TypeError, and nothing is called.
@@ -61,13 +61,13 @@ export class Workbench {
     }
   }
 
-  /** The version of the library that the module is, such as `1.0`. */
+  /** Returns the version of the library that the module is, such as `1.0`. */
   version() {
     const number = this.instanceFor(LITTLE[0]).lw_version();
     return `${Math.floor(number / 100)}.${number % 100}`;
   }
 
-  /** What an instance exports; that for the least memory is kept from one call to the next. */
+  /** Returns what an instance exports; that for the least memory is kept from one call to the next. */
   instanceFor(size) {
     if (size !== LITTLE[0]) return instanceOf(this.module);
     this.kept ??= instanceOf(this.module);
@@ -75,7 +75,7 @@ export class Workbench {
   }
 }
 
-/** Whether words are those that `lw` takes, or a budget with a list. */
+/** Returns whether words are those that `lw` takes, or a budget with a list. */
 function isCommand([task, ...more]) {
   if (task === BUDGET) return more.length === 2 && isBudget(more[0]) && LISTS.includes(more[1]);
   if (!REPLAYS.includes(task)) return ["states", "schedules", "compile"].includes(task) && !more.length;
@@ -92,12 +92,12 @@ function instanceOf(module) {
   return new WebAssembly.Instance(module, {}).exports;
 }
 
-/** Whether a call with more memory may tell more. */
+/** Returns whether a call with more memory may answer more. */
 function isShort({ isFault, isTooLong, out }) {
   return isTooLong || (isFault && new TextDecoder().decode(out) === SHORT_OF_MEMORY);
 }
 
-/** The compiled module, or null where the browser takes none of this kind. */
+/** Returns the compiled module, or null if the browser takes none of this kind. */
 export async function compiled(bytes) {
   try {
     return bytes.length ? await WebAssembly.compile(bytes) : null;
@@ -106,7 +106,7 @@ export async function compiled(bytes) {
   }
 }
 
-/** A call that has as much memory as the browser gives. */
+/** Calls with as much memory as the browser gives. */
 function callWithMuch(module, words, text) {
   for (const size of MUCH) {
     try {
@@ -117,7 +117,7 @@ function callWithMuch(module, words, text) {
   }
 }
 
-/** One call, of an instance that is given by what it exports. */
+/** Calls an instance, which is passed by what it exports. */
 class Call {
   constructor(exports, words, text, size) {
     Object.assign(this, { exports, words });
@@ -168,7 +168,7 @@ class Call {
     return this.told();
   }
 
-  /** What the call has told, which no longer stands in the module's memory. */
+  /** Returns what the call has answered, copied out of the module's memory. */
   told() {
     const { buffer } = this.exports.memory;
     const view = new DataView(buffer);

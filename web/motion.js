@@ -5,12 +5,12 @@ const TIME = 280;
 const EASE = "cubic-bezier(.3, .1, .2, 1)";
 const less = matchMedia("(prefers-reduced-motion: reduce)");
 
-/** Whether nothing is to move. */
+/** Returns whether nothing is to move. */
 export function isStill() {
   return less.matches;
 }
 
-/** Where the keyed things of a place are. */
+/** Returns where the keyed things of a place are. */
 export function placesIn(place) {
   return new Map([...place.querySelectorAll("[data-key]")].map((it) => [it.dataset.key, it.getBoundingClientRect()]));
 }
@@ -23,7 +23,7 @@ export function settle(thing, before) {
   thing.animate([{ transform: `translate(${dx}px, ${dy}px)` }, { transform: "none" }], { duration: TIME, easing: EASE });
 }
 
-/** A word flies over a place from one box to another; the thing that it becomes shows when it is there. */
+/** Lets a word fly over a place from one box to another; the thing that it becomes is shown when it arrives. */
 export function fly(over, from, to, { word, kind, arrived = null }) {
   if (isStill() || !from || !to) return;
   const base = over.getBoundingClientRect();

@@ -9,7 +9,7 @@ export function save(name, kind, content) {
   setTimeout(() => URL.revokeObjectURL(address), 10000);
 }
 
-/** A name as the name of a file: what may stand in none becomes `_`. */
+/** Returns a name as the name of a file: characters that a file's name can't have become `_`. */
 export function fileName(name, ending) {
   return `${name.replace(/[^\w+.-]/g, "_")}.${ending}`;
 }

@@ -5,7 +5,7 @@ import { byId } from "./dom.js";
 const KEY = "own";
 
 export class Own {
-  /** `bring` takes a text back into the editor. */
+  /** Takes what was kept. `bring` takes a text back into the editor. */
   constructor(editor, bring) {
     this.editor = editor;
     this.bringText = bring;
@@ -14,7 +14,7 @@ export class Own {
     byId("bring-back").addEventListener("click", () => this.bring());
   }
 
-  /** The reader's own test, whether it is in the editor or kept; null where there is none. */
+  /** Returns the reader's own test, whether it is in the editor or kept; null if there is none. */
   get text() {
     return this.isHere ? this.editor.text : this.kept;
   }

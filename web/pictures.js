@@ -29,7 +29,7 @@ function escaped(text) {
   return text.replaceAll("&", "&amp;").replaceAll("<", "&lt;").replaceAll(">", "&gt;");
 }
 
-/** A number with six digits at most, and none for nothing. */
+/** Writes a number with six digits at most, and without zeros at its end. */
 export function digits(number) {
   return String(Number(number.toPrecision(6)));
 }
@@ -50,7 +50,7 @@ export class Drawing {
     this.elements.push(`<rect ${at} rx="4" class="${kind}"/>`);
   }
 
-  /** A text in a box of its own. Returns where the box ends. */
+  /** Draws a text in a box of its own. Returns where the box ends. */
   framed(x, y, text, kind, textKind) {
     const width = text.length * LETTER + 12;
     this.box(x, y, width, LINE, kind);
@@ -68,14 +68,14 @@ export class Drawing {
 
 // What there is to be drawn.
 
-/** The registers that a thread's code names, or that have a word other than 0 at some time. */
+/** Returns the registers that a thread's code names, or that have a word other than 0 at some time. */
 function usedRegisters(film, thread) {
   const named = new Set(film.cells[thread].flatMap((it) => it.text.match(/\w+/g) ?? []));
   const rows = film.states.map((state) => state.threads[thread].registers);
   return rows[0].map(([name]) => name).filter((name, at) => named.has(name) || rows.some((row) => row[at][1]));
 }
 
-/** What stands above a step of a strip: its event, with its code. */
+/** Returns the title of a step of a strip: its event, with its code. */
 function titleOf(film, step) {
   if (!step) return "0  at the start";
   const event = film.events[step - 1];
@@ -85,7 +85,7 @@ function titleOf(film, step) {
   return `${step}  ${event}${next ? `: ${next.text}` : ""}`;
 }
 
-/** What the event before a step does, in lines of so many letters at most. */
+/** Returns what the event before a step does, in lines of so many letters at most. */
 function effectLines(film, step, letters) {
   const lines = [];
   for (const word of step ? film.effects[step - 1].words.replaceAll("`", "").split(" ") : []) {
@@ -96,7 +96,7 @@ function effectLines(film, step, letters) {
   return lines;
 }
 
-/** What is said of the event that a film ends before. */
+/** Returns what is said of the event that a film ends before. */
 function refusalOf({ refused }) {
   return refused ? `Here ${refused.event} is refused: ${refusal(refused.number)}` : "";
 }
@@ -137,7 +137,7 @@ class Measures {
 
 // Drawing.
 
-/** A thread: its code, its registers, its store buffer and its cache lines. */
+/** Draws a thread: its code, its registers, its store buffer and its cache lines. */
 function drawThread(drawing, film, step, thread, left, y, room) {
   const place = film.states[step].threads[thread];
   const before = film.states[Math.max(step - 1, 0)].threads[thread];
@@ -170,7 +170,7 @@ function drawCode(drawing, cells, at, x, top) {
   }
 }
 
-/** A store buffer as a queue: the oldest entry is lowest, next to memory. */
+/** Draws a store buffer as a queue: the oldest entry is lowest, next to memory. */
 function drawBuffer(drawing, buffer, before, read, x, top, room) {
   drawing.text(x, top, "store buffer", "faint");
   if (!buffer.length) drawing.text(x, top + 6 + (room.entries - 1) * (LINE + 3) + 14, "(empty)", "faint");
@@ -181,7 +181,7 @@ function drawBuffer(drawing, buffer, before, read, x, top, room) {
   }
 }
 
-/** One state of a film. */
+/** Draws one state of a film. */
 function drawState(drawing, film, step, left, y, room) {
   for (const thread of film.cells.keys()) drawThread(drawing, film, step, thread, left + thread * (room.width + GAP), y, room);
   const before = new Map(film.states[Math.max(step - 1, 0)].content);
@@ -194,7 +194,7 @@ function drawState(drawing, film, step, left, y, room) {
   }
 }
 
-/** A picture of one state of a film. */
+/** Returns a picture of one state of a film. */
 export function pictureOf(film, step) {
   const drawing = new Drawing();
   const room = new Measures(film);
@@ -213,7 +213,7 @@ function drawRefusal(drawing, refusal, y) {
   return LINE;
 }
 
-/** A strip of all states of a film, each below the event that leads to it and what that does. */
+/** Returns a strip of all states of a film, each below the event that leads to it and what that does. */
 export function stripOf(film) {
   const drawing = new Drawing();
   const room = new Measures(film);

@@ -6,7 +6,7 @@ import { byId } from "./dom.js";
 const NARROW = "(max-width: 69.99rem)";
 
 /**
- * In one column the verdict and the machine come first, and the text is folded. The graph is beside the machine if it has room there, and
+ * Places the parts: in one column the verdict and the machine come first, and the text is folded. The graph is beside the machine if it has room, and
  * otherwise below it.
  */
 export function placeParts(present) {

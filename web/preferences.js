@@ -24,7 +24,7 @@ class Preference {
   }
 }
 
-/** What the browser keeps under a name, or null. */
+/** Returns what the browser keeps under a name, or null. */
 function stored(name) {
   try {
     return localStorage.getItem(name);

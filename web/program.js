@@ -41,7 +41,7 @@ export function textOf(bytes) {
   return new TextDecoder("utf-8", { ignoreBOM: true }).decode(bytes);
 }
 
-/** The language of a test that the workbench has taken. */
+/** Returns the language of a test that the workbench has taken. */
 export function languageOf(text) {
   return headingOf(textOf(text)).language;
 }
@@ -58,12 +58,12 @@ export class Program {
     this.textOfKept = null;
   }
 
-  /** What is printed of a list, `states` or `schedules`; of one by a search `passed` is called with words on how far that is. */
+  /** Returns what is printed of a list, `states` or `schedules`; of one by a search `passed` is called with words on how far that is. */
   list(output, text, { search = false, passed = () => null } = {}) {
     return search ? this.search(output, text, passed) : this.ask([output], text);
   }
 
-  /** A list by a search, which is kept whatever its length as long as the same text is asked about. */
+  /** Returns a list by a search, which is kept whatever its length as long as the same text is asked about. */
   search(output, text, passed) {
     this.keptOf(text);
     if (!this.searched.has(output)) this.searched.set(output, this.searchAnew(output, text, passed));
@@ -83,7 +83,7 @@ export class Program {
     throw new NoAnswer(`The search found more than ${most} states of the machine, and was ended. \`./beyond --budget N\` takes more.`);
   }
 
-  /** What is printed. What is short is kept as long as the same text is asked about: films and runs by hand ask for much of it again. */
+  /** Returns what is printed. Short answers are kept as long as the same text is asked about: films and runs by hand ask for many again. */
   ask(words, text) {
     const kept = this.keptOf(text);
     const key = words.join(" ");
@@ -117,12 +117,12 @@ export class Program {
     }
   }
 
-  /** The state that a schedule leads to. */
+  /** Returns the state that a schedule leads to. */
   replayed(text, schedule, protocol) {
     return readState(this.ask(["replay", schedule, "--protocol", protocol], text));
   }
 
-  /** The states to which all prefixes of a schedule lead, the shortest first: one call, if the workbench has films. */
+  /** Returns the states to which all prefixes of a schedule lead, the shortest first: one call, if the workbench has films. */
   statesAlong(text, events, protocol) {
     if (!this.workbench.hasFilmsAndMarks) {
       return Array.from({ length: events.length + 1 }, (_, count) => this.replayed(text, events.slice(0, count).join(" "), protocol));
@@ -131,7 +131,7 @@ export class Program {
     return pages.slice(0, -1).map((page) => readState(`${page}\n`));
   }
 
-  /** The list of states with a mark on each, as `list` makes it, or null if the workbench has no marks. */
+  /** Returns the list of states with a mark on each, as `list` makes it, or null if the workbench has no marks. */
   marked(text, { search = false, passed = () => null } = {}) {
     if (!this.workbench.hasFilmsAndMarks) return null;
     const printed = search ? this.search("marks", text, passed) : this.ask(["--budget", "0", "marks"], text);
@@ -139,7 +139,7 @@ export class Program {
   }
 }
 
-/** A fault with its place: the row and the column, which counts characters, and the index in a string. */
+/** Returns a fault with its place: the row and the column, which counts characters, and the index in a string. */
 function faultOf(line, status, text, schedule) {
   const [, kind, number, name, at] = FAULT.exec(line) ?? [];
   if (kind) {

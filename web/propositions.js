@@ -4,38 +4,38 @@
 
 import { REGISTERS } from "./token_reader.js";
 
-/** What tells one site from another. */
+/** Returns a key that differs for different sites. */
 export function siteKey(site) {
   return site.location === undefined ? `${site.thread}:${site.register}` : `[${site.location}]`;
 }
 
-/** The sites that a proposition names. */
+/** Returns the sites that a proposition names. */
 export function sitesIn(proposition) {
   return proposition.kind === "is" ? [proposition.site] : proposition.parts.flatMap(sitesIn);
 }
 
-/** The number of atoms and connectives. */
+/** Returns the number of atoms and connectives. */
 export function nodesIn(proposition) {
   return proposition.parts.reduce((sum, part) => sum + nodesIn(part), 1);
 }
 
-/** Sites, each once: registers by thread and number, then locations. */
+/** Sorts sites, without duplicates: registers by thread and number, then locations. */
 export function sortedSites(sites) {
   const place = (site) => (site.location === undefined ? site.thread * 6 + site.register : 1000 + site.location);
   return [...new Map(sites.map((it) => [siteKey(it), it])).values()].sort((a, b) => place(a) - place(b));
 }
 
-/** The sites that a report shows, in its order. */
+/** Returns the sites that a report shows, in its order. */
 export function observed(test) {
   return sortedSites([...test.listed, ...sitesIn(test.proposition)]);
 }
 
-/** The word of a site in an outcome. */
+/** Returns the word of a site in an outcome. */
 export function wordAt(site, outcome) {
   return site.location === undefined ? outcome.registers[site.thread][site.register] : outcome.words[site.location];
 }
 
-/** Whether a proposition is true in an outcome. */
+/** Returns whether a proposition is true in an outcome. */
 export function holds({ kind, parts, site, word }, outcome) {
   if (kind === "is") return wordAt(site, outcome) === word;
   if (kind === "and") return holds(parts[0], outcome) && holds(parts[1], outcome);
@@ -47,7 +47,7 @@ export function siteName(test, site) {
   return site.location === undefined ? `${site.thread}:${REGISTERS[test.language][site.register]}` : test.locations[site.location];
 }
 
-/** A proposition with parentheses only where reading needs them. */
+/** Writes a proposition with parentheses only where reading needs them. */
 function propositionText(test, { kind, parts, site, word }) {
   const part = (inner, kinds) => {
     const text = propositionText(test, inner);

@@ -2,7 +2,7 @@
 
 import { REGISTERS } from "./token_reader.js";
 
-/** Which register of the source each one is that a compiled text names, in a sentence; nothing if it names none. */
+/** Says which register of the source each one is that a compiled text names; an empty text if it names none. */
 export function mappedNames(text) {
   const used = REGISTERS.X86.map((name, at) => [name, REGISTERS.SRC[at]]).filter(([name]) => new RegExp(`\\b${name}\\b`).test(text));
   if (!used.length) return "";

@@ -20,10 +20,10 @@ const END = `End (?:(Final|NotFinal)|Stopped at ${NUMBER} by ${NUMBER} ([A-Za-z]
 /** The text is not what a replay prints. */
 export class NoReplay extends Error {}
 
-/** The pairs of a name and what follows its `=`. */
+/** Returns the pairs of a name and what follows its `=`. */
 const pairs = (text) => text.split(" ").filter(Boolean).map((it) => it.split("="));
 
-/** Whether the names of two lists of pairs are the same, in the same order. */
+/** Returns whether the names of two lists of pairs are the same, in the same order. */
 const sameNames = (found, names) => found.map(([name]) => name).join(" ") === names.join(" ");
 
 /** The lines of a text, which are read one after another. */
@@ -34,7 +34,7 @@ class Page {
     this.line = "";
   }
 
-  /** What the groups of a pattern match in the next line. A line that it does not match is refused. */
+  /** Returns what the groups of a pattern match in the next line. Refuses a line that does not match. */
   take(pattern) {
     if (!this.lines.length) throw new NoReplay(this.rest ? "the last line has no end" : "the text ends, and a replay prints more");
     this.line = this.lines.shift();
@@ -43,7 +43,7 @@ class Page {
     return found.slice(1);
   }
 
-  /** The pairs of a name and a word in the line that was read last. */
+  /** Returns the pairs of a name and a word in the line that was read last. */
   words(text) {
     const found = pairs(text).map(([name, word]) => [name, Number(word)]);
     this.require(found.every(([, word]) => word < 2 ** 32));
@@ -61,12 +61,12 @@ class Page {
   }
 }
 
-/** How a run ended. */
+/** Returns how a run ended. */
 function endOf([kind, at, number, cause]) {
   return kind ? { kind } : { kind: "Stopped", at: Number(at), number: Number(number), cause };
 }
 
-/** The state of the thread with a number, whose registers are those of one of some languages. */
+/** Returns the state of the thread with a number, whose registers are those of one of some languages. */
 function readThread(page, number, languages) {
   const [at, text] = page.take(`P${number} at ${NUMBER}${WORDS}`);
   const thread = { at: Number(at), registers: page.words(text) };
@@ -76,7 +76,7 @@ function readThread(page, number, languages) {
   return { ...thread, buffer, lines: pairs(page.take(`P${number} lines${LETTERS}`)[0]) };
 }
 
-/** The states of all threads, which are of one language. */
+/** Returns the states of all threads, which are of one language. */
 function readThreads(page) {
   const threads = [readThread(page, 0, [REGISTERS, SOURCE])];
   const language = threads[0].registers.map(([name]) => name);
@@ -84,7 +84,7 @@ function readThreads(page) {
   return threads;
 }
 
-/** The state that a replay's text says. */
+/** Returns the state that a replay's text says. */
 export function readState(text) {
   const page = new Page(text);
   const [name] = page.take("Test ([!-~]{1,128})");
@@ -101,17 +101,17 @@ export function readState(text) {
   return { name, steps, end, threads, memory, content };
 }
 
-/** The number of a register of either language, by its name. */
+/** Returns the number of a register of either language, by its name. */
 export function registerNumber(name) {
   return name.startsWith("r") ? Number(name.slice(1)) : REGISTERS.indexOf(name);
 }
 
-/** What a line of a report says: pairs of an observed name and a word. */
+/** Returns what a line of a report says: pairs of an observed name and a word. */
 export function wordsOf(line) {
   return [...line.matchAll(/(\S+)=(\d+);/g)].map(([, name, word]) => [name, Number(word)]);
 }
 
-/** Whether a run is final, in the state that a line of a report tells of. A register is named in either language. */
+/** Returns whether a run is final, in the state of a report's line. A register is named in either language. */
 export function endsIn(state, line) {
   const content = new Map(state.content);
   const wordIn = (name) => {
@@ -121,7 +121,7 @@ export function endsIn(state, line) {
   return state.end.kind === "Final" && wordsOf(line).every(([name, word]) => wordIn(name) === word);
 }
 
-/** The events of a schedule. */
+/** Returns the events of a schedule. */
 export function eventsIn(schedule) {
   return schedule.split(/\s+/).filter(Boolean);
 }

@@ -4,17 +4,17 @@ import { el } from "./dom.js";
 import { fileName, save } from "./output.js";
 import { wordsOf } from "./replays.js";
 
-/** The names of what a report shows. */
+/** Returns the names of what a report shows. */
 export function namesOf({ states }) {
   return states.length ? wordsOf(states[0].line).map(([name]) => name) : [];
 }
 
-/** The proposition of a report's condition, without its quantifier. */
+/** Returns the proposition of a report's condition, without its quantifier. */
 export function propositionOf({ condition }) {
   return condition.slice(condition.indexOf(" ") + 1);
 }
 
-/** How many states are left out, if some are. */
+/** Says how many states are left out, if some are. */
 export function leftOut(report) {
   if (!report.left_out) return null;
   const [number, out, kept] = [report.number, report.left_out, report.most].map((it) => it.toLocaleString("en"));
@@ -22,7 +22,7 @@ export function leftOut(report) {
   return el("p", { class: "notice" }, words);
 }
 
-/** A report as lw prints it. */
+/** Returns a report as lw prints it. */
 export function asPrinted(report) {
   return [...report.head, ...report.states.map((it) => it.line), ...report.tail].join("\n");
 }

@@ -33,7 +33,7 @@ export class Rows {
     this.place = el("div", { class: "rows-place" }, el("div", { class: "rows-box" }, this.head, this.body), this.tools());
   }
 
-  /** The columns of a row, as a grid has them: the number, the names, the mark, and what is said at the end. */
+  /** Returns the columns of a row, as a grid has them: the number, the names, the mark, and what is said at the end. */
   widths() {
     const { names } = this.strip;
     const measured = this.report.states.slice(0, MEASURED).map(({ line }) => wordsOf(line).map(([, word]) => String(word).length));
@@ -50,7 +50,7 @@ export class Rows {
     return head;
   }
 
-  /** What is beside the list: how many states there are, the choice of those that make the proposition true, and the list as a file. */
+  /** Returns what is beside the list: the number of states, the choice of those in which the condition holds, and the list as a file. */
   tools() {
     const { report } = this;
     const shown = (number) => number.toLocaleString("en");

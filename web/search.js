@@ -4,12 +4,12 @@ import { button, el } from "./dom.js";
 
 const TITLE = "List the states by a proved search of the machine's states, which counts no orders";
 
-/** Whether an answer is that of a list that is refused by count. */
+/** Returns whether an answer says that a list is refused for its number of orders. */
 export function isTooLong(answer) {
   return answer.fault?.kind === "limit";
 }
 
-/** The button that searches. */
+/** Makes the button that searches. */
 export function searchOffer(search, id) {
   return el("p", { class: "row" }, button("Search instead", search, { id, class: "main", title: TITLE }));
 }

@@ -39,7 +39,7 @@ export class SeenHere {
   }
 }
 
-/** What the server says. */
+/** Returns what the server answers. */
 async function answerOf(text) {
   try {
     const body = JSON.stringify({ text, seconds: SECONDS });
@@ -49,14 +49,14 @@ async function answerOf(text) {
   }
 }
 
-/** The rows of the table: of each state its line and what is said of it, those that are seen most often first. */
+/** Returns the rows of the table: of each state its line and what is said of it, those that are seen most often first. */
 export function rowsOf({ seen, not_seen: notSeen }) {
   const often = [...seen].sort((one, other) => Number(one.listed) - Number(other.listed) || other.count - one.count);
   const said = ({ count, listed }) => (listed ? count.toLocaleString("en") : `${count.toLocaleString("en")}, and it is not listed`);
   return [...often.map((it) => [it.state, said(it)]), ...notSeen.map((state) => [state, "not seen"])];
 }
 
-/** A sentence on a run. */
+/** Returns a sentence on a run. */
 export function sentenceOn({ runs, seconds, processors, listed, seen, list }) {
   const found = seen.filter((it) => it.listed).length;
   const many = `${runs.toLocaleString("en")} runs in ${seconds.toFixed(1)} seconds on ${processors} processor${processors === 1 ? "" : "s"}`;

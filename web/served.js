@@ -8,7 +8,7 @@ export const NO_SERVER = "The server does not answer. Start ./page again.";
 export class Served {
   room = "it may have (1 GiB)";
 
-  /** The answer to words as on the command line: the status, whether a fault is told, and the bytes of the answer or of the fault. */
+  /** Returns the answer to words as on the command line: the status, whether a fault is told, and the bytes of the answer or of the fault. */
   run(words, text) {
     const { status, printed, fault, error } = asked("run", { words, text: textOf(text) });
     if (error) throw new NoAnswer(error);
@@ -16,7 +16,7 @@ export class Served {
   }
 }
 
-/** What the server says to a question. */
+/** Returns what the server answers to a question. */
 function asked(path, question) {
   try {
     const request = new XMLHttpRequest();

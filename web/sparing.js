@@ -5,12 +5,12 @@ import { canonicalText, instructionText } from "./canonical.js";
 import { sortedSites } from "./propositions.js";
 import { listOfStates } from "./walk.js";
 
-/** The places of all fences: a thread, and the number of the instruction. */
+/** Returns the places of all fences: a thread, and the number of the instruction. */
 export function fencesOf(test) {
   return test.threads.flatMap((code, thread) => code.flatMap((it, at) => (it.kind === "mfence" ? [[thread, at]] : [])));
 }
 
-/** A test without some of its fences. A jump to one of them leads to what stands behind it. */
+/** Returns a test without some of its fences. A jump to one of them targets the instruction after it. */
 export function without(test, leftOut) {
   const threads = test.threads.map((code, thread) => {
     const gone = leftOut.filter(([of]) => of === thread).map(([, at]) => at);
@@ -21,7 +21,7 @@ export function without(test, leftOut) {
   return { ...test, threads };
 }
 
-/** A test that shows all registers that it uses, and all locations. */
+/** Returns a test that shows all registers that it uses, and all locations. */
 export function showingEverything(test) {
   const used = test.threads.flatMap((code, thread) =>
     code.flatMap((it) => [it.register, it.value?.register].filter((at) => at !== undefined).map((register) => ({ thread, register }))),
@@ -29,7 +29,7 @@ export function showingEverything(test) {
   return { ...test, listed: sortedSites([...test.listed, ...used, ...test.locations.map((_, location) => ({ location }))]) };
 }
 
-/** What is said of where a fence stands. */
+/** Returns the place of a fence in words. */
 function placeOf(test, [thread, at]) {
   const behind = test.threads[thread][at + 1];
   return `P${thread} at ${at}${behind ? `, before ${instructionText(test, behind)}` : ""}`;
@@ -54,7 +54,7 @@ class Lists {
 }
 
 /**
- * Of each fence its place, and the states that are there without it alone; the fences that are enough; the number of states, and of those
+ * Returns of each fence its place, and the states that are new if only it is left out; the fences that are enough; the number of states, and of those
  * in which the proposition is true. `listOf` gives the lines of the states of a text, and that number; or null where lw refuses it.
  */
 export function tableOfFences(test, listOf) {
@@ -71,7 +71,7 @@ export function tableOfFences(test, listOf) {
   return { rows, enough, states: states.length, positive, answered_by: [...lists.answeredBy].sort() };
 }
 
-/** Fences that can be left out together, taken one after another as long as no state is added. */
+/** Returns fences that can be left out together, taken one after another as long as no state is added. */
 function spared(test, fences, states, lists) {
   const leftOut = [];
   for (const fence of fences) {

@@ -8,7 +8,7 @@ import { NoTest } from "./tokens.js";
 
 const MOST_STATEMENTS = { SRC: 16, X86: 32 };
 
-/** A number, with a `$` before it or without in an x86 test, or a register. */
+/** Reads a number, in an x86 test with a `$` before it or without, or a register. */
 function value(reader) {
   if (reader.test.language === "X86" && reader.next === "$") {
     reader.take("$");
@@ -17,7 +17,7 @@ function value(reader) {
   return reader.kind === "number" ? { number: reader.number() } : { register: reader.register() };
 }
 
-/** A statement of a source test. */
+/** Reads a statement of a source test. */
 function sourceStatement(reader) {
   if (reader.next === "if") return conditionalJump(reader);
   if (reader.next === "goto") {
@@ -45,7 +45,7 @@ function conditionalJump(reader) {
   return { kind: sign === "=" ? "if equal" : "if unequal", register, value: { number }, target: reader.name() };
 }
 
-/** What stands behind `d :=` for a register d. */
+/** Reads what follows `d :=` for a register d. */
 function assignment(reader, register) {
   if (reader.next === "swap" || reader.next === "fetchadd") {
     const kind = reader.take();
@@ -62,7 +62,7 @@ function assignment(reader, register) {
   return { kind: "sum", register, value: value(reader), left };
 }
 
-/** An instruction of an x86 test. */
+/** Reads an instruction of an x86 test. */
 function instruction(reader) {
   const mnemonic = reader.name().toUpperCase();
   if (mnemonic === "MFENCE") return { kind: "mfence" };
@@ -91,7 +91,7 @@ function move(reader) {
   return { kind: "set", register, value: value(reader) };
 }
 
-/** XCHG takes its operands in both orders, XADD with the location first. */
+/** Reads the operands of XCHG, in both orders, or of XADD, with the location first. */
 function exchange(reader, kind) {
   if (reader.next === "[" || kind === "xadd") {
     const location = reader.inBrackets();
@@ -103,7 +103,7 @@ function exchange(reader, kind) {
   return { kind, register, location: reader.inBrackets() };
 }
 
-/** The statements of a thread, with its jumps resolved. */
+/** Reads the statements of a thread, and resolves its jumps. */
 export function threadOf(test, cells) {
   const statements = [];
   const labels = new Map();
@@ -124,7 +124,7 @@ function takeLabel(reader, labels, at) {
   reader.take(":");
 }
 
-/** A statement with its jump's label resolved. */
+/** Returns a statement with its jump's label resolved. */
 function resolved(statement, at, labels) {
   if (statement.target === undefined) return statement;
   const target = labels.get(statement.target) ?? 0;

@@ -6,7 +6,7 @@ export const VIEWS = ["states", "hand", "why", "compile", "fences"];
 const IN_RUN = ["states", "hand"];
 
 export class Tabs {
-  /** `chosen` is called with the tab that the reader has chosen. */
+  /** Listens to the tabs. It calls `chosen` with the tab that the reader has chosen. */
   constructor(chosen) {
     this.chosen = chosen;
     this.view = VIEWS[0];

@@ -16,7 +16,7 @@ const MOST_NODES = 256;
 const NUMBER_OF_REGISTERS = 6;
 const ENDS_OF_ROWS = ["locations", "exists", "forall", "filter", "~"];
 
-/** The test that a text says. */
+/** Reads a test. */
 export function readTest(text) {
   if (new TextEncoder().encode(text).length > MOST_BYTES) throw new NoTest("the text is too long");
   const { language, name, end } = headingOf(text);
@@ -37,7 +37,7 @@ export function readTest(text) {
   return test;
 }
 
-/** The number of threads. */
+/** Reads the header. Returns the number of threads. */
 function header(reader) {
   for (let threads = 1; ; threads += 1) {
     reader.take(`P${threads - 1}`);
@@ -50,7 +50,7 @@ function header(reader) {
   }
 }
 
-/** Of each thread its cells, each a list of tokens. */
+/** Reads the rows. Returns of each thread its cells, each a list of tokens. */
 function rows(reader, threads) {
   const columns = Array.from({ length: threads }, () => []);
   while (!ENDS_OF_ROWS.includes(reader.next)) {
@@ -88,7 +88,7 @@ function quantifier(reader) {
   return reader.take();
 }
 
-/** An atom, a proposition in parentheses, or a negation. */
+/** Reads an atom, a proposition in parentheses, or a negation. */
 function atom(reader) {
   if (reader.next === "~" || reader.next === "not") {
     reader.take();

@@ -24,22 +24,22 @@ export class TokenReader {
     this.at = 0;
   }
 
-  /** The text of the next token, or null. */
+  /** Returns the text of the next token, or null. */
   get next() {
     return this.tokens[this.at]?.text ?? null;
   }
 
-  /** The kind of the next token, or null. */
+  /** Returns the kind of the next token, or null. */
   get kind() {
     return this.tokens[this.at]?.kind ?? null;
   }
 
-  /** Whether the tokens behind the next one begin with a symbol. */
+  /** Returns whether the tokens after the next one begin with a symbol. */
   isBefore(symbol) {
     return this.tokens[this.at + 1]?.text === symbol;
   }
 
-  /** The next token, which is the one that is wanted, if one is. */
+  /** Takes the next token, which has to be the one that is wanted, if one is. */
   take(wanted = null) {
     const text = this.next;
     if (text === null || (wanted !== null && text !== wanted)) throw new NoTest(`${text} stands where ${wanted ?? "more"} should`);
@@ -59,7 +59,7 @@ export class TokenReader {
     return this.take();
   }
 
-  /** The number of a register, or null. */
+  /** Returns the number of a register, or null. */
   registerOf(text) {
     const at = REGISTERS[this.test.language].indexOf(this.test.language === "X86" ? text.toUpperCase() : text);
     return at < 0 ? null : at;
@@ -72,7 +72,7 @@ export class TokenReader {
     return register;
   }
 
-  /** The number of a location; one that is new comes to the end of the table. */
+  /** Returns the number of a location; a new one is appended to the table. */
   location() {
     const name = this.name();
     if (isReserved(name)) throw new NoTest(`${name} is reserved`);
@@ -89,7 +89,7 @@ export class TokenReader {
     return location;
   }
 
-  /** A location or a thread's register, as the block, the list and the condition name it. */
+  /** Reads a location or a thread's register, as the block, the list and the condition name it. */
   site() {
     if (this.next === "[") return { location: this.inBrackets() };
     if (this.kind !== "number") return { location: this.location() };
@@ -98,7 +98,7 @@ export class TokenReader {
     return { thread, register: this.register() };
   }
 
-  /** What stands up to the closing bracket, each ended by `;`, which the last may lack. */
+  /** Reads the entries up to the closing bracket, each ended by `;`, which the last may lack. */
   entries(readOne, end) {
     const read = [];
     while (this.next !== end) {
@@ -109,7 +109,7 @@ export class TokenReader {
     return read;
   }
 
-  /** A site with its number, as the block and atoms have it. */
+  /** Reads a site with its word, as the block and atoms have it. */
   equation() {
     const site = this.site();
     this.take("=");

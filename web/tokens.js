@@ -12,13 +12,13 @@ const BLANKS = " \t\r\n";
 /** The text is no test, or none that is read here. */
 export class NoTest extends Error {}
 
-/** What a pattern finds at a place, or null. */
+/** Returns what a pattern matches at a place, or null. */
 function found(pattern, text, at) {
   pattern.lastIndex = at;
   return pattern.exec(text);
 }
 
-/** Where the comment that begins at a place ends; comments nest. */
+/** Returns where the comment that begins at a place ends; comments nest. */
 function skipComment(text, at) {
   let depth = 0;
   do {
@@ -32,7 +32,7 @@ function skipComment(text, at) {
   return at;
 }
 
-/** The tokens from a place on, each with its kind and its text. */
+/** Returns the tokens from a place on, each with its kind and its text. */
 export function tokensOf(text, at) {
   const tokens = [];
   while (at < text.length) {
@@ -49,7 +49,7 @@ export function tokensOf(text, at) {
   return tokens;
 }
 
-/** Where the initial block begins: behind quoted texts, lines `Key=value`, blanks and comments. */
+/** Returns where the initial block begins: after quoted texts, lines `Key=value`, blanks and comments. */
 export function skipNotes(text, at) {
   while (at < text.length) {
     const key = found(KEY, text, at);
@@ -63,7 +63,7 @@ export function skipNotes(text, at) {
   throw new NoTest("there is no initial block");
 }
 
-/** The language and the name of a test, and where its heading ends. */
+/** Returns the language and the name of a test, and where its heading ends. */
 export function headingOf(text) {
   let at = 0;
   while (at < text.length && (BLANKS.includes(text[at]) || text.startsWith("(*", at))) {
@@ -74,7 +74,7 @@ export function headingOf(text) {
   return { language: heading[1], name: heading[2], end: at + heading[0].length };
 }
 
-/** The name of a test, as far as it has one. */
+/** Returns the name of a test, as far as it has one. */
 export function nameOf(text) {
   try {
     return headingOf(text).name;

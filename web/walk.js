@@ -7,7 +7,7 @@
 import { holds, observed, siteName, wordAt } from "./propositions.js";
 import { WORD } from "./token_reader.js";
 
-/** A list with one item replaced. */
+/** Returns a list with one item replaced. */
 function put(list, at, item) {
   return list.with ? list.with(at, item) : list.map((it, number) => (number === at ? item : it));
 }
@@ -16,13 +16,13 @@ function wordOf(value, registers) {
   return value.number === undefined ? registers[value.register] : value.number;
 }
 
-/** A state with a processor that has gone on, and perhaps another memory. */
+/** Returns a state with a processor that has advanced, and perhaps another memory. */
 function after(state, cpu, changes, words = state.words) {
   const processor = state.processors[cpu];
   return { processors: put(state.processors, cpu, { ...processor, at: processor.at + 1, ...changes }), words };
 }
 
-/** The state behind the next instruction of a processor, or null where it has ended or waits. */
+/** Returns the state after the next instruction of a processor, or null if it has ended or waits. */
 function step(test, state, cpu) {
   const { at, registers, zero, buffer } = state.processors[cpu];
   const it = test.threads[cpu][at];
@@ -45,7 +45,7 @@ function step(test, state, cpu) {
   return after(state, cpu, { registers: put(registers, it.register, total), zero: total === 0 });
 }
 
-/** XCHG and LOCK XADD, with a location. */
+/** Returns the state after XCHG or LOCK XADD with a location. */
 function lockedStep(state, cpu, it) {
   const { registers } = state.processors[cpu];
   const old = state.words[it.location];
@@ -56,7 +56,7 @@ function lockedStep(state, cpu, it) {
   return after(state, cpu, { registers: changed, zero: total === 0 }, put(state.words, it.location, total));
 }
 
-/** The state behind a drain of a processor's oldest entry, or null where there is none. */
+/** Returns the state after a drain of a processor's oldest entry, or null if there is none. */
 function drain(state, cpu) {
   const { at, buffer } = state.processors[cpu];
   if (!buffer.length) return null;
@@ -64,12 +64,12 @@ function drain(state, cpu) {
   return after(state, cpu, { at, buffer: others }, put(state.words, location, word));
 }
 
-/** The states behind a state. */
+/** Returns the successors of a state. */
 function moves(test, state) {
   return state.processors.flatMap((_, cpu) => [step(test, state, cpu), drain(state, cpu)].filter(Boolean));
 }
 
-/** All final states of a test. */
+/** Returns all final states of a test. */
 function finalStates(test) {
   const start = { processors: test.registers.map((registers) => ({ at: 0, registers, zero: false, buffer: [] })), words: test.words };
   const seen = new Set([JSON.stringify(start)]);
@@ -88,7 +88,7 @@ function finalStates(test) {
   return finals;
 }
 
-/** The lines of the states in which a test ends, as a report has them, and in how many of them its proposition is true. */
+/** Returns the lines of the states in which a test ends, as a report has them, and in how many of them its proposition is true. */
 export function listOfStates(test) {
   const sites = observed(test);
   const outcomes = finalStates(test).map(({ processors, words }) => ({ registers: processors.map((it) => it.registers), words }));

@@ -19,7 +19,7 @@ const loading = load();
 // One worker is made ready before it is needed. Where the browser starts none, that is told when one is needed.
 loading.then(async (module) => (module || hasServer) && idle.push(await workerOf())).catch(() => null);
 
-/** The first module that the browser takes, compiled, or null. */
+/** Returns the first module that the browser takes, compiled, or null. */
 async function load() {
   try {
     for await (const bytes of modules()) {
@@ -32,18 +32,18 @@ async function load() {
   return null;
 }
 
-/** Whether the browser has a module that it takes. */
+/** Returns whether the browser has a module that it takes. */
 export async function hasModule() {
   return (await loading) !== null;
 }
 
-/** The answer by the module. */
+/** Returns the answer by the module. */
 async function byModule(question, fields, signal, passed) {
   const module = await loading;
   return module ? byWorker({ module, question, fields }, signal, passed) : { error: NO_MODULE };
 }
 
-/** The answer of a worker. What ends by the signal ends at once, with its worker. `passed` is called with words on how far it is. */
+/** Returns the answer of a worker. The signal ends it at once, with its worker. `passed` is called with words on how far it is. */
 async function byWorker(asked, signal, passed) {
   if (signal.aborted) return null;
   const worker = idle.pop() ?? (await workerOf());
@@ -53,7 +53,7 @@ async function byWorker(asked, signal, passed) {
   return answer;
 }
 
-/** A worker; where it breaks, `broken` says why, in place of an answer. */
+/** Starts a worker. If it breaks, `broken` says why, in place of an answer. */
 async function workerOf() {
   const worker = await newWorker();
   worker.onerror = ({ message }) => {
@@ -72,12 +72,12 @@ function answerOf(worker, asked, signal, passed) {
   });
 }
 
-/** The answer by the program on this machine. */
+/** Returns the answer by the program on this machine. */
 export function byServer(question, fields, signal, passed) {
   return unlessStale(question, byWorker({ module: null, question, fields }, signal, passed), signal);
 }
 
-/** By the module where there is one; what is beyond it, and what has no module, by the program, where there is a server. */
+/** Answers by the module if there is one; what is beyond it, or without a module, by the program, if there is a server. */
 export async function byBest(question, fields, signal, passed) {
   if (!hasServer) return byModule(question, fields, signal, passed);
   if (!(await hasModule())) return byServer(question, fields, signal, passed);
@@ -87,14 +87,14 @@ export async function byBest(question, fields, signal, passed) {
   return served?.error === NO_SERVER ? answer : served;
 }
 
-/** An answer; in place of it that the sources have changed since the page was served, where the server says so. */
+/** Returns an answer, or that the sources have changed since the page was served, if the server says so. */
 async function unlessStale(question, answering, signal) {
   if (question === "moves" && performance.now() - currentAt < RECENTLY) return answering;
   const [answer, isStale] = await Promise.all([answering, isStaleBy(signal)]);
   return isStale ? { error: STALE } : answer;
 }
 
-/** Whether the server says that the program is not that of the sources as they are. */
+/** Returns whether the server says that the program is not that of the sources as they are. */
 async function isStaleBy(signal) {
   try {
     const headers = { "Content-Type": "application/json" };

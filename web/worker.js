@@ -9,7 +9,7 @@ import { Served } from "./served.js";
 
 let byModule = null;
 
-/** The program that answers. There is one module for all questions, and it stays the same; that on this machine may not. */
+/** Returns the program that answers. There is one module for all questions, and it stays the same; that on this machine may not. */
 function programOf(module) {
   if (!module) return new Program(new Served());
   byModule ??= new Program(new Workbench(module));
