@@ -53,7 +53,7 @@ export class Examples {
     const known = test && el("p", {}, sentence(test.known));
     const folded = (title, ...inner) => el("details", {}, el("summary", {}, title), inner);
     byId("about").replaceChildren(test && !isPredicting ? about : "");
-    byId("known").replaceChildren(test ? (isPredicting ? folded("About it", about, known) : folded("What is known of it", known)) : "");
+    byId("known").replaceChildren(test ? (isPredicting ? folded("About it", about, known) : folded("What is known about it", known)) : "");
   }
 
   /** Returns the same x86 test with fences, or undefined if there is none. */

@@ -30,6 +30,8 @@ import { hasModule } from "./ways.js";
 import { Why } from "./why.js";
 
 const FIRST = "SB-x86";
+// What the reader's own test begins as.
+const TEMPLATE = "X86 Mine\n{ x=0; }\n P0         | P1          ;\n MOV [x],$1 | MOV EAX,[x] ;\nexists (1:EAX=0)\n";
 // After how many milliseconds without a letter what is written is run, and how long what runs by itself may take.
 const TYPING = 600;
 const MOST_BY_ITSELF = 10000;
@@ -166,7 +168,8 @@ async function take(text, where, isOwn = false) {
 function show(example, isOwn) {
   if (examples) {
     examples.show(example, editor.text);
-    showNextStep(examples, example, { choose, compare: (name) => beside.take({ beside: name }) });
+    const browse = () => byId("open-gallery").click();
+    showNextStep(examples, example, { choose, compare: (name) => beside.take({ beside: name }), browse });
   }
   own.put(isOwn);
   beside?.follow();
@@ -202,10 +205,14 @@ function followFrom(before) {
   else follow();
 }
 
-/** Takes an example, or what the reader has written before. */
-function choose(name) {
-  if (name) take(examples.textOf(name), { example: name });
-  else if (!own.bring()) show(examples.name, own.isHere);
+/** Takes an example, or what the reader has written before; if that is nothing, a small test to begin with. */
+async function choose(name) {
+  if (name) return take(examples.textOf(name), { example: name });
+  if (own.bring()) return null;
+  if (beside.isOpen || own.isHere) return show(examples.name, own.isHere);
+  await take(TEMPLATE, { text: TEMPLATE }, true);
+  fold(false);
+  return editor.area.focus();
 }
 
 /** Opens a file of a test. */

@@ -10,10 +10,11 @@ function wordsOf(examples, name, partner) {
   return "the same test without what was added: ";
 }
 
-/** Shows the next step from an example; `choose` opens one, and `compare` sets one beside the test. */
-export function showNextStep(examples, name, { choose, compare }) {
+/** Shows the next step from an example; `choose` opens one, `compare` sets one beside the test, and `browse` opens the list of all. */
+export function showNextStep(examples, name, { choose, compare, browse }) {
   const partner = examples.tests.has(name) ? examples.relativeOf(name) : undefined;
-  const step = partner && [
+  const another = ["Next: ", button("another example", browse, { class: "link", id: "next-example" }), ". "];
+  const step = !partner ? another : [
     "Next: ", wordsOf(examples, name, partner), button(partner, () => choose(partner), { class: "link", id: "next-test" }), ", or ",
     button("compare both", () => compare(partner), { class: "link", id: "next-compare" }), ". ",
   ];

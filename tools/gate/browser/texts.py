@@ -170,6 +170,16 @@ class OwnTest(PageCase):
         user.click("#own-test")
         self.assertSoon(OWN, user.value)
 
+    def test_begun(self):
+        """Who has written no test yet begins with a small one, in the editor."""
+        user = self.user
+        user.open_listed("#example=CoRR-x86")
+        user.click("#next-example")
+        user.click("#own-test")
+        self.assertSoon("X86 Mine", lambda: user.value()[:8])
+        self.assertSays("Allowed.", "#outcome .verdict")
+        self.assertSoon("text", lambda: user.focused().get_attribute("id"))
+
     def test_program_and_file(self):
         """It comes back from behind a program that is taken, and from behind a file; and the file from behind it."""
         user = self.user
