@@ -8,11 +8,9 @@ const SPARE = 0.35;
 export function showNext(place) {
   for (const code of place.querySelectorAll(".code")) {
     const next = code.querySelector(".next, .reached");
-    // Room after the last line lets every line be the first in sight.
     code.style.paddingBottom = "";
-    const height = code.firstElementChild.offsetHeight;
-    const isWhole = code.scrollHeight <= code.clientHeight + SPARE * height;
-    if (!isWhole) code.style.paddingBottom = `${height}px`;
+    const isWhole = code.scrollHeight <= code.clientHeight + SPARE * code.firstElementChild.offsetHeight;
+    code.classList.toggle("whole", isWhole);
     if (isWhole) code.scrollTop = 0;
     else if (next) scrollTo(code, next);
     tellLines(code);
@@ -32,12 +30,16 @@ function scrollTo(code, line) {
   let wanted = code.scrollTop;
   if (top < wanted + 4) wanted = Math.max(0, top - height);
   else if (top + 2 * height > wanted + code.clientHeight) wanted = Math.min(top, top - code.clientHeight + 2 * height);
-  code.scrollTop = tops.find((it) => it >= wanted - 1) ?? wanted;
+  const first = tops.find((it) => it >= wanted - 1) ?? wanted;
+  // Room after the last line lets this line be the first in sight.
+  const missing = first + code.clientHeight - code.scrollHeight;
+  if (missing > 0) code.style.paddingBottom = `${missing}px`;
+  code.scrollTop = first;
 }
 
 /** Says which lines of a code are in sight. */
 function tellLines(code) {
-  const isWhole = code.style.paddingBottom === "";
+  const isWhole = code.classList.contains("whole");
   const [top, bottom] = [code.scrollTop, code.scrollTop + code.clientHeight];
   code.classList.toggle("more-above", !isWhole && top > 2);
   code.classList.toggle("more-below", !isWhole && bottom < code.lastElementChild.offsetTop + code.lastElementChild.offsetHeight - 2);
