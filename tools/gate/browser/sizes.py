@@ -80,7 +80,8 @@ class InSight(PageCase):
             user.wait(lambda: not user.all(".asking"), "the lists")
             self.assertTrue(len(user.run(BARS)) <= 1, (name, user.run(BARS)))
             if name != "IRIW":
-                self.assertEqual(1, len({it.rect["y"] for it in user.all("#compile .columns > div")}))
+                tops = "return [...document.querySelectorAll('#compile .columns > div')].map((it) => it.offsetTop)"
+                self.assertEqual(1, len(set(user.run(tops))))
 
     def test_list(self):
         """A list of 15 states is in sight as a whole at 1280 by 720."""

@@ -4,6 +4,7 @@ from gate.browser.user import read
 from shared.home import HOME
 
 FIVE = "SRC Five\n{}\n P0 | P1 ;\n" + " x := 1 | x := 2 ;\n" * 5 + "exists (x=1)\n"
+HEIGHT = "return document.getElementById('gallery').offsetHeight"
 OWN = "SRC Own\n{}\n P0 | P1 ;\n x := 1 | r0 := x ;\nexists (1:r0=1)\n"
 
 
@@ -221,10 +222,10 @@ class Gallery(PageCase):
         for written, name in (("sb-x86", "SB-x86"), ("publication early x86", "Publication+early-x86")):
             user.open_listed("#example=MP")
             user.click("#open-gallery")
-            height = user.find("#gallery").size["height"]
+            height = user.run(HEIGHT)
             user.find("#search").send_keys(written)
             self.assertSoon(True, lambda: user.texts("#gallery [role=status]")[0].endswith(" found"))
-            self.assertEqual(height, user.find("#gallery").size["height"])
+            self.assertEqual(height, user.run(HEIGHT))
             user.press(user.keys.ENTER)
             self.assertSoon(name, lambda: user.text("#example-name"))
             self.assertEqual([], user.all("#gallery"))
