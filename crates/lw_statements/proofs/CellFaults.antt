@@ -1,4 +1,5 @@
--- Two faults of one cell, of which the same precedes it, are the same: the tokens before a fault's place can be continued, those up to it cannot.
+-- Two faults of one cell are the same, if the same precedes it. The tokens before a fault's place can be continued to a statement, and with the
+-- token there they cannot.
 use Rattle.lw_statements.proofs.Common.{◌≡◌, ℕ, ◌<◌, ◌≤◌, ◌+◌, ◌*◌, inl, inr, ◌⊎◌, Option, Some, None, List}
 use Rattle.lw_statements.proofs.Common.{[], ◌∷◌, ◌++◌, length, length-append, refl, sym, ap, ◌∙◌, subst}
 use Rattle.lw_statements.proofs.Common.{arith, slice_get, codes, Contains, append_assoc, append-nil}

@@ -1,5 +1,5 @@
--- At most one cause and place of a fault is true of the same cells, and none of cells that have a test: faults come in the order of the threads,
--- of each thread's cells, then of its jumps, and of each cell's tokens; and what is read before the later one excludes the earlier.
+-- At most one cause and place of a fault is true of the same cells, and none of cells that have a test. Faults come in the order of the
+-- threads, of each thread's cells, then of its jumps, and of each cell's tokens; what is read before the later one excludes the earlier.
 use Rattle.lw_statements.proofs.Common.{◌≡◌, ℕ, ◌≤◌, ◌+◌, ◌*◌, inl, inr, ◌⊎◌, Option, Some, None, List, []}
 use Rattle.lw_statements.proofs.Common.{◌∷◌, ◌++◌, length, length-append, refl, sym, ap, ◌∙◌, subst, arith}
 use Rattle.lw_statements.proofs.Common.{slice_get, codes, Contains, MatchOption, append_assoc, append-nil}

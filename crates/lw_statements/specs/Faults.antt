@@ -59,8 +59,8 @@ IsMisfitCause IsMeant Register = IsMeant
 IsMisfitCause IsMeant cause = ⊥
 
 module _ {Syntax Stmt : Type 0} (grammar : Grammar Syntax Stmt) where
-  -- After the tokens `mid`, the token is meant as a register: a name where a register may stand and no location, or `r` with digits that is no
-  -- register.
+  -- After the tokens `mid`, the token is meant as a register: it is a name where a register may appear and no location, or `r` with digits and
+  -- no register.
   abbrev pub IsMeantAsRegister : TokenList → Bytes → Type 0
   IsMeantAsRegister mid t = (IsName t × IsBeforeRegister grammar mid) ⊎ IsUnknownRegister t
 
@@ -68,8 +68,8 @@ module _ {Syntax Stmt : Type 0} (grammar : Grammar Syntax Stmt) where
   abbrev pub table_after : NameTable → List (List (CellSyntax Syntax)) → List (CellSyntax Syntax) → NameTable
   table_after names threads syntaxes = insert_names names (names_of grammar threads ++ names_in grammar syntaxes)
 
-  -- The threads before a cell and the cells above it have this content, in which there is no fault, and `labels` follow: the thread has at
-  -- most as many statements as it may have, no label twice, and the table at most eight locations.
+  -- The threads before a cell and the cells above it have this content, without a fault, and `labels` follow: the threads before are those of a
+  -- test; this one has at most as many statements as a thread may have, and no label twice; and the table has at most eight locations.
   pub record AreRead (names : NameTable) (before : List (List PlacedCell)) (above : List PlacedCell)
       (threads : List (List (CellSyntax Syntax))) (syntaxes : List (CellSyntax Syntax)) (labels : List Bytes) : Type 0 where
     pub before_says : AllZip (Column grammar) (texts_of_grid before) threads
@@ -78,7 +78,8 @@ module _ {Syntax Stmt : Type 0} (grammar : Grammar Syntax Stmt) where
     pub once : IsDuplicateFree (labels_of syntaxes ++ labels)
     pub room : length (table_after names threads syntaxes) ≤ most_locations
 
-  -- What precedes a fault in a cell is read: the threads before, the cells above, and of the cell these tokens, labels and then `mid`.
+  -- What precedes a fault in a cell is read: the threads before, the cells above, and of the cell the tokens `ts`, which are labels followed
+  -- by `mid`.
   pub record IsReadTo (names : NameTable) {columns : List (List PlacedCell)} (c : CellPosition columns) (ts mid : TokenList) : Type 0 where
     pub threads : List (List (CellSyntax Syntax))
     pub syntaxes : List (CellSyntax Syntax)
@@ -104,7 +105,7 @@ module _ {Syntax Stmt : Type 0} (grammar : Grammar Syntax Stmt) where
     pub few : length (statements r.syntaxes) ≢ grammar.language.most
     pub begins : BeginsFitting (table_of r) mid
 
-  -- The cell ends too early: after its labels, its tokens begin a statement and are none.
+  -- The cell ends too early: the tokens after its labels begin a statement that fits, and are none.
   pub record EndsEarly (names : NameTable) {columns : List (List PlacedCell)} (c : CellPosition columns) (at : ℕ) : Type 0 where
     pub mid : TokenList
     pub read : IsReadTo names c (texts_of_tokens c.cell.tokens) mid
@@ -115,13 +116,13 @@ module _ {Syntax Stmt : Type 0} (grammar : Grammar Syntax Stmt) where
     pub ends : c.cell.end ≡ at
 
   module _ (names : NameTable) {columns : List (List PlacedCell)} {at : ℕ} where
-    -- The token is in the place of a label, and can be none.
+    -- The token is in the place of a label, since a `:` follows, and is no name that a label may have.
     pub record IsNoLabel (p : TokenPosition columns at) : Type 0 where
       pub read : IsReadTo names p.place (texts_of_tokens p.front) []
       pub colon : BeginsWithColon (texts_of_tokens p.back)
       pub none : IsLocationName p.token.text → ⊥
 
-    -- The token follows the labels of its cell and `mid`, with which a statement begins if it is not empty, and no statement begins with
+    -- The token follows the labels of its cell and `mid`. Unless `mid` is empty, some statement that fits begins with it; none begins with
     -- `mid` and the token.
     pub record IsMisfit (p : TokenPosition columns at) : Type 0 where
       pub mid : TokenList
@@ -130,7 +131,7 @@ module _ {Syntax Stmt : Type 0} (grammar : Grammar Syntax Stmt) where
       pub begun : mid ≢ [] → IsBegun read
       pub none : BeginsStatement grammar (mid ++ p.token.text ∷ []) → ⊥
 
-    -- The token fits none of the statements, for this cause.
+    -- The token fits none of the statements, and this is the cause.
     abbrev pub IsWrong : TokenPosition columns at → CellCause → Type 0
     IsWrong p cause =
         (IsNoLabel p × IsMisfitCause (IsUnknownRegister p.token.text) cause)
