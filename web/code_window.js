@@ -25,16 +25,21 @@ export function watchCodes(place) {
 
 /** Scrolls a line into sight inside its box, with one line around it, and nothing else. The first line in sight is whole. */
 function scrollTo(code, line) {
-  const { offsetTop: top, offsetHeight: height } = line;
-  const tops = [...code.children].map((it) => it.offsetTop);
-  let wanted = code.scrollTop;
-  if (top < wanted + 4) wanted = Math.max(0, top - height);
-  else if (top + 2 * height > wanted + code.clientHeight) wanted = Math.min(top, top - code.clientHeight + 2 * height);
-  const first = tops.find((it) => it >= wanted - 1) ?? wanted;
+  const first = firstLine(code, line).offsetTop;
   // Room after the last line lets this line be the first in sight.
   const missing = first + code.clientHeight - code.scrollHeight;
   if (missing > 0) code.style.paddingBottom = `${missing}px`;
   code.scrollTop = first;
+}
+
+/** Returns the first line to be in sight so that a line is, with the one before it or after it, and as many others as have room. */
+function firstLine(code, line) {
+  const lines = [...code.children];
+  const [before, after] = [line.previousElementSibling ?? line, line.nextElementSibling ?? line];
+  const isAbove = (it) => it.offsetTop >= code.scrollTop - 1;
+  const isEnough = (it) => after.offsetTop + after.offsetHeight <= it.offsetTop + code.clientHeight + 1;
+  if (line.offsetTop < code.scrollTop + 4) return before;
+  return lines.find((it) => it === line || (isAbove(it) && isEnough(it)));
 }
 
 /** Says which lines of a code are in sight. */

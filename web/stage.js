@@ -43,6 +43,11 @@ function isDense({ cells, state, used }) {
   return cells.length > 3 ? Math.max(...registers) > 2 : cells.length > 2 && Math.max(...registers) > 4;
 }
 
+/** Returns whether a store buffer has so many slots that its entries are low. */
+function isTall({ slots }) {
+  return slots.some((it) => it >= MOST_SLOTS);
+}
+
 function isRoomy(shown) {
   return !isTight(shown) && shown.cells.every((it) => it.length <= ROOMY.lines);
 }
@@ -56,7 +61,7 @@ export function leastHeight(shown) {
     const stacked = isStacked(shown, registers);
     const inRow = stacked ? 3 : threads > 3 && !dense ? 1 : threads > 2 ? 2 : 4;
     const rows = Math.ceil(registers / inRow) * (dense ? 1.4 : threads > 2 ? 1.9 : 2.2);
-    const entry = dense ? 1.75 : threads > 2 || slots[thread] > ROOMY.slots ? 2.05 : 2.4;
+    const entry = dense ? 1.75 : isTall(shown) ? 1.7 : threads > 2 || slots[thread] > ROOMY.slots ? 2.05 : 2.4;
     const buffer = 1.4 + Math.max(1, Math.min(slots[thread], MOST_SLOTS)) * entry;
     return 2.8 + Math.min(lines.length + 1, 3) * (dense ? 1.4 : 1.6) + (stacked ? rows + buffer : Math.max(rows, buffer));
   });
@@ -86,6 +91,7 @@ export class Stage {
     this.place.classList.toggle("tight", isTight(shown));
     this.place.classList.toggle("roomy", isRoomy(shown));
     this.place.classList.toggle("dense", isDense(shown));
+    this.place.classList.toggle("tall", isTall(shown));
     this.place.replaceChildren(el("div", { class: "threads" }, threads), this.memory());
     this.mark();
     showNext(this.place);

@@ -9,7 +9,7 @@ import { Rows } from "./rows.js";
 import { siteNode } from "./tint.js";
 
 // Of how many states and names at most the list has columns; of how many states these are wide.
-const MOST_COLUMNS = 16;
+const MOST_COLUMNS = 20;
 const MOST_NAMES = 5;
 const FEW_COLUMNS = 6;
 // Widths in letters of the page's size: what the verdict needs beside the list, a letter of a name, the titles of rows, and what is around.

@@ -63,6 +63,27 @@ class InSight(PageCase):
                     self.user.click("#forward")
                 self.assertEqual([], self.user.run(COVERED), (name, width))
 
+    def test_large(self):
+        """With large type nothing of the machine of SB is covered, and of Seqlock nothing with usual type, at 1280 by 720."""
+        user = self.user
+        covered = """
+        const isSeen = (it) => {
+          const { left, right, bottom } = it.getBoundingClientRect();
+          const seen = document.elementFromPoint((left + right) / 2, bottom - 2);
+          return it.contains(seen) || seen?.contains(it);
+        };
+        return [...document.querySelectorAll("#watching :is(.register, .entry, .word)")].filter((it) => !isSeen(it)).map((it) => it.textContent);
+        """
+        self.open_at("Seqlock-x86", 1280, 720)
+        self.assertEqual([], user.run(covered))
+        self.open_at("SB-x86", 1280, 720)
+        user.click("#large")
+        try:
+            self.open_at("SB-x86", 1280, 720)
+            self.assertEqual([], user.run(covered))
+        finally:
+            user.click("#large")
+
     def test_no_bars_inside(self):
         """Nothing has a scroll bar inside another one."""
         for width, height in SIZES:
