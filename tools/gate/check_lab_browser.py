@@ -160,7 +160,7 @@ def by_hand(student, answers):
     student.open_test(2, "A1")
     yield "2.1: the page opens at By hand", "true", student.find("#tab-hand").get_attribute("aria-selected")
     student.begin("yes")
-    told = student.texts("#outcome .verdict, .said"), student.texts("table.strip .holds")
+    told = student.texts("#outcome .verdicts:not(.veiled) .verdict, .said"), student.texts("table.strip .holds")
     yield "2.1: no state and no verdict is shown with the guess", ([], []), told
     schedule = re.search(r"`(P0[^`]*)`", answers.item(2, 1))[1]
     yield "2.1", (["EAX=0", "EAX=0"], True), student.play(schedule.split())
