@@ -122,6 +122,11 @@ class Execution:
         first, second = self.instruction(edge.source), self.instruction(edge.target)
         return not (first.kind == "store" and second.kind == "load")
 
+    def has_fence_between(self, edge):
+        """Returns whether a fence or a locked instruction is between the events of a pair of program order."""
+        between = [it for it in self.events() if it.thread == edge.source.thread and edge.source.position < it.position < edge.target.position]
+        return any(self.instruction(it).kind not in ("store", "load") for it in between)
+
     def coherence(self):
         same = lambda it: self.instruction(it.source).location == self.instruction(it.target).location is not None
         return [*filter(same, self.po()), *self.rf_edges(), *self.co_edges(), *self.fr_edges()]

@@ -109,9 +109,14 @@ def drawn_edges(execution, marked):
     return edges + [it for it in marked if it not in edges]
 
 
-def missing_fences(execution, cycle):
-    """The pairs of program order in a cycle that x86-TSO does not keep."""
+def unpreserved(execution, cycle):
+    """The pairs of program order in a cycle that are not preserved by themselves."""
     return [it for it in cycle or [] if it.kind == "po" and not execution.is_preserved(it)]
+
+
+def missing_fences(execution, cycle):
+    """The pairs of program order in a cycle that x86-TSO may turn round: nothing that waits is between the store and the load."""
+    return [it for it in unpreserved(execution, cycle) if not execution.has_fence_between(it)]
 
 
 def text_of(execution):
@@ -220,7 +225,7 @@ def picture_of(execution, title, broken=None):
     missing = [] if broken else missing_fences(execution, cycle)
     texts = {it: f"{names.letters[it]}: {names.deed(it)}" for it in execution.events()}
     initial = [read for read, source in execution.rf.items() if source is None]
-    layout = GraphLayout(execution, texts, drawn_edges(execution, cycle if broken else missing), initial)
+    layout = GraphLayout(execution, texts, drawn_edges(execution, cycle if broken else unpreserved(execution, cycle)), initial)
     drawing = Drawing()
     drawing.elements += [f"<style>{STYLE}</style>", markers()]
     for it in [*layout.routes, *layout.starts]:

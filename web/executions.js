@@ -106,6 +106,12 @@ export class Execution {
     return !(this.instruction(source).kind === "store" && this.instruction(target).kind === "load");
   }
 
+  /** Returns whether a fence or a locked instruction is between the events of a pair of program order. */
+  hasFenceBetween({ source, target }) {
+    const between = this.events().filter((it) => source < it && it < target);
+    return between.some((it) => !["store", "load"].includes(this.instruction(it).kind));
+  }
+
   coherence() {
     const placeOf = (event) => this.instruction(event).location;
     const isSame = ({ source, target }) => placeOf(source) !== undefined && placeOf(source) === placeOf(target);

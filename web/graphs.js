@@ -65,9 +65,14 @@ function nearFr(execution) {
 
 const isSameEdge = (one) => (other) => one.kind === other.kind && one.source === other.source && one.target === other.target;
 
-/** Returns the pairs of program order in a cycle that x86-TSO does not preserve. */
-function missingFences(execution, cycle) {
+/** Returns the pairs of program order in a cycle that are not preserved by themselves. */
+function unpreserved(execution, cycle) {
   return (cycle ?? []).filter((it) => it.kind === "po" && !execution.isPreserved(it));
+}
+
+/** Returns the pairs of program order in a cycle that x86-TSO may turn round: nothing that waits is between the store and the load. */
+function missingFences(execution, cycle) {
+  return unpreserved(execution, cycle).filter((it) => !execution.hasFenceBetween(it));
 }
 
 /** Returns the lines of an execution in words, with what the axioms say of it. */
@@ -174,7 +179,7 @@ export function graphOf(execution, title, broken = null) {
   const missing = broken ? [] : missingFences(execution, cycle);
   const texts = new Map(execution.events().map((it) => [it, `${names.letters.get(it)}: ${names.deed(it)}`]));
   const initial = [...execution.rf].filter(([, source]) => source === null).map(([read]) => read);
-  const layout = new GraphLayout(execution, texts, drawnEdges(execution, broken ? broken.cycle : missing), initial);
+  const layout = new GraphLayout(execution, texts, drawnEdges(execution, broken ? cycle : unpreserved(execution, cycle)), initial);
   const drawing = new Drawing();
   drawing.elements.push(`<style>${STYLE}</style>`, markers());
   const isMarked = ({ edge }) => cycle.some(isSameEdge(edge));

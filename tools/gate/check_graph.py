@@ -12,6 +12,7 @@
 - Each row of docs/FAMILIES.md: the execution that its test asks about has the row's cycle, and where x86-TSO forbids it that is a cycle
   of global happens-before.
 - In the picture of each of these executions no arrow crosses a box, and no label lies over a box, over another label or out of it.
+- No fence is missed between two events that have a fence or a locked instruction between them.
 - What the tool prints and refuses.
 
 Where the program is built, it lists the states, else tools/plain.py. tools/check_documents.py calls this.
@@ -36,6 +37,7 @@ from shared.graph_layout import on_curve
 # The most candidate executions of a test whose outcomes are compared, and the number of random tests.
 MOST = 1500
 RANDOM = 150
+WAITING = ("mfence", "xchg", "xadd")
 SVG = {"svg": "http://www.w3.org/2000/svg"}
 SB = f"{HOME}/examples/SB-x86.litmus"
 SOURCE = f"{HOME}/examples/SB.litmus"
@@ -91,7 +93,21 @@ def check_schedules(path):
         words = graph.text_of(execution)
         is_weak = any(it.startswith("No run of interleaving") for it in words)
         found.append((f"{name}, {schedule}: a cycle is told where interleaving has no such run", bool(execution.cycle()), is_weak))
+        found.append((f"{name}, {schedule}: a fence is missed where one is", [], fenced_pairs(test, execution, words)))
     return found
+
+
+def fenced_pairs(test, execution, words):
+    """The pairs of events between which an MFENCE is missed, though a fence or a locked instruction is between them on the path."""
+    events = {letter: event for event, letter in graph.Names(execution).letters.items()}
+    pairs = re.findall(r"^An MFENCE between (\w+) and (\w+) would keep their order\.$", "\n".join(words), re.M)
+    return [pair for pair in pairs if any(test.threads[events[pair[0]].thread][at].kind in WAITING for at in between(execution, events, pair))]
+
+
+def between(execution, events, pair):
+    """The positions of a path between two of its events."""
+    first, second = (events[it] for it in pair)
+    return [at for at in execution.paths[first.thread] if first.position < at < second.position]
 
 
 def picture_faults(picture):
