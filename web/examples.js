@@ -27,6 +27,14 @@ function withoutCaches(text) {
   return kept.length ? kept.join(" ") : text;
 }
 
+/** Returns a link to the run that a comment describes: the list may have another run to the same state. */
+function linkToRun({ name, known }) {
+  const schedule = /A telling schedule: ([^.()]*)/.exec(known)?.[1].trim();
+  if (!schedule) return [];
+  const href = `#${new URLSearchParams({ example: name, view: "hand", schedule })}`;
+  return [" ", el("a", { href, title: schedule }, "See the run that this describes.")];
+}
+
 export class Examples {
   constructor(families) {
     this.families = families;
@@ -49,7 +57,7 @@ export class Examples {
     this.name = name;
     byId("example-name").textContent = test ? name : nameOf(text);
     byId("example-shows").textContent = test ? "" : "my own";
-    const about = test && el("p", { class: "about" }, sentence(withoutCaches(test.about)));
+    const about = test && el("p", { class: "about" }, sentence(withoutCaches(test.about)), linkToRun(test));
     const known = test && el("p", {}, sentence(test.known));
     const folded = (title, ...inner) => el("details", {}, el("summary", {}, title), inner);
     byId("about").replaceChildren(test && !isPredicting ? about : "");
