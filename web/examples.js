@@ -32,7 +32,7 @@ function linkToRun({ name, known }) {
   const schedule = /A telling schedule: ([^.()]*)/.exec(known)?.[1].trim();
   if (!schedule) return [];
   const href = `#${new URLSearchParams({ example: name, view: "hand", schedule })}`;
-  return [" ", el("a", { href, title: schedule }, "See the run that this describes.")];
+  return [" ", el("a", { href, title: schedule }, "See such a run.")];
 }
 
 export class Examples {
