@@ -6,8 +6,10 @@
     python3 tools/documents/mutate_definitions.py --list | --table [--results FILE]
 
 A definition can't be proved right; but a wrong row is to contradict something else that was said: the code, a lemma, a law, or an
-example. The mutations are those of tools/documents/definition_mutations.txt. Each is made in a copy of the repository's last commit,
-and the crate and those that depend on it are checked, the lowest first, up to the first that is not proved. Crates of tests are left out.
+example. The mutations are those of tools/documents/definition_mutations.txt, a block of lines each: a title, and then of each edit the
+file, the old text and the new one, on a line each. The first edit is of the definition; others are of code that is wrong in the same way,
+so that something else has to notice. Each mutation is made in a copy of the repository's last commit, and the crate and those that depend
+on it are checked, the lowest first, up to the first that is not proved. Crates of tests are left out.
 
 - A mutation is *noticed* if a crate is not proved: the result has the lemmas that fail, with their files, the goals of the code that no
   longer meets its contracts, and the laws that depend on either. A proof that no longer fits its statement counts, whether or not
@@ -43,14 +45,14 @@ from shared import start
 from shared.home import HOME
 
 MUTATIONS = f"{HOME}/tools/documents/definition_mutations.txt"
-FIELDS = "title", "file", "old", "new"
+FIELDS = "file", "old", "new"
 ERROR = re.compile(r"^\./(\S+?):(\d+):\d+: error: (?:`([^`]+)`: )?(.*)$", re.M)
 FUNCTION = re.compile(r"^fn (\S+): (?:not proved|no proof)(.*)$", re.M)
 GOAL = re.compile(r"did not prove ((?:`[^`]+`(?:, | and )?)+)")
 # A law is a public function of one of these modules.
 LAW = re.compile(r"^lw_(?:axiomatic|\w+::\w*laws)::")
-# Definitions are here; specs/laws/ has proofs.
-DEFINITION = re.compile(r"^specs/(?!laws/)")
+# What a mutation has to leave without an error: definitions, and code with its clauses. (specs/laws/ has proofs.)
+DEFINITION = re.compile(r"^(?:specs/(?!laws/)|src/)")
 # How many lemmas or laws a cell of the table names.
 SHOWN = 3
 
@@ -59,49 +61,68 @@ class Unusable(Exception):
     """The mutations or the copy can't be used, and why."""
 
 
-class Mutation:
-    """A change of one line of a definition: its title, its file, the old text and the new one."""
+class Edit:
+    """A change of one line of a file: the file, the old text and the new one."""
 
-    def __init__(self, fields):
-        self.title, self.file, self.old, self.new = (fields[it] for it in FIELDS)
-        self.crate = self.file.split("/")[1]
+    def __init__(self, file, old, new):
+        self.file, self.old, self.new = file, old, new
 
-    def text(self):
-        with open(f"{HOME}/{self.file}", encoding="utf-8") as it:
+    def text(self, home):
+        """Returns what the file has in a checkout."""
+        with open(f"{home}/{self.file}", encoding="utf-8") as it:
             return it.read()
 
-    def count(self):
-        """Returns how often the old text is in the file."""
-        return self.text().count(self.old)
+    def write(self, home, text):
+        """Writes the file of a checkout."""
+        with open(f"{home}/{self.file}", "w", encoding="utf-8") as it:
+            it.write(text)
+
+
+class Mutation:
+    """A changed definition: its title and its edits. The first edit is of the definition, further ones are of code that goes with it."""
+
+    def __init__(self, title, edits):
+        self.title, self.edits = title, edits
+        self.first = edits[0]
+        self.crate = self.first.file.split("/")[1]
 
     def definition(self):
         """Returns the name of the definition that has the old text."""
-        number = self.text()[: self.text().index(self.old)].count("\n") + 1
-        found = [it.name for it in SpecFile(self.file).defined.values() if it.first <= number <= it.last]
+        text = self.first.text(HOME)
+        number = text[: text.index(self.first.old)].count("\n") + 1
+        found = [it.name for it in SpecFile(self.first.file).defined.values() if it.first <= number <= it.last]
         return found[0] if found else "?"
 
     def place(self):
         """Returns the definition with its crate and file, as a cell of the table has it."""
-        return f"{self.crate} `{os.path.basename(self.file).removesuffix('.antt')}.{self.definition()}`"
+        return f"{self.crate} `{os.path.basename(self.first.file).removesuffix('.antt')}.{self.definition()}`"
 
     def key(self):
-        return [self.title, self.file, self.old, self.new]
+        """Returns the title and all texts, by which a result is known to be of this mutation."""
+        return [self.title, *(text for it in self.edits for text in (it.file, it.old, it.new))]
 
 
 def mutations():
     """Returns the mutations, in their order."""
     with open(MUTATIONS, encoding="utf-8") as it:
-        blocks = [re.findall(r"^(\w+): (.*)$", block, re.M) for block in it.read().split("\n\n")]
-    for block in filter(None, blocks):
-        if tuple(name for name, _ in block) != FIELDS:
-            raise Unusable(f"not the lines {', '.join(FIELDS)}: {block}")
-    return [Mutation(dict(block)) for block in blocks if block]
+        return [mutation_of(block) for block in it.read().split("\n\n") if block.strip()]
+
+
+def mutation_of(block):
+    """Returns the mutation of a block of lines: a title, and for each edit a file, an old text and a new one."""
+    lines = re.findall(r"^(\w+): (.*)$", block, re.M)
+    names, texts = [name for name, _ in lines], [text for _, text in lines]
+    count = len(lines) // 3
+    if not count or names != ["title", *FIELDS * count]:
+        raise Unusable(f"not the line title, and then {', '.join(FIELDS)}:\n{block}")
+    return Mutation(texts[0], [Edit(*texts[1 + 3 * number : 4 + 3 * number]) for number in range(count)])
 
 
 def faults_of(listed):
     """Returns what is wrong with the mutations, a line each."""
-    found = [f"{it.title}: `old` is {it.count()} times in {it.file}" for it in listed if it.count() != 1]
+    counts = [(it.title, edit.file, edit.text(HOME).count(edit.old)) for it in listed for edit in it.edits]
     titles = [it.title for it in listed]
+    found = [f"{title}: `old` is {count} times in {file}" for title, file, count in counts if count != 1]
     return found + [f"{it}: two mutations have this title" for it in sorted(set(titles)) if titles.count(it) > 1]
 
 
@@ -207,11 +228,9 @@ def tried(mutation, copy, minutes):
     copy.prepare(mutation.crate)
     begun, proved = time.monotonic(), []
     result = {"key": mutation.key(), "place": mutation.place(), "outcome": "nothing", "crate": ""}
-    path = f"{copy.tree}/{mutation.file}"
-    with open(path, encoding="utf-8") as it:
-        text = it.read()
-    with open(path, "w", encoding="utf-8") as it:
-        it.write(text.replace(mutation.old, mutation.new))
+    texts = [it.text(copy.tree) for it in mutation.edits]
+    for edit in mutation.edits:
+        edit.write(copy.tree, edit.text(copy.tree).replace(edit.old, edit.new))
     for crate in check_up.from_here_up([mutation.crate], copy.below):
         if crate.endswith("_tests"):
             continue
@@ -223,8 +242,8 @@ def tried(mutation, copy, minutes):
             break
         proved.append(crate)
     result |= {"proved": proved, "seconds": round(time.monotonic() - begun)}
-    with open(path, "w", encoding="utf-8") as it:
-        it.write(text)
+    for edit, text in zip(mutation.edits, texts):
+        edit.write(copy.tree, text)
     for crate in copy.touched:
         copy.reset(crate)
     copy.touched = set()
@@ -248,7 +267,9 @@ def told_of(result):
         return f"{result['outcome']} at {crate}" + (f"; {proved} is proved" if proved else ""), ""
     goals = [f"{'::'.join(function.split('::')[-2:])} {goal}" for function, goal in result["goals"]]
     lemmas = [f"{os.path.splitext(path)[0].removeprefix('proofs/')}.{name}" for path, name, *_ in result["lemmas"]]
-    laws = [it.split("::")[-1] for it in result["functions"] if LAW.match(it)]
+    # (The laws of a module `laws` first; the others are of examples, of herd's form, of programs and of locks.)
+    laws = sorted(filter(LAW.match, result["functions"]), key=lambda it: it.split("::")[1] != "laws")
+    laws = [it.split("::")[-1] for it in laws]
     code = ["::".join(it.split("::")[-2:]) for it in result["functions"] if not LAW.match(it)]
     return f"{crate}: {in_kinds(('proofs', lemmas), ('goals', goals))}", in_kinds(("laws", laws), ("code", code))
 
