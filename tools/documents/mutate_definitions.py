@@ -230,7 +230,10 @@ def tried(mutation, copy, minutes):
     result = {"key": mutation.key(), "place": mutation.place(), "outcome": "nothing", "crate": ""}
     texts = [it.text(copy.tree) for it in mutation.edits]
     for edit in mutation.edits:
-        edit.write(copy.tree, edit.text(copy.tree).replace(edit.old, edit.new))
+        now = edit.text(copy.tree)
+        if now.count(edit.old) != 1:
+            raise Unusable(f"{mutation.title}: `old` is {now.count(edit.old)} times in {edit.file} of the last commit")
+        edit.write(copy.tree, now.replace(edit.old, edit.new))
     for crate in check_up.from_here_up([mutation.crate], copy.below):
         if crate.endswith("_tests"):
             continue
