@@ -28,6 +28,31 @@ function cellBefore(text, index) {
   return text.slice(Math.max(...["|", ";"].map((it) => text.lastIndexOf(it, index - 1))) + 1, index).trim();
 }
 
+/** Returns what follows `exists` or `forall` in the question at the end of a text, without comments; or null if there is none. */
+export function questionIn(text) {
+  const code = text.replace(/\(\*[^]*?\*\)/g, " ");
+  const end = code.slice(code.lastIndexOf(";") + 1);
+  return /^(?:\s*locations\s*\[[^\]]*\]|[^\][]*\])?\s*~?\s*(?:exists|forall)\b([^]*)$/.exec(end)?.[1] ?? null;
+}
+
+/** Returns what the question lacks if a text ends in it; or "" if nothing is known. */
+function missingInQuestion(text) {
+  const question = questionIn(text);
+  if (question === null || question.includes("(*")) return "";
+  const missing = question.split("(").length - question.split(")").length;
+  if (!/(?:=\s*\w+|\)|\btrue|\bfalse)\s*$/.test(question)) return "The question is not complete. It is for instance `exists (x=1)`.";
+  if (missing < 1) return "";
+  return `The question lacks ${missing === 1 ? "a `)`" : `${missing} \`)\``} at its end.`;
+}
+
+/** Returns that the test has no thread of the number at a place, if that is so; or "". */
+function missingThread({ token, after, text }) {
+  const names = /^[ \t]*P0\b[^;]*(?=;)/m.exec(text)?.[0].split("|").map((_, thread) => `\`P${thread}\``);
+  if (!names || !/^\d+$/.test(token) || !/^\s*:/.test(after) || Number(token) < names.length) return "";
+  const all = names.length === 1 ? names[0] : `${names.slice(0, -1).join(", ")} and ${names.at(-1)}`;
+  return `There is no thread ${token}: the test has ${names.length === 1 ? "only " : ""}${all}.`;
+}
+
 /** Returns what is wrong with the form of a statement of a source test. */
 function formOfSource({ token, before }) {
   const isEnd = token === ";" || token === "|";
@@ -54,13 +79,15 @@ function formOfX86({ token, before }) {
 const SENTENCES = {
   "text NotUtf8": () => "The text is not UTF-8 from here on.",
   "text TooLong": () => "The text is too long: it may have 65,536 bytes.",
-  "text Unterminated": () =>
+  "text Unterminated": ({ text }) =>
+    missingInQuestion(text) ||
     "The text ends too early. The last row may lack its `;`, a comment its `*)`, or the test its question, as `exists (x=1)`.",
   "text Unexpected": ({ it }) =>
     `${it} is not expected here. A test is \`SRC\` or \`X86\` and a name, the initial values in \`{ }\`, the row \`P0 | P1 ;\`, ` +
     "the rows of code, and a question.",
   "text Number": ({ it }) => `${it} is no number that lw takes: one up to 4294967295, also as \`0x10\`, with no letter after it.`,
-  "text Name": ({ it, isX86 }) =>
+  "text Name": ({ it, isX86, ...place }) =>
+    missingThread(place) ||
     `${it} can't be a name here. A question names a location, as \`x=1\`, or a register with its thread, as ` +
     `\`${isX86 ? "0:EAX=1" : "0:r0=1"}\`.`,
   "text Ragged": () => "This row has too few or too many cells: it needs one for each thread, with `|` between them. A cell may be empty.",
@@ -84,6 +111,7 @@ const SENTENCES = {
 /** Returns what is wrong with a text in a sentence, in which code is between backquotes; or null if the fault is not known. */
 export function faultWords({ kind, name, index }, text) {
   const token = tokenAt(text, index);
-  const place = { token, it: named(token), before: cellBefore(text, index), isX86: /^\s*X86\b/.test(text) };
+  const [before, after] = [cellBefore(text, index), text.slice(index + token.length)];
+  const place = { text, token, it: named(token), before, after, isX86: /^\s*X86\b/.test(text) };
   return SENTENCES[`${kind} ${name}`]?.(place) ?? null;
 }

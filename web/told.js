@@ -1,7 +1,7 @@
 // What is told where there is no answer: a fault, with its place and the sentence of docs/FORMAT.md for it, or an error.
 
 import { button, byId, el, sentence } from "./dom.js";
-import { faultWords } from "./faults.js";
+import { faultWords, questionIn } from "./faults.js";
 import { table } from "./supplies.js";
 
 let sentences = {};
@@ -41,12 +41,13 @@ function errorWords({ error, refused }) {
   return sentence(`Event ${refused.at + 1} of the schedule, \`${refused.event}\`, is refused. ${refusalOf(refused.event, refused)}`);
 }
 
-/** Returns that the row before a fault has no `;` at its end, if that is so. */
+/** Returns that the row before a fault has no `;` at its end, if that is so. A line of the question is no row. */
 function endOfRowBefore({ kind, row }, text) {
   const lines = text.split("\n").slice(0, row - 1);
   const at = lines.findLastIndex((it) => it.trim());
   const begin = lines.findIndex((it) => /^\s*P0\b/.test(it));
   if (!isInText({ kind }) || begin < 0 || at < begin || /;|\(\*|\*\)/.test(lines[at])) return "";
+  if (questionIn(lines.slice(0, at + 1).join("\n")) !== null) return "";
   return sentence(`Line ${at + 1} has no \`;\` at its end: perhaps that is the fault. `);
 }
 

@@ -46,6 +46,20 @@ class Faults(PageCase):
             self.assertEqual(token, user.run("return document.querySelector('.marks mark').textContent").strip())
             self.assertIn("lw: ", user.text("#fault .told"))
 
+    def test_question(self):
+        """What a question lacks is said, and a thread that the test does not have; no line of the question is called a row."""
+        user = self.user
+        user.open_listed()
+        rows = "X86 A\n{}\n P0 | P1 ;\n MOV [x],$1 | MOV EAX,[x] ;\nexists "
+        for question, said in (
+            ("(x=1 /\\ 1:EAX=0", "The question lacks a ) at its end."),
+            ("(x=1 /\\", "The question is not complete."),
+            ("(x=1 /\\\n 2:EAX=0)", "There is no thread 2: the test has P0 and P1."),
+        ):
+            user.run_text(f"{rows}{question}\n")
+            self.assertSays(said, "#fault")
+            self.assertFalse("perhaps" in user.text("#fault"))
+
     def test_end_of_row(self):
         """A row that lacks its end is named."""
         user = self.user
