@@ -141,6 +141,7 @@ class Windows(PageCase):
             outside = ":is(button, select, textarea, .button):not(.machine *, .strip *)"
             self.assertEqual([], [it for it in user.texts(outside) if it])
             self.assertTrue(bool(user.all("#watching .code .next .line")))
+            self.assertEqual([], [it for it in user.texts(".lines-in-sight") if it])
             text = "const it = document.querySelector('.printed'); return [it.textContent, it.scrollHeight <= it.clientHeight]"
             self.assertEqual([user.value(), True], user.run(text))
             self.assertIn("Peterson in lw, a proved workbench", user.text("#paper h2"))
