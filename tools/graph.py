@@ -318,7 +318,7 @@ def why_not(test, state):
     if wanted is not None and tuple(wanted[site] for site in plain.observed(test)) in allowed:
         return ["x86-TSO allows this state: `lw schedules` lists it with a schedule."], 1, []
     if not broken:
-        return [f"No thread reads or writes such words: no candidate execution ends in {state}" if wanted else NONE_FORBIDDEN], 0, []
+        return [f"No thread reads or writes such values: no candidate execution ends in {state}" if wanted else NONE_FORBIDDEN], 0, []
     states = in_order(broken)
     drawn = [it for _, ways in states for it in ways[:MOST_DRAWN]][:MOST_DRAWN]
     cycles = [(picture_of(it.execution, f"{test.name}: {it.cycle}", it.broken), f"{it.axiom}: {it.cycle}") for it in drawn]

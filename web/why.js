@@ -46,7 +46,7 @@ export class Why {
     const fields = this.fields.map(({ name, field }) => el("label", { class: "site-field" }, siteNode(name, this.tints), "=", field));
     const asked = button("Why not?", () => this.ask(), { class: "main why-not" });
     const all = button("Every forbidden state", () => this.answer("all"), { title: "Each state that some execution has and x86-TSO forbids" });
-    this.form.append(el("span", {}, "Why does no run end in"), ...fields, el("span", {}, "?"), asked, all);
+    this.form.append(el("span", {}, "Does a run end in"), ...fields, el("span", {}, "? If none does:"), asked, all);
   }
 
   fieldOf(name, word) {

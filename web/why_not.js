@@ -88,7 +88,7 @@ export function whyNot(test, state) {
     return { lines: ["x86-TSO allows this state: `lw schedules` lists it with a schedule."], cycles: [] };
   }
   if (!found.broken.length) {
-    return { lines: [wanted ? `No thread reads or writes such words: no candidate execution ends in ${state}` : NONE_FORBIDDEN], cycles: [] };
+    return { lines: [wanted ? `No thread reads or writes such values: no candidate execution ends in ${state}` : NONE_FORBIDDEN], cycles: [] };
   }
   const states = inOrder(found.broken);
   const drawn = states.flatMap(({ ways }) => ways.slice(0, MOST_DRAWN)).slice(0, MOST_DRAWN);

@@ -50,6 +50,7 @@ class WhyNot(PageCase):
         user.click("table.strip tbody tr:first-child td[data-column='2']")
         user.click("#tab-why")
         self.assertSays("A run ends in this state: 0:EAX=1; 1:EAX=0;", "#why .why-head")
+        self.assertSays("Does a run end in", "#why .why-form")
         user.click(".watch-allowed")
         self.assertSoon("true", lambda: user.find("#tab-states").get_attribute("aria-selected"))
         user.find("#watching .machine")
@@ -63,7 +64,7 @@ class WhyNot(PageCase):
             it.clear()
             it.send_keys("7")
         user.click(".why-not")
-        self.assertSays("No thread reads or writes such words: no candidate execution ends in 1:EAX=7; 1:EBX=7;", "#why .why-head")
+        self.assertSays("No thread reads or writes such values: no candidate execution ends in 1:EAX=7; 1:EBX=7;", "#why .why-head")
         self.assertEqual([], user.all("#why figure"))
 
 
