@@ -9,10 +9,13 @@ import { codeNodes, testName, tintedSentence, tintsOf } from "./tint.js";
 import { tell } from "./told.js";
 
 const KEY = "guesses";
+const KEY_OF_ANSWERED = "answered";
 
 // Of each text what the reader has said of it: yes, no, null for nothing, or undefined if there was nothing to say, since lw refuses it. What
 // was said is kept in the tab, so that it is not asked again.
-const guesses = stored();
+const guesses = new Map(stored(KEY));
+// The texts of which the answer was told after a guess: it is not kept back any more.
+const answered = new Set(stored(KEY_OF_ANSWERED));
 // What the reader has made by hand of a text on which there was a guess: it is not asked about again.
 let edited = null;
 // What waits for guesses: each with its text, what is shown meanwhile, and what is done then.
@@ -35,17 +38,30 @@ export function settle(text, said) {
   follow();
 }
 
-function stored() {
+/** Returns whether the answer to the guess on a text was told. */
+export function isAnswered(text) {
+  return guessOn(text) !== null && answered.has(text);
+}
+
+/** Notes that the answer on a text is told: it counts if there was a guess. */
+export function noteAnswer(text) {
+  if (guessOn(text) === null) return;
+  answered.add(text);
+  store();
+}
+
+function stored(key) {
   try {
-    return new Map(JSON.parse(sessionStorage.getItem(KEY)) ?? []);
+    return JSON.parse(sessionStorage.getItem(key)) ?? [];
   } catch {
-    return new Map();
+    return [];
   }
 }
 
 function store() {
   try {
     sessionStorage.setItem(KEY, JSON.stringify([...guesses].filter(([, said]) => said !== undefined)));
+    sessionStorage.setItem(KEY_OF_ANSWERED, JSON.stringify([...answered]));
   } catch {
     // Without a store it is kept till the page is loaded anew.
   }

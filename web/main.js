@@ -48,7 +48,7 @@ const states = new States(byId("outcome"), editor, () => revealed(), {
   drawn: fitLater,
   graphPlace: byId("graph-place"),
   next: byId("next"),
-  veiled: (isVeiled) => byId("about").classList.toggle("kept-back", isVeiled),
+  veiled: keepBack,
 });
 const panels = {
   compile: new Compile(byId("compile"), editor, (text) => take(text, { text })),
@@ -71,9 +71,22 @@ function revealed() {
   const report = states?.report ?? null;
   why.offer(report, report && states.asked);
   if (report && tabs.view === "why") why.askOnce();
+  // A run by hand keeps the verdict back right after this.
+  if (report) queueMicrotask(showAnswered);
   byId("printed-place").hidden = report === null;
   byId("printed-place").open = false;
   byId("printed").replaceChildren();
+}
+
+/** Keeps back what is known of a test while the reader looks for its states, and notes of a guess that its answer is told. */
+function keepBack(isVeiled) {
+  byId("about").classList.toggle("kept-back", isVeiled);
+  if (!isVeiled && states.report) guess.noteAnswer(editor.text);
+}
+
+/** Shows the verdict by hand, too, if the reader has guessed and the answer was told before. */
+function showAnswered() {
+  if (states.report && guess.isAnswered(editor.text)) states.unveil();
 }
 
 /** Pales what was answered on the text before the reader changed it, and lists the new one after a pause. */
@@ -144,8 +157,10 @@ function watchState(line) {
 /** Asks for what a tab shows, after it was chosen. */
 function opened(view) {
   address.put({ view: view === VIEWS[0] ? null : view });
-  if (view === "hand") states.beginByHand();
-  else if (view === "states") states.endByHand();
+  if (view === "hand") {
+    states.beginByHand();
+    showAnswered();
+  } else if (view === "states") states.endByHand();
   else if (view === "why") why.askOnce(states.strip.line);
   else panels[view]?.askOnce();
 }

@@ -110,6 +110,20 @@ class Kept(PageCase):
         user.click("#tab-states")
         self.assertSays("The condition holds in 1 of 4 final states.", "#outcome .asked")
 
+    def test_told_by_hand(self):
+        """Who was told the answer to a guess sees it by hand, too, and after a reload."""
+        user = self.user
+        open_anew(user, "#example=SB-x86&predict=1")
+        user.click("#no")
+        self.assertSays("✗ Not as you said.", "#outcome .said")
+        user.click("#tab-hand")
+        self.assertSays("Found 0 of 4 states.", "#outcome .found")
+        self.assertSays("Allowed.", "#outcome .verdict")
+        user.driver.refresh()
+        self.assertSays("Found 0 of 4 states.", "#outcome .found")
+        self.assertSays("Allowed.", "#outcome .verdict")
+        self.assertEqual([], user.all(".unveil"))
+
 
 class Edits(PageCase):
     """A test that the reader has edited is asked about once."""
