@@ -254,9 +254,10 @@ class Projector(PageCase):
         user.wait(lambda: user.run("return document.documentElement.className").find("present") >= 0, "the view is there")
 
     def test_fits(self):
-        """All of the question, the verdict, the list and the machine is in sight, in type of at least 18 pixels."""
+        """The question, the verdict, the list and the machine are in sight, in type of at least 18 pixels; of long code a part is."""
         user = self.user
-        for name, width, height in (("SB-x86", 1280, 720), ("n7-x86", 1280, 720), ("SB-x86", 1024, 768), ("IRIW-x86", 1920, 1080)):
+        sizes = ("SB-x86", 1280, 720), ("n7-x86", 1280, 720), ("SB-x86", 1024, 768), ("IRIW-x86", 1920, 1080)
+        for name, width, height in (*sizes, ("ChaseLev-x86", 1280, 720), ("Peterson-x86", 1280, 720)):
             link = f"#example={name}"
             self.present(link, width, height)
             user.press(user.keys.END)
