@@ -10,8 +10,8 @@ pub record FitsClass (n : ℕ) : Type 0 where
   pub holds : n ≤ block_units n * 16
 
 -- Each number of bytes below `2 ^ 63`, the most that is requested, has one of the 60 classes, and its block has room for the bytes.
-pub fits_class : (n : ℕ) → n < 2 ^ 63 → FitsClass n
-fits_class n small =
+pub FitsClass-of_size : (n : ℕ) → n < 2 ^ 63 → FitsClass n
+FitsClass-of_size n small =
     let x : ℕ = (max n 1 - 1) / 16 in
     let length = leading_length 64 x (omega arith) in
     let is : block_class n ≡ length.0 = omega (arith, length.1) in
@@ -24,5 +24,5 @@ fits_class n small =
     }
 
 -- Each block has at least one unit.
-pub some_units : (n : ℕ) → 1 ≤ block_units n
-some_units n = omega (arith, pow_mono {i = 0} {j = block_class n} (omega arith))
+pub block_units-positive : (n : ℕ) → 1 ≤ block_units n
+block_units-positive n = omega (arith, pow_mono {i = 0} {j = block_class n} (omega arith))

@@ -19,40 +19,40 @@ use Rattle.std.specs.contracts.option.Option as option
 use Rattle.lw_arena.specs.Sizes.{block_units}
 use Rattle.lw_arena.specs.Ownership.{units, memory, block_token}
 use Rattle.lw_arena.specs.contracts.block.Block as block
-use Rattle.lw_arena.proofs.Classes.{fits_class, some_units}
-use Rattle.lw_arena.proofs.Rooms.{holds, is_memory, in_memory}
-use Rattle.lw_arena.proofs.Walks.{point_val, point_own, point_told}
+use Rattle.lw_arena.proofs.Classes.{FitsClass-of_size, block_units-positive}
+use Rattle.lw_arena.proofs.Rooms.{room-of_type, memory-of_room, goal-of_memory}
+use Rattle.lw_arena.proofs.Walks.{point_val, point_own, point_own-only_point_val}
 
 -- The type of the result of `take`: a block, or none.
-abbrev pub Taken : RattleType
-Taken = option.the_row block.the_row
+abbrev pub TakeResult : RattleType
+TakeResult = option.the_row block.the_row
 
 -- What `take` ensures of its result for n bytes of alignment a.
-abbrev pub Said : ℕ → ℕ → Taken.Denot → Type 0
-Said n a x = IfSome x (λ b. (b.units ≡ block_units n) × (n < 2 ^ 63) × (a ≤ 16))
+abbrev pub TakeEnsures : ℕ → ℕ → TakeResult.Denot → Type 0
+TakeEnsures n a x = IfSome x (λ b. (b.units ≡ block_units n) × (n < 2 ^ 63) × (a ≤ 16))
 
 -- The alignment of each number divides 16, so every unit is aligned for it.
-divides_16 : (w : Width) → Dv (bytes w) 16
-divides_16 w8 = tt
-divides_16 w16 = tt
-divides_16 w32 = tt
-divides_16 w64 = tt
-divides_16 w128 = tt
+alignment-divides_16 : (w : Width) → Dv (bytes w) 16
+alignment-divides_16 w8 = tt
+alignment-divides_16 w16 = tt
+alignment-divides_16 w32 = tt
+alignment-divides_16 w64 = tt
+alignment-divides_16 w128 = tt
 
 -- The right to make the room whole again is the right to give the memory back.
-gives_memory : {M : Type 1} {𝓤 : Ura M} (𝓛 : Logic 𝓤) (τ : Ty) (k b o : ℕ)
+give_back-of_room : {M : Type 1} {𝓤 : Ura M} (𝓛 : Logic 𝓤) (τ : Ty) (k b o : ℕ)
     → ent 𝓤 (wand 𝓤 (𝓛.H.room τ b o) (𝓛.H.room (units k) b o)) (sem 𝓛 (fwand (froom τ b o) (memory k (block_ptr b o))))
-gives_memory {𝓤 = 𝓤} 𝓛 τ k b o =
+give_back-of_room {𝓤 = 𝓤} 𝓛 τ k b o =
     let Room = 𝓛.H.room τ b o in
     let Whole = 𝓛.H.room (units k) b o in
-    qed 𝓛 (raw (wand 𝓤 Room Whole) ∷ []) ∵ assume ! (raw Room) $ use2 𝓛 (raw Whole) (apply∗ 𝓤 Room Whole) $ by ! (is_memory 𝓛 k b o)
+    qed 𝓛 (raw (wand 𝓤 Room Whole) ∷ []) ∵ assume ! (raw Room) $ use2 𝓛 (raw Whole) (apply∗ 𝓤 Room Whole) $ by ! (memory-of_room 𝓛 k b o)
 
 -- A block of the class of n bytes is room for a τ of that size, with the right to give the block back for it.
-pub hands_out : {M : Type 1} {𝓤 : Ura M} (𝓛 : Logic 𝓤) (τ : Ty) (b o n : ℕ)
+pub block_token-of_room : {M : Type 1} {𝓤 : Ura M} (𝓛 : Logic 𝓤) (τ : Ty) (b o n : ℕ)
     → capped (size τ) ≡ n
     → n < 2 ^ 63
     → ent 𝓤 (𝓛.H.room (units (block_units n)) b o) (sep 𝓤 (𝓛.H.room τ b o) (sem 𝓛 (block_token τ (block_ptr b o))))
-hands_out {𝓤 = 𝓤} 𝓛 τ b o n sized small =
+block_token-of_room {𝓤 = 𝓤} 𝓛 τ b o n sized small =
     let short : size τ < 2 ^ 63 = capped_small (size τ) (omega arith) in
     let same : n ≡ size τ = sym sized ∙ capped_is (size τ) (omega arith) in
     let k = block_units (size τ) in
@@ -60,21 +60,21 @@ hands_out {𝓤 = 𝓤} 𝓛 τ b o n sized small =
     let Room = 𝓛.H.room τ b o in
     qed 𝓛 (‵ (froom (units (block_units n)) b o) ∷ []) ∵ rewrite ! 0 (λ (m : ℕ). ‵ (froom (units (block_units m)) b o)) same refl $
     use1 𝓛 (raw Room ⊛ raw (wand 𝓤 Room Whole))
-    (holds 𝓛 τ k b o (fits_class (size τ) short).holds (subst (λ (m : ℕ). Dv m 16) (sym (align-bytes τ)) (divides_16 (align_w τ)))) $
-    split ! $ frame ! $ use1 𝓛 (‵ (fwand (froom τ b o) (memory k (block_ptr b o)))) (gives_memory 𝓛 τ k b o) $
+    (room-of_type 𝓛 τ k b o (FitsClass-of_size (size τ) short).holds (subst (λ (m : ℕ). Dv m 16) (sym (align-bytes τ)) (alignment-divides_16 (align_w τ)))) $
+    split ! $ frame ! $ use1 𝓛 (‵ (fwand (froom τ b o) (memory k (block_ptr b o)))) (give_back-of_room 𝓛 τ k b o) $
     fpack ! (size τ < 2 ^ 63) (λ _. fwand (froom τ b o) (memory k (block_ptr b o))) short $ done !
 
 module _ {M : Type 1} {𝓤 : Ura M} {𝓛 : Logic 𝓤} {K : Type 0} {Γ : List (Item 𝓤)} {G : Goal 𝓤 𝓛.H} where
   -- A goal about the result of `take` holds if it holds when that is a block in memory, and when it is none.
-  pub taken : K → (n a : ℕ) (x : Taken.Denot) (v : Val) → Said n a x
+  pub goal-of_take_result : K → (n a : ℕ) (x : TakeResult.Denot) (v : Val) → TakeEnsures n a x
       → ((b o : ℕ) → n < 2 ^ 63 → v ≡ live 1 (vcons (point_val (block_ptr b o)) vnil) → Seq K 𝓛 (‵ (froom (units (block_units n)) b o) ∷ Γ) G)
-      → (v ≡ live 0 vnil → Seq K 𝓛 Γ G) → Seq K 𝓛 (‵ (Taken.own_val x (v ∷ [])) ∷ Γ) G
-  taken t n a None v said some none =
+      → (v ≡ live 0 vnil → Seq K 𝓛 Γ G) → Seq K 𝓛 (‵ (TakeResult.own_val x (v ∷ [])) ∷ Γ) G
+  goal-of_take_result t n a None v said some none =
       fpick t (λ us. fsplit t $ feq_l t (λ is. fpick t (λ vss. fsplit t $ feq_l t (λ are. drop t $
       none (ap only is ∙ ap (λ (ws : List Val). live 0 (of_list ws)) are)))))
-  taken t n a (Some x) v said some none =
+  goal-of_take_result t n a (Some x) v said some none =
       fpick t (λ us. fsplit t $ feq_l t (λ is. fpick t (λ vss. fsplit t $ feq_l t (λ are. fsplit t $ move t (1 ∷ []) $ drop t $ fsplit t $
       pure_l t (point_own x.at vss.0) (λ s.
-      rewrite t 0 (λ (k : ℕ). ‵ (memory k x.at)) said.0 refl $ in_memory t (block_units n) x.at (some_units n) (λ b o lies.
-      some b o said.1 (ap only is ∙ ap (λ (ws : List Val). live 1 (of_list ws)) (are ∙ ap (λ (ws : List Val). ws ++ []) (point_told x.at vss.0 s))
+      rewrite t 0 (λ (k : ℕ). ‵ (memory k x.at)) said.0 refl $ goal-of_memory t (block_units n) x.at (block_units-positive n) (λ b o lies.
+      some b o said.1 (ap only is ∙ ap (λ (ws : List Val). live 1 (of_list ws)) (are ∙ ap (λ (ws : List Val). ws ++ []) (point_own-only_point_val x.at vss.0 s))
       ∙ (λ i. live 1 (vcons (point_val (lies i)) vnil)))))))))

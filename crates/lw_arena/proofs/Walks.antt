@@ -21,10 +21,10 @@ use denote.Struct.Tuple.{Tuple, tuple_type}
 use Rattle.std.proofs.cell.Inside.{Good}
 
 -- The slot of the parameter at an index, in the list of all slots.
-abbrev pub slot_at : {n : ℕ} → ℕ → List (Slot n) → Slot n
-slot_at k [] = plain (λ _. unit)
-slot_at zero (s ∷ ss) = s
-slot_at (suc k) (s ∷ ss) = slot_at k ss
+abbrev pub slot_of_index : {n : ℕ} → ℕ → List (Slot n) → Slot n
+slot_of_index k [] = plain (λ _. unit)
+slot_of_index zero (s ∷ ss) = s
+slot_of_index (suc k) (s ∷ ss) = slot_of_index k ss
 
 -- What an arm of a match must reach, so that the body b runs after it and reaches q.
 abbrev pub then_runs : {M : Type 1} {𝓤 : Ura M} (𝓛 : Logic 𝓤)
@@ -45,32 +45,33 @@ abbrev pub point_own : Ptr → List Val → Fml
 point_own p = (Struct (record { name = []; args = []; types = []; fields = RawPtr ∷ [] })).own_val (p, tt)
 
 -- The machine values owned as a struct of one pointer are exactly `point_val` of the pointer.
-pub point_told : (p : Ptr) (vs : List Val) → shadow (point_own p vs) → vs ≡ point_val p ∷ []
-point_told p vs s = s.1.0 ∙ (λ i. vstruct (of_list (s.1.1.0 i ++ [])) ∷ [])
+pub point_own-only_point_val : (p : Ptr) (vs : List Val) → shadow (point_own p vs) → vs ≡ point_val p ∷ []
+point_own-only_point_val p vs s = s.1.0 ∙ (λ i. vstruct (of_list (s.1.1.0 i ++ [])) ∷ [])
 
 -- `point_val` of a pointer can always be owned as a struct of one pointer, since no memory is needed for it.
-pub point_made : {M : Type 1} {𝓤 : Ura M} (𝓛 : Logic 𝓤) (p : Ptr) → ent 𝓤 (emp 𝓤) (sem 𝓛 (point_own p (point_val p ∷ [])))
-point_made 𝓛 p = makes_shadow 𝓛 (point_own p (point_val p ∷ [])) (λ _. (tt, (tt, tt))) ((ptr_val p ∷ [], tt), (refl, (refl, tt)))
+pub point_own-always : {M : Type 1} {𝓤 : Ura M} (𝓛 : Logic 𝓤) (p : Ptr) → ent 𝓤 (emp 𝓤) (sem 𝓛 (point_own p (point_val p ∷ [])))
+point_own-always 𝓛 p =
+    makes_shadow 𝓛 (point_own p (point_val p ∷ [])) (λ _. (tt, (tt, tt))) ((ptr_val p ∷ [], tt), (refl, (refl, tt)))
 
 -- Each pointer has the machine type of pointers.
-pub ptr_typed : (p : Ptr) → Good ty_ptr (ptr_val p)
-ptr_typed (block_ptr b o) = (tt, tt)
-ptr_typed null_ptr = (tt, record { fits = lit< tt })
+pub Good-pointer : (p : Ptr) → Good ty_ptr (ptr_val p)
+Good-pointer (block_ptr b o) = (tt, tt)
+Good-pointer null_ptr = (tt, record { fits = lit< tt })
 
 -- `point_val` of a pointer has the machine type of a struct of one pointer.
-pub point_typed : (p : Ptr) → Good (ty_struct [] (tcons ty_ptr tnil)) (point_val p)
-point_typed (block_ptr b o) = (tt, (tt, tt))
-point_typed null_ptr = (tt, (record { fits = lit< tt }, tt))
+pub Good-point_val : (p : Ptr) → Good (ty_struct [] (tcons ty_ptr tnil)) (point_val p)
+Good-point_val (block_ptr b o) = (tt, (tt, tt))
+Good-point_val null_ptr = (tt, (record { fits = lit< tt }, tt))
 
 -- The machine value of a pair.
 abbrev pub pair_val : Val → Val → Val
 pair_val u v = vstruct (vcons u (vcons v vnil))
 
 -- Two values that are owned are owned as a pair.
-pub pair_of : {M : Type 1} {𝓤 : Ura M} (𝓛 : Logic 𝓤) (R S : RattleType) (x : R.Denot) (y : S.Denot) (u v : Val)
+pub own_pair : {M : Type 1} {𝓤 : Ura M} (𝓛 : Logic 𝓤) (R S : RattleType) (x : R.Denot) (y : S.Denot) (u v : Val)
     → ent 𝓤 (sep 𝓤 (sem 𝓛 (R.own_val x (u ∷ []))) (sem 𝓛 (S.own_val y (v ∷ []))))
     (sem 𝓛 ((Tuple (R ∷ S ∷ [])).own_val (x, y) (pair_val u v ∷ [])))
-pair_of 𝓛 R S x y u v =
+own_pair 𝓛 R S x y u v =
     let both : List Val = pair_val u v ∷ [] in
     qed 𝓛 (‵ (R.own_val x (u ∷ [])) ∷ ‵ (S.own_val y (v ∷ [])) ∷ []) ∵
     nothing ! $ move ! (2 ∷ 0 ∷ []) $ fjoin ! $ move ! (1 ∷ 0 ∷ []) $ fjoin ! $ feq_i ! (List Val) both both refl $ fjoin ! $

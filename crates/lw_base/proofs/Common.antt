@@ -32,6 +32,7 @@ pub use Rattle.lw_base.specs.Characters.{DoesNotContain, IsSplitAtFirst, byte, d
 pub use Rattle.lw_base.specs.Characters.{is_key_byte, is_name_byte, is_space}
 pub use Rattle.lw_base.specs.ConditionTexts.{assignment, condition_text, is_binary, is_or, parenthesized}
 pub use Rattle.lw_base.specs.ConditionTexts.{parenthesized_if, proposition_text, quantifier_text, site_text}
+pub use Rattle.lw_base.specs.FinalWords.{ContainsWordsOf, final_word, final_words}
 pub use Rattle.lw_base.specs.Formula.{And, Formula, No, Not, Or, Reg_is, Word_is, Yes, nodes}
 pub use Rattle.lw_base.specs.Heads.{TestHead, head_of, set_location_names}
 pub use Rattle.lw_base.specs.Languages.{arch_keyword}

@@ -1,31 +1,32 @@
--- Writing conditions: propositions, their parts, and the connectives and parentheses between these.
+-- Writing conditions: propositions, their parts, and the connectives and parentheses between these. Lemmas
+-- for `condition.rt`, whose functions call each other.
 use Rattle.lw_base.proofs.Common.{◌≡◌, Bool, true, ◌++◌, append_assoc, sym, ap, ◌∙◌, subst, Result, OnOk}
 use Rattle.lw_base.proofs.Common.{codes, Bytes, NameTable, Arch, Prop, Formula, formula_of, proposition_text}
 use Rattle.lw_base.proofs.Common.{parenthesized_if}
-use Rattle.lw_base.proofs.api.Writing.{then_written, both_written}
+use Rattle.lw_base.proofs.api.Writing.{written-two_parts, written-append}
 
 -- Concatenating `(`, a text and `)`, if parentheses are needed, gives the text in parentheses.
-pub enclosed : {T E : Type 0} (answer : Result T E) (start one two end text : Bytes) (needed : Bool)
+pub parenthesized_if-true : {T E : Type 0} (answer : Result T E) (start one two end text : Bytes) (needed : Bool)
     → needed ≡ true
     → one ≡ start ++ codes "("
     → two ≡ one ++ text
     → OnOk answer (end ≡ two ++ codes ")")
     → OnOk answer (end ≡ start ++ parenthesized_if needed text)
-enclosed answer start one two end text needed is opened told closed =
+parenthesized_if-true answer start one two end text needed is opened told closed =
     subst (λ b. OnOk answer (end ≡ start ++ parenthesized_if b text)) (sym is)
-    (then_written _ start end _ _ (both_written start one two _ text opened told) (append_assoc (codes "(") text (codes ")"))
-    closed)
+    (written-two_parts _ start end _ _ (written-append start one two _ text opened told)
+    (append_assoc (codes "(") text (codes ")")) closed)
 
 -- If a text was written, followed by a connective and another text, then the two were written with the connective between them; left and
 -- right are other names of these texts.
-pub joined_written : {T E : Type 0} {mid first second left right : Bytes} (answer : Result T E) (start end mark : Bytes)
+pub joined_text-written : {T E : Type 0} {mid first second left right : Bytes} (answer : Result T E) (start end mark : Bytes)
     → first ≡ left
     → second ≡ right
     → mid ≡ start ++ first
     → OnOk answer (end ≡ mid ++ (mark ++ second))
     → OnOk answer (end ≡ start ++ (left ++ (mark ++ right)))
-joined_written {first} {second} {left} answer start end mark p q before written =
-    then_written answer start end first (mark ++ second) before
+joined_text-written {first} {second} {left} answer start end mark p q before written =
+    written-two_parts answer start end first (mark ++ second) before
     (ap (λ t. t ++ (mark ++ second)) p ∙ ap (λ t. left ++ (mark ++ t)) q) written
 
 module _ {A : Type 0} (arch : Arch) (names : NameTable) where
@@ -34,18 +35,18 @@ module _ {A : Type 0} (arch : Arch) (names : NameTable) where
   text_of p = proposition_text arch names (formula_of p)
 
   -- If the text of q was written, and p is q, then the text of p was written.
-  pub told_of : {T E : Type 0} (answer : Result T E) (start end : Bytes) (p q : Prop A)
+  pub text_written-same_prop : {T E : Type 0} (answer : Result T E) (start end : Bytes) (p q : Prop A)
       → p ≡ q
       → OnOk answer (end ≡ start ++ text_of q)
       → OnOk answer (end ≡ start ++ text_of p)
-  told_of answer start end p q is written = rw (← is) at written
+  text_written-same_prop answer start end p q is written = rw (← is) at written
 
   -- The text of a part v of a proposition, in parentheses if it is binary, is what was written: d and e are names of v, and e was tested.
-  pub part_told : (joins : Formula → Bool) (needed : Bool) (d e v : Prop A)
+  pub parenthesized_if-same_part : (joins : Formula → Bool) (needed : Bool) (d e v : Prop A)
       → d ≡ v
       → e ≡ v
       → needed ≡ joins (formula_of e)
       → parenthesized_if needed (text_of d) ≡ parenthesized_if (joins (formula_of v)) (text_of v)
-  part_told joins needed d e v dv ev is =
+  parenthesized_if-same_part joins needed d e v dv ev is =
       ap (λ b. parenthesized_if b (text_of d)) (is ∙ ap (λ r. joins (formula_of r)) ev)
       ∙ ap (λ r. parenthesized_if (joins (formula_of v)) (text_of r)) dv

@@ -1,4 +1,5 @@
--- The text of an event determines the event, so a schedule is read in one way.
+-- The text of an event determines the event, so a schedule is read in one way. For the law that a text is at
+-- most one schedule.
 use Rattle.lw_base.proofs.Common.{◌≡◌, ℕ, zero, suc, ◌<◌, ◌+◌, List, [], ◌∷◌, length, refl, sym, ap, ◌∙◌}
 use Rattle.lw_base.proofs.Common.{subst, arith, map, slice_index_or, Contains, AllByRecursion}
 use Rattle.lw_base.proofs.Common.{Contains-get_or, Bytes, NameTable, IsDuplicateFree, IsNameTable, IsEvent}
@@ -6,71 +7,73 @@ use Rattle.lw_base.proofs.Common.{event_text, IsSchedule, Event, Step, Drain, Ev
 use Rattle.lw_base.proofs.api.Lists.{cons-ne}
 
 -- In a list of names without duplicates a name has one index.
-pub one_index : (names : NameTable) (i j : ℕ)
+pub name_index-unique : (names : NameTable) (i j : ℕ)
     → IsDuplicateFree names
     → i < length names
     → j < length names
     → slice_index_or names i [] ≡ slice_index_or names j []
     → i ≡ j
-one_index [] i j once l m e = absurd (omega arith)
-one_index (n ∷ names) zero zero once l m e = refl
-one_index (n ∷ names) zero (suc j) once l m e =
+name_index-unique [] i j once l m e = absurd (omega arith)
+name_index-unique (n ∷ names) zero zero once l m e = refl
+name_index-unique (n ∷ names) zero (suc j) once l m e =
     absurd (once.0 (subst (Contains names) (sym e) (Contains-get_or names j [] (omega arith))))
-one_index (n ∷ names) (suc i) zero once l m e =
+name_index-unique (n ∷ names) (suc i) zero once l m e =
     absurd (once.0 (subst (Contains names) e (Contains-get_or names i [] (omega arith))))
-one_index (n ∷ names) (suc i) (suc j) once l m e = ap suc (one_index names i j once.1 (omega arith) (omega arith) e)
+name_index-unique (n ∷ names) (suc i) (suc j) once l m e =
+    ap suc (name_index-unique names i j once.1 (omega arith) (omega arith) e)
 
 -- Events with the same text are equal, if names have no duplicates.
-one_event : (names : NameTable)
+event_text-injective : (names : NameTable)
     → IsDuplicateFree names
     → (e f : Event)
     → IsEvent names e
     → IsEvent names f
     → event_text names e ≡ event_text names f
     → e ≡ f
-one_event names once (Step c) (Step d) h k same =
+event_text-injective names once (Step c) (Step d) h k same =
     let e : 48 + c ≡ 48 + d = cc in
     let g : c ≡ d = omega arith in
     ap Step g
-one_event names once (Step c) (Drain d) h k same = absurd (cons-ne 80 68 _ _ (λ differ. omega arith) same)
-one_event names once (Step c) (Evict d l) h k same = absurd (cons-ne 80 69 _ _ (λ differ. omega arith) same)
-one_event names once (Drain c) (Step d) h k same = absurd (cons-ne 68 80 _ _ (λ differ. omega arith) same)
-one_event names once (Drain c) (Drain d) h k same =
+event_text-injective names once (Step c) (Drain d) h k same = absurd (cons-ne 80 68 _ _ (λ differ. omega arith) same)
+event_text-injective names once (Step c) (Evict d l) h k same = absurd (cons-ne 80 69 _ _ (λ differ. omega arith) same)
+event_text-injective names once (Drain c) (Step d) h k same = absurd (cons-ne 68 80 _ _ (λ differ. omega arith) same)
+event_text-injective names once (Drain c) (Drain d) h k same =
     let e : 48 + c ≡ 48 + d = cc in
     let g : c ≡ d = omega arith in
     ap Drain g
-one_event names once (Drain c) (Evict d l) h k same = absurd (cons-ne 68 69 _ _ (λ differ. omega arith) same)
-one_event names once (Evict c l) (Step d) h k same = absurd (cons-ne 69 80 _ _ (λ differ. omega arith) same)
-one_event names once (Evict c l) (Drain d) h k same = absurd (cons-ne 69 68 _ _ (λ differ. omega arith) same)
-one_event names once (Evict c l) (Evict d m) h k same =
+event_text-injective names once (Drain c) (Evict d l) h k same = absurd (cons-ne 68 69 _ _ (λ differ. omega arith) same)
+event_text-injective names once (Evict c l) (Step d) h k same = absurd (cons-ne 69 80 _ _ (λ differ. omega arith) same)
+event_text-injective names once (Evict c l) (Drain d) h k same = absurd (cons-ne 69 68 _ _ (λ differ. omega arith) same)
+event_text-injective names once (Evict c l) (Evict d m) h k same =
     let e : 48 + c ≡ 48 + d = cc in
     let g : c ≡ d = omega arith in
     let n : slice_index_or names l [] ≡ slice_index_or names m [] = cc in
-    let p = one_index names l m once h.1 k.1 n in
+    let p = name_index-unique names l m once h.1 k.1 n in
     cc
 
 -- Lists of events with the same texts are equal.
-one_list : (names : NameTable)
+event_texts-injective : (names : NameTable)
     → IsDuplicateFree names
     → (es fs : List Event)
     → AllByRecursion (IsEvent names) es
     → AllByRecursion (IsEvent names) fs
     → map (event_text names) es ≡ map (event_text names) fs
     → es ≡ fs
-one_list names once [] [] h k same = refl
-one_list names once (e ∷ es) (f ∷ fs) h k same =
+event_texts-injective names once [] [] h k same = refl
+event_texts-injective names once (e ∷ es) (f ∷ fs) h k same =
     let front : event_text names e ≡ event_text names f = cc in
     let rest : map (event_text names) es ≡ map (event_text names) fs = cc in
-    let p = one_event names once e f h.0 k.0 front in
-    let q = one_list names once es fs h.1 k.1 rest in
+    let p = event_text-injective names once e f h.0 k.0 front in
+    let q = event_texts-injective names once es fs h.1 k.1 rest in
     cc
-one_list names once _ _ h k same = absurd cc
+event_texts-injective names once _ _ h k same = absurd cc
 
 -- A text is a schedule of at most one list of events.
-pub one_schedule : (names : NameTable)
+pub IsSchedule-unique : (names : NameTable)
     → IsNameTable names
     → (text : Bytes) (events others : List Event)
     → IsSchedule names text events
     → IsSchedule names text others
     → events ≡ others
-one_schedule names table text events others is also = one_list names table.once events others is.0 also.0 (sym is.1 ∙ also.1)
+IsSchedule-unique names table text events others is also =
+    event_texts-injective names table.without_duplicates events others is.0 also.0 (sym is.1 ∙ also.1)

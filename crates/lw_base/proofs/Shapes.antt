@@ -1,4 +1,5 @@
--- Pieces of a schedule that have the shape of an event, and pieces that are rejected.
+-- Pieces of a schedule that have the shape of an event, and pieces that are rejected. For `parse_event` and
+-- `parse_eviction`, which must be right when they fail.
 use Rattle.lw_base.proofs.Common.{All-from_recursion, rules, ◌≡◌, ◌≢◌, ◌⊎◌, not, ℕ, ◌<◌, ◌+◌, ◌==◌, inl, inr}
 use Rattle.lw_base.proofs.Common.{true, false, [], ◌∷◌, ◌++◌, length, refl, sym, ap, ◌∙◌, subst, arith}
 use Rattle.lw_base.proofs.Common.{true≢false, eqb-true, append-nil, slice_get, slice_index_or, Some, Contains}
@@ -12,8 +13,8 @@ use Rattle.lw_base.proofs.api.Lists.{cons-ne}
 use Rattle.lw_base.specs.declared.fault.ScheduleCause.TheVariants.{Location}
 
 -- Equal texts have equal rests after their first bytes.
-same_rest : (a b : ℕ) (u v : Bytes) → a ∷ u ≡ b ∷ v → u ≡ v
-same_rest a b u v same = cc
+cons-tail_eq : (a b : ℕ) (u v : Bytes) → a ∷ u ≡ b ∷ v → u ≡ v
+cons-tail_eq a b u v same = cc
 
 -- Digits do not contain a `:`.
 no_colon : (ds : Bytes) → list_all is_ascii_digit ds ≡ true → AllByRecursion (λ b. b ≢ 58) ds
@@ -24,34 +25,36 @@ no_colon (b ∷ ds) h =
     ((λ e. let k : is_ascii_digit 58 ≡ true = rw e at front in absurd (true≢false (sym k))), no_colon ds rest)
 
 -- The digits of an event, of which there is at least one, do not contain a `:`.
-digits_no_colon : (ds : Bytes) → are_digits ds ≡ true → AllByRecursion (λ b. b ≢ 58) ds
-digits_no_colon [] h = tt
-digits_no_colon (b ∷ ds) h = let some : (length (b ∷ ds) == 0) ≡ false = search rules in no_colon (b ∷ ds) (rw some at h)
+event_digits-no_colon : (ds : Bytes) → are_digits ds ≡ true → AllByRecursion (λ b. b ≢ 58) ds
+event_digits-no_colon [] h = tt
+event_digits-no_colon (b ∷ ds) h = let some : (length (b ∷ ds) == 0) ≡ false = search rules in no_colon (b ∷ ds) (rw some at h)
 
 -- A text is split at its first `:` in one way only.
-cut_once : (a c n m : Bytes)
+colon_split-unique : (a c n m : Bytes)
     → AllByRecursion (λ b. b ≢ 58) a
     → AllByRecursion (λ b. b ≢ 58) c
     → a ++ 58 ∷ n ≡ c ++ 58 ∷ m
     → (a ≡ c) × (n ≡ m)
-cut_once [] [] n m h k e = (refl, cc)
-cut_once [] (d ∷ c) n m h k e = absurd (k.0 cc)
-cut_once (b ∷ a) [] n m h k e = absurd (h.0 cc)
-cut_once (b ∷ a) (d ∷ c) n m h k e = let p = cut_once a c n m h.1 k.1 cc in (cc, p.1)
+colon_split-unique [] [] n m h k e = (refl, cc)
+colon_split-unique [] (d ∷ c) n m h k e = absurd (k.0 cc)
+colon_split-unique (b ∷ a) [] n m h k e = absurd (h.0 cc)
+colon_split-unique (b ∷ a) (d ∷ c) n m h k e = let p = colon_split-unique a c n m h.1 k.1 cc in (cc, p.1)
 
 -- A text that contains a `:` has a byte that is a `:`.
-colon_there : (ds n : Bytes) → AllByRecursion (λ b. b ≢ 58) (ds ++ 58 ∷ n) → ⊥
-colon_there [] n h = h.0 refl
-colon_there (b ∷ ds) n h = colon_there ds n h.1
+not-no_colon-append_colon : (ds n : Bytes) → AllByRecursion (λ b. b ≢ 58) (ds ++ 58 ∷ n) → ⊥
+not-no_colon-append_colon [] n h = h.0 refl
+not-no_colon-append_colon (b ∷ ds) n h = not-no_colon-append_colon ds n h.1
 
 -- A text after `E` that has no `:` is rejected, since it does not have the shape of an event.
-pub uncut : (names : NameTable) (text : Bytes) → AllByRecursion (λ b. b ≢ 58) text → IsFaultyPiece names (69 ∷ text) Word
-uncut names text others ds shape = go shape.1
+pub IsFaultyPiece-no_colon : (names : NameTable) (text : Bytes)
+    → AllByRecursion (λ b. b ≢ 58) text
+    → IsFaultyPiece names (69 ∷ text) Word
+IsFaultyPiece-no_colon names text others ds shape = go shape.1
   where
     go : HasEventParts (69 ∷ text) ds → ⊥
     go (inl e) = cons-ne 69 80 _ _ (λ k. omega arith) e
     go (inr (inl e)) = cons-ne 69 68 _ _ (λ k. omega arith) e
-    go (inr (inr h)) = colon_there ds h.0 (subst (AllByRecursion (λ b. b ≢ 58)) (same_rest 69 69 _ _ h.2) others)
+    go (inr (inr h)) = not-no_colon-append_colon ds h.0 (subst (AllByRecursion (λ b. b ≢ 58)) (cons-tail_eq 69 69 _ _ h.2) others)
 
 -- A text after `E`, split at its first `:`.
 module _ (names : NameTable) (text digits name : Bytes) (cut : text ≡ digits ++ 58 ∷ name)
@@ -64,74 +67,77 @@ module _ (names : NameTable) (text digits name : Bytes) (cut : text ≡ digits +
       go (inl e) = absurd (cons-ne 69 80 _ _ (λ k. omega arith) e)
       go (inr (inl e)) = absurd (cons-ne 69 68 _ _ (λ k. omega arith) e)
       go (inr (inr h)) =
-          let e : digits ++ 58 ∷ name ≡ ds ++ 58 ∷ h.0 = sym cut ∙ same_rest 69 69 _ _ h.2 in
-          let p = cut_once digits ds name h.0 others (digits_no_colon ds shape.0) e in
+          let e : digits ++ 58 ∷ name ≡ ds ++ 58 ∷ h.0 = sym cut ∙ cons-tail_eq 69 69 _ _ h.2 in
+          let p = colon_split-unique digits ds name h.0 others (event_digits-no_colon ds shape.0) e in
           (p.0, subst IsNameShaped (sym p.1) h.1)
 
   -- If the text after the `:` is not name-shaped, the piece is rejected, since it does not have the shape of an event.
-  pub no_name : (IsNameShaped name → ⊥) → IsFaultyPiece names (69 ∷ text) Word
-  no_name none ds shape = none (eviction ds shape).1
+  pub IsFaultyPiece-no_name : (IsNameShaped name → ⊥) → IsFaultyPiece names (69 ∷ text) Word
+  IsFaultyPiece-no_name none ds shape = none (eviction ds shape).1
 
   -- If the text before the `:` is rejected for a cause, as no digits or no processor's index, so is the piece.
-  pub no_cpu : IsNameShaped name → (e : ScheduleCause) → HasBadDigits digits e → IsFaultyPiece names (69 ∷ text) e
-  no_cpu named Word bad = λ ds shape. true≢false (sym shape.0 ∙ ap are_digits (sym (eviction ds shape).0) ∙ bad)
-  no_cpu named Cpu bad = (digits, (bad.0, inr (inr (name, named, ap (λ t. 69 ∷ t) cut))), bad.1)
-  no_cpu named _ bad = absurd bad
+  pub IsFaultyPiece-no_cpu : IsNameShaped name → (e : ScheduleCause) → HasBadDigits digits e → IsFaultyPiece names (69 ∷ text) e
+  IsFaultyPiece-no_cpu named Word bad = λ ds shape. true≢false (sym shape.0 ∙ ap are_digits (sym (eviction ds shape).0) ∙ bad)
+  IsFaultyPiece-no_cpu named Cpu bad = (digits, (bad.0, inr (inr (name, named, ap (λ t. 69 ∷ t) cut))), bad.1)
+  IsFaultyPiece-no_cpu named _ bad = absurd bad
 
   -- If a processor's digit is before the `:`, and after it a name that is not in the table, the piece is rejected for that.
-  pub no_location : IsNameShaped name → IsCpu digits → (Contains names name → ⊥) → IsFaultyPiece names (69 ∷ text) Location
-  no_location named cpu missing = (digits, name, cpu, named, ap (λ t. 69 ∷ t) cut, missing)
+  pub IsFaultyPiece-no_location : IsNameShaped name
+      → IsCpu digits
+      → (Contains names name → ⊥)
+      → IsFaultyPiece names (69 ∷ text) Location
+  IsFaultyPiece-no_location named cpu missing = (digits, name, cpu, named, ap (λ t. 69 ∷ t) cut, missing)
 
   -- If the digit of processor c is before the `:`, and after it the name of location l, `E` and the text are that eviction's.
-  pub eviction_found : (c l : ℕ)
+  pub IsEventText-eviction : (c l : ℕ)
       → c < most_threads
       → digits ≡ (48 + c) ∷ []
       → slice_get names l ≡ Some name
       → ((c < most_threads) × (l < length names)) × (69 ∷ (48 + c) ∷ 58 ∷ slice_index_or names l [] ≡ 69 ∷ text)
-  eviction_found c l h digit at =
+  IsEventText-eviction c l h digit at =
       let named : slice_index_or names l [] ≡ name = get_or_from_slice_get names l name [] at in
       ((h, slice_get_within names l name at), ap (λ t. 69 ∷ t) (rw (cut, digit, named) refl))
 
 -- A processor's index is one digit.
-one_digit : (c : ℕ) → c < most_threads → are_digits ((48 + c) ∷ []) ≡ true
-one_digit c h = agree_below_at (λ d. are_digits ((48 + d) ∷ [])) (λ d. true) most_threads c refl h
+are_digits-cpu_index : (c : ℕ) → c < most_threads → are_digits ((48 + c) ∷ []) ≡ true
+are_digits-cpu_index c h = agree_below_at (λ d. are_digits ((48 + d) ∷ [])) (λ d. true) most_threads c refl h
 
 -- An event's text has the shape of an event, with the digit of a processor.
-shape_of : (names : NameTable)
+HasEventShape-event_text : (names : NameTable)
     → IsNameTable names
     → (e : Event)
     → IsEvent names e
     → (ds : Bytes) × IsCpu ds × HasEventShape (event_text names e) ds
-shape_of names table (Step c) is = ((48 + c) ∷ [], (c, is, refl), (one_digit c is, inl refl))
-shape_of names table (Drain c) is = ((48 + c) ∷ [], (c, is, refl), (one_digit c is, inr (inl refl)))
-shape_of names table (Evict c l) is = (
+HasEventShape-event_text names table (Step c) is = ((48 + c) ∷ [], (c, is, refl), (are_digits-cpu_index c is, inl refl))
+HasEventShape-event_text names table (Drain c) is = ((48 + c) ∷ [], (c, is, refl), (are_digits-cpu_index c is, inr (inl refl)))
+HasEventShape-event_text names table (Evict c l) is = (
   (48 + c) ∷ [],
   (c, is.0, refl),
   (
-    one_digit c is.0,
+    are_digits-cpu_index c is.0,
     inr (inr (slice_index_or names l [], (All-from_recursion IsLocationName names table.all l [] is.1).0.0, refl)),
   ),
 )
 
 -- A piece has the shape of an event with at most one text of digits.
-one_shape : (w ds es : Bytes) → HasEventShape w ds → HasEventShape w es → ds ≡ es
-one_shape w ds es shape other = go shape.1 other.1
+HasEventShape-unique : (w ds es : Bytes) → HasEventShape w ds → HasEventShape w es → ds ≡ es
+HasEventShape-unique w ds es shape other = go shape.1 other.1
   where
     go : HasEventParts w ds → HasEventParts w es → ds ≡ es
-    go (inl e) (inl f) = same_rest 80 80 _ _ (sym e ∙ f)
+    go (inl e) (inl f) = cons-tail_eq 80 80 _ _ (sym e ∙ f)
     go (inl e) (inr (inl f)) = absurd (cons-ne 80 68 _ _ (λ k. omega arith) (sym e ∙ f))
     go (inl e) (inr (inr f)) = absurd (cons-ne 80 69 _ _ (λ k. omega arith) (sym e ∙ f.2))
     go (inr (inl e)) (inl f) = absurd (cons-ne 68 80 _ _ (λ k. omega arith) (sym e ∙ f))
-    go (inr (inl e)) (inr (inl f)) = same_rest 68 68 _ _ (sym e ∙ f)
+    go (inr (inl e)) (inr (inl f)) = cons-tail_eq 68 68 _ _ (sym e ∙ f)
     go (inr (inl e)) (inr (inr f)) = absurd (cons-ne 68 69 _ _ (λ k. omega arith) (sym e ∙ f.2))
     go (inr (inr e)) (inl f) = absurd (cons-ne 69 80 _ _ (λ k. omega arith) (sym e.2 ∙ f))
     go (inr (inr e)) (inr (inl f)) = absurd (cons-ne 69 68 _ _ (λ k. omega arith) (sym e.2 ∙ f))
     go (inr (inr e)) (inr (inr f)) =
-        let same : ds ++ 58 ∷ e.0 ≡ es ++ 58 ∷ f.0 = same_rest 69 69 _ _ (sym e.2 ∙ f.2) in
-        (cut_once ds es e.0 f.0 (digits_no_colon ds shape.0) (digits_no_colon es other.0) same).0
+        let same : ds ++ 58 ∷ e.0 ≡ es ++ 58 ∷ f.0 = cons-tail_eq 69 69 _ _ (sym e.2 ∙ f.2) in
+        (colon_split-unique ds es e.0 f.0 (event_digits-no_colon ds shape.0) (event_digits-no_colon es other.0) same).0
 
 -- A piece that is rejected is no event's text.
-pub no_event : (names : NameTable)
+pub not-event_text-if_faulty : (names : NameTable)
     → IsNameTable names
     → (w : Bytes) (cause : ScheduleCause)
     → IsFaultyPiece names w cause
@@ -139,114 +145,117 @@ pub no_event : (names : NameTable)
     → IsEvent names e
     → event_text names e ≡ w
     → ⊥
-no_event names table w Word faulty e is same =
-    let s = shape_of names table e is in faulty s.0 (subst (λ v. HasEventShape v s.0) same s.2)
-no_event names table w Cpu faulty e is same =
-    let s = shape_of names table e is in
-    faulty.2 (subst IsCpu (one_shape w s.0 faulty.0 (subst (λ v. HasEventShape v s.0) same s.2) faulty.1) s.1)
-no_event names table w Location (ds, n, cpu, text, is_word, missing) (Step c) is same =
+not-event_text-if_faulty names table w Word faulty e is same =
+    let s = HasEventShape-event_text names table e is in faulty s.0 (subst (λ v. HasEventShape v s.0) same s.2)
+not-event_text-if_faulty names table w Cpu faulty e is same =
+    let s = HasEventShape-event_text names table e is in
+    faulty.2 (subst IsCpu (HasEventShape-unique w s.0 faulty.0 (subst (λ v. HasEventShape v s.0) same s.2) faulty.1) s.1)
+not-event_text-if_faulty names table w Location (ds, n, cpu, text, is_word, missing) (Step c) is same =
     cons-ne 80 69 _ _ (λ k. omega arith) (same ∙ is_word)
-no_event names table w Location (ds, n, cpu, text, is_word, missing) (Drain c) is same =
+not-event_text-if_faulty names table w Location (ds, n, cpu, text, is_word, missing) (Drain c) is same =
     cons-ne 68 69 _ _ (λ k. omega arith) (same ∙ is_word)
-no_event names table w Location (ds, n, cpu, text, is_word, missing) (Evict c l) is same =
-    let e : (48 + c) ∷ 58 ∷ slice_index_or names l [] ≡ ds ++ 58 ∷ n = same_rest 69 69 _ _ (same ∙ is_word) in
+not-event_text-if_faulty names table w Location (ds, n, cpu, text, is_word, missing) (Evict c l) is same =
+    let e : (48 + c) ∷ 58 ∷ slice_index_or names l [] ≡ ds ++ 58 ∷ n = cons-tail_eq 69 69 _ _ (same ∙ is_word) in
     let d : ds ≡ (48 + cpu.0) ∷ [] = cpu.2 in
     let named : slice_index_or names l [] ≡ n = cc in
     missing (subst (Contains names) named (Contains-get_or names l [] is.1))
-no_event names table w Memory faulty e is same = absurd faulty
+not-event_text-if_faulty names table w Memory faulty e is same = absurd faulty
 
 -- ---- Pieces without a `:`, and without an event's letter.
 
 -- A text all of whose bytes differ from b does not contain b.
-lacks_all : (b : ℕ) (front : Bytes) → AllByRecursion (λ c. not (c == b) ≡ true) front → DoesNotContain b front
-lacks_all b [] all = tt
-lacks_all b (c ∷ front) all = (differ, lacks_all b front all.1)
+DoesNotContain-if_all_differ : (b : ℕ) (front : Bytes) → AllByRecursion (λ c. not (c == b) ≡ true) front → DoesNotContain b front
+DoesNotContain-if_all_differ b [] all = tt
+DoesNotContain-if_all_differ b (c ∷ front) all = (differ, DoesNotContain-if_all_differ b front all.1)
   where
     differ : c ≢ b
     differ e = let k = subst (λ d. not (d == b) ≡ true) e all.0 in grind (arith, nat_tests)
 
 -- A text does not contain b if nothing remains after its longest prefix of other bytes.
-pub cut_nowhere : {text : Bytes} (b : ℕ) (front rest : Bytes)
+pub DoesNotContain-if_no_rest : {text : Bytes} (b : ℕ) (front rest : Bytes)
     → text ≡ front ++ rest
     → AllByRecursion (λ c. not (c == b) ≡ true) front
     → length rest ≡ 0
     → DoesNotContain b text
-cut_nowhere b front [] parts all none = subst (DoesNotContain b) (sym (parts ∙ append-nil front)) (lacks_all b front all)
-cut_nowhere b front (c ∷ rest) parts all none = absurd (omega (arith, none))
+DoesNotContain-if_no_rest b front [] parts all none =
+    subst (DoesNotContain b) (sym (parts ∙ append-nil front)) (DoesNotContain-if_all_differ b front all)
+DoesNotContain-if_no_rest b front (c ∷ rest) parts all none = absurd (omega (arith, none))
 
 -- A text is split at b if b follows its longest prefix of other bytes.
-pub cut_there : {text rest others : Bytes} {x : ℕ} (b : ℕ) (front : Bytes)
+pub IsSplitAtFirst-longest_prefix : {text rest others : Bytes} {x : ℕ} (b : ℕ) (front : Bytes)
     → text ≡ front ++ rest
     → AllByRecursion (λ c. not (c == b) ≡ true) front
     → first_byte_is (λ c. not (c == b)) rest ≡ false
     → rest ≡ x ∷ others
     → IsSplitAtFirst b text front others
-cut_there {others} {x} b front parts all longest is =
-    (parts ∙ ap (λ r. front ++ r) (is ∙ ap (λ y. y ∷ others) first), lacks_all b front all)
+IsSplitAtFirst-longest_prefix {others} {x} b front parts all longest is =
+    (parts ∙ ap (λ r. front ++ r) (is ∙ ap (λ y. y ∷ others) first), DoesNotContain-if_all_differ b front all)
   where
     first : x ≡ b
     first = eqb-true x b (not-false (x == b) (ap (first_byte_is (λ c. not (c == b))) (sym is) ∙ longest))
 
 -- An empty piece does not have the shape of an event.
-pub none_shaped : (w ds : Bytes) → length w ≡ 0 → HasEventShape w ds → ⊥
-none_shaped [] ds none shape = go shape.1
+pub not-HasEventShape-nil : (w ds : Bytes) → length w ≡ 0 → HasEventShape w ds → ⊥
+not-HasEventShape-nil [] ds none shape = go shape.1
   where
     go : HasEventParts [] ds → ⊥
     go (inl e) = cc
     go (inr (inl e)) = cc
     go (inr (inr h)) = let e = h.2 in cc
-none_shaped (b ∷ w) ds none shape = omega (arith, none)
+not-HasEventShape-nil (b ∷ w) ds none shape = omega (arith, none)
 
 -- If a piece with an event's parts begins with `P` or `D`, its digits are the rest.
-digits_are : (w rest ds : Bytes) → (w ≡ 80 ∷ rest) ⊎ (w ≡ 68 ∷ rest) → HasEventParts w ds → rest ≡ ds
-digits_are w rest ds (inl e) (inl f) = same_rest 80 80 _ _ (sym e ∙ f)
-digits_are w rest ds (inl e) (inr (inl f)) = absurd (cons-ne 80 68 _ _ (λ k. omega arith) (sym e ∙ f))
-digits_are w rest ds (inl e) (inr (inr f)) = absurd (cons-ne 80 69 _ _ (λ k. omega arith) (sym e ∙ f.2))
-digits_are w rest ds (inr e) (inl f) = absurd (cons-ne 68 80 _ _ (λ k. omega arith) (sym e ∙ f))
-digits_are w rest ds (inr e) (inr (inl f)) = same_rest 68 68 _ _ (sym e ∙ f)
-digits_are w rest ds (inr e) (inr (inr f)) = absurd (cons-ne 68 69 _ _ (λ k. omega arith) (sym e ∙ f.2))
+HasEventParts-digits_eq_rest : (w rest ds : Bytes) → (w ≡ 80 ∷ rest) ⊎ (w ≡ 68 ∷ rest) → HasEventParts w ds → rest ≡ ds
+HasEventParts-digits_eq_rest w rest ds (inl e) (inl f) = cons-tail_eq 80 80 _ _ (sym e ∙ f)
+HasEventParts-digits_eq_rest w rest ds (inl e) (inr (inl f)) = absurd (cons-ne 80 68 _ _ (λ k. omega arith) (sym e ∙ f))
+HasEventParts-digits_eq_rest w rest ds (inl e) (inr (inr f)) = absurd (cons-ne 80 69 _ _ (λ k. omega arith) (sym e ∙ f.2))
+HasEventParts-digits_eq_rest w rest ds (inr e) (inl f) = absurd (cons-ne 68 80 _ _ (λ k. omega arith) (sym e ∙ f))
+HasEventParts-digits_eq_rest w rest ds (inr e) (inr (inl f)) = cons-tail_eq 68 68 _ _ (sym e ∙ f)
+HasEventParts-digits_eq_rest w rest ds (inr e) (inr (inr f)) = absurd (cons-ne 68 69 _ _ (λ k. omega arith) (sym e ∙ f.2))
 
 -- A piece that begins with `P` or `D` has an event's parts, with the rest as its digits.
-parts_there : (w rest : Bytes) → (w ≡ 80 ∷ rest) ⊎ (w ≡ 68 ∷ rest) → HasEventParts w rest
-parts_there w rest (inl e) = inl e
-parts_there w rest (inr e) = inr (inl e)
+HasEventParts-step_or_drain : (w rest : Bytes) → (w ≡ 80 ∷ rest) ⊎ (w ≡ 68 ∷ rest) → HasEventParts w rest
+HasEventParts-step_or_drain w rest (inl e) = inl e
+HasEventParts-step_or_drain w rest (inr e) = inr (inl e)
 
 -- A piece that begins with `P` or `D`, followed by anything else than digits, does not have the shape of an event.
-not_shaped : (w rest : Bytes)
+not-HasEventShape-no_digits : (w rest : Bytes)
     → (w ≡ 80 ∷ rest) ⊎ (w ≡ 68 ∷ rest)
     → are_digits rest ≡ false
     → (ds : Bytes)
     → HasEventShape w ds
     → ⊥
-not_shaped w rest is bad ds shape =
-    true≢false (sym (subst (λ r. are_digits r ≡ true) (sym (digits_are w rest ds is shape.1)) shape.0) ∙ bad)
+not-HasEventShape-no_digits w rest is bad ds shape =
+    true≢false (sym (subst (λ r. are_digits r ≡ true) (sym (HasEventParts-digits_eq_rest w rest ds is shape.1)) shape.0) ∙ bad)
 
 -- A piece that begins with `P` or `D` is rejected for a cause for which its rest is rejected as digits.
-bad_digits : (names : NameTable) (w rest : Bytes)
+IsFaultyPiece-bad_digits : (names : NameTable) (w rest : Bytes)
     → (w ≡ 80 ∷ rest) ⊎ (w ≡ 68 ∷ rest)
     → (cause : ScheduleCause)
     → HasBadDigits rest cause
     → IsFaultyPiece names w cause
-bad_digits names w rest is Word bad = not_shaped w rest is bad
-bad_digits names w rest is Cpu bad = (rest, (bad.0, parts_there w rest is), bad.1)
-bad_digits names w rest is _ bad = absurd bad
+IsFaultyPiece-bad_digits names w rest is Word bad = not-HasEventShape-no_digits w rest is bad
+IsFaultyPiece-bad_digits names w rest is Cpu bad = (rest, (bad.0, HasEventParts-step_or_drain w rest is), bad.1)
+IsFaultyPiece-bad_digits names w rest is _ bad = absurd bad
 
 -- A piece that begins with `P` is rejected for a cause for which its rest is rejected as digits.
-pub bad_step : (names : NameTable) (w rest : Bytes) (x : ℕ) (cause : ScheduleCause)
+pub IsFaultyPiece-bad_step : (names : NameTable) (w rest : Bytes) (x : ℕ) (cause : ScheduleCause)
     → w ≡ x ∷ rest
     → x ≡ 80
     → HasBadDigits rest cause
     → IsFaultyPiece names w cause
-bad_step names w rest x cause is letter bad = bad_digits _ w rest (inl (is ∙ ap (λ y. y ∷ rest) letter)) _ bad
+IsFaultyPiece-bad_step names w rest x cause is letter bad =
+    IsFaultyPiece-bad_digits _ w rest (inl (is ∙ ap (λ y. y ∷ rest) letter)) _ bad
 
 -- A piece that begins with `D` is rejected for a cause for which its rest is rejected as digits.
-pub bad_drain : (names : NameTable) (w rest : Bytes) (x : ℕ) (cause : ScheduleCause)
+pub IsFaultyPiece-bad_drain : (names : NameTable) (w rest : Bytes) (x : ℕ) (cause : ScheduleCause)
     → w ≡ x ∷ rest
     → x ≡ 68
     → HasBadDigits rest cause
     → IsFaultyPiece names w cause
-bad_drain names w rest x cause is letter bad = bad_digits _ w _ (inr (is ∙ ap (λ y. y ∷ rest) letter)) _ bad
+IsFaultyPiece-bad_drain names w rest x cause is letter bad =
+    IsFaultyPiece-bad_digits _ w _ (inr (is ∙ ap (λ y. y ∷ rest) letter)) _ bad
 
 -- A piece that is x followed by rest is y followed by told, if x is y and rest is told.
-pub lettered : (w rest told : Bytes) (x y : ℕ) → w ≡ x ∷ rest → x ≡ y → rest ≡ told → y ∷ told ≡ w
-lettered w rest told x y is letter same_rest = sym (is ∙ ap (λ z. z ∷ rest) letter ∙ ap (λ r. y ∷ r) same_rest)
+pub cons_eq-same_parts : (w rest told : Bytes) (x y : ℕ) → w ≡ x ∷ rest → x ≡ y → rest ≡ told → y ∷ told ≡ w
+cons_eq-same_parts w rest told x y is letter same_rest = sym (is ∙ ap (λ z. z ∷ rest) letter ∙ ap (λ r. y ∷ r) same_rest)

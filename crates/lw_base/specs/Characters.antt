@@ -5,7 +5,8 @@ use Rattle.std.specs.List.{list_any, AllByRecursion}
 use Rattle.std.specs.Char.{is_ascii_alphanumeric}
 use Rattle.lw_base.specs.Types.{Bytes}
 
-abbrev pub byte : String → ℕ  -- the byte of a character, as `byte "a"`
+-- The byte of a character, as in `byte "a"`; 0 if the text is empty.
+abbrev pub byte : String → ℕ
 byte s = slice_index_or (codes s) 0 0
 
 -- The decimal digit of a number below 10.

@@ -16,6 +16,7 @@ pub mod WellFormed
 pub mod WellFormedProps
 pub mod SeenLists
 pub mod Outcomes
+pub mod FinalWords
 pub mod ConditionTexts
 pub mod Stops
 pub mod Faults

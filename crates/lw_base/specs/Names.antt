@@ -10,7 +10,7 @@ use Rattle.lw_base.specs.Characters.{byte, is_name_byte, first_byte_is}
 
 -- The text is a letter or `_`, followed by letters, digits and `_`.
 pub record IsNameShaped (w : Bytes) : Type 0 where
-  pub some : 0 < length w
+  pub not_empty : 0 < length w
   pub all : AllByRecursion (λ b. is_name_byte b ≡ true) w
   pub front : first_byte_is is_ascii_digit w ≡ false
 
@@ -53,10 +53,10 @@ IsLocationName w = IsName w × (is_reserved w ≡ false)
 pub record IsNameTable (names : NameTable) : Type 0 where
   pub few : length names ≤ most_locations
   pub all : AllByRecursion IsLocationName names
-  pub once : IsDuplicateFree names
+  pub without_duplicates : IsDuplicateFree names
 
 -- The text is a test's name: 1 to 128 printable ASCII bytes.
 pub record IsTestName (name : Bytes) : Type 0 where
-  pub some : 0 < length name
+  pub not_empty : 0 < length name
   pub short : length name ≤ most_test_name_bytes
   pub all : AllByRecursion (λ b. is_ascii_graphic b ≡ true) name

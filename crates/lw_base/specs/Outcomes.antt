@@ -14,7 +14,7 @@ pub record FinalState : Type 0 where
 -- The outcome has these numbers of threads and locations, and six registers for each thread.
 pub record HasOutcomeShape (threads locs : ℕ) (o : FinalState) : Type 0 where
   pub regs_of : length o.regs ≡ threads
-  pub six : AllByRecursion (λ row. length row ≡ registers) o.regs
+  pub register_counts : AllByRecursion (λ row. length row ≡ registers) o.regs
   pub words_of : length o.words ≡ locs
 
 -- The order of outcomes: by the registers, then by the words. Lists are compared lexicographically; a list comes before its extensions.

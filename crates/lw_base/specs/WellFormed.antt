@@ -58,15 +58,15 @@ MentionsLocationsBelow locs (Or p q) = MentionsLocationsBelow locs p × Mentions
 -- locations, of at most 256 nodes.
 pub record IsWellFormedHead (h : TestHead) : Type 0 where
   pub name : IsTestName h.name
-  pub some : 1 ≤ h.threads
+  pub has_thread : 1 ≤ h.threads
   pub few : h.threads ≤ most_threads
   pub table : IsNameTable h.locs
   pub regs : length h.init_regs ≡ h.threads
-  pub six : AllByRecursion (λ row. length row ≡ registers) h.init_regs
+  pub register_counts : AllByRecursion (λ row. length row ≡ registers) h.init_regs
   pub register_words : AllByRecursion (AllByRecursion IsWordNumber) h.init_regs
   pub words : length h.init_words ≡ length h.locs
   pub location_words : AllByRecursion IsWordNumber h.init_words
-  pub there : AllByRecursion (IsSeenInRange h.threads (length h.locs)) h.listed
+  pub listed_in_range : AllByRecursion (IsSeenInRange h.threads (length h.locs)) h.listed
   pub ascending : IsAscending h.listed
   pub nodes_few : nodes h.condition ≤ most_nodes
   pub condition : MentionsOnly h.threads (length h.locs) h.condition

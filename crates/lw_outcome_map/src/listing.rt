@@ -1,4 +1,4 @@
-//! The outcomes found, without duplicates, each with the first schedule found for it.
+//! The outcomes found, without duplicates, each with what is kept for it: a schedule, or nothing.
 ghost use Rattle.std.specs.Prelude.{◌≡◌, ◌↔◌, [], ◌∷◌, ◌++◌, ◌<◌, ◌==◌, ℕ, length, OnOk, OnErr, IfOk, IsTrue, MatchOption, Contains, Some, slice_get};
 ghost use Rattle.std.specs.Prelude.{IsPermutation};
 ghost use Rattle.lw_base.specs.Outcomes.{FinalState};
@@ -10,25 +10,25 @@ use std::alloc::{AllocError, Allocator, Global};
 use std::hash::{BuildHasherDefault, FoldHasher};
 use std::marker::Model;
 
-/// A schedule for each outcome.
-type Schedules<A> = IndexMap<Outcome<A>, Sequence<Event, A>, BuildHasherDefault<FoldHasher>, A>;
+/// A value for each outcome.
+type ValueByOutcome<A, K> = IndexMap<Outcome<A>, K, BuildHasherDefault<FoldHasher>, A>;
 
-/// Outcomes with their schedules, in the order in which they were found.
+/// Outcomes, each with a value of type `K`, in the order in which they were found.
 /// A contract sees the list of the pairs.
 #[derive(Drop)]
-pub struct OutcomeMap<A: Allocator = Global> {
-    found: Schedules<A>,
+pub struct OutcomeMap<A: Allocator = Global, K = Sequence<Event, A>> {
+    found: ValueByOutcome<A, K>,
 }
 
-impl<A: Allocator> Model for OutcomeMap<A> {
-    ghost use Rattle.lw_outcome_map.specs.Listings.{OutcomeEntries};
+impl<A: Allocator, K> Model for OutcomeMap<A, K> {
+    ghost use Rattle.lw_outcome_map.specs.Listings.{OutcomesWith};
 
-    ghost Value = { OutcomeEntries };
+    ghost Value = { OutcomesWith K };
 
     ghost view = { λ f. f.found.entries };
 }
 
-impl<A: Allocator + Copy> OutcomeMap<A> {
+impl<A: Allocator + Copy, K> OutcomeMap<A, K> {
     /// Creates an empty map. Does not allocate.
     pub fn new(alloc: A) -> Self
         ensures { result ≡ [] }
@@ -39,7 +39,7 @@ impl<A: Allocator + Copy> OutcomeMap<A> {
     }
 }
 
-impl<A: Allocator> OutcomeMap<A> {
+impl<A: Allocator, K: Drop> OutcomeMap<A, K> {
     /// Returns whether the map has this outcome. Does not allocate.
     pub fn contains(&self, outcome: &Outcome<A>) -> bool
         ensures { IsTrue result ↔ Contains (outcomes_of self.now) outcome.now }
@@ -47,51 +47,50 @@ impl<A: Allocator> OutcomeMap<A> {
         self.found.contains_key(outcome)
     }
 
-    /// Inserts an outcome that is not in the map, with its schedule. If memory runs out, the map is unchanged.
-    pub fn insert_new(
-        &mut self,
-        outcome: Outcome<A>,
-        schedule: Sequence<Event, A>,
-    ) -> Result<(), AllocError>
+    /// Inserts an outcome that is not in the map, with its value. If memory runs out, the map is unchanged.
+    pub fn insert_new(&mut self, outcome: Outcome<A>, kept: K) -> Result<(), AllocError>
         requires { ¬ Contains (outcomes_of self.old) outcome }
-        ensures inserted { OnOk result (self.new ≡ self.old ++ (outcome, schedule) ∷ []) }
+        ensures inserted { OnOk result (self.new ≡ self.old ++ (outcome, kept) ∷ []) }
         ensures err { OnErr result (self.new ≡ self.old) }
     {
-        self.found.insert(outcome, schedule)?;
+        self.found.insert(outcome, kept)?;
         Ok(())
     }
 
-    /// Sorts the outcomes, each with its schedule, into a listing. Fails only if memory runs out.
-    pub fn into_listing(self) -> Result<Listing<A>, AllocError>
+    /// Sorts the outcomes, each with its value, into a listing. Fails only if memory runs out.
+    pub fn into_listing(self) -> Result<Listing<A, K>, AllocError>
     where
         A: Copy,
         ensures same { IfOk result (λ listing. IsPermutation self listing) }
         ensures sorted { IfOk result (λ listing. IsStrictlySorted listing) }
     {
         let mut found = self.found;
-        found.sort_keys()?;
+        found.sort_unstable_keys()?;
         Ok(Listing { found })
     }
 }
 
-/// The outcomes found, sorted, without duplicates, each with a schedule.
-/// A contract sees the list of the pairs.
+/// The outcomes found, sorted, without duplicates, each with a value of type `K`: a schedule, unless another type is
+/// named. A contract sees the list of the pairs.
 #[derive(Drop)]
-pub struct Listing<A: Allocator = Global> {
-    found: Schedules<A>,
+pub struct Listing<A: Allocator = Global, K = Sequence<Event, A>> {
+    found: ValueByOutcome<A, K>,
 }
 
-impl<A: Allocator> Model for Listing<A> {
-    ghost use Rattle.lw_outcome_map.specs.Listings.{OutcomeEntries, IsStrictlySorted};
+/// The outcomes found, sorted, without duplicates and without schedules.
+pub type OutcomeList<A = Global> = Listing<A, ()>;
 
-    ghost Value = { OutcomeEntries };
+impl<A: Allocator, K> Model for Listing<A, K> {
+    ghost use Rattle.lw_outcome_map.specs.Listings.{OutcomesWith, IsStrictlySorted};
+
+    ghost Value = { OutcomesWith K };
 
     ghost view = { λ l. l.found.entries };
 
     ghost invariant = { λ l. IsStrictlySorted l.found.entries };
 }
 
-impl<A: Allocator> Listing<A> {
+impl<A: Allocator, K> Listing<A, K> {
     /// Returns the number of outcomes.
     pub fn len(&self) -> usize
         ensures number { result ≡ length self.now }
@@ -116,14 +115,6 @@ impl<A: Allocator> Listing<A> {
         self.found.get_index(index).unwrap().0
     }
 
-    /// Returns the schedule of the outcome at an index.
-    pub fn schedule(&self, index: usize) -> &[Event]
-        requires { index < length self.now }
-        ensures { slice_get (schedules_of self.now) index ≡ Some result.now }
-    {
-        self.found[index].as_slice()
-    }
-
     /// Returns the index of an outcome, or `None` if it is not listed.
     pub fn find(&self, outcome: &Outcome<A>) -> Option<usize>
         ensures { MatchOption result
@@ -131,6 +122,16 @@ impl<A: Allocator> Listing<A> {
             (λ index. slice_get (outcomes_of self.now) index ≡ Some outcome.now) }
     {
         self.found.get_index_of(outcome)
+    }
+}
+
+impl<A: Allocator> Listing<A> {
+    /// Returns the schedule of the outcome at an index.
+    pub fn schedule(&self, index: usize) -> &[Event]
+        requires { index < length self.now }
+        ensures { slice_get (schedules_of self.now) index ≡ Some result.now }
+    {
+        self.found[index].as_slice()
     }
 }
 

@@ -1,10 +1,11 @@
--- Numbers, values, sites and initializers have unique parses; and the tokens that close and separate lists of them.
+-- Numbers, values, sites and initializers have unique parses; and the tokens that close and separate lists of
+-- them. The smallest step of the proof that a text has one frame.
 use Rattle.lw_text.proofs.Common.{◌≡◌, ℕ, ◌<◌, ◌⊎◌, inl, inr, Bool, true, false, not, [], ◌∷◌, length, ap}
 use Rattle.lw_text.proofs.Common.{subst, arith, codes, ◌&&◌, ◌||◌, ◌==◌, sym, ◌∙◌, is_ascii_digit, and_parts}
 use Rattle.lw_text.proofs.Common.{or_cases, not-true, HoldsOfNothing, ParsesNothing, is_name_byte}
 use Rattle.lw_text.proofs.Common.{first_byte_is, Bytes, TokenList, Arch, IsName, IsLocationName, is_reserved}
-use Rattle.lw_text.proofs.Common.{IsRegisterName, register_unique, IsNumber, SiteSyntax, InMemory, InThread}
-use Rattle.lw_text.proofs.Common.{IsSite, Value, IsInitializer}
+use Rattle.lw_text.proofs.Common.{IsRegisterName, register_of_name-unique, IsNumber, SiteSyntax, InMemory}
+use Rattle.lw_text.proofs.Common.{InThread, IsSite, Value, IsInitializer}
 use Rattle.lw_text.proofs.api.Numbers.{number_first, bracket_no_number, number-unique}
 use Rattle.lw_text.proofs.Lists.{IsDeterministic}
 
@@ -16,12 +17,13 @@ number_no_name w n p q =
     cc
 
 -- If the token after `=` is no number, there is no value.
-pub value_none : (ts l m : TokenList) (t : Bytes)
+pub no_value-no_number : (ts l m : TokenList) (t : Bytes)
     → ts ≡ codes "=" ∷ l
     → l ≡ t ∷ m
     → HoldsOfNothing (IsNumber t)
     → ParsesNothing (Value ts)
-value_none ts l m t e f none v rest (w, g, number) = let same : w ≡ t = cc in none v (subst (λ w. IsNumber w v) same number)
+no_value-no_number ts l m t e f none v rest (w, g, number) =
+    let same : w ≡ t = cc in none v (subst (λ w. IsNumber w v) same number)
 
 -- The parse of `= n` is unique.
 pub Value-unique : (ts r s : TokenList) (v w : ℕ) → Value ts v r → Value ts w s → (v ≡ w) × (r ≡ s)
@@ -69,7 +71,7 @@ IsSite-unique arch ts (InThread t n) (InThread u m) r s (w, v, e, is_t, is_n) (w
     let words : w' ≡ w = cc in
     let names : v' ≡ v = cc in
     let threads : t ≡ u = number-unique w t u is_t (subst (λ x. IsNumber x u) words is_u) in
-    let registers : n ≡ m = register_unique arch v n m is_n (subst (λ x. IsRegisterName arch x m) names is_m) in
+    let registers : n ≡ m = register_of_name-unique arch v n m is_n (subst (λ x. IsRegisterName arch x m) names is_m) in
     (cc, cc)
 
 -- A site takes at least one token.
@@ -79,24 +81,24 @@ IsSite-shorter arch ts rest (InMemory x) (p, inr e) = omega (arith, ap length e)
 IsSite-shorter arch ts rest (InThread t r) p = omega (arith, ap length p.2)
 
 -- A site starts with a location's name, a number or `[`.
-site_front : (arch : Arch) (ts rest : TokenList) (s : SiteSyntax)
+first_token_of_site : (arch : Arch) (ts rest : TokenList) (s : SiteSyntax)
     → IsSite arch ts s rest
     → (t : Bytes) (l : TokenList)
     → ts ≡ t ∷ l
     → IsLocationName t ⊎ (((n : ℕ) × IsNumber t n) ⊎ (t ≡ codes "["))
-site_front arch ts rest (InMemory x) (p, inl e) t l f = let k : x ≡ t = cc in inl (subst IsLocationName k p)
-site_front arch ts rest (InMemory x) (p, inr e) t l f = inr (inr cc)
-site_front arch ts rest (InThread u r) (w, v, e, number, register) t l f =
+first_token_of_site arch ts rest (InMemory x) (p, inl e) t l f = let k : x ≡ t = cc in inl (subst IsLocationName k p)
+first_token_of_site arch ts rest (InMemory x) (p, inr e) t l f = inr (inr cc)
+first_token_of_site arch ts rest (InThread u r) (w, v, e, number, register) t l f =
     let k : w ≡ t = cc in inr (inl (u, subst (λ w. IsNumber w u) k number))
 
 -- Tests whether a token starts no site, by its first byte or because it is a reserved name.
-abbrev pub is_apart : Bytes → Bool
-is_apart [] = false
-is_apart (b ∷ w) = not (is_ascii_digit b) && (not (b == 91) && (not (is_name_byte b) || is_reserved (b ∷ w)))
+abbrev pub starts_no_site : Bytes → Bool
+starts_no_site [] = false
+starts_no_site (b ∷ w) = not (is_ascii_digit b) && (not (b == 91) && (not (is_name_byte b) || is_reserved (b ∷ w)))
 
--- No site starts with a token for which `is_apart` is true.
+-- No site starts with a token for which `starts_no_site` is true.
 pub no_site : (w : Bytes)
-    → is_apart w ≡ true
+    → starts_no_site w ≡ true
     → (arch : Arch) (ts rest mid : TokenList) (site : SiteSyntax)
     → ts ≡ w ∷ rest
     → IsSite arch ts site mid
@@ -105,7 +107,7 @@ no_site [] h arch ts rest mid site e p = absurd cc
 no_site (b ∷ w) h arch ts rest mid site e p =
     let first = and_parts (not (is_ascii_digit b)) (not (b == 91) && (not (is_name_byte b) || is_reserved (b ∷ w))) h in
     let more = and_parts (not (b == 91)) (not (is_name_byte b) || is_reserved (b ∷ w)) first.1 in
-    elim (site_front arch ts mid site p (b ∷ w) rest e) [
+    elim (first_token_of_site arch ts mid site p (b ∷ w) rest e) [
       | inl x ↦ elim (or_cases (not (is_name_byte b)) (is_reserved (b ∷ w)) more.1) [
         | inl f ↦
             let g = x.0.0.all.0 in
@@ -124,10 +126,10 @@ no_site (b ∷ w) h arch ts rest mid site e p =
     ]
 
 -- No tokens are no site.
-pub site_none : (arch : Arch) (ts rest : TokenList) (s : SiteSyntax) → ts ≡ [] → IsSite arch ts s rest → ⊥
-site_none arch ts rest (InMemory x) e (p, inl f) = cc
-site_none arch ts rest (InMemory x) e (p, inr f) = cc
-site_none arch ts rest (InThread t r) e p = let f = p.2 in cc
+pub no_site-empty : (arch : Arch) (ts rest : TokenList) (s : SiteSyntax) → ts ≡ [] → IsSite arch ts s rest → ⊥
+no_site-empty arch ts rest (InMemory x) e (p, inl f) = cc
+no_site-empty arch ts rest (InMemory x) e (p, inr f) = cc
+no_site-empty arch ts rest (InThread t r) e p = let f = p.2 in cc
 
 -- ---- initializers
 
@@ -139,11 +141,11 @@ IsInitializer-unique arch ts a b r s p q =
     (ap (λ x. record { site = x; word = a.word }) e.0 ∙ ap (λ w. record { site = b.site; word = w }) f.0, f.1)
 
 -- A site that no value follows is no initializer.
-pub value_missing : (arch : Arch) (ts mid : TokenList) (site : SiteSyntax)
+pub no_initializer-no_value : (arch : Arch) (ts mid : TokenList) (site : SiteSyntax)
     → IsSite arch ts site mid
     → ParsesNothing (Value mid)
     → ParsesNothing (IsInitializer arch ts)
-value_missing arch ts mid site s never e rest p =
+no_initializer-no_value arch ts mid site s never e rest p =
     never e.word rest (subst (λ l. Value l e.word rest) (IsSite-unique arch ts e.site site p.0 mid p.1 s).1 p.2)
 
 -- The token that closes the initial block.

@@ -1,33 +1,38 @@
--- The syntax of a body in memory, with the names of its table.
+-- The syntax of a body in memory, with the names of its table. `parse_body` and `parse_condition` return by
+-- these lemmas.
 use Rattle.lw_text.proofs.Common.{◌≡◌, ℕ, ◌≤◌, true, List, [], ◌++◌, length, map, sym, ap, ◌∙◌, subst, arith}
 use Rattle.lw_text.proofs.Common.{AllByRecursion, list_all, All-from_recursion, NameTable, TokenList, Arch}
 use Rattle.lw_text.proofs.Common.{Quant, Prop, insert_names, insert_names-append, Cursor, Header, Rows}
 use Rattle.lw_text.proofs.Common.{with_sites, ThreadExists, site_names, Listed, Quantified, sites_in, Block}
 use Rattle.lw_text.proofs.Common.{location_table, sites_of, all_texts, remaining_texts, site_by_name}
 use Rattle.lw_text.proofs.Common.{named_initializer, thread_exists, IsIn, syntax_of, HasSyntax, ParsedBody}
-use Rattle.lw_text.proofs.Common.{ParsedBlock, ParsedNameList, ParsedProposition, ParsedCondition, each_of}
+use Rattle.lw_text.proofs.Common.{ParsedBlock, ParsedNameList, ParsedProposition, ParsedCondition}
+use Rattle.lw_text.proofs.Common.{AllByRecursion-of_All}
 use Rattle.lw_text.specs.declared.site.Site.{Site as MadeSite}
-use Rattle.lw_text.proofs.NameTables.{site_by_name-along, initializer-along, all_along}
-use Rattle.lw_text.proofs.Whole.{first_names, all_there, table_parts}
+use Rattle.lw_text.proofs.NameTables.{site_by_name-insert_names, named_initializer-insert_names}
+use Rattle.lw_text.proofs.NameTables.{names_and_sites-insert_names}
+use Rattle.lw_text.proofs.Whole.{names_of_initializers, ThreadExists-all_initializers, table_parts}
 
 -- If the list of names, the quantifier and the proposition were read in sequence, while the table grew, a condition was read.
-pub taken_condition : {A : Type 0} {arch : Arch} {threads : ℕ} {before behind : Cursor} {first names last : NameTable}
+pub ParsedCondition-of_parts : {A : Type 0} {arch : Arch} {threads : ℕ} {before behind : Cursor} {first names last : NameTable}
     {ss : List MadeSite} {p : Prop A}
     → ParsedNameList arch threads before behind first names ss
     → (quant : Quant) (end : TokenList)
     → Quantified (remaining_texts behind) quant end
     → ParsedProposition arch threads end names last p
     → ParsedCondition arch threads (remaining_texts before) first last ss quant p
-taken_condition {arch = arch} {threads} {before} {behind} {first} {names} {last} {ss} taken quant end quantifies prop =
+ParsedCondition-of_parts {arch = arch} {threads} {before} {behind} {first} {names} {last} {ss} taken quant end quantifies prop =
     let more = site_names (sites_in prop.terminals) in
-    let along = all_along _ site_by_name site_by_name-along names last more ss prop.names_are (each_of ss _ taken.within) in
+    let along =
+    names_and_sites-insert_names _ site_by_name site_by_name-insert_names names last more ss prop.names_are
+    (AllByRecursion-of_All ss _ taken.within) in
     record {
       terminals = prop.terminals;
       is = record {
         behind_list = remaining_texts behind;
         behind_quant = end;
         lists = subst (λ l. Listed arch (remaining_texts before) l (remaining_texts behind)) (sym along.0) taken.is;
-        there = subst (AllByRecursion (ThreadExists threads)) (sym along.0) taken.there;
+        threads_exist = subst (AllByRecursion (ThreadExists threads)) (sym along.0) taken.threads_exist;
         quantifies = quantifies;
         says = prop.is;
       };
@@ -41,7 +46,7 @@ taken_condition {arch = arch} {threads} {before} {behind} {first} {names} {last}
     }
 
 -- If the parts of a test were read in sequence, while the table grew, the body has the syntax that the tokens say.
-pub taken_body : {A : Type 0} {arch : Arch} {before behind : Cursor} {first : NameTable} {b : ParsedBody A}
+pub HasSyntax-of_parts : {A : Type 0} {arch : Arch} {before behind : Cursor} {first : NameTable} {b : ParsedBody A}
     → ParsedBlock arch before behind [] first b.parts.initializers
     → (rest end : TokenList)
     → Header (remaining_texts behind) b.parts.threads rest
@@ -50,20 +55,21 @@ pub taken_body : {A : Type 0} {arch : Arch} {before behind : Cursor} {first : Na
     → ParsedCondition arch b.parts.threads end first b.parts.locs b.parts.listed b.parts.quant b.parts.prop
     → length b.parts.locs ≤ 8
     → HasSyntax arch (remaining_texts before) b
-taken_body {arch = arch} {before} {behind} {first} {b} block rest end header there rows condition few =
+HasSyntax-of_parts {arch = arch} {before} {behind} {first} {b} block rest end header there rows condition few =
     let es = b.parts.initializers in
     let last = b.parts.locs in
     let n = b.parts.threads in
     let listed = site_names (map (site_by_name last) b.parts.listed) in
     let more = site_names (sites_in condition.terminals) in
     let along =
-    all_along _ named_initializer initializer-along first last (listed ++ more) es
-    (condition.names_are ∙ sym (insert_names-append first listed more)) (each_of es (λ e. IsIn first e.site) block.within) in
+    names_and_sites-insert_names _ named_initializer named_initializer-insert_names first last (listed ++ more) es
+    (condition.names_are ∙ sym (insert_names-append first listed more))
+    (AllByRecursion-of_All es (λ e. IsIn first e.site) block.within) in
     let syntax = syntax_of b condition.terminals in
     let last_table : last ≡ location_table syntax =
     condition.names_are
     ∙ ap (λ ns. insert_names (insert_names ns listed) more)
-    (first_names first es block.names_are ∙ ap (λ l. with_sites [] (sites_of l)) (sym along.0))
+    (names_of_initializers first es block.names_are ∙ ap (λ l. with_sites [] (sites_of l)) (sym along.0))
     ∙ sym (table_parts syntax) in
     record {
       terminals = condition.terminals;
@@ -73,7 +79,9 @@ taken_body {arch = arch} {before} {behind} {first} {b} block rest end header the
         behind_rows = end;
         block = subst (λ l. Block arch (remaining_texts before) l (remaining_texts behind)) (sym along.0) block.is;
         header = header;
-        there = subst (λ l. AllByRecursion (λ e. ThreadExists n e.site) l) (sym along.0) (all_there n first es there);
+        threads_exist =
+            subst (λ l. AllByRecursion (λ e. ThreadExists n e.site) l) (sym along.0)
+            (ThreadExists-all_initializers n first es there);
         rows = rows;
         condition = condition.is;
         few_names = omega (arith, few, ap length last_table);

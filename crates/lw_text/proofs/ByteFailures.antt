@@ -1,4 +1,5 @@
--- A text fails at one place only, and for one cause, before the tokens of its body: in a token, and in its preamble.
+-- A text fails at one place only, and for one cause, before the tokens of its body: in a token, and in its
+-- preamble. The first half of the law that a text fails at one place (OneFault).
 use Rattle.lw_text.proofs.Common.{◌≡◌, ℕ, ◌<◌, inl, inr, Bool, true, false, not, [], ◌∷◌, ◌++◌, length, refl}
 use Rattle.lw_text.proofs.Common.{sym, ap, ◌∙◌, subst, arith, ◌==◌, AllByRecursion, All-mono, Arch, Bytes}
 use Rattle.lw_text.proofs.Common.{first_byte_is, is_ascii_digit, is_blank, is_key_byte, is_name_byte}
@@ -14,12 +15,13 @@ use Rattle.lw_text.proofs.Common.{after_note, IsNoteCause, FailsInPreamble, in_k
 use Rattle.lw_text.proofs.Common.{other_keyword, in_test_name, in_notes, TextCause}
 use Rattle.lw_text.proofs.api.Numbers.{number_first}
 use Rattle.lw_text.proofs.NameRuns.{run-unique, run_front, symbol_front, token_no_trivia, token_nonempty}
-use Rattle.lw_text.proofs.NoteRows.{Quoted-front, Quoted-open, KeyLine-front, no_equals, no_note, no_quote}
-use Rattle.lw_text.proofs.NoteRows.{Note-unique, note_no_trivia, block_no_trivia, at_note, first_start}
-use Rattle.lw_text.proofs.NoteRows.{key_front, without}
+use Rattle.lw_text.proofs.NoteRows.{Quoted-front, Quoted-open, KeyLine-front, no_key_line-no_equals}
+use Rattle.lw_text.proofs.NoteRows.{no_note-neither_kind, no_note-unclosed_quote, Note-unique, note_no_trivia}
+use Rattle.lw_text.proofs.NoteRows.{block_no_trivia, Notes-note_inv, Notes-trivia_first, key_front}
+use Rattle.lw_text.proofs.NoteRows.{Without-of_all}
 use Rattle.lw_text.proofs.Preambles.{graphic_no_blank, ParsesTestName-parts, ParsesTestName-unique}
 use Rattle.lw_text.proofs.Preambles.{arch_keyword-unique}
-use Rattle.lw_text.proofs.TokenRows.{IsFirstToken-unique, no_first}
+use Rattle.lw_text.proofs.TokenRows.{IsFirstToken-unique, no_first_token-trivia_only}
 use Rattle.lw_text.proofs.TriviaLemmas.{Trivia-unique}
 use Rattle.lw_text.specs.TextFailures.{no_key as no_key_byte}
 
@@ -35,41 +37,47 @@ digit_in_name [] p q = cc
 digit_in_name (b ∷ bytes) p q = grind (arith, nat_tests)
 
 -- A token fails for one cause.
-token_one : (bytes : Bytes) (cause because : TextCause) → FailsInToken bytes cause → FailsInToken bytes because → cause ≡ because
-token_one bytes c d (no_number_run w r run digit never p) (no_number_run v s too also lacks q) = p ∙ sym q
-token_one bytes c d (no_number_run w r run digit never p) (no_name_run v s too name other lacks q) =
+FailsInToken-unique : (bytes : Bytes) (cause because : TextCause)
+    → FailsInToken bytes cause
+    → FailsInToken bytes because
+    → cause ≡ because
+FailsInToken-unique bytes c d (no_number_run w r run digit never p) (no_number_run v s too also lacks q) = p ∙ sym q
+FailsInToken-unique bytes c d (no_number_run w r run digit never p) (no_name_run v s too name other lacks q) =
     absurd (false≢true (sym other ∙ digit))
-token_one bytes c d (no_number_run w r run digit never p) (no_symbol some other lacks q) =
+FailsInToken-unique bytes c d (no_number_run w r run digit never p) (no_symbol some other lacks q) =
     absurd (digit_in_name bytes digit other)
-token_one bytes c d (no_name_run w r run name other never p) (no_number_run v s too digit lacks q) =
+FailsInToken-unique bytes c d (no_name_run w r run name other never p) (no_number_run v s too digit lacks q) =
     absurd (false≢true (sym other ∙ digit))
-token_one bytes c d (no_name_run w r run name other never p) (no_name_run v s too also another lacks q) = p ∙ sym q
-token_one bytes c d (no_name_run w r run name other never p) (no_symbol some off lacks q) = absurd (false≢true (sym off ∙ name))
-token_one bytes c d (no_symbol some other lacks p) (no_number_run w r run digit never q) =
+FailsInToken-unique bytes c d (no_name_run w r run name other never p) (no_name_run v s too also another lacks q) = p ∙ sym q
+FailsInToken-unique bytes c d (no_name_run w r run name other never p) (no_symbol some off lacks q) =
+    absurd (false≢true (sym off ∙ name))
+FailsInToken-unique bytes c d (no_symbol some other lacks p) (no_number_run w r run digit never q) =
     absurd (digit_in_name bytes digit other)
-token_one bytes c d (no_symbol some other lacks p) (no_name_run w r run name off never q) = absurd (false≢true (sym other ∙ name))
-token_one bytes c d (no_symbol some other lacks p) (no_symbol also off never q) = p ∙ sym q
+FailsInToken-unique bytes c d (no_symbol some other lacks p) (no_name_run w r run name off never q) =
+    absurd (false≢true (sym other ∙ name))
+FailsInToken-unique bytes c d (no_symbol some other lacks p) (no_symbol also off never q) = p ∙ sym q
 
 -- Where a token is, lacks fails.
-token_not : (t rest : Bytes) (cause : TextCause) → FailsInToken (t ++ rest) cause → IsToken t rest → ⊥
-token_not t rest cause (no_number_run w r run digit never c) (inl name) =
+FailsInToken-not : (t rest : Bytes) (cause : TextCause) → FailsInToken (t ++ rest) cause → IsToken t rest → ⊥
+FailsInToken-not t rest cause (no_number_run w r run digit never c) (inl name) =
     let same =
     run-unique is_name_byte t w {text = t ++ rest} (record { parts = refl; all = name.all; longest = name.longest })
     (record { parts = run.parts; all = run.all; longest = run.longest }) in
     elim name.kind [
-      | inl is ↦ false≢true (sym (first_of t rest is.0.some is.0.front) ∙ digit)
+      | inl is ↦ false≢true (sym (no_digit_first-append t rest is.0.not_empty is.0.front) ∙ digit)
       | inr number ↦ never number.0 (subst (λ x. IsNumber x number.0) same.0 number.1)
     ]
   where
-    first_of : (t rest : Bytes)
+    -- The first byte of a token is that of the text.
+    no_digit_first-append : (t rest : Bytes)
         → 0 < length t
         → first_byte_is is_ascii_digit t ≡ false
         → first_byte_is is_ascii_digit (t ++ rest) ≡ false
-    first_of [] rest some e = absurd (omega (arith, some))
-    first_of (b ∷ t) rest some e = e
-token_not t rest cause (no_number_run w r run digit never c) (inr symbol) =
+    no_digit_first-append [] rest some e = absurd (omega (arith, some))
+    no_digit_first-append (b ∷ t) rest some e = e
+FailsInToken-not t rest cause (no_number_run w r run digit never c) (inr symbol) =
     digit_in_name (t ++ rest) digit (symbol_front t rest symbol)
-token_not t rest cause (no_name_run w r run first other never c) (inl name) =
+FailsInToken-not t rest cause (no_name_run w r run first other never c) (inl name) =
     let same =
     run-unique is_name_byte t w {text = t ++ rest} (record { parts = refl; all = name.all; longest = name.longest })
     (record { parts = run.parts; all = run.all; longest = run.longest }) in
@@ -78,19 +86,20 @@ token_not t rest cause (no_name_run w r run first other never c) (inl name) =
       | inr number ↦ false≢true (sym other ∙ number_start t rest number.0 number.1)
     ]
   where
+    -- A number begins with a digit, whatever follows.
     number_start : (t rest : Bytes) (n : ℕ) → IsNumber t n → first_byte_is is_ascii_digit (t ++ rest) ≡ true
     number_start [] rest n is = let k = number_first [] n is in cc
     number_start (b ∷ t) rest n is = number_first (b ∷ t) n is
-token_not t rest cause (no_name_run w r run first other never c) (inr symbol) =
+FailsInToken-not t rest cause (no_name_run w r run first other never c) (inr symbol) =
     false≢true (sym (symbol_front t rest symbol) ∙ first)
-token_not t rest cause (no_symbol some other never c) (inl name) = false≢true (sym other ∙ run_front t rest name)
-token_not t rest cause (no_symbol some other never c) (inr symbol) = never t rest refl symbol
+FailsInToken-not t rest cause (no_symbol some other never c) (inl name) = false≢true (sym other ∙ run_front t rest name)
+FailsInToken-not t rest cause (no_symbol some other never c) (inr symbol) = never t rest refl symbol
 
 -- At the end of a text no token fails.
-end_not : (cause : TextCause) → FailsInToken [] cause → ⊥
-end_not cause (no_number_run w r run digit never c) = cc digit
-end_not cause (no_name_run w r run first other never c) = cc first
-end_not cause (no_symbol some other never c) = omega (arith, some)
+FailsInToken-not_at_end : (cause : TextCause) → FailsInToken [] cause → ⊥
+FailsInToken-not_at_end cause (no_number_run w r run digit never c) = cc digit
+FailsInToken-not_at_end cause (no_name_run w r run first other never c) = cc first
+FailsInToken-not_at_end cause (no_symbol some other never c) = omega (arith, some)
 
 -- The first token fails uniquely.
 pub FailsInFirstToken-unique : (text r s : Bytes) (c d : TextCause)
@@ -101,29 +110,31 @@ FailsInFirstToken-unique text r s c d (open_comment never end p) (open_comment l
 FailsInFirstToken-unique text r s c d (open_comment never end p) (in_token trivia stop fails) = absurd (never s stop trivia)
 FailsInFirstToken-unique text r s c d (in_token trivia stop fails) (open_comment never end p) = absurd (never r stop trivia)
 FailsInFirstToken-unique text r s c d (in_token trivia stop fails) (in_token also too q) =
-    let same = Trivia-unique trivia also stop too in (same, token_one r c d fails (subst (λ x. FailsInToken x d) (sym same) q))
+    let same = Trivia-unique trivia also stop too in
+    (same, FailsInToken-unique r c d fails (subst (λ x. FailsInToken x d) (sym same) q))
 
 -- A text with a first token does not fail before it.
 pub FailsInFirstToken-not : (text r t after : Bytes) (c : TextCause) → FailsInFirstToken text r c → IsFirstToken text t after → ⊥
 FailsInFirstToken-not text r t after c (open_comment never end p) is = never (t ++ after) (token_no_trivia t after is.1) is.0
 FailsInFirstToken-not text r t after c (in_token trivia stop fails) is =
-    token_not t after c (subst (λ x. FailsInToken x c) (Trivia-unique trivia is.0 stop (token_no_trivia t after is.1)) fails) is.1
+    FailsInToken-not t after c
+    (subst (λ x. FailsInToken x c) (Trivia-unique trivia is.0 stop (token_no_trivia t after is.1)) fails) is.1
 
 -- A text that is only trivia does not fail in a token.
 pub FailsInFirstToken-end : (text r : Bytes) (c : TextCause) → FailsInFirstToken text r c → Trivia text [] → ⊥
 FailsInFirstToken-end text r c (open_comment never end p) is = never [] refl is
 FailsInFirstToken-end text r c (in_token trivia stop fails) is =
-    end_not c (subst (λ x. FailsInToken x c) (Trivia-unique trivia is stop refl) fails)
+    FailsInToken-not_at_end c (subst (λ x. FailsInToken x c) (Trivia-unique trivia is stop refl) fails)
 
 -- ---- The test's name.
 
 -- A text of blanks does not begin with another byte.
-all_blank_front : (text : Bytes)
+first_byte-of_blanks : (text : Bytes)
     → AllByRecursion (λ b. is_blank b ≡ true) text
     → 0 < length text
     → first_byte_is is_blank text ≡ true
-all_blank_front [] all some = absurd (omega (arith, some))
-all_blank_front (b ∷ text) all some = all.0
+first_byte-of_blanks [] all some = absurd (omega (arith, some))
+first_byte-of_blanks (b ∷ text) all some = all.0
 
 -- Bytes of which lacks is a blank do not begin with one.
 plain_front : (name after : Bytes)
@@ -141,7 +152,7 @@ blanks_end : (blanks name after : Bytes)
     → ⊥
 blanks_end [] name after all plain some =
     false≢true (sym (plain_front name after plain some)
-    ∙ all_blank_front (name ++ after) all (omega (arith, some, length-append name after)))
+    ∙ first_byte-of_blanks (name ++ after) all (omega (arith, some, length-append name after)))
 blanks_end (b ∷ blanks) name after all plain some = blanks_end blanks name after all.1 plain some
 
 -- A text that begins with blanks begins with one.
@@ -160,12 +171,12 @@ pub FailsInTestName-unique : (text r s : Bytes) (c d : TextCause)
     → IsSameFault r c s d
 FailsInTestName-unique text r s c d (no_name all end p) (no_name too is q) = (end ∙ sym is, p ∙ sym q)
 FailsInTestName-unique text r s c d (no_name all end p) (no_blank some other at q) =
-    absurd (false≢true (sym other ∙ all_blank_front text all some))
+    absurd (false≢true (sym other ∙ first_byte-of_blanks text all some))
 FailsInTestName-unique text r s c d (no_name all end p) (bad_name blanks name after e f some are plain has longest not_name q) =
     absurd (blanks_end blanks name after (subst (AllByRecursion (λ b. is_blank b ≡ true)) (e ∙ ap (λ x. blanks ++ x) f) all) plain
     has)
 FailsInTestName-unique text r s c d (no_blank some other at p) (no_name all end q) =
-    absurd (false≢true (sym other ∙ all_blank_front text all some))
+    absurd (false≢true (sym other ∙ first_byte-of_blanks text all some))
 FailsInTestName-unique text r s c d (no_blank some other at p) (no_blank also off is q) = (at ∙ sym is, p ∙ sym q)
 FailsInTestName-unique text r s c d (no_blank some other at p) (bad_name blanks name after e f has are plain too longest not_name q) =
     absurd (false≢true (sym other ∙ blank_first text blanks s e has are))
@@ -188,7 +199,7 @@ pub FailsInTestName-not : (text r name after : Bytes) (c : TextCause)
     → ⊥
 FailsInTestName-not text r name after c (no_name all end p) is =
     blanks_end is.blanks name after (subst (AllByRecursion (λ b. is_blank b ≡ true)) is.parts all)
-    (All-mono _ _ (λ b e. graphic_no_blank b e) name is.is_name.all) is.is_name.some
+    (All-mono _ _ (λ b e. graphic_no_blank b e) name is.is_name.all) is.is_name.not_empty
 FailsInTestName-not text r name after c (no_blank some other at p) is =
     false≢true (sym other ∙ blank_first text is.blanks (name ++ after) is.parts is.apart is.blank)
 FailsInTestName-not text r name after c (bad_name blanks word behind e f some are plain has longest not_name p) is =
@@ -199,17 +210,17 @@ FailsInTestName-not text r name after c (bad_name blanks word behind e f some ar
 -- ---- The notes.
 
 -- A text that begins with a byte for which the test holds does not begin with one for which it does not.
-front_apart : (p : ℕ → Bool) (text : Bytes) → first_byte_is p text ≡ true → first_byte_is p text ≡ false → ⊥
-front_apart p text holds other = false≢true (sym other ∙ holds)
+first_byte-not_both : (p : ℕ → Bool) (text : Bytes) → first_byte_is p text ≡ true → first_byte_is p text ≡ false → ⊥
+first_byte-not_both p text holds other = false≢true (sym other ∙ holds)
 
 -- A key line fails uniquely.
-key_line_one : (text r s : Bytes) → FailsInKeyLine text r → FailsInKeyLine text s → r ≡ s
-key_line_one text r s (no_key_byte other at) (no_key_byte off is) = at ∙ sym is
-key_line_one text r s (no_key_byte other at) (no_equals_sign key spaces e some all blank after stop sign) =
-    absurd (front_apart is_key_byte text (ap (first_byte_is is_key_byte) e ∙ key_front key (spaces ++ s) some all) other)
-key_line_one text r s (no_equals_sign key spaces e some all blank after stop sign) (no_key_byte other at) =
-    absurd (front_apart is_key_byte text (ap (first_byte_is is_key_byte) e ∙ key_front key (spaces ++ r) some all) other)
-key_line_one text r s (no_equals_sign key spaces e some all blank after stop sign) (no_equals_sign word room f many every space behind end mark) =
+FailsInKeyLine-unique : (text r s : Bytes) → FailsInKeyLine text r → FailsInKeyLine text s → r ≡ s
+FailsInKeyLine-unique text r s (no_key_byte other at) (no_key_byte off is) = at ∙ sym is
+FailsInKeyLine-unique text r s (no_key_byte other at) (no_equals_sign key spaces e some all blank after stop sign) =
+    absurd (first_byte-not_both is_key_byte text (ap (first_byte_is is_key_byte) e ∙ key_front key (spaces ++ s) some all) other)
+FailsInKeyLine-unique text r s (no_equals_sign key spaces e some all blank after stop sign) (no_key_byte other at) =
+    absurd (first_byte-not_both is_key_byte text (ap (first_byte_is is_key_byte) e ∙ key_front key (spaces ++ r) some all) other)
+FailsInKeyLine-unique text r s (no_equals_sign key spaces e some all blank after stop sign) (no_equals_sign word room f many every space behind end mark) =
     let outer =
     run-unique is_key_byte key word {text = text} (record { parts = e; all = all; longest = after })
     (record { parts = f; all = every; longest = behind }) in
@@ -217,27 +228,28 @@ key_line_one text r s (no_equals_sign key spaces e some all blank after stop sig
     (record { parts = outer.1; all = space; longest = end })).1
 
 -- A key line does not fail.
-key_line_not : (text r end : Bytes) → FailsInKeyLine text r → KeyLine text end → ⊥
-key_line_not text r end (no_key_byte other at) is = front_apart is_key_byte text (KeyLine-front text end is) other
-key_line_not text r end (no_equals_sign key spaces e some all blank after stop sign) is =
-    no_equals text key (spaces ++ r) spaces r e all after refl blank stop sign end is
+FailsInKeyLine-not : (text r end : Bytes) → FailsInKeyLine text r → KeyLine text end → ⊥
+FailsInKeyLine-not text r end (no_key_byte other at) is = first_byte-not_both is_key_byte text (KeyLine-front text end is) other
+FailsInKeyLine-not text r end (no_equals_sign key spaces e some all blank after stop sign) is =
+    no_key_line-no_equals text key (spaces ++ r) spaces r e all after refl blank stop sign end is
 
 -- A note fails uniquely.
-note_one : (text r s : Bytes) → FailsInNote text r → FailsInNote text s → r ≡ s
-note_one text r s (open_quote inside e plain end) (open_quote within f also is) = end ∙ sym is
-note_one text r s (open_quote inside e plain end) (in_key_line other q) =
-    absurd (front_apart (λ b. b == 34) text (ap (first_byte_is (λ b. b == 34)) e) other)
-note_one text r s (in_key_line other q) (open_quote inside e plain end) =
-    absurd (front_apart (λ b. b == 34) text (ap (first_byte_is (λ b. b == 34)) e) other)
-note_one text r s (in_key_line other p) (in_key_line too q) = key_line_one text r s p q
+FailsInNote-unique : (text r s : Bytes) → FailsInNote text r → FailsInNote text s → r ≡ s
+FailsInNote-unique text r s (open_quote inside e plain end) (open_quote within f also is) = end ∙ sym is
+FailsInNote-unique text r s (open_quote inside e plain end) (in_key_line other q) =
+    absurd (first_byte-not_both (λ b. b == 34) text (ap (first_byte_is (λ b. b == 34)) e) other)
+FailsInNote-unique text r s (in_key_line other q) (open_quote inside e plain end) =
+    absurd (first_byte-not_both (λ b. b == 34) text (ap (first_byte_is (λ b. b == 34)) e) other)
+FailsInNote-unique text r s (in_key_line other p) (in_key_line too q) = FailsInKeyLine-unique text r s p q
 
 -- A note does not fail.
-note_not : (text r end : Bytes) → FailsInNote text r → Note text end → ⊥
-note_not text r end (open_quote inside e plain ends) is =
-    no_quote text (ap (first_byte_is (λ b. b == 34)) e)
-    (Quoted-open text inside inside [] e (sym (append-nil inside)) (without 34 inside plain) refl refl) end is
-note_not text r end (in_key_line other q) (inl is) = front_apart (λ b. b == 34) text (Quoted-front text end is) other
-note_not text r end (in_key_line other q) (inr is) = key_line_not text r end q is
+FailsInNote-not : (text r end : Bytes) → FailsInNote text r → Note text end → ⊥
+FailsInNote-not text r end (open_quote inside e plain ends) is =
+    no_note-unclosed_quote text (ap (first_byte_is (λ b. b == 34)) e)
+    (Quoted-open text inside inside [] e (sym (append-nil inside)) (Without-of_all 34 inside plain) refl refl) end is
+FailsInNote-not text r end (in_key_line other q) (inl is) =
+    first_byte-not_both (λ b. b == 34) text (Quoted-front text end is) other
+FailsInNote-not text r end (in_key_line other q) (inr is) = FailsInKeyLine-not text r end q is
 
 -- Notes fail uniquely.
 FailsInNotes-unique : (r s : Bytes) (text : Bytes) → FailsInNotes r text → FailsInNotes s text → r ≡ s
@@ -249,14 +261,14 @@ FailsInNotes-unique r s text (open_comment_in_notes never end) (after_note {mid 
 FailsInNotes-unique r s text (in_note {mid = mid} trivia stop other q) (open_comment_in_notes never end) =
     absurd (never mid stop trivia)
 FailsInNotes-unique r s text (in_note {mid = mid} trivia stop other p) (in_note {mid = end} also too off q) =
-    note_one mid r s p (subst (λ x. FailsInNote x s) (sym (Trivia-unique trivia also stop too)) q)
+    FailsInNote-unique mid r s p (subst (λ x. FailsInNote x s) (sym (Trivia-unique trivia also stop too)) q)
 FailsInNotes-unique r s text (in_note {mid = mid} trivia stop other p) (after_note {mid = end} {after = after} also is q) =
-    absurd (note_not mid r after p
+    absurd (FailsInNote-not mid r after p
     (subst (λ x. Note x after) (sym (Trivia-unique trivia also stop (note_no_trivia end after is))) is))
 FailsInNotes-unique r s text (after_note {mid = mid} {after = after} trivia is q) (open_comment_in_notes never end) =
     absurd (never mid (note_no_trivia mid after is) trivia)
 FailsInNotes-unique r s text (after_note {mid = end} {after = after} also is q) (in_note {mid = mid} trivia stop other p) =
-    absurd (note_not mid s after p
+    absurd (FailsInNote-not mid s after p
     (subst (λ x. Note x after) (sym (Trivia-unique trivia also stop (note_no_trivia end after is))) is))
 FailsInNotes-unique r s text (after_note {mid = mid} {after = after} trivia is p) (after_note {mid = end} {after = behind} also too q) =
     let same = Trivia-unique trivia also (note_no_trivia mid after is) (note_no_trivia end behind too) in
@@ -265,29 +277,31 @@ FailsInNotes-unique r s text (after_note {mid = mid} {after = after} trivia is p
 
 -- Notes do not fail.
 FailsInNotes-not : (r : Bytes) (text end : Bytes) → FailsInNotes r text → Notes text end → ⊥
-FailsInNotes-not r text end (open_comment_in_notes never ends) is = let start = first_start is in never start.0 start.2 start.1
+FailsInNotes-not r text end (open_comment_in_notes never ends) is =
+    let start = Notes-trivia_first is in never start.0 start.2 start.1
 FailsInNotes-not r text end (in_note {mid = mid} trivia stop other p) (none {rest = last} also block) =
-    front_apart (λ b. b == 123) mid
+    first_byte-not_both (λ b. b == 123) mid
     (subst (λ x. first_byte_is (λ b. b == 123) x ≡ true) (Trivia-unique also trivia (block_no_trivia last block) stop) block)
     other
 FailsInNotes-not r text end (in_note {mid = mid} trivia stop other p) (note {mid = start} {after = after} also is more) =
-    note_not mid r after p (subst (λ x. Note x after) (Trivia-unique also trivia (note_no_trivia start after is) stop) is)
+    FailsInNote-not mid r after p (subst (λ x. Note x after) (Trivia-unique also trivia (note_no_trivia start after is) stop) is)
 FailsInNotes-not r text end (after_note {mid = mid} {after = after} trivia is p) more =
-    FailsInNotes-not r after end p (at_note more trivia is)
+    FailsInNotes-not r after end p (Notes-note_inv more trivia is)
 
 -- Notes fail for one cause.
-note_cause_one : (rest : Bytes) (c d : TextCause) → IsNoteCause rest c → IsNoteCause rest d → c ≡ d
-note_cause_one [] c d p q = p ∙ sym q
-note_cause_one (b ∷ rest) c d p q = p ∙ sym q
+IsNoteCause-unique : (rest : Bytes) (c d : TextCause) → IsNoteCause rest c → IsNoteCause rest d → c ≡ d
+IsNoteCause-unique [] c d p q = p ∙ sym q
+IsNoteCause-unique (b ∷ rest) c d p q = p ∙ sym q
 
 -- ---- The preamble.
 
 -- The first token of a text is that of one language.
-named_one : (text t after mid : Bytes) (arch : Arch)
+language_of_first_token-unique : (text t after mid : Bytes) (arch : Arch)
     → IsFirstToken text t after
     → IsFirstToken text (arch_keyword arch) mid
     → arch_keyword arch ≡ t
-named_one text t after mid arch is also = (IsFirstToken-unique text (arch_keyword arch) mid t after also is).0
+language_of_first_token-unique text t after mid arch is also =
+    (IsFirstToken-unique text (arch_keyword arch) mid t after also is).0
 
 -- The preamble fails uniquely.
 pub FailsInPreamble-unique : (text r s : Bytes) (c d : TextCause)
@@ -305,28 +319,28 @@ FailsInPreamble-unique text r s c d (in_keyword p) (in_notes arch mid name after
 FailsInPreamble-unique text r s c d (no_keyword end is p) (in_keyword q) = absurd (FailsInFirstToken-end text s d q end)
 FailsInPreamble-unique text r s c d (no_keyword end is p) (no_keyword also at q) = (is ∙ sym at, p ∙ sym q)
 FailsInPreamble-unique text r s c d (no_keyword end is p) (other_keyword t after first at other q) =
-    absurd (no_first text t after end first)
+    absurd (no_first_token-trivia_only text t after end first)
 FailsInPreamble-unique text r s c d (no_keyword end is p) (in_test_name arch after first q) =
-    absurd (no_first text _ after end first)
+    absurd (no_first_token-trivia_only text _ after end first)
 FailsInPreamble-unique text r s c d (no_keyword end is p) (in_notes arch mid name after first names q cause) =
-    absurd (no_first text _ mid end first)
+    absurd (no_first_token-trivia_only text _ mid end first)
 FailsInPreamble-unique text r s c d (other_keyword t after is at other q) (in_keyword p) =
     absurd (FailsInFirstToken-not text s t after d p is)
 FailsInPreamble-unique text r s c d (other_keyword t after first at other q) (no_keyword end is p) =
-    absurd (no_first text t after end first)
+    absurd (no_first_token-trivia_only text t after end first)
 FailsInPreamble-unique text r s c d (other_keyword t after is at other p) (other_keyword u behind also place another q) =
     let same = IsFirstToken-unique text t after u behind is also in
     (at ∙ ap (λ x. x ++ after) same.0 ∙ ap (λ x. u ++ x) same.1 ∙ sym place, p ∙ sym q)
 FailsInPreamble-unique text r s c d (other_keyword t after is at other p) (in_test_name arch mid also q) =
-    absurd (other arch (named_one text t after mid arch is also))
+    absurd (other arch (language_of_first_token-unique text t after mid arch is also))
 FailsInPreamble-unique text r s c d (other_keyword t after is at other p) (in_notes arch mid name behind also names q cause) =
-    absurd (other arch (named_one text t after mid arch is also))
+    absurd (other arch (language_of_first_token-unique text t after mid arch is also))
 FailsInPreamble-unique text r s c d (in_test_name arch after is q) (in_keyword p) =
     absurd (FailsInFirstToken-not text s _ after d p is)
 FailsInPreamble-unique text r s c d (in_test_name arch after first q) (no_keyword end is p) =
-    absurd (no_first text _ after end first)
+    absurd (no_first_token-trivia_only text _ after end first)
 FailsInPreamble-unique text r s c d (in_test_name arch mid also q) (other_keyword t after is at other p) =
-    absurd (other arch (named_one text t after mid arch is also))
+    absurd (other arch (language_of_first_token-unique text t after mid arch is also))
 FailsInPreamble-unique text r s c d (in_test_name arch after is p) (in_test_name language mid also q) =
     FailsInTestName-unique after r s c d p
     (subst (λ x. FailsInTestName x s d)
@@ -338,9 +352,9 @@ FailsInPreamble-unique text r s c d (in_test_name arch after is p) (in_notes lan
 FailsInPreamble-unique text r s c d (in_notes arch mid name after is names q cause) (in_keyword p) =
     absurd (FailsInFirstToken-not text s _ mid d p is)
 FailsInPreamble-unique text r s c d (in_notes arch mid name after first names q cause) (no_keyword end is p) =
-    absurd (no_first text _ mid end first)
+    absurd (no_first_token-trivia_only text _ mid end first)
 FailsInPreamble-unique text r s c d (in_notes arch mid name behind also names q cause) (other_keyword t after is at other p) =
-    absurd (other arch (named_one text t after mid arch is also))
+    absurd (other arch (language_of_first_token-unique text t after mid arch is also))
 FailsInPreamble-unique text r s c d (in_notes language mid name behind also names q cause) (in_test_name arch after is p) =
     absurd (FailsInTestName-not after s name behind d p
     (subst (λ x. ParsesTestName x name behind)
@@ -350,7 +364,7 @@ FailsInPreamble-unique text r s c d (in_notes arch mid name after is names p cau
     let v =
     (ParsesTestName-unique mid name after word behind names (subst (λ x. ParsesTestName x word behind) (sym u) called)).1 in
     let same = FailsInNotes-unique r s after p (subst (FailsInNotes s) (sym v) q) in
-    (same, note_cause_one r c d cause (subst (λ x. IsNoteCause x d) (sym same) because))
+    (same, IsNoteCause-unique r c d cause (subst (λ x. IsNoteCause x d) (sym same) because))
 
 -- A preamble does not fail.
 pub FailsInPreamble-not : (text r rest name : Bytes) (arch : Arch) (c : TextCause)
@@ -358,9 +372,9 @@ pub FailsInPreamble-not : (text r rest name : Bytes) (arch : Arch) (c : TextCaus
     → Preamble text arch name rest
     → ⊥
 FailsInPreamble-not text r rest name arch c (in_keyword p) is = FailsInFirstToken-not text r _ is.0 c p is.2
-FailsInPreamble-not text r rest name arch c (no_keyword end at p) is = no_first text _ is.0 end is.2
+FailsInPreamble-not text r rest name arch c (no_keyword end at p) is = no_first_token-trivia_only text _ is.0 end is.2
 FailsInPreamble-not text r rest name arch c (other_keyword t after first at other p) is =
-    other arch (named_one text t after is.0 arch first is.2)
+    other arch (language_of_first_token-unique text t after is.0 arch first is.2)
 FailsInPreamble-not text r rest name arch c (in_test_name language after first p) is =
     FailsInTestName-not after r name is.1 c p
     (subst (λ x. ParsesTestName x name is.1)

@@ -1,13 +1,14 @@
--- Cells and rows in memory, each token with its position, are parts of the tokens.
+-- Cells and rows in memory, each token with its position, are parts of the tokens. The contracts of
+-- `parse_row` and `parse_rows` speak of both, of texts and of positions.
 use Rattle.lw_text.proofs.Common.{◌≡◌, ℕ, ◌≤◌, true, false, List, [], ◌∷◌, ◌++◌, refl, sym, ap, ◌∙◌, subst}
 use Rattle.lw_text.proofs.Common.{All, codes, bytes_eq, AllByRecursion, map-append, map_push}
 use Rattle.lw_text.proofs.Common.{All-from_recursion, Arch, Token, Cell, token_texts, IsSuffix, Bytes, Cursor}
 use Rattle.lw_text.proofs.Common.{ends_cell, RowCells, Rows, PlacedToken, texts_of_tokens, PlacedCell}
 use Rattle.lw_text.proofs.Common.{texts_of_grid, CellsFrom, RowsFrom, HasRows, with_span, with_spans}
 use Rattle.lw_text.proofs.Common.{placed_cell, placed_row, placed_cells, all_texts, EndsBefore, cell_texts}
-use Rattle.lw_text.proofs.Common.{cells_texts, remaining, remaining_texts, ParsedCell, each_of, all_map}
-use Rattle.lw_text.proofs.Common.{All-append_inv, All-map_inv}
-use Rattle.lw_text.proofs.Cells.{is_bar}
+use Rattle.lw_text.proofs.Common.{cells_texts, remaining, remaining_texts, ParsedCell, AllByRecursion-of_All}
+use Rattle.lw_text.proofs.Common.{AllByRecursion-map, All-append_inv, All-map_inv}
+use Rattle.lw_text.proofs.Cells.{mark_is_bar}
 use Rattle.lw_text.proofs.Lists.{ParsesMany-push, Before, Before-close}
 use Rattle.lw_text.proofs.Texts.{is_text}
 use Rattle.lw_text.proofs.api.Places.{texts_placed, grid_placed}
@@ -16,15 +17,15 @@ use Rattle.lw_text.specs.Rows as words
 -- ---- without positions
 
 -- Rows of tokens in memory are rows of the same tokens without their positions.
-pub rows_placed : {A : Type 0} (n : ℕ) (ts rest : List Token) (rows : List (List (Cell A)))
+pub Rows-with_spans : {A : Type 0} (n : ℕ) (ts rest : List Token) (rows : List (List (Cell A)))
     → Rows n (token_texts ts) (all_texts rows) (token_texts rest)
     → Rows n (texts_of_tokens (with_spans ts)) (texts_of_grid (placed_cells rows)) (texts_of_tokens (with_spans rest))
-rows_placed n ts rest rows r = rw (texts_placed ts, grid_placed rows, texts_placed rest) r
+Rows-with_spans n ts rest rows r = rw (texts_placed ts, grid_placed rows, texts_placed rest) r
 
 -- Tokens with their positions are those before a suffix, followed by those of the suffix.
-pub front_placed : (whole behind : List Token) (l : IsSuffix whole behind)
+pub with_spans-of_suffix : (whole behind : List Token) (l : IsSuffix whole behind)
     → with_spans whole ≡ with_spans l.0 ++ with_spans behind
-front_placed whole behind l = ap with_spans l.1 ∙ map-append with_span l.0 behind
+with_spans-of_suffix whole behind l = ap with_spans l.1 ∙ map-append with_span l.0 behind
 
 -- ---- one more cell, and one more row
 
@@ -52,19 +53,24 @@ pub record CellsRead {A : Type 0} (start here : List Token) (cells : List (Cell 
 module _ {A : Type 0} {start : List Token} {here after : Cursor} {cells : List (Cell A)}
     (read : CellsRead start (remaining here) cells) {tokens : List Token} {mark : Token}
     (taken : ParsedCell here after tokens mark) where
-  abbrev more : List (Cell A)
-  more = cells ++ record { tokens = tokens; end = mark.at } ∷ []
+  -- The cells read, and this one.
+  abbrev cells_so_far : List (Cell A)
+  cells_so_far = cells ++ record { tokens = tokens; end = mark.at } ∷ []
 
-  parts_as : (w : Bytes) → mark.text.now ≡ w → words.Cell (remaining_texts here) (token_texts tokens) (w ∷ remaining_texts after)
-  parts_as w e = (
+  -- The cell's tokens are a cell, up to the mark.
+  ParsesCell-by_mark : (w : Bytes)
+      → mark.text.now ≡ w
+      → words.Cell (remaining_texts here) (token_texts tokens) (w ∷ remaining_texts after)
+  ParsesCell-by_mark w e = (
     ap token_texts taken.parts
         ∙ map-append (λ (t : Token). t.text.now) tokens (mark ∷ remaining after)
         ∙ ap (λ m. token_texts tokens ++ m ∷ remaining_texts after) e,
     taken.plain,
   )
 
-  cut_more : CellsFrom (with_spans start) (placed_row more) (with_spans (remaining after))
-  cut_more =
+  -- The cells with positions, and this one.
+  CellsFrom-one_more : CellsFrom (with_spans start) (placed_row cells_so_far) (with_spans (remaining after))
+  CellsFrom-one_more =
       rw (map-append placed_cell cells (record { tokens = tokens; end = mark.at } ∷ []))
       (CellsFrom-push (with_spans start) (placed_row cells) {mark = with_span mark} read.cut (record {
         parts = ap with_spans taken.parts ∙ map-append with_span tokens (mark ∷ remaining after);
@@ -73,32 +79,32 @@ module _ {A : Type 0} {start : List Token} {here after : Cursor} {cells : List (
       }))
 
   -- If `|` ends the next cell, it is one more cell read.
-  pub cells_more : bytes_eq mark.text.now (codes ";") ≡ false → CellsRead start (remaining after) more
-  cells_more e = record {
+  pub CellsRead-one_more : bytes_eq mark.text.now (codes ";") ≡ false → CellsRead start (remaining after) cells_so_far
+  CellsRead-one_more e = record {
     before =
         rw (map_push cell_texts cells (record { tokens = tokens; end = mark.at }))
         (ParsesMany-push _ _ _ (remaining_texts here) (remaining_texts after) _ read.before
-        (parts_as (codes "|") (is_bar mark.text.now taken.ends e)));
-    cut = cut_more;
+        (ParsesCell-by_mark (codes "|") (mark_is_bar mark.text.now taken.ends e)));
+    cut = CellsFrom-one_more;
   }
 
   -- If `;` ends the next cell, the cells read with it are a whole row.
-  pub cells_closed : bytes_eq mark.text.now (codes ";") ≡ true
-      → RowCells (token_texts start) (cells_texts more) (remaining_texts after)
-      × CellsFrom (with_spans start) (placed_row more) (with_spans (remaining after))
-  cells_closed e = (
+  pub row_complete-CellsRead : bytes_eq mark.text.now (codes ";") ≡ true
+      → RowCells (token_texts start) (cells_texts cells_so_far) (remaining_texts after)
+      × CellsFrom (with_spans start) (placed_row cells_so_far) (with_spans (remaining after))
+  row_complete-CellsRead e = (
     rw (map_push cell_texts cells (record { tokens = tokens; end = mark.at }))
         (Before-close words.Cell _ (codes ";") _ _ (remaining_texts here) _ _ read.before
-        (parts_as (codes ";") (is_text _ (codes ";") e))),
-    cut_more,
+        (ParsesCell-by_mark (codes ";") (is_text _ (codes ";") e))),
+    CellsFrom-one_more,
   )
 
 -- Reading one more row extends the rows read from the tokens.
-pub rows_more : {A : Type 0} (before here after : List Token) (rows : List (List (Cell A))) (row : List (Cell A))
+pub RowsFrom-one_more : {A : Type 0} (before here after : List Token) (rows : List (List (Cell A))) (row : List (Cell A))
     → RowsFrom (with_spans before) (placed_cells rows) (with_spans here)
     → CellsFrom (with_spans here) (placed_row row) (with_spans after)
     → RowsFrom (with_spans before) (placed_cells (rows ++ row ∷ [])) (with_spans after)
-rows_more before here after rows row cut more =
+RowsFrom-one_more before here after rows row cut more =
     subst (λ rs. RowsFrom (with_spans before) rs (with_spans after)) (sym (map-append placed_row rows (row ∷ [])))
     (ParsesMany-push CellsFrom (placed_cells rows) _ (with_spans here) _ (placed_row row) cut more)
 
@@ -136,6 +142,6 @@ pub HasRows-within : {A : Type 0} (len : ℕ) (arch : Arch) (tokens : List Token
     → All (λ t. t.at ≤ len) tokens
     → All (λ row. All (EndsBefore len) row) rows
 HasRows-within len arch tokens threads rows has all =
-    let each = all_map _ with_span tokens (each_of tokens (λ (t : Token). t.at ≤ len) all) in
+    let each = AllByRecursion-map _ with_span tokens (AllByRecursion-of_All tokens (λ (t : Token). t.at ≤ len) all) in
     let behind = (All-append_inv _ has.front has.behind_header (subst (Within len) has.parts each)).1 in
     All-from_recursion _ rows (rows_within len has.behind_header rows has.behind_rows has.cut behind)

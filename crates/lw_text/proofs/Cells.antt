@@ -1,10 +1,11 @@
 -- Cells and rows have unique parses. Then when rows have been read up to their end, and when there are none.
+-- A step of the proof that a text has one frame, and the lemmas by which `parse_rows` returns.
 use Rattle.lw_text.proofs.Common.{◌≡◌, ℕ, ◌<◌, ◌≤◌, inl, inr, true, false, [], ◌∷◌, ◌++◌, length, refl, sym}
 use Rattle.lw_text.proofs.Common.{ap, ◌∙◌, subst, arith, length-append, codes, bytes_eq, or_cases}
 use Rattle.lw_text.proofs.Common.{ParsesNothing, Bytes, TokenList, Cells, CellGrid, ParsesSepBy}
 use Rattle.lw_text.proofs.Common.{ParsesManyTill, ends_cell, Row, begins_stop, Rows}
 use Rattle.lw_text.specs.Rows.{Cell}
-use Rattle.lw_text.proofs.Texts.{is_text, marks_apart}
+use Rattle.lw_text.proofs.Texts.{is_text, bar_is_no_semicolon}
 use Rattle.lw_text.proofs.api.CellTokens.{EndsNoCell}
 use Rattle.lw_text.proofs.Lists.{ParsesMany-push, Passed, Passed-stop, Passed-peel, ParsesManyTill-unique}
 use Rattle.lw_text.proofs.Lists.{Before, IsDeterministic, Before-fault, IsMark, IsExact, ParsesSepBy-front}
@@ -53,35 +54,36 @@ Cell-exact ts x y a b r s m n p q =
     (record { parts = q.0; plain = q.1; ends = mark_ends b n })
 
 -- The parse of a row with a cell for each thread is unique.
-pub Row-one : (threads : ℕ) → IsDeterministic (Row threads)
-Row-one threads ts x y r s p q = ParsesSepBy-unique Cell _ (codes ";") Cell-exact marks_apart x y ts r s p.0 q.0
+pub Row-deterministic : (threads : ℕ) → IsDeterministic (Row threads)
+Row-deterministic threads ts x y r s p q = ParsesSepBy-unique Cell _ (codes ";") Cell-exact bar_is_no_semicolon x y ts r s p.0 q.0
 
 -- A token that ends a cell and is not `;` is `|`.
-pub is_bar : (m : Bytes) → ends_cell m ≡ true → bytes_eq m (codes ";") ≡ false → m ≡ codes "|"
-is_bar m e n =
+pub mark_is_bar : (m : Bytes) → ends_cell m ≡ true → bytes_eq m (codes ";") ≡ false → m ≡ codes "|"
+mark_is_bar m e n =
     elim (or_cases (bytes_eq m (codes "|")) (bytes_eq m (codes ";")) e) [ inl h ↦ is_text m (codes "|") h | inr h ↦ absurd cc ]
 
 -- Tokens without an end of a cell contain no mark.
-plain_mark : (x : TokenList) (m : Bytes) (l : TokenList) → EndsNoCell (x ++ m ∷ l) → ends_cell m ≡ true → ⊥
-plain_mark [] m l p e = let h = p.0 in cc
-plain_mark (t ∷ x) m l p e = plain_mark x m l p.1 e
+no_mark_in_cell : (x : TokenList) (m : Bytes) (l : TokenList) → EndsNoCell (x ++ m ∷ l) → ends_cell m ≡ true → ⊥
+no_mark_in_cell [] m l p e = let h = p.0 in cc
+no_mark_in_cell (t ∷ x) m l p e = no_mark_in_cell x m l p.1 e
 
 module _ (ts here : TokenList) (cells : Cells) (before : Before Cell (codes "|") (codes ";") ts cells here) where
   -- If no token that ends a cell follows the cells read, there is no row.
-  pub Cells-open : EndsNoCell here → ParsesNothing (ParsesSepBy Cell (codes "|") (codes ";") ts)
-  Cells-open plain all rest row =
-      Before-fault Cell _ _ Cell-exact marks_apart _ all ts _ rest before (λ zs l s.
-      let f = ParsesSepBy-front Cell _ _ zs here l s in plain_mark f.0 f.1 f.2 (subst EndsNoCell f.4.0 plain) (mark_ends f.1 f.3))
-      row
+  pub no_cells-no_mark : EndsNoCell here → ParsesNothing (ParsesSepBy Cell (codes "|") (codes ";") ts)
+  no_cells-no_mark plain all rest row =
+      Before-fault Cell _ _ Cell-exact bar_is_no_semicolon _ all ts _ rest before (λ zs l s.
+      let f = ParsesSepBy-front Cell _ _ zs here l s in
+      no_mark_in_cell f.0 f.1 f.2 (subst EndsNoCell f.4.0 plain) (mark_ends f.1 f.3)) row
 
 -- If a row's number of cells is not the number of threads, it is no row of the test.
-pub Row-ragged : (ts next : TokenList) (cells : Cells)
+pub no_row-wrong_count : (ts next : TokenList) (cells : Cells)
     → ParsesSepBy Cell (codes "|") (codes ";") ts cells next
     → (threads : ℕ)
     → (length cells ≡ threads → ⊥)
     → ParsesNothing (Row threads ts)
-Row-ragged ts next cells row threads ne all rest line =
-    ne (ap length (ParsesSepBy-unique Cell (codes "|") (codes ";") Cell-exact marks_apart cells all ts next rest row line.0).0
+no_row-wrong_count ts next cells row threads ne all rest line =
+    ne (ap length
+    (ParsesSepBy-unique Cell (codes "|") (codes ";") Cell-exact bar_is_no_semicolon cells all ts next rest row line.0).0
     ∙ line.1)
 
 -- ---- rows
@@ -105,15 +107,15 @@ Row-shorter threads cells ts rest l = cells_shorter cells ts rest l.0
 
 module _ (threads : ℕ) (ts here : TokenList) (rows : CellGrid) (passed : Passed begins_stop (Row threads) ts rows here) where
   -- If the next token ends the rows, the rows read are all, if they are not too many.
-  pub Rows-found : begins_stop here ≡ true → length rows ≤ 64 → Rows threads ts rows here
-  Rows-found stop few = (Passed-stop begins_stop (Row threads) rows ts here passed stop, few)
+  pub Rows-at_stop : begins_stop here ≡ true → length rows ≤ 64 → Rows threads ts rows here
+  Rows-at_stop stop few = (Passed-stop begins_stop (Row threads) rows ts here passed stop, few)
 
   -- If the next token does not end the rows, and a row follows, it is one more row read.
-  pub Rows-more : (next : TokenList) (row : Cells)
+  pub Rows-one_more : (next : TokenList) (row : Cells)
       → begins_stop here ≡ false
       → Row threads here row next
       → Passed begins_stop (Row threads) ts (rows ++ row ∷ []) next
-  Rows-more next row go line = ParsesMany-push _ rows ts here next row passed (go, line)
+  Rows-one_more next row go line = ParsesMany-push _ rows ts here next row passed (go, line)
 
   -- All rows are those read, followed by the next row and others.
   next_row : begins_stop here ≡ false
@@ -121,23 +123,24 @@ module _ (threads : ℕ) (ts here : TokenList) (rows : CellGrid) (passed : Passe
       → Rows threads ts all rest
       → (row : Cells) × (more : CellGrid) × (mid : TokenList) × (all ≡ rows ++ row ∷ more) × Row threads here row mid
   next_row go all rest r =
-      let peel = Passed-peel begins_stop (Row threads) (Row-one threads) rows all ts here rest passed r.0 in
-      at peel.0 peel.1 peel.2
+      let peel = Passed-peel begins_stop (Row threads) (Row-deterministic threads) rows all ts here rest passed r.0 in
+      rows_continue-by_more peel.0 peel.1 peel.2
     where
-      at : (more : CellGrid)
+      -- The rows after those read begin with one more row, since the next token does not end the rows.
+      rows_continue-by_more : (more : CellGrid)
           → all ≡ rows ++ more
           → ParsesManyTill begins_stop (Row threads) here more rest
           → (row : Cells) × (more : CellGrid) × (mid : TokenList) × (all ≡ rows ++ row ∷ more) × Row threads here row mid
-      at [] e u = absurd (let h = u.1 in cc)
-      at (row ∷ more) e u = (row, more, u.1.0, e, u.1.1)
+      rows_continue-by_more [] e u = absurd (let h = u.1 in cc)
+      rows_continue-by_more (row ∷ more) e u = (row, more, u.1.0, e, u.1.1)
 
   -- If the next token does not end the rows, and no row follows, the tokens have no rows.
-  pub Rows-fault : begins_stop here ≡ false → ParsesNothing (Row threads here) → ParsesNothing (Rows threads ts)
-  Rows-fault go never all rest r = let k = next_row go all rest r in never k.0 k.2 k.4
+  pub no_rows-no_row : begins_stop here ≡ false → ParsesNothing (Row threads here) → ParsesNothing (Rows threads ts)
+  no_rows-no_row go never all rest r = let k = next_row go all rest r in never k.0 k.2 k.4
 
   -- If the maximal number of rows has been read, and the next token does not end the rows, the tokens have no rows.
-  pub Rows-many : begins_stop here ≡ false → length rows ≡ 64 → ParsesNothing (Rows threads ts)
-  Rows-many go full all rest r =
+  pub no_rows-too_many : begins_stop here ≡ false → length rows ≡ 64 → ParsesNothing (Rows threads ts)
+  no_rows-too_many go full all rest r =
       let k = next_row go all rest r in omega (arith, ap length k.3, length-append rows (k.0 ∷ k.1), r.1)
 
 -- The parse of a test's rows is unique.
@@ -145,4 +148,4 @@ pub Rows-unique : (threads : ℕ) (ts a b : TokenList) (x y : CellGrid)
     → Rows threads ts x a
     → Rows threads ts y b
     → (x ≡ y) × (a ≡ b)
-Rows-unique threads ts a b x y p q = ParsesManyTill-unique begins_stop _ (Row-one threads) x y ts a b p.0 q.0
+Rows-unique threads ts a b x y p q = ParsesManyTill-unique begins_stop _ (Row-deterministic threads) x y ts a b p.0 q.0

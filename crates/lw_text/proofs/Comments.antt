@@ -1,4 +1,5 @@
--- The end of a comment is unique, and a loop that counts the open inner comments finds it.
+-- The end of a comment is unique, and a loop that counts the open inner comments finds it. The loop of
+-- `after_comment` goes by `Progress`.
 use Rattle.lw_text.proofs.Common.{◌≡◌, ℕ, zero, suc, ◌+◌, ◌-◌, ◌<◌, ◌≤◌, true, false, [], ◌∷◌, length, refl}
 use Rattle.lw_text.proofs.Common.{sym, ap, subst, arith, add-one, sub-one, Bytes, IsSuffix, begins_pair}
 use Rattle.lw_text.proofs.Common.{begins_mark, Comment, closed, nested, other}
@@ -10,38 +11,38 @@ Closes zero text rest = text ≡ rest
 Closes (suc n) text rest = (mid : Bytes) × Comment text mid × Closes n mid rest
 
 -- An open comment that continues with `(*` continues after an inner comment.
-at_open : {ts rest : Bytes}
+Comment-open_inv : {ts rest : Bytes}
     → Comment ts rest
     → (text : Bytes)
     → ts ≡ 40 ∷ 42 ∷ text
     → (inner : Bytes) × Comment text inner × Comment inner rest
-at_open closed text e = absurd (let h : false ≡ true = ap (begins_pair 40 42) e in cc)
-at_open (nested {text = t} {inner} c d) text e = (inner, rw (let k : t ≡ text = cc in k) at c, d)
-at_open (other {b} {text = t} m c) text e = absurd (let h = ap begins_mark e in cc)
+Comment-open_inv closed text e = absurd (let h : false ≡ true = ap (begins_pair 40 42) e in cc)
+Comment-open_inv (nested {text = t} {inner} c d) text e = (inner, rw (let k : t ≡ text = cc in k) at c, d)
+Comment-open_inv (other {b} {text = t} m c) text e = absurd (let h = ap begins_mark e in cc)
 
 -- `*)` ends the comment.
-at_close : {ts rest : Bytes} → Comment ts rest → (text : Bytes) → ts ≡ 42 ∷ 41 ∷ text → text ≡ rest
-at_close closed text e = cc
-at_close (nested c d) text e = absurd (let h : true ≡ false = ap (begins_pair 40 42) e in cc)
-at_close (other {b} {text = t} m c) text e = absurd (let h = ap begins_mark e in cc)
+Comment-close_inv : {ts rest : Bytes} → Comment ts rest → (text : Bytes) → ts ≡ 42 ∷ 41 ∷ text → text ≡ rest
+Comment-close_inv closed text e = cc
+Comment-close_inv (nested c d) text e = absurd (let h : true ≡ false = ap (begins_pair 40 42) e in cc)
+Comment-close_inv (other {b} {text = t} m c) text e = absurd (let h = ap begins_mark e in cc)
 
 -- After any other byte the same comment continues.
-at_other : {ts rest : Bytes}
+Comment-other_inv : {ts rest : Bytes}
     → Comment ts rest
     → (b : ℕ) (text : Bytes)
     → ts ≡ b ∷ text
     → begins_mark (b ∷ text) ≡ false
     → Comment text rest
-at_other closed b text e m = absurd (let h : true ≡ begins_mark (b ∷ text) = ap begins_mark e in cc)
-at_other (nested c d) b text e m = absurd (let h : true ≡ begins_mark (b ∷ text) = ap begins_mark e in cc)
-at_other {rest = rest} (other {text = t} n c) b text e m = rw (let k : t ≡ text = cc in k) at c
+Comment-other_inv closed b text e m = absurd (let h : true ≡ begins_mark (b ∷ text) = ap begins_mark e in cc)
+Comment-other_inv (nested c d) b text e m = absurd (let h : true ≡ begins_mark (b ∷ text) = ap begins_mark e in cc)
+Comment-other_inv {rest = rest} (other {text = t} n c) b text e m = rw (let k : t ≡ text = cc in k) at c
 
 -- The end of a comment is unique.
 pub Comment-unique : {text a b : Bytes} → Comment text a → Comment text b → a ≡ b
-Comment-unique (closed {rest}) d = at_close d rest refl
+Comment-unique (closed {rest}) d = Comment-close_inv d rest refl
 Comment-unique {b = end} (nested {text} c e) d =
-    let o = at_open d text refl in Comment-unique e (subst (λ x. Comment x end) (sym (Comment-unique c o.1)) o.2)
-Comment-unique (other {b} {text} m c) d = Comment-unique c (at_other d b text refl m)
+    let o = Comment-open_inv d text refl in Comment-unique e (subst (λ x. Comment x end) (sym (Comment-unique c o.1)) o.2)
+Comment-unique (other {b} {text} m c) d = Comment-unique c (Comment-other_inv d b text refl m)
 
 -- A comment takes at least one byte.
 pub Comment-shorter : {text rest : Bytes} → Comment text rest → length rest < length text
@@ -50,8 +51,8 @@ Comment-shorter (nested c d) = omega (arith, Comment-shorter c, Comment-shorter 
 Comment-shorter (other m c) = omega (arith, Comment-shorter c)
 
 -- If the text starts neither with `(*` nor with `*)`, it starts with no mark of a comment.
-no_mark : (text : Bytes) → begins_pair 40 42 text ≡ false → begins_pair 42 41 text ≡ false → begins_mark text ≡ false
-no_mark text p q = rw (p, q)
+begins_no_mark : (text : Bytes) → begins_pair 40 42 text ≡ false → begins_pair 42 41 text ≡ false → begins_mark text ≡ false
+begins_no_mark text p q = rw (p, q)
 
 -- The invariant of the loop over a comment's bytes: the comment ends exactly where the rest closes it and `depth` inner ones.
 pub record Progress (bytes : Bytes) (depth : ℕ) (rest : Bytes) : Type 0 where
@@ -68,7 +69,7 @@ Progress_open {bytes} {rest} {after} {depth} p e = rw add-one (record {
   given = λ end c. p.given end (let d = c.2 in (d.0, rw e (nested c.1 d.1), d.2));
   only = λ end c.
       let d = p.only end c in
-      let o = at_open d.1 after e in
+      let o = Comment-open_inv d.1 after e in
       (o.0, o.1, (d.0, o.2, d.2));
   bound = omega (arith, p.bound, ap length e);
 })
@@ -84,7 +85,7 @@ Progress_close {bytes} {rest} {after} {depth = suc depth} p e ne = rw sub-one (r
   given = λ end c. p.given end (after, rw e closed, c);
   only = λ end c.
       let d = p.only end c in
-      let o = at_close d.1 after e in
+      let o = Comment-close_inv d.1 after e in
       rw (← o) at d.2;
   bound = omega (arith, p.bound, ap length e);
 })
@@ -105,10 +106,10 @@ pub Progress_other : {bytes rest next : Bytes} {depth b : ℕ}
     → begins_pair 42 41 rest ≡ false
     → Progress bytes depth next
 Progress_other {bytes} {rest} {next} {depth} {b} p e m n =
-    let mark : begins_mark (b ∷ next) ≡ false = subst (λ x. begins_mark x ≡ false) e (no_mark rest m n) in
+    let mark : begins_mark (b ∷ next) ≡ false = subst (λ x. begins_mark x ≡ false) e (begins_no_mark rest m n) in
     record {
       given = λ end c. p.given end (c.0, rw e (other mark c.1), c.2);
-      only = λ end c. let d = p.only end c in (d.0, at_other d.1 b next e mark, d.2);
+      only = λ end c. let d = p.only end c in (d.0, Comment-other_inv d.1 b next e mark, d.2);
       bound = omega (arith, p.bound, ap length e);
     }
 

@@ -44,17 +44,19 @@ pub use Rattle.lw_base.proofs.Common.{is_name_byte, is_or, is_reserved, is_space
 pub use Rattle.lw_base.proofs.Common.{nodes, parenthesized, parenthesized_if, position_of_name}
 pub use Rattle.lw_base.proofs.Common.{proposition_text, quantifier_text, register_name, registers, seen_eq}
 pub use Rattle.lw_base.proofs.Common.{site_text, thread_registers}
-pub use Rattle.lw_base.proofs.api.Blanks.{all_ascii, any_all, blank_all, name_ascii, name_bytes_ascii}
-pub use Rattle.lw_base.proofs.api.Blanks.{same_byte}
-pub use Rattle.lw_base.proofs.api.Elements.{All-append_inv, All-map_inv, All-mono, all_append, all_filter}
-pub use Rattle.lw_base.proofs.api.Elements.{all_map, all_mapped, all_of_range, each_of}
-pub use Rattle.lw_base.proofs.api.GrowingTables.{contains_name-insert_name, contains_name-insert_names}
-pub use Rattle.lw_base.proofs.api.GrowingTables.{insert_name-grows, insert_names-append, insert_names-longer}
-pub use Rattle.lw_base.proofs.api.GrowingTables.{once-along, position_of_name-insert_names}
-pub use Rattle.lw_base.proofs.api.GrowingTables.{position_of_name-within}
-pub use Rattle.lw_base.proofs.api.Lists.{cons_head, get_some}
-pub use Rattle.lw_base.proofs.api.Registers.{register_unique}
-pub use Rattle.lw_base.proofs.api.SeenLists.{all_ascending, all_seen, ascending_filter}
+pub use Rattle.lw_base.proofs.api.Blanks.{byte_eq-sound, is_blank-passes, list_all-member, name_ascii}
+pub use Rattle.lw_base.proofs.api.Blanks.{name_bytes_ascii, slice_index_or-ascii}
+pub use Rattle.lw_base.proofs.api.Elements.{All-append_inv, All-map_inv, All-mono, AllByRecursion-append}
+pub use Rattle.lw_base.proofs.api.Elements.{AllByRecursion-every_image, AllByRecursion-filter}
+pub use Rattle.lw_base.proofs.api.Elements.{AllByRecursion-map, AllByRecursion-map_range}
+pub use Rattle.lw_base.proofs.api.Elements.{AllByRecursion-of_All}
+pub use Rattle.lw_base.proofs.api.GrowingTables.{IsDuplicateFree-insert_names, contains_name-insert_name}
+pub use Rattle.lw_base.proofs.api.GrowingTables.{contains_name-insert_names, insert_name-grows}
+pub use Rattle.lw_base.proofs.api.GrowingTables.{insert_names-append, insert_names-longer}
+pub use Rattle.lw_base.proofs.api.GrowingTables.{position_of_name-insert_names, position_of_name-within}
+pub use Rattle.lw_base.proofs.api.Lists.{cons-head_eq, slice_get-in_range}
+pub use Rattle.lw_base.proofs.api.Registers.{register_of_name-unique}
+pub use Rattle.lw_base.proofs.api.SeenLists.{IsAscending-all_seen, IsAscending-filter, IsSeenInRange-all_seen}
 pub use Rattle.lw_base.proofs.api.Tables.{IsInTable, position_of_name-again, position_of_name-at}
 pub use Rattle.lw_base.specs.declared.head.Arch.{Arch}
 pub use Rattle.lw_base.specs.declared.head.Arch.TheVariants.{Source, X86}

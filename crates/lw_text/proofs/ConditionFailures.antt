@@ -1,7 +1,8 @@
--- A condition fails at one place only, and for one cause; and no tokens fail that are one.
-use Rattle.lw_text.proofs.Common.{cons_head, ◌≡◌, ◌≢◌, ◌⊎◌, ℕ, zero, suc, ◌+◌, ◌≤◌, Option, None, Some, List}
-use Rattle.lw_text.proofs.Common.{[], ◌∷◌, length, map, filter, option_map, Bool, true, false, refl, sym, ap}
-use Rattle.lw_text.proofs.Common.{◌∙◌, subst, inl, inr, arith, codes, option_and_then, fold_stays}
+-- A condition fails at one place only, and for one cause; and no tokens fail that are one. A step of the law
+-- that a text fails at one place (OneFault).
+use Rattle.lw_text.proofs.Common.{cons-head_eq, ◌≡◌, ◌≢◌, ◌⊎◌, ℕ, zero, suc, ◌+◌, ◌≤◌, Option, None, Some}
+use Rattle.lw_text.proofs.Common.{List, [], ◌∷◌, length, map, filter, option_map, Bool, true, false, refl}
+use Rattle.lw_text.proofs.Common.{sym, ap, ◌∙◌, subst, inl, inr, arith, codes, option_and_then, fold_stays}
 use Rattle.lw_text.proofs.Common.{AllByRecursion, Arch, Bytes, NameTable, TokenList, Quant, Formula}
 use Rattle.lw_text.proofs.Common.{ThreadExists, HasRoomFor, with_sites, insert_names-longer, site_names}
 use Rattle.lw_text.proofs.Common.{Listed, Quantified, Terminal, Open, Close, Negation, Conjunction}
@@ -14,12 +15,13 @@ use Rattle.lw_text.proofs.Common.{FailsInProposition, incomplete, too_many_nodes
 use Rattle.lw_text.proofs.Common.{after_terminal, FailsInCondition, in_list, in_quantifier, in_proposition}
 use Rattle.lw_text.proofs.Common.{place_of, TextCause}
 use Rattle.lw_text.specs.Conditions.{Condition}
-use Rattle.lw_text.proofs.api.PropositionNodes.{count, count_append}
-use Rattle.lw_text.proofs.Failures.{same_tail}
-use Rattle.lw_text.proofs.FailureUniqueness.{IsSameFailure, FailsUniquely, first_holds, FailsBefore-unique}
-use Rattle.lw_text.proofs.FailureUniqueness.{FailsBefore-not, FailsInAssignment-unique, FailsInAssignment-not}
-use Rattle.lw_text.proofs.PropositionCases.{one_node, with_sites_in-append}
-use Rattle.lw_text.proofs.PropositionReadings.{state_after_terminals, said_at, derived_said}
+use Rattle.lw_text.proofs.api.PropositionNodes.{node_count, node_count-append}
+use Rattle.lw_text.proofs.Failures.{cons-tail_unique}
+use Rattle.lw_text.proofs.FailureUniqueness.{IsSameFailure, FailsUniquely, IfFirst-of_head}
+use Rattle.lw_text.proofs.FailureUniqueness.{FailsBefore-unique, FailsBefore-not, FailsInAssignment-unique}
+use Rattle.lw_text.proofs.FailureUniqueness.{FailsInAssignment-not}
+use Rattle.lw_text.proofs.PropositionCases.{node_count-of_one, with_sites_in-append}
+use Rattle.lw_text.proofs.PropositionReadings.{state_after_terminals, result_of, result-IsProposition}
 use Rattle.lw_text.proofs.SiteLists.{Listed-unique}
 use Rattle.lw_text.proofs.TerminalLists.{IsTerminal-unique, IsTerminal-shorter}
 use Rattle.lw_text.proofs.TestFailures.{FailsInList-unique, FailsInList-not, FailsInQuantifier-unique}
@@ -28,37 +30,38 @@ use Rattle.lw_text.proofs.Whole.{Quantified-unique}
 use Rattle.lw_text.specs.declared.fault.TextCause.TheVariants as cause
 
 -- The signs that follow a part.
-abbrev joints : List Bytes
-joints = codes ")" ∷ codes "/\\" ∷ codes "\\/" ∷ []
+abbrev joint_signs : List Bytes
+joint_signs = codes ")" ∷ codes "/\\" ∷ codes "\\/" ∷ []
 
 -- A parenthesis and another token are not both first.
-first_parenthesis : (ts : TokenList)
+not_parenthesis-and_other : (ts : TokenList)
     → ts ≢ []
     → IfFirst (λ t. (t ≡ codes "(") ⊎ (t ≡ codes ")")) ts
     → IfFirst (λ t. AllByRecursion (λ w. t ≢ w) (codes "(" ∷ codes ")" ∷ [])) ts
     → ⊥
-first_parenthesis [] some p q = some refl
-first_parenthesis (t ∷ ts) some (inl p) q = q.0 p
-first_parenthesis (t ∷ ts) some (inr p) q = q.1.0 p
+not_parenthesis-and_other [] some p q = some refl
+not_parenthesis-and_other (t ∷ ts) some (inl p) q = q.0 p
+not_parenthesis-and_other (t ∷ ts) some (inr p) q = q.1.0 p
 
 module _ (arch : Arch) (threads : ℕ) where
   -- Where a terminal is read, tokens remain.
-  some_here : (ts mid : TokenList) (s : Terminal AtomSyntax) → IsTerminal arch threads ts s mid → ts ≢ []
-  some_here ts mid s is e = omega (arith, IsTerminal-shorter arch threads ts mid s is, ap length e)
+  not_empty-IsTerminal : (ts mid : TokenList) (s : Terminal AtomSyntax) → IsTerminal arch threads ts s mid → ts ≢ []
+  not_empty-IsTerminal ts mid s is e = omega (arith, IsTerminal-shorter arch threads ts mid s is, ap length e)
 
   -- A terminal fails uniquely.
   FailsInTerminal-unique : (part : Bool) (names : NameTable) → FailsUniquely (FailsInTerminal arch threads part names)
   FailsInTerminal-unique true names ts r s d e p q =
       FailsInAssignment-unique arch (Some threads) names cause.Condition ts r s d e p.1 q.1
-  FailsInTerminal-unique false names ts r s d e p q = FailsBefore-unique joints cause.Condition ts r s d e p q
+  FailsInTerminal-unique false names ts r s d e p q = FailsBefore-unique joint_signs cause.Condition ts r s d e p q
 
   -- An opening word is not another token.
-  opening_not : (ts mid : TokenList) (w : Bytes)
+  opening_word_is_no_other : (ts mid : TokenList) (w : Bytes)
       → IfFirst (λ t. AllByRecursion (λ v. t ≢ v) opening_words) ts
       → ts ≡ w ∷ mid
       → (AllByRecursion (λ v. w ≢ v) opening_words → ⊥)
       → ⊥
-  opening_not ts mid w first begins one = one (first_holds (λ t. AllByRecursion (λ v. t ≢ v) opening_words) ts mid w begins first)
+  opening_word_is_no_other ts mid w first begins one =
+      one (IfFirst-of_head (λ t. AllByRecursion (λ v. t ≢ v) opening_words) ts mid w begins first)
 
   -- A terminal that is possible at the place, and whose location has room, does not fail.
   FailsInTerminal-not : (part : Bool) (n : ℕ) (names : NameTable) (ts rest mid : TokenList) (because : TextCause)
@@ -69,27 +72,27 @@ module _ (arch : Arch) (threads : ℕ) where
       → HasRoomFor names (sites_in (s ∷ []))
       → ⊥
   FailsInTerminal-not true n names ts rest mid because Open next fails is step room =
-      opening_not ts mid (codes "(") fails.0 is (λ all. all.0 refl)
+      opening_word_is_no_other ts mid (codes "(") fails.0 is (λ all. all.0 refl)
   FailsInTerminal-not true n names ts rest mid because Close next fails is step room = cc step
   FailsInTerminal-not true n names ts rest mid because Negation next fails (inl is) step room =
-      opening_not ts mid (codes "~") fails.0 is (λ all. all.1.0 refl)
+      opening_word_is_no_other ts mid (codes "~") fails.0 is (λ all. all.1.0 refl)
   FailsInTerminal-not true n names ts rest mid because Negation next fails (inr is) step room =
-      opening_not ts mid (codes "not") fails.0 is (λ all. all.1.1.0 refl)
+      opening_word_is_no_other ts mid (codes "not") fails.0 is (λ all. all.1.1.0 refl)
   FailsInTerminal-not true n names ts rest mid because Conjunction next fails is step room = cc step
   FailsInTerminal-not true n names ts rest mid because Disjunction next fails is step room = cc step
   FailsInTerminal-not true n names ts rest mid because (Atom Always) next fails is step room =
-      opening_not ts mid (codes "true") fails.0 is (λ all. all.1.1.1.0 refl)
+      opening_word_is_no_other ts mid (codes "true") fails.0 is (λ all. all.1.1.1.0 refl)
   FailsInTerminal-not true n names ts rest mid because (Atom Never) next fails is step room =
-      opening_not ts mid (codes "false") fails.0 is (λ all. all.1.1.1.1.0 refl)
+      opening_word_is_no_other ts mid (codes "false") fails.0 is (λ all. all.1.1.1.1.0 refl)
   FailsInTerminal-not true n names ts rest mid because (Atom (Holds site word)) next fails is step room =
       FailsInAssignment-not arch (Some threads) names cause.Condition ts rest is.0 mid because site word fails.1 is.1 is.2 room
       is.3
   FailsInTerminal-not false n names ts rest mid because Close next fails is step room =
-      FailsBefore-not joints cause.Condition ts rest mid because (codes ")") fails is (λ all. all.0 refl)
+      FailsBefore-not joint_signs cause.Condition ts rest mid because (codes ")") fails is (λ all. all.0 refl)
   FailsInTerminal-not false n names ts rest mid because Conjunction next fails is step room =
-      FailsBefore-not joints cause.Condition ts rest mid because (codes "/\\") fails is (λ all. all.1.0 refl)
+      FailsBefore-not joint_signs cause.Condition ts rest mid because (codes "/\\") fails is (λ all. all.1.0 refl)
   FailsInTerminal-not false n names ts rest mid because Disjunction next fails is step room =
-      FailsBefore-not joints cause.Condition ts rest mid because (codes "\\/") fails is (λ all. all.1.1.0 refl)
+      FailsBefore-not joint_signs cause.Condition ts rest mid because (codes "\\/") fails is (λ all. all.1.1.0 refl)
   FailsInTerminal-not false zero names ts rest mid because Open next fails is step room = cc step
   FailsInTerminal-not false (suc n) names ts rest mid because Open next fails is step room = cc step
   FailsInTerminal-not false zero names ts rest mid because Negation next fails is step room = cc step
@@ -98,31 +101,34 @@ module _ (arch : Arch) (threads : ℕ) where
   FailsInTerminal-not false (suc n) names ts rest mid because (Atom a) next fails is step room = cc step
 
   -- After a part outside of all parentheses no `)` is possible.
-  no_close : (place next : PropositionPlace) → place ≡ (false, 0) → next_place {A = AtomSyntax} place Close ≡ Some next → ⊥
-  no_close place next is step =
+  no_Close-outside_parentheses : (place next : PropositionPlace)
+      → place ≡ (false, 0)
+      → next_place {A = AtomSyntax} place Close ≡ Some next
+      → ⊥
+  no_Close-outside_parentheses place next is step =
       let k : next_place {A = AtomSyntax} (false, 0) Close ≡ Some next =
       subst (λ (p : PropositionPlace). next_place {A = AtomSyntax} p Close ≡ Some next) is step in
       cc k
 
   -- A `)` that closes nothing is not a terminal that is possible.
-  unopened_not : (place next : PropositionPlace) (ts after mid : TokenList) (s : Terminal AtomSyntax)
+  no_Close-IsTerminal : (place next : PropositionPlace) (ts after mid : TokenList) (s : Terminal AtomSyntax)
       → place ≡ (false, 0)
       → ts ≡ codes ")" ∷ after
       → IsTerminal arch threads ts s mid
       → next_place place s ≡ Some next
       → ⊥
-  unopened_not place next ts after mid s is begins terminal step =
-      no_close place next is
+  no_Close-IsTerminal place next ts after mid s is begins terminal step =
+      no_Close-outside_parentheses place next is
       (subst (λ t. next_place place t ≡ Some next) (IsTerminal-unique arch threads ts s Close mid after terminal begins).0 step)
 
   -- Where a `)` closes nothing, no terminal fails.
-  unopened_no_terminal : (place : PropositionPlace) (names : NameTable) (ts rest after : TokenList) (because : TextCause)
+  no_terminal-unopened : (place : PropositionPlace) (names : NameTable) (ts rest after : TokenList) (because : TextCause)
       → place ≡ (false, 0)
       → ts ≡ codes ")" ∷ after
       → FailsInTerminal arch threads place.0 names ts rest because
       → ⊥
-  unopened_no_terminal place names ts rest after because is begins fails =
-      FailsBefore-not joints cause.Condition ts rest after because (codes ")")
+  no_terminal-unopened place names ts rest after because is begins fails =
+      FailsBefore-not joint_signs cause.Condition ts rest after because (codes ")")
       (subst (λ (p : PropositionPlace). FailsInTerminal arch threads p.0 names ts rest because) is fails) begins
       (λ all. all.0 refl)
 
@@ -141,63 +147,65 @@ module _ (arch : Arch) (threads : ℕ) where
   FailsInProposition-unique r s d e place nodes names ts (incomplete part_open end is) (unopened here begins at because) =
       absurd (omega (arith, ap length (sym end ∙ begins)))
   FailsInProposition-unique r s d e place nodes names ts (incomplete part_open end is) (after_terminal t mid next room terminal has step q) =
-      absurd (some_here ts mid t terminal end)
+      absurd (not_empty-IsTerminal ts mid t terminal end)
   FailsInProposition-unique r s d e place nodes names ts (too_many_nodes some full at first because) (incomplete part_open end is) =
       absurd (some end)
   FailsInProposition-unique r s d e place nodes names ts (too_many_nodes some full at first because) (too_many_nodes also too is second cause) =
       (sym at ∙ is, λ there. because ∙ sym cause)
   FailsInProposition-unique r s d e place nodes names ts (too_many_nodes some full at first because) (in_terminal also room fails) =
-      absurd (first_parenthesis ts some (room full)
+      absurd (not_parenthesis-and_other ts some (room full)
       (subst (IfFirst (λ t. AllByRecursion (λ w. t ≢ w) (codes "(" ∷ codes ")" ∷ []))) (sym at) first))
   FailsInProposition-unique r s d e place nodes names ts (too_many_nodes some full at first because) (unopened here begins is cause) =
-      absurd ((first_holds (λ t. AllByRecursion (λ w. t ≢ w) (codes "(" ∷ codes ")" ∷ [])) r _ (codes ")") (sym at ∙ begins)
+      absurd ((IfFirst-of_head (λ t. AllByRecursion (λ w. t ≢ w) (codes "(" ∷ codes ")" ∷ [])) r _ (codes ")") (sym at ∙ begins)
       first).1.0 refl)
   FailsInProposition-unique r s d e place nodes names ts (too_many_nodes some full at first because) (after_terminal t mid next room terminal has step q) =
-      absurd (first_parenthesis ts some (room full)
+      absurd (not_parenthesis-and_other ts some (room full)
       (subst (IfFirst (λ t. AllByRecursion (λ w. t ≢ w) (codes "(" ∷ codes ")" ∷ []))) (sym at) first))
   FailsInProposition-unique r s d e place nodes names ts (in_terminal some room fails) (incomplete part_open end is) =
       absurd (some end)
   FailsInProposition-unique r s d e place nodes names ts (in_terminal also room fails) (too_many_nodes some full at first because) =
-      absurd (first_parenthesis ts some (room full)
+      absurd (not_parenthesis-and_other ts some (room full)
       (subst (IfFirst (λ t. AllByRecursion (λ w. t ≢ w) (codes "(" ∷ codes ")" ∷ []))) (sym at) first))
   FailsInProposition-unique r s d e place nodes names ts (in_terminal some room fails) (in_terminal also has more) =
       FailsInTerminal-unique place.0 names ts r s d e fails more
   FailsInProposition-unique r s d e place nodes names ts (in_terminal some room fails) (unopened here begins is because) =
-      absurd (unopened_no_terminal place names ts r _ d here begins fails)
+      absurd (no_terminal-unopened place names ts r _ d here begins fails)
   FailsInProposition-unique r s d e (part, n) nodes names ts (in_terminal some room fails) (after_terminal t mid next also terminal has step q) =
       absurd (FailsInTerminal-not part n names ts r mid d t next fails terminal step has)
   FailsInProposition-unique r s d e place nodes names ts (unopened here begins at because) (incomplete part_open end is) =
       absurd (omega (arith, ap length (sym end ∙ begins)))
   FailsInProposition-unique r s d e place nodes names ts (unopened here begins is cause) (too_many_nodes some full at first because) =
-      absurd ((first_holds (λ t. AllByRecursion (λ w. t ≢ w) (codes "(" ∷ codes ")" ∷ [])) s _ (codes ")") (sym at ∙ begins)
+      absurd ((IfFirst-of_head (λ t. AllByRecursion (λ w. t ≢ w) (codes "(" ∷ codes ")" ∷ [])) s _ (codes ")") (sym at ∙ begins)
       first).1.0 refl)
   FailsInProposition-unique r s d e place nodes names ts (unopened here begins is because) (in_terminal some room fails) =
-      absurd (unopened_no_terminal place names ts s _ e here begins fails)
+      absurd (no_terminal-unopened place names ts s _ e here begins fails)
   FailsInProposition-unique r s d e place nodes names ts (unopened here begins is because) (unopened also again at cause) =
       (sym is ∙ at, λ some. because ∙ sym cause)
   FailsInProposition-unique r s d e place nodes names ts (unopened here begins is because) (after_terminal t mid next room terminal has step q) =
-      absurd (unopened_not place next ts _ mid t here begins terminal step)
+      absurd (no_Close-IsTerminal place next ts _ mid t here begins terminal step)
   FailsInProposition-unique r s d e place nodes names ts (after_terminal t mid next room terminal has step q) (incomplete part_open end is) =
-      absurd (some_here ts mid t terminal end)
+      absurd (not_empty-IsTerminal ts mid t terminal end)
   FailsInProposition-unique r s d e place nodes names ts (after_terminal t mid next room terminal has step q) (too_many_nodes some full at first because) =
-      absurd (first_parenthesis ts some (room full)
+      absurd (not_parenthesis-and_other ts some (room full)
       (subst (IfFirst (λ t. AllByRecursion (λ w. t ≢ w) (codes "(" ∷ codes ")" ∷ []))) (sym at) first))
   FailsInProposition-unique r s d e (part, n) nodes names ts (after_terminal t mid next also terminal has step q) (in_terminal some room fails) =
       absurd (FailsInTerminal-not part n names ts s mid e t next fails terminal step has)
   FailsInProposition-unique r s d e place nodes names ts (after_terminal t mid next room terminal has step q) (unopened here begins is because) =
-      absurd (unopened_not place next ts _ mid t here begins terminal step)
+      absurd (no_Close-IsTerminal place next ts _ mid t here begins terminal step)
   FailsInProposition-unique r s d e place nodes names ts (after_terminal t mid next room terminal has step p) (after_terminal u other then more another too again q) =
       let same = IsTerminal-unique arch threads ts t u mid other terminal another in
       let F = λ (pl : PropositionPlace) (x : Terminal AtomSyntax) (l : TokenList).
       FailsInProposition arch threads s e pl (nodes + length (filter is_node (x ∷ []))) (with_sites names (sites_in (x ∷ [])))
       l in
-      let onward : next ≡ then = some_one (sym step ∙ ap (λ (x : Terminal AtomSyntax). next_place place x) same.0 ∙ again) in
+      let onward : next ≡ then =
+      Some-injective (sym step ∙ ap (λ (x : Terminal AtomSyntax). next_place place x) same.0 ∙ again) in
       FailsInProposition-unique r s d e next (nodes + length (filter is_node (t ∷ []))) (with_sites names (sites_in (t ∷ []))) mid
       p
       (subst (λ pl. F pl t mid) (sym onward) (subst (λ l. F then t l) (sym same.1) (subst (λ x. F then x other) (sym same.0) q)))
     where
-      some_one : {a b : PropositionPlace} → Some a ≡ Some b → a ≡ b
-      some_one e = cc e
+      -- Optional places that are equal have equal places.
+      Some-injective : {a b : PropositionPlace} → Some a ≡ Some b → a ≡ b
+      Some-injective e = cc e
 
   -- ---- A proposition does not fail.
 
@@ -224,52 +232,53 @@ module _ (arch : Arch) (threads : ℕ) where
   next_place-resolved (BehindPart e p (o ∷ os)) names (Atom a) = refl
 
   -- A state with a result is at a place after a part outside of all parentheses.
-  result_place : (state : ReaderState) (p : Formula) → state_result state ≡ Some p → place_of state ≡ (false, 0)
-  result_place (BeforePart l os) p e = absurd (cc e)
-  result_place (BehindPart x y []) p e = refl
-  result_place (BehindPart x y (o ∷ os)) p e = absurd (cc e)
+  place_at_end-state_result : (state : ReaderState) (p : Formula) → state_result state ≡ Some p → place_of state ≡ (false, 0)
+  place_at_end-state_result (BeforePart l os) p e = absurd (cc e)
+  place_at_end-state_result (BehindPart x y []) p e = refl
+  place_at_end-state_result (BehindPart x y (o ∷ os)) p e = absurd (cc e)
 
   -- Where something is said after a terminal, there is a state after it.
   state_after : (state : ReaderState) (s : Terminal Formula) (ss : List (Terminal Formula)) (p : Formula)
-      → said_at (state_after_terminals (Some state) (s ∷ ss)) ≡ Some p
-      → (next : ReaderState) × (next_state state s ≡ Some next) × (said_at (state_after_terminals (Some next) ss) ≡ Some p)
-  state_after state s ss p said = at (next_state state s) refl said
+      → result_of (state_after_terminals (Some state) (s ∷ ss)) ≡ Some p
+      → (next : ReaderState) × (next_state state s ≡ Some next) × (result_of (state_after_terminals (Some next) ss) ≡ Some p)
+  state_after state s ss p said = next_state-by_cases (next_state state s) refl said
     where
-      at : (o : Option ReaderState)
+      -- By the state after the first terminal: there is one, or the terminals have no result.
+      next_state-by_cases : (o : Option ReaderState)
           → next_state state s ≡ o
-          → said_at (state_after_terminals o ss) ≡ Some p
-          → (next : ReaderState) × (next_state state s ≡ Some next) × (said_at (state_after_terminals (Some next) ss) ≡ Some p)
-      at None is said = absurd (let k = sym (ap said_at (fold_stays _ None (λ s. refl) ss)) ∙ said in cc k)
-      at (Some next) is said = (next, is, said)
+          → result_of (state_after_terminals o ss) ≡ Some p
+          → (next : ReaderState) × (next_state state s ≡ Some next) × (result_of (state_after_terminals (Some next) ss) ≡ Some p)
+      next_state-by_cases None is said = absurd (let k = sym (ap result_of (fold_stays _ None (λ s. refl) ss)) ∙ said in cc k)
+      next_state-by_cases (Some next) is said = (next, is, said)
 
   -- A terminal that is no node is a parenthesis.
-  no_node : (ts mid : TokenList) (s : Terminal AtomSyntax)
+  is_parenthesis-no_node : (ts mid : TokenList) (s : Terminal AtomSyntax)
       → IsTerminal arch threads ts s mid
       → is_node s ≡ false
       → (ts ≡ codes "(" ∷ mid) ⊎ (ts ≡ codes ")" ∷ mid)
-  no_node ts mid Open is none = inl is
-  no_node ts mid Close is none = inr is
-  no_node ts mid Negation is none = absurd (cc none)
-  no_node ts mid Conjunction is none = absurd (cc none)
-  no_node ts mid Disjunction is none = absurd (cc none)
-  no_node ts mid (Atom a) is none = absurd (cc none)
+  is_parenthesis-no_node ts mid Open is none = inl is
+  is_parenthesis-no_node ts mid Close is none = inr is
+  is_parenthesis-no_node ts mid Negation is none = absurd (cc none)
+  is_parenthesis-no_node ts mid Conjunction is none = absurd (cc none)
+  is_parenthesis-no_node ts mid Disjunction is none = absurd (cc none)
+  is_parenthesis-no_node ts mid (Atom a) is none = absurd (cc none)
 
   -- One more node does not fit after 256.
-  no_node_left : (nodes : ℕ) (s : Terminal AtomSyntax) (ss : List (Terminal AtomSyntax))
+  is_no_node-at_limit : (nodes : ℕ) (s : Terminal AtomSyntax) (ss : List (Terminal AtomSyntax))
       → nodes ≡ 256
-      → nodes + count (s ∷ ss) ≤ 256
+      → nodes + node_count (s ∷ ss) ≤ 256
       → is_node s ≡ false
-  no_node_left nodes s ss full few = at (is_node s) refl
+  is_no_node-at_limit nodes s ss full few = next_state-by_cases (is_node s) refl
     where
-      at : (b : Bool) → is_node s ≡ b → is_node s ≡ false
-      at true e = absurd (omega (arith, full, few, count_append (s ∷ []) ss, one_node true s e))
-      at false e = e
+      next_state-by_cases : (b : Bool) → is_node s ≡ b → is_node s ≡ false
+      next_state-by_cases true e = absurd (omega (arith, full, few, node_count-append (s ∷ []) ss, node_count-of_one true s e))
+      next_state-by_cases false e = e
 
   -- A table with room for the names of terminals has room for those of the first.
-  first_names_room : (names : NameTable) (s : Terminal AtomSyntax) (ss : List (Terminal AtomSyntax))
+  HasRoomFor-first_terminal : (names : NameTable) (s : Terminal AtomSyntax) (ss : List (Terminal AtomSyntax))
       → HasRoomFor names (sites_in (s ∷ ss))
       → HasRoomFor names (sites_in (s ∷ []))
-  first_names_room names s ss room = omega (
+  HasRoomFor-first_terminal names s ss room = omega (
     arith,
     room,
     ap length (with_sites_in-append names (s ∷ []) ss),
@@ -282,12 +291,12 @@ module _ (arch : Arch) (threads : ℕ) where
       → FailsInProposition arch threads rest because place nodes names ts
       → place ≡ place_of state
       → Terminals arch threads ts more
-      → said_at (state_after_terminals (Some state) (map (resolved (with_sites names (sites_in more))) more)) ≡ Some p
-      → nodes + count more ≤ 256
+      → result_of (state_after_terminals (Some state) (map (resolved (with_sites names (sites_in more))) more)) ≡ Some p
+      → nodes + node_count more ≤ 256
       → HasRoomFor names (sites_in more)
       → ⊥
   FailsInProposition-not rest because place nodes names ts state [] p (incomplete part_open end is) here all said few room =
-      part_open (here ∙ result_place state p said)
+      part_open (here ∙ place_at_end-state_result state p said)
   FailsInProposition-not rest because place nodes names ts state [] p (too_many_nodes some full at first cause) here all said few room =
       some all
   FailsInProposition-not rest because place nodes names ts state [] p (in_terminal some has fails) here all said few room =
@@ -295,17 +304,17 @@ module _ (arch : Arch) (threads : ℕ) where
   FailsInProposition-not rest because place nodes names ts state [] p (unopened at begins is cause) here all said few room =
       omega (arith, ap length (sym all ∙ begins))
   FailsInProposition-not rest because place nodes names ts state [] p (after_terminal t mid next has terminal fits step q) here all said few room =
-      some_here ts mid t terminal all
+      not_empty-IsTerminal ts mid t terminal all
   FailsInProposition-not rest because place nodes names ts state (s ∷ ss) p (incomplete part_open end is) here all said few room =
-      some_here ts all.0 s all.1 end
+      not_empty-IsTerminal ts all.0 s all.1 end
   FailsInProposition-not rest because place nodes names ts state (s ∷ ss) p (too_many_nodes some full at first cause) here all said few room =
-      elim (no_node ts all.0 s all.1 (no_node_left nodes s ss full few)) [
+      elim (is_parenthesis-no_node ts all.0 s all.1 (is_no_node-at_limit nodes s ss full few)) [
         | inl opens ↦
-            (first_holds (λ t. AllByRecursion (λ w. t ≢ w) (codes "(" ∷ codes ")" ∷ [])) rest all.0 (codes "(") (sym at ∙ opens)
-            first).0 refl
+            (IfFirst-of_head (λ t. AllByRecursion (λ w. t ≢ w) (codes "(" ∷ codes ")" ∷ [])) rest all.0 (codes "(")
+            (sym at ∙ opens) first).0 refl
         | inr closes ↦
-            (first_holds (λ t. AllByRecursion (λ w. t ≢ w) (codes "(" ∷ codes ")" ∷ [])) rest all.0 (codes ")") (sym at ∙ closes)
-            first).1.0 refl
+            (IfFirst-of_head (λ t. AllByRecursion (λ w. t ≢ w) (codes "(" ∷ codes ")" ∷ [])) rest all.0 (codes ")")
+            (sym at ∙ closes) first).1.0 refl
       ]
   FailsInProposition-not rest because place nodes names ts state (s ∷ ss) p (in_terminal some has fails) here all said few room =
       let after =
@@ -314,12 +323,12 @@ module _ (arch : Arch) (threads : ℕ) where
       FailsInTerminal-not (place_of state).0 (place_of state).1 names ts rest all.0 because s (place_of after.0)
       (subst (λ (pl : PropositionPlace). FailsInTerminal arch threads pl.0 names ts rest because) here fails) all.1
       (next_place-resolved state (with_sites names (sites_in (s ∷ ss))) s ∙ ap (option_map place_of) after.1)
-      (first_names_room names s ss room)
+      (HasRoomFor-first_terminal names s ss room)
   FailsInProposition-not rest because place nodes names ts state (s ∷ ss) p (unopened at begins is cause) here all said few room =
       let after =
       state_after state (resolved (with_sites names (sites_in (s ∷ ss))) s)
       (map (resolved (with_sites names (sites_in (s ∷ ss)))) ss) p said in
-      unopened_not (place_of state) (place_of after.0) ts _ all.0 s (sym here ∙ at) begins all.1
+      no_Close-IsTerminal (place_of state) (place_of after.0) ts _ all.0 s (sym here ∙ at) begins all.1
       (next_place-resolved state (with_sites names (sites_in (s ∷ ss))) s ∙ ap (option_map place_of) after.1)
   FailsInProposition-not rest because place nodes names ts state (s ∷ ss) p (after_terminal t mid next has terminal fits step q) here all said few room =
       let table = with_sites names (sites_in (s ∷ ss)) in
@@ -330,18 +339,19 @@ module _ (arch : Arch) (threads : ℕ) where
       (with_sites names (sites_in (x ∷ []))) l in
       let grown : table ≡ with_sites (with_sites names (sites_in (s ∷ []))) (sites_in ss) =
       with_sites_in-append names (s ∷ []) ss in
-      FailsInProposition-not rest because next (nodes + count (s ∷ [])) (with_sites names (sites_in (s ∷ []))) all.0 after.0 ss p
-      (subst (λ l. F s l) same.1 (subst (λ x. F x mid) same.0 q))
-      (some_place (sym step
+      FailsInProposition-not rest because next (nodes + node_count (s ∷ [])) (with_sites names (sites_in (s ∷ []))) all.0 after.0
+      ss p (subst (λ l. F s l) same.1 (subst (λ x. F x mid) same.0 q))
+      (Some-injective_place (sym step
       ∙ ap (next_place place) same.0
       ∙ ap (λ (pl : PropositionPlace). next_place pl s) here
       ∙ next_place-resolved state table s
       ∙ ap (option_map place_of) after.1)) all.2
-      (subst (λ names. said_at (state_after_terminals (Some after.0) (map (resolved names) ss)) ≡ Some p) grown after.2)
-      (omega (arith, few, count_append (s ∷ []) ss)) (subst (λ (names : NameTable). length names ≤ 8) grown room)
+      (subst (λ names. result_of (state_after_terminals (Some after.0) (map (resolved names) ss)) ≡ Some p) grown after.2)
+      (omega (arith, few, node_count-append (s ∷ []) ss)) (subst (λ (names : NameTable). length names ≤ 8) grown room)
     where
-      some_place : {a b : PropositionPlace} → Some a ≡ Some b → a ≡ b
-      some_place e = cc e
+      -- Optional places that are equal have equal places.
+      Some-injective_place : {a b : PropositionPlace} → Some a ≡ Some b → a ≡ b
+      Some-injective_place e = cc e
 
   module _ (names : NameTable) where
     -- A condition fails uniquely.
@@ -377,7 +387,7 @@ module _ (arch : Arch) (threads : ℕ) where
         → FailsInCondition arch threads names ts rest because
         → NoCondition arch threads ts names
     FailsInCondition-not ts rest because (in_list fails) listed quant ss p is fits =
-        FailsInList-not arch threads names ts rest is.behind_list because listed fails is.lists is.there
+        FailsInList-not arch threads names ts rest is.behind_list because listed fails is.lists is.threads_exist
         (omega (arith, fits.room, insert_names-longer (with_sites names listed) (site_names (sites_in ss))))
     FailsInCondition-not ts rest because (in_quantifier other {mid = mid} lists there room fails) listed quant ss p is fits =
         FailsInQuantifier-not mid rest is.behind_quant because quant fails
@@ -391,4 +401,4 @@ module _ (arch : Arch) (threads : ℕ) where
         FailsInProposition-not rest because first_place 0 (with_sites names listed) is.behind_quant initial_reader_state ss p
         (subst (λ sites. FailsInProposition arch threads rest because first_place 0 (with_sites names sites) is.behind_quant) u.0
         (subst (FailsInProposition arch threads rest because first_place 0 (with_sites names other)) v.1 fails)) refl is.says
-        (derived_said fits.says) (omega (arith, fits.few)) fits.room
+        (result-IsProposition fits.says) (omega (arith, fits.few)) fits.room

@@ -1,15 +1,16 @@
--- Tokens fail at one place only, and for one cause; and tokens that parse do not fail. First of the smallest phrases, up to sites and values.
-use Rattle.lw_text.proofs.Common.{cons_head, ◌≡◌, ◌≢◌, ◌⊎◌, ℕ, Option, None, Some, List, [], ◌∷◌, refl, sym}
-use Rattle.lw_text.proofs.Common.{ap, ◌∙◌, subst, inl, inr, codes, AllByRecursion, Arch, Bytes, NameTable}
-use Rattle.lw_text.proofs.Common.{TokenList, IsName, IsLocationName, IsNumber, IsRegisterName, HasRoomFor}
-use Rattle.lw_text.proofs.Common.{HasRoomForName, SiteSyntax, InMemory, InThread, IsSite, ThreadAllowed}
-use Rattle.lw_text.proofs.Common.{Value, IfFirst, FailsBefore, IsMisfitCause, IsNoNewLocation, FailsInName}
-use Rattle.lw_text.proofs.Common.{FailsInBrackets, in_bracketed_name, no_bracket, FailsInRegister, no_colon}
-use Rattle.lw_text.proofs.Common.{no_register_name, FailsInSite, in_name, in_brackets, no_thread, in_register}
-use Rattle.lw_text.proofs.Common.{FailsInValue, no_equals, no_number, FailsInAssignment, in_site, in_value}
-use Rattle.lw_text.proofs.Common.{TextCause}
+-- Tokens fail at one place only, and for one cause; and tokens that parse do not fail. First of the smallest
+-- phrases, up to sites and values. A step of the law that a text fails at one place (OneFault).
+use Rattle.lw_text.proofs.Common.{cons-head_eq, ◌≡◌, ◌≢◌, ◌⊎◌, ℕ, Option, None, Some, List, [], ◌∷◌, refl}
+use Rattle.lw_text.proofs.Common.{sym, ap, ◌∙◌, subst, inl, inr, codes, AllByRecursion, Arch, Bytes}
+use Rattle.lw_text.proofs.Common.{NameTable, TokenList, IsName, IsLocationName, IsNumber, IsRegisterName}
+use Rattle.lw_text.proofs.Common.{HasRoomFor, HasRoomForName, SiteSyntax, InMemory, InThread, IsSite}
+use Rattle.lw_text.proofs.Common.{ThreadAllowed, Value, IfFirst, FailsBefore, IsMisfitCause, IsNoNewLocation}
+use Rattle.lw_text.proofs.Common.{FailsInName, FailsInBrackets, in_bracketed_name, no_bracket}
+use Rattle.lw_text.proofs.Common.{FailsInRegister, no_colon, no_register_name, FailsInSite, in_name}
+use Rattle.lw_text.proofs.Common.{in_brackets, no_thread, in_register, FailsInValue, no_equals, no_number}
+use Rattle.lw_text.proofs.Common.{FailsInAssignment, in_site, in_value, TextCause}
 use Rattle.lw_text.proofs.Atoms.{number_no_name, bracket_no_name, IsSite-unique}
-use Rattle.lw_text.proofs.Failures.{same_tail}
+use Rattle.lw_text.proofs.Failures.{cons-tail_unique}
 use Rattle.lw_text.proofs.api.Numbers.{bracket_no_number, number-unique}
 
 -- Two failures are at the same place, and for the same cause, unless the input ends there.
@@ -25,28 +26,31 @@ FailsUniquely {X} way =
     → IsSameFailure rest cause other because
 
 -- A failure at the first token is unique if its cause is.
-pub at_once : (P : Bytes → TextCause → Type 0)
+pub FailsUniquely-at_first_token : (P : Bytes → TextCause → Type 0)
     → ((t : Bytes) (cause because : TextCause) → P t cause → P t because → cause ≡ because)
     → FailsUniquely (λ ts rest cause. (ts ≡ rest) × IfFirst (λ t. P t cause) rest)
-at_once P one ts rest other cause because p q = (sym p.0 ∙ q.0, at rest other (sym p.0 ∙ q.0) p.1 q.1)
+FailsUniquely-at_first_token P one ts rest other cause because p q =
+    (sym p.0 ∙ q.0, by_first_token rest other (sym p.0 ∙ q.0) p.1 q.1)
   where
-    at : (rest other : TokenList)
+    -- Two causes of one token, if there is one.
+    by_first_token : (rest other : TokenList)
         → rest ≡ other
         → IfFirst (λ t. P t cause) rest
         → IfFirst (λ t. P t because) other
         → rest ≢ []
         → cause ≡ because
-    at [] other e x y some = absurd (some refl)
-    at (t ∷ rest) other e x y some = one t cause because x (subst (IfFirst (λ t. P t because)) (sym e) y)
+    by_first_token [] other e x y some = absurd (some refl)
+    by_first_token (t ∷ rest) other e x y some = one t cause because x (subst (IfFirst (λ t. P t because)) (sym e) y)
 
 -- What holds of the first of tokens holds of this one.
-pub first_holds : (P : Bytes → Type 0) (ts l : TokenList) (t : Bytes) → ts ≡ t ∷ l → IfFirst P ts → P t
-first_holds P ts l t e h = subst (IfFirst P) e h
+pub IfFirst-of_head : (P : Bytes → Type 0) (ts l : TokenList) (t : Bytes) → ts ≡ t ∷ l → IfFirst P ts → P t
+IfFirst-of_head P ts l t e h = subst (IfFirst P) e h
 
 -- Failing before some words is unique.
 pub FailsBefore-unique : (words : List Bytes) (c : TextCause) → FailsUniquely (FailsBefore words c)
 FailsBefore-unique words c =
-    at_once (λ t cause. AllByRecursion (λ w. t ≢ w) words × (cause ≡ c)) (λ t cause because p q. p.1 ∙ sym q.1)
+    FailsUniquely-at_first_token (λ t cause. AllByRecursion (λ w. t ≢ w) words × (cause ≡ c))
+    (λ t cause because p q. p.1 ∙ sym q.1)
 
 -- Tokens that begin with one of the words do not fail before them.
 pub FailsBefore-not : (words : List Bytes) (c : TextCause) (ts rest l : TokenList) (cause : TextCause) (w : Bytes)
@@ -54,32 +58,33 @@ pub FailsBefore-not : (words : List Bytes) (c : TextCause) (ts rest l : TokenLis
     → ts ≡ w ∷ l
     → (AllByRecursion (λ v. w ≢ v) words → ⊥)
     → ⊥
-FailsBefore-not words c ts rest l cause w fails begins one = one (first_holds _ rest l w (sym fails.0 ∙ begins) fails.1).0
+FailsBefore-not words c ts rest l cause w fails begins one = one (IfFirst-of_head _ rest l w (sym fails.0 ∙ begins) fails.1).0
 
 -- A misfit has one cause.
-misfit_one : (c : TextCause) (t : Bytes) (cause because : TextCause)
+IsMisfitCause-unique : (c : TextCause) (t : Bytes) (cause because : TextCause)
     → IsMisfitCause c t cause
     → IsMisfitCause c t because
     → cause ≡ because
-misfit_one c t cause because (inl p) (inl q) = p.1 ∙ sym q.1
-misfit_one c t cause because (inl p) (inr q) = absurd (q.0 p.0)
-misfit_one c t cause because (inr p) (inl q) = absurd (p.0 q.0)
-misfit_one c t cause because (inr p) (inr q) = p.1 ∙ sym q.1
+IsMisfitCause-unique c t cause because (inl p) (inl q) = p.1 ∙ sym q.1
+IsMisfitCause-unique c t cause because (inl p) (inr q) = absurd (q.0 p.0)
+IsMisfitCause-unique c t cause because (inr p) (inl q) = absurd (p.0 q.0)
+IsMisfitCause-unique c t cause because (inr p) (inr q) = p.1 ∙ sym q.1
 
 -- A token in place of a location fails for one cause.
-location_one : (c : TextCause) (names : NameTable) (t : Bytes) (cause because : TextCause)
+IsNoNewLocation-unique : (c : TextCause) (names : NameTable) (t : Bytes) (cause because : TextCause)
     → IsNoNewLocation c names t cause
     → IsNoNewLocation c names t because
     → cause ≡ because
-location_one c names t cause because (inl p) (inl q) = misfit_one c t cause because p.1 q.1
-location_one c names t cause because (inl p) (inr q) = absurd (p.0 q.0)
-location_one c names t cause because (inr p) (inl q) = absurd (q.0 p.0)
-location_one c names t cause because (inr p) (inr q) = p.2 ∙ sym q.2
+IsNoNewLocation-unique c names t cause because (inl p) (inl q) = IsMisfitCause-unique c t cause because p.1 q.1
+IsNoNewLocation-unique c names t cause because (inl p) (inr q) = absurd (p.0 q.0)
+IsNoNewLocation-unique c names t cause because (inr p) (inl q) = absurd (q.0 p.0)
+IsNoNewLocation-unique c names t cause because (inr p) (inr q) = p.2 ∙ sym q.2
 
 -- The name of a location fails uniquely, and not if there is one that has room.
 FailsInName-unique : (names : NameTable) (c : TextCause) → FailsUniquely (FailsInName names c)
-FailsInName-unique names c = at_once (IsNoNewLocation c names) (location_one c names)
+FailsInName-unique names c = FailsUniquely-at_first_token (IsNoNewLocation c names) (IsNoNewLocation-unique c names)
 
+-- A location's name for which there is room does not fail.
 FailsInName-not : (names : NameTable) (c : TextCause) (ts rest l : TokenList) (cause : TextCause) (x : Bytes)
     → FailsInName names c ts rest cause
     → ts ≡ x ∷ l
@@ -87,11 +92,11 @@ FailsInName-not : (names : NameTable) (c : TextCause) (ts rest l : TokenList) (c
     → HasRoomForName names x
     → ⊥
 FailsInName-not names c ts rest l cause x fails begins is room =
-    at (first_holds (λ t. IsNoNewLocation c names t cause) rest l x (sym fails.0 ∙ begins) fails.1)
+    by_first_token (IfFirst-of_head (λ t. IsNoNewLocation c names t cause) rest l x (sym fails.0 ∙ begins) fails.1)
   where
-    at : IsNoNewLocation c names x cause → ⊥
-    at (inl p) = p.0 is
-    at (inr p) = p.1 room
+    by_first_token : IsNoNewLocation c names x cause → ⊥
+    by_first_token (inl p) = p.0 is
+    by_first_token (inr p) = p.1 room
 
 -- A location in brackets fails uniquely, and not if it is one that has room.
 FailsInBrackets-unique : (names : NameTable) (c : TextCause) → FailsUniquely (FailsInBrackets names c)
@@ -101,9 +106,10 @@ FailsInBrackets-unique names c ts r s d e (in_bracketed_name p) (no_bracket begi
 FailsInBrackets-unique names c ts r s d e (no_bracket begins is room p) (in_bracketed_name q) =
     absurd (FailsInName-not names c ts s _ e _ q begins is room)
 FailsInBrackets-unique names c ts r s d e (no_bracket {mid = mid} begins is room p) (no_bracket {mid = other} again too has q) =
-    let same : mid ≡ other = same_tail (sym begins ∙ again) in
+    let same : mid ≡ other = cons-tail_unique (sym begins ∙ again) in
     FailsBefore-unique (codes "]" ∷ []) c mid r s d e p (subst (λ l. FailsBefore (codes "]" ∷ []) c l s e) (sym same) q)
 
+-- A location in brackets for which there is room does not fail.
 FailsInBrackets-not : (names : NameTable) (c : TextCause) (ts rest l : TokenList) (cause : TextCause) (x : Bytes)
     → FailsInBrackets names c ts rest cause
     → ts ≡ x ∷ codes "]" ∷ l
@@ -113,7 +119,7 @@ FailsInBrackets-not : (names : NameTable) (c : TextCause) (ts rest l : TokenList
 FailsInBrackets-not names c ts rest l cause x (in_bracketed_name p) begins is room =
     FailsInName-not names c ts rest _ cause x p begins is room
 FailsInBrackets-not names c ts rest l cause x (no_bracket again too has p) begins is room =
-    FailsBefore-not (codes "]" ∷ []) c _ rest l cause (codes "]") p (same_tail (sym again ∙ begins)) (λ all. all.0 refl)
+    FailsBefore-not (codes "]" ∷ []) c _ rest l cause (codes "]") p (cons-tail_unique (sym again ∙ begins)) (λ all. all.0 refl)
 
 -- A register after a thread's number fails uniquely, and not if there is one.
 FailsInRegister-unique : (arch : Arch) (c : TextCause) → FailsUniquely (FailsInRegister arch c)
@@ -123,9 +129,11 @@ FailsInRegister-unique arch c ts r s d e (no_colon p) (no_register_name begins q
 FailsInRegister-unique arch c ts r s d e (no_register_name begins p) (no_colon q) =
     absurd (FailsBefore-not (codes ":" ∷ []) c ts s _ e (codes ":") q begins (λ all. all.0 refl))
 FailsInRegister-unique arch c ts r s d e (no_register_name begins p) (no_register_name again q) =
-    at_once (λ t cause. ((n : ℕ) → IsRegisterName arch t n → ⊥) × IsMisfitCause c t cause)
-    (λ t cause because x y. misfit_one c t cause because x.1 y.1) r r s d e (refl, p) (same_tail (sym begins ∙ again), q)
+    FailsUniquely-at_first_token (λ t cause. ((n : ℕ) → IsRegisterName arch t n → ⊥) × IsMisfitCause c t cause)
+    (λ t cause because x y. IsMisfitCause-unique c t cause because x.1 y.1) r r s d e (refl, p)
+    (cons-tail_unique (sym begins ∙ again), q)
 
+-- A `:` and a register's name do not fail.
 FailsInRegister-not : (arch : Arch) (c : TextCause) (ts rest l : TokenList) (cause : TextCause) (q : Bytes) (n : ℕ)
     → FailsInRegister arch c ts rest cause
     → ts ≡ codes ":" ∷ q ∷ l
@@ -134,8 +142,8 @@ FailsInRegister-not : (arch : Arch) (c : TextCause) (ts rest l : TokenList) (cau
 FailsInRegister-not arch c ts rest l cause q n (no_colon p) begins is =
     FailsBefore-not (codes ":" ∷ []) c ts rest _ cause (codes ":") p begins (λ all. all.0 refl)
 FailsInRegister-not arch c ts rest l cause q n (no_register_name again p) begins is =
-    (first_holds (λ t. ((n : ℕ) → IsRegisterName arch t n → ⊥) × IsMisfitCause c t cause) rest l q
-    (same_tail (sym again ∙ begins)) p).0 n is
+    (IfFirst-of_head (λ t. ((n : ℕ) → IsRegisterName arch t n → ⊥) × IsMisfitCause c t cause) rest l q
+    (cons-tail_unique (sym again ∙ begins)) p).0 n is
 
 -- ---- Sites.
 
@@ -143,54 +151,65 @@ FailsInRegister-not arch c ts rest l cause q n (no_register_name again p) begins
 abbrev Plain : TokenList → Type 0
 Plain ts = IfFirst (λ t. (t ≢ codes "[") × ((n : ℕ) → IsNumber t n → ⊥)) ts
 
-no_plain_bracket : (ts l : TokenList) → Plain ts → ts ≡ codes "[" ∷ l → ⊥
-no_plain_bracket ts l plain e = (first_holds _ ts l (codes "[") e plain).0 refl
+-- Plain tokens do not begin with `[`.
+no_bracket-Plain : (ts l : TokenList) → Plain ts → ts ≡ codes "[" ∷ l → ⊥
+no_bracket-Plain ts l plain e = (IfFirst-of_head _ ts l (codes "[") e plain).0 refl
 
-no_plain_number : (ts l : TokenList) (p : Bytes) (n : ℕ) → Plain ts → ts ≡ p ∷ l → IsNumber p n → ⊥
-no_plain_number ts l p n plain e is = (first_holds _ ts l p e plain).1 n is
+-- Plain tokens do not begin with a number.
+no_number-Plain : (ts l : TokenList) (p : Bytes) (n : ℕ) → Plain ts → ts ≡ p ∷ l → IsNumber p n → ⊥
+no_number-Plain ts l p n plain e is = (IfFirst-of_head _ ts l p e plain).1 n is
 
-bracket_or_number : (ts l m : TokenList) (p : Bytes) (n : ℕ) → ts ≡ codes "[" ∷ l → ts ≡ p ∷ m → IsNumber p n → ⊥
-bracket_or_number ts l m p n e f is = bracket_no_number n (subst (λ w. IsNumber w n) (cons_head _ _ _ _ (sym f ∙ e)) is)
+-- Tokens do not begin both with `[` and with a number.
+not_bracket_and_number : (ts l m : TokenList) (p : Bytes) (n : ℕ) → ts ≡ codes "[" ∷ l → ts ≡ p ∷ m → IsNumber p n → ⊥
+not_bracket_and_number ts l m p n e f is = bracket_no_number n (subst (λ w. IsNumber w n) (cons-head_eq _ _ _ _ (sym f ∙ e)) is)
 
 -- Two numbers at the start of the same tokens are the same.
-same_number : (ts l m : TokenList) (p q : Bytes) (n k : ℕ) → ts ≡ p ∷ l → ts ≡ q ∷ m → IsNumber p n → IsNumber q k → n ≡ k
-same_number ts l m p q n k e f is also = number-unique p n k is (subst (λ w. IsNumber w k) (cons_head _ _ _ _ (sym f ∙ e)) also)
+IsNumber-unique_first : (ts l m : TokenList) (p q : Bytes) (n k : ℕ)
+    → ts ≡ p ∷ l
+    → ts ≡ q ∷ m
+    → IsNumber p n
+    → IsNumber q k
+    → n ≡ k
+IsNumber-unique_first ts l m p q n k e f is also =
+    number-unique p n k is (subst (λ w. IsNumber w k) (cons-head_eq _ _ _ _ (sym f ∙ e)) also)
 
 module _ (arch : Arch) (threads : Option ℕ) (names : NameTable) (c : TextCause) where
   -- A site fails uniquely.
   pub FailsInSite-unique : FailsUniquely (FailsInSite arch threads names c)
   FailsInSite-unique ts r s d e (in_name plain p) (in_name too q) = FailsInName-unique names c ts r s d e p q
-  FailsInSite-unique ts r s d e (in_name plain p) (in_brackets begins q) = absurd (no_plain_bracket ts _ plain begins)
+  FailsInSite-unique ts r s d e (in_name plain p) (in_brackets begins q) = absurd (no_bracket-Plain ts _ plain begins)
   FailsInSite-unique ts r s d e (in_name plain p) (no_thread q n begins at is refused because) =
-      absurd (no_plain_number ts _ q n plain begins is)
+      absurd (no_number-Plain ts _ q n plain begins is)
   FailsInSite-unique ts r s d e (in_name plain p) (in_register q n begins is there w) =
-      absurd (no_plain_number ts _ q n plain begins is)
-  FailsInSite-unique ts r s d e (in_brackets begins p) (in_name plain q) = absurd (no_plain_bracket ts _ plain begins)
+      absurd (no_number-Plain ts _ q n plain begins is)
+  FailsInSite-unique ts r s d e (in_brackets begins p) (in_name plain q) = absurd (no_bracket-Plain ts _ plain begins)
   FailsInSite-unique ts r s d e (in_brackets {inside = inside} begins p) (in_brackets {inside = other} again q) =
-      let same : inside ≡ other = same_tail (sym begins ∙ again) in
+      let same : inside ≡ other = cons-tail_unique (sym begins ∙ again) in
       FailsInBrackets-unique names c inside r s d e p (subst (λ l. FailsInBrackets names c l s e) (sym same) q)
   FailsInSite-unique ts r s d e (in_brackets begins p) (no_thread q n again at is refused because) =
-      absurd (bracket_or_number ts _ _ q n begins again is)
+      absurd (not_bracket_and_number ts _ _ q n begins again is)
   FailsInSite-unique ts r s d e (in_brackets begins p) (in_register q n again is there w) =
-      absurd (bracket_or_number ts _ _ q n begins again is)
+      absurd (not_bracket_and_number ts _ _ q n begins again is)
   FailsInSite-unique ts r s d e (no_thread p n begins at is refused because) (in_name plain q) =
-      absurd (no_plain_number ts _ p n plain begins is)
+      absurd (no_number-Plain ts _ p n plain begins is)
   FailsInSite-unique ts r s d e (no_thread p n begins at is refused because) (in_brackets again q) =
-      absurd (bracket_or_number ts _ _ p n again begins is)
+      absurd (not_bracket_and_number ts _ _ p n again begins is)
   FailsInSite-unique ts r s d e (no_thread p n begins at is refused because) (no_thread q k again too also not therefore) =
       (sym at ∙ too, λ some. because ∙ sym therefore)
   FailsInSite-unique ts r s d e (no_thread p n begins at is refused because) (in_register q k again also there w) =
       absurd (refused 0
-      (subst (λ (t : ℕ). ThreadAllowed threads (InThread t 0)) (sym (same_number ts _ _ p q n k begins again is also)) (there 0)))
+      (subst (λ (t : ℕ). ThreadAllowed threads (InThread t 0)) (sym (IsNumber-unique_first ts _ _ p q n k begins again is also))
+      (there 0)))
   FailsInSite-unique ts r s d e (in_register p n begins is there v) (in_name plain q) =
-      absurd (no_plain_number ts _ p n plain begins is)
+      absurd (no_number-Plain ts _ p n plain begins is)
   FailsInSite-unique ts r s d e (in_register p n begins is there v) (in_brackets again q) =
-      absurd (bracket_or_number ts _ _ p n again begins is)
+      absurd (not_bracket_and_number ts _ _ p n again begins is)
   FailsInSite-unique ts r s d e (in_register p n begins is there v) (no_thread q k again too also not therefore) =
       absurd (not 0
-      (subst (λ (t : ℕ). ThreadAllowed threads (InThread t 0)) (same_number ts _ _ p q n k begins again is also) (there 0)))
+      (subst (λ (t : ℕ). ThreadAllowed threads (InThread t 0)) (IsNumber-unique_first ts _ _ p q n k begins again is also)
+      (there 0)))
   FailsInSite-unique ts r s d e (in_register p n {after = after} begins is there v) (in_register q k {after = other} again also too w) =
-      let same : after ≡ other = same_tail (sym begins ∙ again) in
+      let same : after ≡ other = cons-tail_unique (sym begins ∙ again) in
       FailsInRegister-unique arch c after r s d e v (subst (λ l. FailsInRegister arch c l s e) (sym same) w)
 
   -- Tokens that begin with a site, whose thread is allowed and whose location has room, do not fail as one.
@@ -202,30 +221,32 @@ module _ (arch : Arch) (threads : Option ℕ) (names : NameTable) (c : TextCause
       → ⊥
   FailsInSite-not ts rest mid cause (InMemory x) (in_name plain p) (is, inl e) there room =
       FailsInName-not names c ts rest mid cause x p e is room
-  FailsInSite-not ts rest mid cause (InMemory x) (in_name plain p) (is, inr e) there room = no_plain_bracket ts _ plain e
+  FailsInSite-not ts rest mid cause (InMemory x) (in_name plain p) (is, inr e) there room = no_bracket-Plain ts _ plain e
   FailsInSite-not ts rest mid cause (InMemory x) (in_brackets begins p) (is, inl e) there room =
-      bracket_no_name (subst IsName (cons_head _ _ _ _ (sym e ∙ begins)) is.0)
+      bracket_no_name (subst IsName (cons-head_eq _ _ _ _ (sym e ∙ begins)) is.0)
   FailsInSite-not ts rest mid cause (InMemory x) (in_brackets begins p) (is, inr e) there room =
-      FailsInBrackets-not names c _ rest mid cause x p (same_tail (sym begins ∙ e)) is room
+      FailsInBrackets-not names c _ rest mid cause x p (cons-tail_unique (sym begins ∙ e)) is room
   FailsInSite-not ts rest mid cause (InMemory x) (no_thread q n begins at number refused because) (is, inl e) there room =
-      number_no_name q n number (subst IsName (cons_head _ _ _ _ (sym e ∙ begins)) is.0)
+      number_no_name q n number (subst IsName (cons-head_eq _ _ _ _ (sym e ∙ begins)) is.0)
   FailsInSite-not ts rest mid cause (InMemory x) (no_thread q n begins at number refused because) (is, inr e) there room =
-      bracket_or_number ts _ _ q n e begins number
+      not_bracket_and_number ts _ _ q n e begins number
   FailsInSite-not ts rest mid cause (InMemory x) (in_register q n begins number too w) (is, inl e) there room =
-      number_no_name q n number (subst IsName (cons_head _ _ _ _ (sym e ∙ begins)) is.0)
+      number_no_name q n number (subst IsName (cons-head_eq _ _ _ _ (sym e ∙ begins)) is.0)
   FailsInSite-not ts rest mid cause (InMemory x) (in_register q n begins number too w) (is, inr e) there room =
-      bracket_or_number ts _ _ q n e begins number
-  FailsInSite-not ts rest mid cause (InThread t r) (in_name plain p) is there room = no_plain_number ts _ is.0 t plain is.2 is.3
+      not_bracket_and_number ts _ _ q n e begins number
+  FailsInSite-not ts rest mid cause (InThread t r) (in_name plain p) is there room = no_number-Plain ts _ is.0 t plain is.2 is.3
   FailsInSite-not ts rest mid cause (InThread t r) (in_brackets begins p) is there room =
-      bracket_or_number ts _ _ is.0 t begins is.2 is.3
+      not_bracket_and_number ts _ _ is.0 t begins is.2 is.3
   FailsInSite-not ts rest mid cause (InThread t r) (no_thread q n begins at number refused because) is there room =
       refused r
-      (subst (λ (k : ℕ). ThreadAllowed threads (InThread k r)) (same_number ts _ _ is.0 q t n is.2 begins is.3 number) there)
+      (subst (λ (k : ℕ). ThreadAllowed threads (InThread k r)) (IsNumber-unique_first ts _ _ is.0 q t n is.2 begins is.3 number)
+      there)
   FailsInSite-not ts rest mid cause (InThread t r) (in_register q n begins number too w) is there room =
-      FailsInRegister-not arch c _ rest mid cause is.1 r w (same_tail (sym begins ∙ is.2)) is.4
+      FailsInRegister-not arch c _ rest mid cause is.1 r w (cons-tail_unique (sym begins ∙ is.2)) is.4
 
 -- ---- Values and assignments.
 
+-- A value fails at one place only, and for one cause.
 pub FailsInValue-unique : (c : TextCause) → FailsUniquely (FailsInValue c)
 FailsInValue-unique c ts r s d e (no_equals p) (no_equals q) = FailsBefore-unique (codes "=" ∷ []) c ts r s d e p q
 FailsInValue-unique c ts r s d e (no_equals p) (no_number begins q) =
@@ -233,8 +254,8 @@ FailsInValue-unique c ts r s d e (no_equals p) (no_number begins q) =
 FailsInValue-unique c ts r s d e (no_number begins p) (no_equals q) =
     absurd (FailsBefore-not (codes "=" ∷ []) c ts s _ e (codes "=") q begins (λ all. all.0 refl))
 FailsInValue-unique c ts r s d e (no_number begins p) (no_number again q) =
-    at_once (λ t cause. ((n : ℕ) → IsNumber t n → ⊥) × (cause ≡ c)) (λ t cause because x y. x.1 ∙ sym y.1) r r s d e (refl, p)
-    (same_tail (sym begins ∙ again), q)
+    FailsUniquely-at_first_token (λ t cause. ((n : ℕ) → IsNumber t n → ⊥) × (cause ≡ c)) (λ t cause because x y. x.1 ∙ sym y.1) r
+    r s d e (refl, p) (cons-tail_unique (sym begins ∙ again), q)
 
 -- Tokens that begin with a value do not fail as one.
 pub FailsInValue-not : (c : TextCause) (ts rest mid : TokenList) (cause : TextCause) (n : ℕ)
@@ -244,7 +265,8 @@ pub FailsInValue-not : (c : TextCause) (ts rest mid : TokenList) (cause : TextCa
 FailsInValue-not c ts rest mid cause n (no_equals p) is =
     FailsBefore-not (codes "=" ∷ []) c ts rest _ cause (codes "=") p is.1 (λ all. all.0 refl)
 FailsInValue-not c ts rest mid cause n (no_number begins p) is =
-    (first_holds (λ t. ((n : ℕ) → IsNumber t n → ⊥) × (cause ≡ c)) rest mid is.0 (same_tail (sym begins ∙ is.1)) p).0 n is.2
+    (IfFirst-of_head (λ t. ((n : ℕ) → IsNumber t n → ⊥) × (cause ≡ c)) rest mid is.0 (cons-tail_unique (sym begins ∙ is.1)) p).0 n
+    is.2
 
 module _ (arch : Arch) (threads : Option ℕ) (names : NameTable) (c : TextCause) where
   -- A site with its word fails uniquely.

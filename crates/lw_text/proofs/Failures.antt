@@ -1,4 +1,5 @@
--- Where parsing fails: at the next token, or later, after what was parsed.
+-- Where parsing fails: at the next token, or later, after what was parsed. Each function of the parser proves
+-- by these lemmas that its refusal is at the place where the tokens fail.
 use Rattle.lw_text.proofs.Common.{true, false, begins_token, ◌≡◌, ◌≢◌, ℕ, Option, Some, None, List, [], ◌∷◌}
 use Rattle.lw_text.proofs.Common.{refl, sym, subst, drop, ap, ◌∙◌, TokenList, Bytes, Cursor, Refusal, Token}
 use Rattle.lw_text.proofs.Common.{IsSuffix, remaining, remaining_texts, token_texts, ParsesMany, BeginsAt}
@@ -30,13 +31,13 @@ Fails-later leaves way h =
 pub IfFirst-cons : (P : Bytes → Type 0) (ts l : TokenList) (t : Bytes) → ts ≡ t ∷ l → P t → IfFirst P ts
 IfFirst-cons P ts l t e p = subst (IfFirst P) (sym e) p
 
--- There is no first token.
+-- `IfFirst` holds of no tokens: there is no first token.
 pub IfFirst-nil : (P : Bytes → Type 0) (ts : TokenList) → ts ≡ [] → IfFirst P ts
 IfFirst-nil P ts e = subst (IfFirst P) (sym e) tt
 
 -- Equal lists have equal items after the first.
-pub same_tail : {X : Type 0} {a b : X} {l m : List X} → a ∷ l ≡ b ∷ m → l ≡ m
-same_tail e = ap (drop 1) e
+pub cons-tail_unique : {X : Type 0} {a b : X} {l m : List X} → a ∷ l ≡ b ∷ m → l ≡ m
+cons-tail_unique e = ap (drop 1) e
 
 -- The place of a list of tokens is that of its first.
 pub BeginsAt-cons : (ts l : List Token) (t : Token) → ts ≡ t ∷ l → BeginsAt ts (Some t.at)

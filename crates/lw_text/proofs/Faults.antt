@@ -5,19 +5,20 @@ use Rattle.lw_text.proofs.Common.{IsOfReader, Unexpected}
 pub use Rattle.lw_base.proofs.api.Returns.{Err-clause_known}
 
 -- If a call failed with an error that has K, and K implies Q, its result satisfies a clause that requires Q of errors.
-pub exits : {T E : Type 0} {K : E → Type 0} (P : T → Type 0) (Q : E → Type 0) (r : Result T E)
+pub MatchResult-weakened_error : {T E : Type 0} {K : E → Type 0} (P : T → Type 0) (Q : E → Type 0) (r : Result T E)
     → IsErrAnd r K
     → ((y : E) → K y → Q y)
     → MatchResult r P Q
-exits P Q (Ok x) h f = absurd h
-exits P Q (Err y) h f = f y h
+MatchResult-weakened_error P Q (Ok x) h f = absurd h
+MatchResult-weakened_error P Q (Err y) h f = f y h
 
 -- A reader may report the cause that a token does not fit.
-pub unexpected : IsOfReader Unexpected
-unexpected = (λ e. cc, λ e. cc)
+pub IsOfReader-Unexpected : IsOfReader Unexpected
+IsOfReader-Unexpected = (λ e. cc, λ e. cc)
 
 -- If a call failed because memory ran out, its result satisfies a clause that requires nothing of such errors.
-pub ran_out : {T : Type 0} (P : T → Type 0) (Q : Refusal → Type 0) (r : Result T Refusal)
+pub MatchResult-Memory_error : {T : Type 0} (P : T → Type 0) (Q : Refusal → Type 0) (r : Result T Refusal)
     → IsErrAnd r (λ f. (f.at ≡ None) × (f.cause ≡ Memory))
     → MatchResult r P (λ f. f.cause ≢ Memory → Q f)
-ran_out P Q r h = exits P (λ f. f.cause ≢ Memory → Q f) r h (λ f k other. absurd (other k.1))
+MatchResult-Memory_error P Q r h =
+    MatchResult-weakened_error P (λ f. f.cause ≢ Memory → Q f) r h (λ f k other. absurd (other k.1))

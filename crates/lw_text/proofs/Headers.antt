@@ -1,15 +1,18 @@
--- The parse of the header is unique, name by name.
+-- The parse of the header is unique, name by name. A step of the proof that a text has one frame; the loop of
+-- `parse_header` goes by `NamesTo`.
 use Rattle.lw_text.proofs.Common.{◌≡◌, ℕ, zero, suc, ◌+◌, ◌∷◌, refl, ap, ◌∙◌, subst, arith, add-one, codes}
 use Rattle.lw_text.proofs.Common.{TokenList, thread_name, Names}
-use Rattle.lw_text.proofs.Texts.{marks_apart}
+use Rattle.lw_text.proofs.Texts.{bar_is_no_semicolon}
 
 -- The parse of a header's names is unique, and so is the number of threads.
 pub Names-unique : (k m n : ℕ) (ts r s : TokenList) → Names k m ts r → Names k n ts s → (m ≡ n) × (r ≡ s)
 Names-unique k zero n ts r s p q = absurd p
 Names-unique k (suc m) zero ts r s p q = absurd q
 Names-unique k (suc zero) (suc zero) ts r s p q = (refl, cc)
-Names-unique k (suc zero) (suc (suc n)) ts r s p q = absurd (let f = q.1 in marks_apart (let i : codes "|" ≡ codes ";" = cc in i))
-Names-unique k (suc (suc m)) (suc zero) ts r s p q = absurd (let f = p.1 in marks_apart (let i : codes "|" ≡ codes ";" = cc in i))
+Names-unique k (suc zero) (suc (suc n)) ts r s p q =
+    absurd (let f = q.1 in bar_is_no_semicolon (let i : codes "|" ≡ codes ";" = cc in i))
+Names-unique k (suc (suc m)) (suc zero) ts r s p q =
+    absurd (let f = p.1 in bar_is_no_semicolon (let i : codes "|" ≡ codes ";" = cc in i))
 Names-unique k (suc (suc m)) (suc (suc n)) ts r s p q =
     let i : q.0 ≡ p.0 = cc in
     let e = Names-unique (suc k) (suc m) (suc n) p.0 r s p.2 (subst (λ l. Names (suc k) (suc n) l s) i q.2) in
@@ -21,12 +24,13 @@ pub record NamesTo (start : TokenList) (k : ℕ) (here : TokenList) : Type 0 whe
   pub only : (n : ℕ) (rest : TokenList) → Names 0 n start rest → (m : ℕ) × (n ≡ k + suc m) × Names k (suc m) here rest
 
 -- At the start no name has been read.
-pub NamesTo-start : (start : TokenList) → NamesTo start 0 start
-NamesTo-start start = record {
+pub NamesTo-none_yet : (start : TokenList) → NamesTo start 0 start
+NamesTo-none_yet start = record {
   given = λ m rest h. subst (λ x. Names 0 x start rest) (let e : suc m ≡ 0 + suc m = omega arith in e) h;
   only = λ n rest h. at n rest h;
 }
   where
+    -- The names from the first on are not empty, and one more than those after it.
     at : (n : ℕ) (rest : TokenList) → Names 0 n start rest → (m : ℕ) × (n ≡ 0 + suc m) × Names 0 (suc m) start rest
     at zero rest h = absurd h
     at (suc n) rest h = (n, omega arith, h)
@@ -47,7 +51,7 @@ module _ (start here : TokenList) (k : ℕ) (p : NamesTo start k here) where
             → n ≡ k + suc m
             → Names k (suc m) here rest
             → (j : ℕ) × (n ≡ suc k + suc j) × Names (suc k) (suc j) next rest
-        at n rest zero i q = absurd (marks_apart (let j : codes "|" ≡ codes ";" = cc in j))
+        at n rest zero i q = absurd (bar_is_no_semicolon (let j : codes "|" ≡ codes ";" = cc in j))
         at n rest (suc m) i q =
             let g = q.1 in
             let j : q.0 ≡ next = cc in

@@ -1,4 +1,6 @@
--- Parses of lists are unique.
+-- Parses of lists are unique, if those of their elements are: lists with separators, lists up to a token,
+-- lists that end with a closing token. All lists of the grammar are of these kinds. Then the invariants of
+-- the loops that read such lists.
 use Rattle.lw_text.proofs.Common.{◌≡◌, ◌⊎◌, inl, inr, Bool, true, false, List, [], ◌∷◌, ◌++◌, refl, sym, ap}
 use Rattle.lw_text.proofs.Common.{◌∙◌, subst, append_assoc, ParsesNothing, ParsesMany, ParsesSepBy}
 use Rattle.lw_text.proofs.Common.{ParsesManyTill, ParsesSepEndBy, IsSuffix, ◌<◌, arith, length}
@@ -12,15 +14,15 @@ pub IsSuffix-join : {X : Type 0} {a b c : List X} → IsSuffix a b → IsSuffix 
 IsSuffix-join {c = c} p q = (p.0 ++ q.0, p.1 ∙ ap (λ x. p.0 ++ x) q.1 ∙ sym (append_assoc p.0 q.0 c))
 
 -- The tail of a list is unique.
-pub same_behind : {X : Type 0} {ts a b : List X} (x : X) → ts ≡ x ∷ a → ts ≡ x ∷ b → a ≡ b
-same_behind x e f = cc
+pub tail-unique : {X : Type 0} {ts a b : List X} (x : X) → ts ≡ x ∷ a → ts ≡ x ∷ b → a ≡ b
+tail-unique x e f = cc
 
 -- The tail of a shorter list is shorter.
-pub shorter_behind : {X : Type 0} (ts here next : List X) (x : X)
+pub tail-shorter : {X : Type 0} (ts here next : List X) (x : X)
     → length here < length ts
     → here ≡ x ∷ next
     → length next < length ts
-shorter_behind ts here next x shorter e = omega (arith, shorter, ap length e)
+tail-shorter ts here next x shorter e = omega (arith, shorter, ap length e)
 
 -- If x follows the elements xs, they parse as `xs ++ [x]`.
 pub ParsesMany-push : {T X : Type 0} (P : List T → X → List T → Type 0) (xs : List X) (ts here next : List T) (x : X)
@@ -252,6 +254,7 @@ module _ {T X : Type 0} (P : List T → X → List T → Type 0) (sep close : T)
         → ⊥
     Listing-here xs ys ts here rest b no_end never s = let p = Listing-peel xs ys ts here rest b s in at p.0 p.1 p.2
       where
+        -- By what follows the elements read.
         at : (more : List X) → ys ≡ xs ++ more → ParsesSepEndBy P sep close here more rest → ⊥
         at [] e q = no_end q
         at (y ∷ more) e q = never y more q.0 e q.1

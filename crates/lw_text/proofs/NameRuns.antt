@@ -1,16 +1,17 @@
--- Runs of name bytes and symbols: how a token starts, and that the token at a position is unique.
+-- Runs of name bytes and symbols: how a token starts, and that the token at a position is unique. So a lexer
+-- that takes the longest run, or the longer symbol, finds the only token.
 use Rattle.lw_text.proofs.Common.{IsOfKind, Symbol, is_ascii_digit, ◌≡◌, ℕ, ◌<◌, inl, inr, Bool, true, false}
 use Rattle.lw_text.proofs.Common.{not, [], ◌∷◌, ◌++◌, length, take, drop, refl, sym, ap, ◌∙◌, subst, arith}
 use Rattle.lw_text.proofs.Common.{◌==◌, nat_lt, slice_index_or, bytes_eq, ltb-true, eqb-true, AllByRecursion}
 use Rattle.lw_text.proofs.Common.{list_all, bytes_eq-Decides, not-true, false_from_ne_true, Bytes, is_blank}
-use Rattle.lw_text.proofs.Common.{is_name_byte, first_byte_is, any_all, same_byte, blank_all, all_ascii}
-use Rattle.lw_text.proofs.Common.{begins_trivia, begins_pair, is_one_byte_symbol, is_two_byte_symbol}
-use Rattle.lw_text.proofs.Common.{two_byte_symbols, one_byte_symbols, IsNumber, IsNameOrNumber, IsNameRun}
-use Rattle.lw_text.proofs.Common.{IsSymbol, IsToken, HoldsOfNothing, ◌≤◌, IsName, if◌then◌else◌, cases_Bool}
-use Rattle.lw_text.proofs.Common.{IsLongestRun, FailsInToken, no_number_run, no_name_run, TextCause, Number}
-use Rattle.lw_text.proofs.Common.{Name}
+use Rattle.lw_text.proofs.Common.{is_name_byte, first_byte_is, list_all-member, byte_eq-sound}
+use Rattle.lw_text.proofs.Common.{is_blank-passes, slice_index_or-ascii, begins_trivia, begins_pair}
+use Rattle.lw_text.proofs.Common.{is_one_byte_symbol, is_two_byte_symbol, two_byte_symbols, one_byte_symbols}
+use Rattle.lw_text.proofs.Common.{IsNumber, IsNameOrNumber, IsNameRun, IsSymbol, IsToken, HoldsOfNothing, ◌≤◌}
+use Rattle.lw_text.proofs.Common.{IsName, if◌then◌else◌, cases_Bool, IsLongestRun, FailsInToken}
+use Rattle.lw_text.proofs.Common.{no_number_run, no_name_run, TextCause, Number, Name}
 use Rattle.lw_text.proofs.api.Numbers.{number_first}
-use Rattle.lw_text.proofs.api.Spelling.{all_pass}
+use Rattle.lw_text.proofs.api.Spelling.{list_all-AllByRecursion}
 
 -- ---- runs of bytes
 
@@ -43,76 +44,79 @@ abbrev pub NameBytes : Bytes → Type 0
 NameBytes w = AllByRecursion (λ b. is_name_byte b ≡ true) w
 
 -- A test that all one-byte symbols of the list pass is passed by each byte that is one.
-single_all : (q : ℕ → Bool) (b : ℕ) → list_all q one_byte_symbols ≡ true → is_one_byte_symbol b ≡ true → q b ≡ true
-single_all q b all h = any_all (λ x y. x == y) same_byte q one_byte_symbols b all h
+each_one_byte_symbol : (q : ℕ → Bool) (b : ℕ) → list_all q one_byte_symbols ≡ true → is_one_byte_symbol b ≡ true → q b ≡ true
+each_one_byte_symbol q b all h = list_all-member (λ x y. x == y) byte_eq-sound q one_byte_symbols b all h
 
 -- A test that all two-byte symbols of the list pass is passed by any two bytes that are one.
-pair_all : (q : Bytes → Bool) (b c : ℕ)
+each_two_byte_symbol : (q : Bytes → Bool) (b c : ℕ)
     → list_all q two_byte_symbols ≡ true
     → is_two_byte_symbol b c ≡ true
     → q (b ∷ c ∷ []) ≡ true
-pair_all q b c all h = any_all bytes_eq (λ x y e. (bytes_eq-Decides x y).0 e) q two_byte_symbols (b ∷ c ∷ []) all h
+each_two_byte_symbol q b c all h =
+    list_all-member bytes_eq (λ x y e. (bytes_eq-Decides x y).0 e) q two_byte_symbols (b ∷ c ∷ []) all h
 
 -- ---- how a token starts
 
 -- A name or a number has at least one byte.
-kind_nonempty : (w : Bytes) → IsNameOrNumber w → 0 < length w
-kind_nonempty w (inl name) = name.0.some
-kind_nonempty w (inr (n, m)) = elim m.1 [ inl d ↦ d.0 | inr h ↦ omega (arith, ap length h.1) ]
+name_or_number_nonempty : (w : Bytes) → IsNameOrNumber w → 0 < length w
+name_or_number_nonempty w (inl name) = name.0.not_empty
+name_or_number_nonempty w (inr (n, m)) = elim m.1 [ inl d ↦ d.0 | inr h ↦ omega (arith, ap length h.1) ]
 
 -- A run of name bytes starts with one.
 pub run_front : (w rest : Bytes) → IsNameRun w rest → first_byte_is is_name_byte (w ++ rest) ≡ true
-run_front [] rest h = absurd (let n = kind_nonempty [] h.kind in omega arith)
+run_front [] rest h = absurd (let n = name_or_number_nonempty [] h.kind in omega arith)
 run_front (b ∷ w) rest h = h.all.0
 
 -- A symbol does not start with a name byte.
 pub symbol_front : (t rest : Bytes) → IsSymbol t rest → first_byte_is is_name_byte (t ++ rest) ≡ false
-symbol_front (b ∷ []) rest h = not-true (is_name_byte b) (single_all (λ x. not (is_name_byte x)) b refl h.0)
-symbol_front (b ∷ c ∷ []) rest h = not-true (is_name_byte b) (pair_all (first_byte_is (λ x. not (is_name_byte x))) b c refl h)
+symbol_front (b ∷ []) rest h = not-true (is_name_byte b) (each_one_byte_symbol (λ x. not (is_name_byte x)) b refl h.0)
+symbol_front (b ∷ c ∷ []) rest h =
+    not-true (is_name_byte b) (each_two_byte_symbol (first_byte_is (λ x. not (is_name_byte x))) b c refl h)
 symbol_front _ rest h = absurd h
 
 -- No trivia starts with a byte that passes a test which no blank and no `(` passes.
-pub no_trivia_at : (p : ℕ → Bool) (b : ℕ) (text : Bytes)
+pub no_trivia-first_byte : (p : ℕ → Bool) (b : ℕ) (text : Bytes)
     → list_all (λ x. not (p x)) (32 ∷ 9 ∷ 10 ∷ 13 ∷ []) ≡ true
     → p 40 ≡ false
     → p b ≡ true
     → begins_trivia (b ∷ text) ≡ false
-no_trivia_at p b text blanks bracket h =
-    let k = false_from_ne_true (is_blank b) (λ e. let i = not-true (p b) (blank_all (λ x. not (p x)) b blanks e) in cc) in
+no_trivia-first_byte p b text blanks bracket h =
+    let k = false_from_ne_true (is_blank b) (λ e. let i = not-true (p b) (is_blank-passes (λ x. not (p x)) b blanks e) in cc) in
     rw (k, (false_from_ne_true (b == 40) (λ e. let i = ap p (eqb-true b 40 e) in cc))) refl
 
 -- No trivia starts where a token does.
 pub token_no_trivia : (t rest : Bytes) → IsToken t rest → begins_trivia (t ++ rest) ≡ false
-token_no_trivia [] rest (inl w) = absurd (let n = kind_nonempty [] w.kind in omega arith)
-token_no_trivia (b ∷ t) rest (inl w) = no_trivia_at (is_name_byte) b (t ++ rest) refl refl w.all.0
-token_no_trivia (b ∷ []) rest (inr s) = rw ((not-true (is_blank b) (single_all (λ x. not (is_blank x)) b refl s.0)), s.2) refl
+token_no_trivia [] rest (inl w) = absurd (let n = name_or_number_nonempty [] w.kind in omega arith)
+token_no_trivia (b ∷ t) rest (inl w) = no_trivia-first_byte (is_name_byte) b (t ++ rest) refl refl w.all.0
+token_no_trivia (b ∷ []) rest (inr s) =
+    rw ((not-true (is_blank b) (each_one_byte_symbol (λ x. not (is_blank x)) b refl s.0)), s.2) refl
 token_no_trivia (b ∷ c ∷ []) rest (inr s) =
-    not-true (begins_trivia (b ∷ c ∷ [])) (pair_all (λ w. not (begins_trivia w)) b c refl s)
+    not-true (begins_trivia (b ∷ c ∷ [])) (each_two_byte_symbol (λ w. not (begins_trivia w)) b c refl s)
 token_no_trivia _ rest (inr s) = absurd s
 
 -- A token has at least one byte.
 pub token_nonempty : (t rest : Bytes) → IsToken t rest → 0 < length t
-token_nonempty t rest (inl w) = kind_nonempty t w.kind
+token_nonempty t rest (inl w) = name_or_number_nonempty t w.kind
 token_nonempty [] rest (inr s) = absurd s
 token_nonempty (b ∷ t) rest (inr s) = omega arith
 
 -- ---- the token at a position is unique
 
 -- If what follows b makes no two-byte symbol with it, then b and the next byte d are none.
-no_longer_there : (b d : ℕ) (r s : Bytes)
+not_two_byte_symbol : (b d : ℕ) (r s : Bytes)
     → r ≡ d ∷ s
     → first_byte_is (is_two_byte_symbol b) r ≡ false
     → is_two_byte_symbol b d ≡ true
     → ⊥
-no_longer_there b d r s e shut pair = let h = ap (first_byte_is (is_two_byte_symbol b)) e in cc
+not_two_byte_symbol b d r s e shut pair = let h = ap (first_byte_is (is_two_byte_symbol b)) e in cc
 
 -- The symbol at a position is unique.
 symbol-unique : (t r u s : Bytes) → IsSymbol t r → IsSymbol u s → t ++ r ≡ u ++ s → (t ≡ u) × (r ≡ s)
 symbol-unique (b ∷ []) r (c ∷ []) s p q e = (cc, cc)
 symbol-unique (b ∷ []) r (c ∷ d ∷ []) s p q e =
-    absurd (no_longer_there b d r s (cc) p.1 (let k : c ≡ b = cc in subst (λ x. is_two_byte_symbol x d ≡ true) k q))
+    absurd (not_two_byte_symbol b d r s (cc) p.1 (let k : c ≡ b = cc in subst (λ x. is_two_byte_symbol x d ≡ true) k q))
 symbol-unique (a ∷ b ∷ []) r (c ∷ []) s p q e =
-    absurd (no_longer_there c b s r (cc) q.1 (let k : a ≡ c = cc in subst (λ x. is_two_byte_symbol x b ≡ true) k p))
+    absurd (not_two_byte_symbol c b s r (cc) q.1 (let k : a ≡ c = cc in subst (λ x. is_two_byte_symbol x b ≡ true) k p))
 symbol-unique (a ∷ b ∷ []) r (c ∷ d ∷ []) s p q e = (cc, cc)
 symbol-unique [] r u s p q e = absurd p
 symbol-unique (a ∷ b ∷ c ∷ t) r u s p q e = absurd p
@@ -138,7 +142,7 @@ token-unique t r u s (inr p) (inr q) e = symbol-unique t r u s p q e
 -- ---- what the reader of one token must prove
 
 -- If the longest run of name bytes is neither a name nor a number, there is no token.
-pub no_kind : {bytes w r : Bytes}
+pub no_token-no_kind : {bytes w r : Bytes}
     → IsRun is_name_byte bytes w r
     → first_byte_is is_name_byte bytes ≡ true
     → (IsNameOrNumber w → ⊥)
@@ -146,10 +150,10 @@ pub no_kind : {bytes w r : Bytes}
     → bytes ≡ t ++ rest
     → IsToken t rest
     → ⊥
-no_kind {w = w} run front never t rest f (inl p) =
+no_token-no_kind {w = w} run front never t rest f (inl p) =
     never (subst IsNameOrNumber (run-unique is_name_byte t w (record { parts = f; all = p.all; longest = p.longest }) run).0
     p.kind)
-no_kind run front never t rest f (inr p) =
+no_token-no_kind run front never t rest f (inr p) =
     let h = symbol_front t rest p in
     let i = ap (first_byte_is is_name_byte) f in
     cc
@@ -182,11 +186,11 @@ pub long_symbol : (bytes t rest : Bytes)
 long_symbol bytes t rest (b, c, more, e, p) f g = rw (f, g, e) (refl, inr p, symbol_front (b ∷ c ∷ []) more p)
 
 -- If b makes no symbol with any next byte, what follows b makes no two-byte symbol with it.
-no_longer : (more : Bytes) (b : ℕ)
+no_two_byte_symbol : (more : Bytes) (b : ℕ)
     → ((d : ℕ) (l : Bytes) → more ≡ d ∷ l → is_two_byte_symbol b d ≡ true → ⊥)
     → first_byte_is (is_two_byte_symbol b) more ≡ false
-no_longer [] b h = refl
-no_longer (d ∷ l) b h = false_from_ne_true (is_two_byte_symbol b d) (h d l refl)
+no_two_byte_symbol [] b h = refl
+no_two_byte_symbol (d ∷ l) b h = false_from_ne_true (is_two_byte_symbol b d) (h d l refl)
 
 -- A one-byte symbol is the token, if no two-byte symbol starts there.
 pub short_symbol : {bytes more t rest : Bytes} {b : ℕ}
@@ -197,38 +201,43 @@ pub short_symbol : {bytes more t rest : Bytes} {b : ℕ}
     → rest ≡ drop 1 bytes
     → (bytes ≡ t ++ rest) × IsToken t rest × IsOfKind Symbol t
 short_symbol {bytes} {more} {t} {rest} {b} e no_pair single f g =
-    let longer = no_longer more b (λ d l k. no_pair b d l (e ∙ ap (λ x. b ∷ x) k)) in
+    let longer = no_two_byte_symbol more b (λ d l k. no_pair b d l (e ∙ ap (λ x. b ∷ x) k)) in
     let is : IsSymbol (b ∷ []) more = (single.0, longer, subst (λ x. begins_pair 40 42 x ≡ false) e single.1) in
     rw (f, g, e) (refl, inr is, symbol_front (b ∷ []) more is)
 
 -- ---- the kind of a run of name bytes, by its first byte
 
 -- The empty text is neither a name nor a number.
-pub empty_no_kind : {w : Bytes} → w ≡ [] → IsNameOrNumber w → ⊥
-empty_no_kind {w} is kind = let some = kind_nonempty w kind in omega (arith, ap length is)
+pub empty_is_no_name_or_number : {w : Bytes} → w ≡ [] → IsNameOrNumber w → ⊥
+empty_is_no_name_or_number {w} is kind = let some = name_or_number_nonempty w kind in omega (arith, ap length is)
 
 -- A run that starts with a digit and is no number is no name either.
-pub digit_no_kind : {w r : Bytes} {b : ℕ}
+pub digit_starts_no_name : {w r : Bytes} {b : ℕ}
     → w ≡ b ∷ r
     → is_ascii_digit b ≡ true
     → HoldsOfNothing (IsNumber w)
     → IsNameOrNumber w
     → ⊥
-digit_no_kind is digit never (inl name) =
+digit_starts_no_name is digit never (inl name) =
     let front = name.0.front in
     let begin = ap (first_byte_is is_ascii_digit) is in
     cc
-digit_no_kind is digit never (inr (n, number)) = never n number
+digit_starts_no_name is digit never (inr (n, number)) = never n number
 
 -- A run that does not start with a digit is a name if it is short enough.
-pub short_name : {w r : Bytes} {b : ℕ} → w ≡ b ∷ r → NameBytes w → is_ascii_digit b ≡ false → length w ≤ 32 → IsName w
-short_name is all other short =
-    (record { some = omega (arith, ap length is); all = all; front = ap (first_byte_is is_ascii_digit) is ∙ other }, short)
+pub short_run_is_name : {w r : Bytes} {b : ℕ} → w ≡ b ∷ r → NameBytes w → is_ascii_digit b ≡ false → length w ≤ 32 → IsName w
+short_run_is_name is all other short =
+    (record { not_empty = omega (arith, ap length is); all = all; front = ap (first_byte_is is_ascii_digit) is ∙ other }, short)
 
 -- A run that does not start with a digit and is too long is neither a name nor a number.
-pub long_no_kind : {w r : Bytes} {b : ℕ} → w ≡ b ∷ r → is_ascii_digit b ≡ false → (length w ≤ 32 → ⊥) → IsNameOrNumber w → ⊥
-long_no_kind is other long (inl name) = long name.1
-long_no_kind {w} is other long (inr (n, number)) =
+pub long_run_is_no_name : {w r : Bytes} {b : ℕ}
+    → w ≡ b ∷ r
+    → is_ascii_digit b ≡ false
+    → (length w ≤ 32 → ⊥)
+    → IsNameOrNumber w
+    → ⊥
+long_run_is_no_name is other long (inl name) = long name.1
+long_run_is_no_name {w} is other long (inr (n, number)) =
     let front = number_first w n number in
     let begin = ap (first_byte_is is_ascii_digit) is in
     cc
@@ -236,8 +245,9 @@ long_no_kind {w} is other long (inr (n, number)) =
 -- ---- all bytes of a symbol are below 128
 
 -- If the test says that all bytes of a list are below 128, the byte at each index is.
-below_all : (w : Bytes) → list_all (λ b. nat_lt b 128) w ≡ true → (i : ℕ) → slice_index_or w i 0 < 128
-below_all w h = all_ascii (λ b. nat_lt b 128) (λ b k. ltb-true b 128 k) w (all_pass (λ b. nat_lt b 128) w h)
+ascii_below_128 : (w : Bytes) → list_all (λ b. nat_lt b 128) w ≡ true → (i : ℕ) → slice_index_or w i 0 < 128
+ascii_below_128 w h =
+    slice_index_or-ascii (λ b. nat_lt b 128) (λ b k. ltb-true b 128 k) w (list_all-AllByRecursion (λ b. nat_lt b 128) w h)
 
 -- The bytes of a two-byte symbol are below 128.
 pub long_ascii : (bytes t : Bytes)
@@ -247,9 +257,9 @@ pub long_ascii : (bytes t : Bytes)
     → slice_index_or t i 0 < 128
 long_ascii bytes t (b, c, more, e, p) f i =
     let low =
-    any_all bytes_eq (λ x y h. (bytes_eq-Decides x y).0 h) (λ w. list_all (λ d. nat_lt d 128) w) two_byte_symbols (b ∷ c ∷ [])
-    refl p in
-    subst (λ w. slice_index_or w i 0 < 128) (sym (f ∙ ap (take 2) e)) (below_all (b ∷ c ∷ []) low i)
+    list_all-member bytes_eq (λ x y h. (bytes_eq-Decides x y).0 h) (λ w. list_all (λ d. nat_lt d 128) w) two_byte_symbols
+    (b ∷ c ∷ []) refl p in
+    subst (λ w. slice_index_or w i 0 < 128) (sym (f ∙ ap (take 2) e)) (ascii_below_128 (b ∷ c ∷ []) low i)
 
 -- The byte of a one-byte symbol is below 128.
 pub short_ascii : (bytes more t : Bytes) (b : ℕ)
@@ -259,8 +269,8 @@ pub short_ascii : (bytes more t : Bytes) (b : ℕ)
     → (i : ℕ)
     → slice_index_or t i 0 < 128
 short_ascii bytes more t b e single f i =
-    let low = any_all _ same_byte (λ d. list_all (λ d. nat_lt d 128) (d ∷ [])) one_byte_symbols b refl single in
-    subst (λ w. slice_index_or w i 0 < 128) (sym (f ∙ ap (take 1) e)) (below_all (b ∷ []) low i)
+    let low = list_all-member _ byte_eq-sound (λ d. list_all (λ d. nat_lt d 128) (d ∷ [])) one_byte_symbols b refl single in
+    subst (λ w. slice_index_or w i 0 < 128) (sym (f ∙ ap (take 1) e)) (ascii_below_128 (b ∷ []) low i)
 
 -- A run that is neither a name nor a number fails, for the cause that its first byte says.
 pub run_fails : {bytes w rest more : Bytes} {first : ℕ} {cause : TextCause}

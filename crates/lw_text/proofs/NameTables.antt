@@ -1,4 +1,5 @@
--- Sites in a growing table of names: their names are unchanged, and agree with their indices.
+-- Sites in a growing table of names: their names are unchanged, and agree with their indices. While a test is
+-- read, its sites are stored as indices in a table that grows; the grammar has names.
 use Rattle.lw_text.proofs.Common.{◌≡◌, ℕ, suc, ◌+◌, inl, inr, true, List, [], ◌∷◌, map, get_or, slice_get}
 use Rattle.lw_text.proofs.Common.{Some, refl, sym, ap, ◌∙◌, subst, arith, ◌++◌, append_assoc, append-nil}
 use Rattle.lw_text.proofs.Common.{fold, if◌then◌else◌, bytes_eq, AllByRecursion, list_any, get_or-append}
@@ -28,11 +29,11 @@ name_at_index (y ∷ names) t h = elim (cases_Bool (bytes_eq y t)) [
 ]
 
 -- A name inserted into the table is at its index.
-pub appeared_at : (before after : NameTable) (loc : ℕ) (t : Bytes)
+pub insert_name-get : (before after : NameTable) (loc : ℕ) (t : Bytes)
     → after ≡ insert_name before t
     → loc ≡ position_of_name after t
     → slice_get after loc ≡ Some t
-appeared_at before after loc t e f = rw (f, e) (name_at_index _ t (contains_name-insert_name before t))
+insert_name-get before after loc t e f = rw (f, e) (name_at_index _ t (contains_name-insert_name before t))
 
 -- A location in memory has the name at its index.
 pub site_by_name-at : (names : NameTable) (loc : ℕ) (t : Bytes)
@@ -51,37 +52,37 @@ insert_names-grows names (n ∷ ns) =
     (g.0 ++ h.0, h.1 ∙ ap (λ l. l ++ h.0) g.1 ∙ append_assoc names g.0 h.0)
 
 -- Inserting names preserves the name of a site of the table.
-pub site_by_name-along : (names ns : NameTable) (s : Site)
+pub site_by_name-insert_names : (names ns : NameTable) (s : Site)
     → IsIn names s
     → site_by_name (insert_names names ns) s ≡ site_by_name names s
-site_by_name-along names ns (made.Location loc) h =
+site_by_name-insert_names names ns (made.Location loc) h =
     let g = insert_names-grows names ns in ap InMemory (ap (λ l. get_or l loc []) g.1 ∙ get_or-append names g.0 [] loc h)
-site_by_name-along names ns (made.Register t r) h = refl
+site_by_name-insert_names names ns (made.Register t r) h = refl
 
 -- Inserting names preserves that a site is in the table.
-in-along : (names ns : NameTable) (s : Site) → IsIn names s → IsIn (insert_names names ns) s
-in-along names ns s h = omega (arith, h, insert_names-longer names ns)
+IsIn-insert_names : (names ns : NameTable) (s : Site) → IsIn names s → IsIn (insert_names names ns) s
+IsIn-insert_names names ns s h = omega (arith, h, insert_names-longer names ns)
 
 -- Lists of items that have sites.
 module _ {X Y : Type 0} (site : X → Site) (at : TokenList → X → Y)
     (stable : (names ns : NameTable) (x : X) → IsIn names (site x) → at (insert_names names ns) x ≡ at names x) where
   -- Inserting names preserves the names of all items of a list, and that their sites are in the table.
-  pub all_along : (names after ns : NameTable) (xs : List X)
+  pub names_and_sites-insert_names : (names after ns : NameTable) (xs : List X)
       → after ≡ insert_names names ns
       → AllByRecursion (λ x. IsIn names (site x)) xs
       → (map (at after) xs ≡ map (at names) xs) × AllByRecursion (λ x. IsIn after (site x)) xs
-  all_along names after ns [] e h = (refl, tt)
-  all_along names after ns (x ∷ xs) e h =
-      let k = all_along names after ns xs e h.1 in
+  names_and_sites-insert_names names after ns [] e h = (refl, tt)
+  names_and_sites-insert_names names after ns (x ∷ xs) e h =
+      let k = names_and_sites-insert_names names after ns xs e h.1 in
       let i : at after x ≡ at names x = ap (λ l. at l x) e ∙ stable names ns x h.0 in
       let j = k.0 in
-      (cc, (subst (λ l. IsIn l (site x)) (sym e) (in-along names ns (site x) h.0), k.1))
+      (cc, (subst (λ l. IsIn l (site x)) (sym e) (IsIn-insert_names names ns (site x) h.0), k.1))
 
 -- Inserting names preserves the named form of an initializer whose site is in the table.
-pub initializer-along : (names ns : NameTable) (e : Initializer)
+pub named_initializer-insert_names : (names ns : NameTable) (e : Initializer)
     → IsIn names e.site
     → named_initializer (insert_names names ns) e ≡ named_initializer names e
-initializer-along names ns e h = rw (site_by_name-along names ns e.site h) refl
+named_initializer-insert_names names ns e h = rw (site_by_name-insert_names names ns e.site h) refl
 
 -- ---- by indices
 

@@ -1,12 +1,14 @@
--- Quoted texts and lines `Key=value` have unique ends, and so have sequences of them, the notes; and a loop finds the end.
+-- Quoted texts and lines `Key=value` have unique ends, and so have sequences of them, the notes; and a loop
+-- finds the end. A step of the proof that a text has one frame; the loop of `after_notes` goes by `Passed`.
 use Rattle.lw_text.proofs.Common.{◌≡◌, ℕ, ◌<◌, ◌≤◌, inl, inr, Bool, true, false, not, [], ◌∷◌, ◌++◌, length}
 use Rattle.lw_text.proofs.Common.{length-append, append_assoc, refl, sym, ap, ◌∙◌, subst, arith, ◌==◌}
 use Rattle.lw_text.proofs.Common.{eqb-true, AllByRecursion, list_all, not-true, not-false, HoldsOfNothing}
 use Rattle.lw_text.proofs.Common.{Bytes, first_byte_is, is_key_byte, is_space, begins_trivia, Trivia, Quoted}
-use Rattle.lw_text.proofs.Common.{KeyLine, Note, Notes, note, IsSuffix, any_all, same_byte, All-mono, none}
+use Rattle.lw_text.proofs.Common.{KeyLine, Note, Notes, note, IsSuffix, list_all-member, byte_eq-sound}
+use Rattle.lw_text.proofs.Common.{All-mono, none}
 use Rattle.lw_text.proofs.Lists.{IsSuffix-join}
 use Rattle.lw_text.proofs.TriviaLemmas.{Trivia-unique, Trivia-suffix, Trivia-shorter}
-use Rattle.lw_text.proofs.NameRuns.{run-unique, no_trivia_at}
+use Rattle.lw_text.proofs.NameRuns.{run-unique, no_trivia-first_byte}
 
 -- ---- quoted texts
 
@@ -15,12 +17,12 @@ abbrev pub Without : ℕ → Bytes → Type 0
 Without c bytes = AllByRecursion (λ b. not (b == c) ≡ true) bytes
 
 -- Bytes that all differ from c satisfy `Without`.
-pub without : (c : ℕ) (bytes : Bytes) → AllByRecursion (λ b. (b == c) ≡ false) bytes → Without c bytes
-without c bytes all = All-mono (λ b. (b == c) ≡ false) _ (λ b e. ap not e) bytes all
+pub Without-of_all : (c : ℕ) (bytes : Bytes) → AllByRecursion (λ b. (b == c) ≡ false) bytes → Without c bytes
+Without-of_all c bytes all = All-mono (λ b. (b == c) ≡ false) _ (λ b e. ap not e) bytes all
 
 -- Bytes that satisfy `Without` all differ from c.
-with_none : (c : ℕ) (bytes : Bytes) → Without c bytes → AllByRecursion (λ b. (b == c) ≡ false) bytes
-with_none c bytes all = All-mono _ (λ b. (b == c) ≡ false) (λ b e. not-true (b == c) e) bytes all
+Without_inv : (c : ℕ) (bytes : Bytes) → Without c bytes → AllByRecursion (λ b. (b == c) ≡ false) bytes
+Without_inv c bytes all = All-mono _ (λ b. (b == c) ≡ false) (λ b e. not-true (b == c) e) bytes all
 
 -- The parts of a text that starts with a quote: the bytes up to the next quote, and the rest.
 module _ (text inside quoted rest : Bytes) (e : text ≡ 34 ∷ inside) (f : inside ≡ quoted ++ rest) (all : Without 34 quoted)
@@ -31,7 +33,7 @@ module _ (text inside quoted rest : Bytes) (e : text ≡ 34 ∷ inside) (f : ins
       let p = q.parts in
       let g : inside ≡ q.inside ++ 34 ∷ end = cc in
       sym (run-unique (λ b. not (b == 34)) q.inside quoted
-      (record { parts = g; all = without 34 q.inside q.plain; longest = refl })
+      (record { parts = g; all = Without-of_all 34 q.inside q.plain; longest = refl })
       (record { parts = f; all = all; longest = longest })).1
 
   -- If no quote follows, there is no quoted text.
@@ -44,7 +46,7 @@ module _ (text inside quoted rest : Bytes) (e : text ≡ 34 ∷ inside) (f : ins
       let h : not (b == 34) ≡ false = subst (λ x. first_byte_is (λ c. not (c == 34)) x ≡ false) g longest in
       let i : b ≡ 34 = eqb-true b 34 (not-false (b == 34) h) in
       let j : rest ≡ 34 ∷ after = cc in
-      record { inside = quoted; parts = e ∙ ap (λ x. 34 ∷ x) (f ∙ ap (λ x. quoted ++ x) j); plain = with_none 34 quoted all }
+      record { inside = quoted; parts = e ∙ ap (λ x. 34 ∷ x) (f ∙ ap (λ x. quoted ++ x) j); plain = Without_inv 34 quoted all }
 
 -- A quoted text starts with a quote.
 pub Quoted-front : (text end : Bytes) → Quoted text end → first_byte_is (λ b. b == 34) text ≡ true
@@ -54,7 +56,7 @@ Quoted-front text end q = ap (first_byte_is (λ b. b == 34)) q.parts
 pub Quoted-unique : (text a b : Bytes) → Quoted text a → Quoted text b → a ≡ b
 Quoted-unique text a b p q =
     let k : 34 ∷ b ≡ 34 ∷ a =
-    Quoted-rest text (q.inside ++ 34 ∷ b) q.inside (34 ∷ b) q.parts refl (without 34 q.inside q.plain) refl a p in
+    Quoted-rest text (q.inside ++ 34 ∷ b) q.inside (34 ∷ b) q.parts refl (Without-of_all 34 q.inside q.plain) refl a p in
     cc
 
 -- ---- lines `Key=value`
@@ -69,7 +71,8 @@ Spaces bytes = AllByRecursion (λ b. is_space b ≡ true) bytes
 
 -- A space may not be in a key.
 space_no_key : (b : ℕ) → is_space b ≡ true → is_key_byte b ≡ false
-space_no_key b h = not-true (is_key_byte b) (any_all (λ x y. x == y) same_byte (λ x. not (is_key_byte x)) (32 ∷ 9 ∷ []) b refl h)
+space_no_key b h =
+    not-true (is_key_byte b) (list_all-member (λ x y. x == y) byte_eq-sound (λ x. not (is_key_byte x)) (32 ∷ 9 ∷ []) b refl h)
 
 -- No key continues after the spaces and `=`.
 behind_key : (spaces more : Bytes) → Spaces spaces → first_byte_is is_key_byte (spaces ++ 61 ∷ more) ≡ false
@@ -99,8 +102,8 @@ module _ (text key rest spaces left : Bytes) (e : text ≡ key ++ rest) (all : K
       (outer.0, sym inner.1)
 
   -- If no `=` follows the spaces, there is no line `Key=value`.
-  pub no_equals : first_byte_is (λ b. b == 61) left ≡ false → HoldsOfNothing (KeyLine text)
-  no_equals other end p =
+  pub no_key_line-no_equals : first_byte_is (λ b. b == 61) left ≡ false → HoldsOfNothing (KeyLine text)
+  no_key_line-no_equals other end p =
       let k = KeyLine-parts end p in
       let h = ap (first_byte_is (λ b. b == 61)) k.1 in
       cc
@@ -118,10 +121,10 @@ module _ (text key rest spaces left : Bytes) (e : text ≡ key ++ rest) (all : K
     spaces = spaces;
     value = value;
     parts = e ∙ ap (λ x. key ++ x) (f ∙ ap (λ x. spaces ++ x) (g ∙ ap (λ x. 61 ∷ x) h)) ∙ sym (line_parts key spaces value end);
-    some = some;
+    not_empty = some;
     all = all;
     spaced = spaced;
-    one_line = with_none 10 value one;
+    one_line = Without_inv 10 value one;
     longest = last;
   }
 
@@ -133,8 +136,8 @@ KeyLine-unique text a b p q =
     (q.parts ∙ line_parts q.key _ q.value b) q.all (behind_key q.spaces _ q.spaced) refl q.spaced refl a p in
     let ends : p.value ++ a ≡ q.value ++ b = cc in
     (run-unique (λ b. not (b == 10)) p.value q.value {text = p.value ++ a}
-    (record { parts = refl; all = without 10 _ p.one_line; longest = p.longest })
-    (record { parts = ends; all = without 10 q.value q.one_line; longest = q.longest })).1
+    (record { parts = refl; all = Without-of_all 10 _ p.one_line; longest = p.longest })
+    (record { parts = ends; all = Without-of_all 10 q.value q.one_line; longest = q.longest })).1
 
 -- A text that starts with a key starts with a byte of a key.
 pub key_front : (key more : Bytes) → 0 < length key → Keys key → first_byte_is is_key_byte (key ++ more) ≡ true
@@ -145,30 +148,30 @@ key_front (b ∷ key) more some all = all.0
 pub KeyLine-front : (text end : Bytes) → KeyLine text end → first_byte_is is_key_byte text ≡ true
 KeyLine-front text end p =
     let e = p.parts ∙ line_parts p.key p.spaces p.value end in
-    ap (first_byte_is is_key_byte) e ∙ key_front p.key (p.spaces ++ 61 ∷ (p.value ++ end)) p.some p.all
+    ap (first_byte_is is_key_byte) e ∙ key_front p.key (p.spaces ++ 61 ∷ (p.value ++ end)) p.not_empty p.all
 
 -- If the text does not start with a byte of a key, there is no line `Key=value`.
-pub no_key : (text key rest : Bytes)
+pub no_key_line-empty_key : (text key rest : Bytes)
     → text ≡ key ++ rest
     → first_byte_is is_key_byte rest ≡ false
     → length key ≡ 0
     → HoldsOfNothing (KeyLine text)
-no_key text [] rest e longest gone end p =
+no_key_line-empty_key text [] rest e longest gone end p =
     let h = KeyLine-front text end p in
     let k = ap (first_byte_is is_key_byte) e in
     cc
-no_key text (b ∷ key) rest e longest gone end p = omega (arith, gone)
+no_key_line-empty_key text (b ∷ key) rest e longest gone end p = omega (arith, gone)
 
 -- ---- one note
 
 -- No text starts with a byte that passes p and one that passes q, if no byte passes both.
-apart : (p q : ℕ → Bool) (text : Bytes)
+first_byte-not_both_tests : (p q : ℕ → Bool) (text : Bytes)
     → first_byte_is p text ≡ true
     → first_byte_is q text ≡ true
     → ((b : ℕ) → p b ≡ true → q b ≡ false)
     → ⊥
-apart p q [] h k never = cc
-apart p q (b ∷ text) h k never = let n = never b h in cc
+first_byte-not_both_tests p q [] h k never = cc
+first_byte-not_both_tests p q (b ∷ text) h k never = let n = never b h in cc
 
 -- If a key may not contain c, no byte equal to c may be in a key.
 byte_no_key : (c b : ℕ) → is_key_byte c ≡ false → (b == c) ≡ true → is_key_byte b ≡ false
@@ -177,7 +180,8 @@ byte_no_key c b other h = ap is_key_byte (eqb-true b c h) ∙ other
 -- No text starts both with a quoted text and with a line `Key=value`.
 pub no_quote_is_key : (text a b : Bytes) → Quoted text a → KeyLine text b → ⊥
 no_quote_is_key text a b q p =
-    apart (λ x. x == 34) is_key_byte text (Quoted-front text a q) (KeyLine-front text b p) (λ x h. byte_no_key 34 x refl h)
+    first_byte-not_both_tests (λ x. x == 34) is_key_byte text (Quoted-front text a q) (KeyLine-front text b p)
+    (λ x h. byte_no_key 34 x refl h)
 
 -- The end of a note is unique.
 pub Note-unique : (text a b : Bytes) → Note text a → Note text b → a ≡ b
@@ -193,7 +197,7 @@ trivia_free : (p : ℕ → Bool) (text : Bytes)
     → first_byte_is p text ≡ true
     → begins_trivia text ≡ false
 trivia_free p [] blanks bracket h = refl
-trivia_free p (b ∷ text) blanks bracket h = no_trivia_at p b text blanks bracket h
+trivia_free p (b ∷ text) blanks bracket h = no_trivia-first_byte p b text blanks bracket h
 
 -- No trivia starts where a note does.
 pub note_no_trivia : (text end : Bytes) → Note text end → begins_trivia text ≡ false
@@ -207,59 +211,61 @@ block_no_trivia text h = trivia_free (λ b. b == 123) text refl refl h
 -- No note starts with `{`.
 pub note_no_block : (text end : Bytes) → first_byte_is (λ b. b == 123) text ≡ true → Note text end → ⊥
 note_no_block text end h (inl q) =
-    apart (λ b. b == 34) (λ b. b == 123) text (Quoted-front text end q) h (λ b k. ap (λ x. x == 123) (eqb-true b 34 k))
-note_no_block text end h (inr p) = apart _ _ text h (KeyLine-front _ end p) (λ b k. byte_no_key 123 b refl k)
+    first_byte-not_both_tests (λ b. b == 34) (λ b. b == 123) text (Quoted-front text end q) h
+    (λ b k. ap (λ x. x == 123) (eqb-true b 34 k))
+note_no_block text end h (inr p) = first_byte-not_both_tests _ _ text h (KeyLine-front _ end p) (λ b k. byte_no_key 123 b refl k)
 
 -- A text that starts with no quote and with no line `Key=value` starts with no note.
-pub no_note : (text : Bytes)
+pub no_note-neither_kind : (text : Bytes)
     → first_byte_is (λ b. b == 34) text ≡ false
     → HoldsOfNothing (KeyLine text)
     → HoldsOfNothing (Note text)
-no_note text other never end (inl q) = let h = Quoted-front text end q in cc
-no_note text other never end (inr p) = never end p
+no_note-neither_kind text other never end (inl q) = let h = Quoted-front text end q in cc
+no_note-neither_kind text other never end (inr p) = never end p
 
 -- A text that starts with a quote but with no quoted text starts with no note.
-pub no_quote : (text : Bytes)
+pub no_note-unclosed_quote : (text : Bytes)
     → first_byte_is (λ b. b == 34) text ≡ true
     → HoldsOfNothing (Quoted text)
     → HoldsOfNothing (Note text)
-no_quote text here never end (inl q) = never end q
-no_quote text here never end (inr p) =
-    apart (λ b. b == 34) is_key_byte text here (KeyLine-front text end p) (λ b h. byte_no_key 34 b refl h)
+no_note-unclosed_quote text here never end (inl q) = never end q
+no_note-unclosed_quote text here never end (inr p) =
+    first_byte-not_both_tests (λ b. b == 34) is_key_byte text here (KeyLine-front text end p) (λ b h. byte_no_key 34 b refl h)
 
 -- A note takes at least one byte, and what follows it is a suffix of the text.
 pub Note-suffix : (text end : Bytes) → Note text end → (front : Bytes) × (text ≡ front ++ end) × (0 < length front)
 Note-suffix text end (inl q) =
     (34 ∷ q.inside ++ 34 ∷ [], q.parts ∙ ap (λ x. 34 ∷ x) (sym (append_assoc q.inside (34 ∷ []) end)), omega arith)
 Note-suffix text end (inr p) =
-    (p.key ++ p.spaces ++ 61 ∷ p.value, p.parts, omega (arith, p.some, length-append (p.key ++ p.spaces) (61 ∷ p.value)))
+    (p.key ++ p.spaces ++ 61 ∷ p.value, p.parts, omega (arith, p.not_empty, length-append (p.key ++ p.spaces) (61 ∷ p.value)))
 
 -- ---- sequences of notes
 
 -- If notes start with trivia and a note, the others follow these.
-pub at_note : {text mid after rest : Bytes} → Notes text rest → Trivia text mid → Note mid after → Notes after rest
-at_note {mid = mid} {after} (none {rest = rest} t h) g n =
+pub Notes-note_inv : {text mid after rest : Bytes} → Notes text rest → Trivia text mid → Note mid after → Notes after rest
+Notes-note_inv {mid = mid} {after} (none {rest = rest} t h) g n =
     absurd (let e : mid ≡ rest = Trivia-unique g t (note_no_trivia mid after n) (block_no_trivia rest h) in
     note_no_block mid after (subst (λ x. first_byte_is (λ b. b == 123) x ≡ true) (sym e) h) n)
-at_note {mid = mid} {after} {rest} (note {mid = m} {after = a} t f more) g n =
+Notes-note_inv {mid = mid} {after} {rest} (note {mid = m} {after = a} t f more) g n =
     let e : m ≡ mid = Trivia-unique t g (note_no_trivia m a f) (note_no_trivia mid after n) in
     subst (λ x. Notes x rest) (Note-unique mid a after (subst (λ x. Note x a) e f) n) more
 
 -- If `{` follows the trivia, the notes have ended.
-at_block : {text start rest : Bytes}
+Notes-block_inv : {text start rest : Bytes}
     → Notes text rest
     → Trivia text start
     → first_byte_is (λ b. b == 123) start ≡ true
     → start ≡ rest
-at_block {start = start} (none {rest = rest} t k) g h = Trivia-unique g t (block_no_trivia start h) (block_no_trivia rest k)
-at_block {start = start} (note {mid = m} {after = a} t f more) g h =
+Notes-block_inv {start = start} (none {rest = rest} t k) g h =
+    Trivia-unique g t (block_no_trivia start h) (block_no_trivia rest k)
+Notes-block_inv {start = start} (note {mid = m} {after = a} t f more) g h =
     absurd (let e : start ≡ m = Trivia-unique g t (block_no_trivia start h) (note_no_trivia m a f) in
     note_no_block m a (subst (λ x. first_byte_is (λ b. b == 123) x ≡ true) e h) f)
 
 -- The end of a sequence of notes is unique.
 pub Notes-unique : {text a b : Bytes} → Notes text a → Notes text b → a ≡ b
-Notes-unique (none g h) q = at_block q g h
-Notes-unique (note g n m) q = Notes-unique m (at_note q g n)
+Notes-unique (none g h) q = Notes-block_inv q g h
+Notes-unique (note g n m) q = Notes-unique m (Notes-note_inv q g n)
 
 -- What follows a sequence of notes is a suffix of the text.
 pub Notes-suffix : {text rest : Bytes} → Notes text rest → IsSuffix text rest
@@ -281,7 +287,7 @@ Passed_note {bytes} {rest} {start} {after} p g n =
     let t = Note-suffix start after n in
     record {
       given = λ end m. p.given end (note g n m);
-      only = λ end m. at_note (p.only end m) g n;
+      only = λ end m. Notes-note_inv (p.only end m) g n;
       bound = omega (arith, p.bound, Trivia-shorter g, ap length t.1, length-append t.0 after);
     }
 
@@ -299,27 +305,32 @@ pub Passed_done : {bytes rest start : Bytes}
 Passed_done {start = start} p g h = p.given start (none g h)
 
 -- Notes start with trivia that no more trivia follows.
-pub first_start : {text rest : Bytes} → Notes text rest → (start : Bytes) × Trivia text start × (begins_trivia start ≡ false)
-first_start (none {rest = rest} t h) = (rest, t, block_no_trivia rest h)
-first_start (note {mid = mid} {after = after} t n m) = (mid, t, note_no_trivia mid after n)
+pub Notes-trivia_first : {text rest : Bytes}
+    → Notes text rest
+    → (start : Bytes) × Trivia text start × (begins_trivia start ≡ false)
+Notes-trivia_first (none {rest = rest} t h) = (rest, t, block_no_trivia rest h)
+Notes-trivia_first (note {mid = mid} {after = after} t n m) = (mid, t, note_no_trivia mid after n)
 
 -- If a comment among the notes is not closed, there is no sequence of notes.
 pub Passed_open : {bytes rest : Bytes}
     → Passed bytes rest
     → ((start : Bytes) → begins_trivia start ≡ false → Trivia rest start → ⊥)
     → HoldsOfNothing (Notes bytes)
-Passed_open p never end m = let k = first_start (p.only end m) in never k.0 k.2 k.1
+Passed_open p never end m = let k = Notes-trivia_first (p.only end m) in never k.0 k.2 k.1
 
 -- If neither `{` nor a note follows the trivia, there is no sequence of notes.
-pub Passed_none : {bytes rest start : Bytes}
+pub no_notes-no_note : {bytes rest start : Bytes}
     → Passed bytes rest
     → Trivia rest start
     → begins_trivia start ≡ false
     → first_byte_is (λ b. b == 123) start ≡ false
     → HoldsOfNothing (Note start)
     → HoldsOfNothing (Notes bytes)
-Passed_none {bytes} {rest} {start} p g stop other never end m = at (p.only end m)
+no_notes-no_note {bytes} {rest} {start} p g stop other never end m = no_notes-by_first_start (p.only end m)
   where
-    at : {text : Bytes} → Notes rest text → ⊥
-    at (none {rest = last} t h) = let e : start ≡ last = Trivia-unique g t stop (block_no_trivia last h) in cc
-    at (note {mid = m} {after = a} t f more) = never a (subst (λ x. Note x a) (Trivia-unique t g (note_no_trivia m a f) stop) f)
+    -- The rest begins no notes.
+    no_notes-by_first_start : {text : Bytes} → Notes rest text → ⊥
+    no_notes-by_first_start (none {rest = last} t h) =
+        let e : start ≡ last = Trivia-unique g t stop (block_no_trivia last h) in cc
+    no_notes-by_first_start (note {mid = m} {after = a} t f more) =
+        never a (subst (λ x. Note x a) (Trivia-unique t g (note_no_trivia m a f) stop) f)

@@ -1,4 +1,5 @@
--- The number that digits represent, as a loop computes it digit by digit.
+-- The number that digits represent, as a loop computes it digit by digit. The loop of `digits` goes by
+-- `Reads`.
 use Rattle.lw_text.proofs.Common.{◌≡◌, ℕ, ◌+◌, ◌*◌, ◌^◌, ◌<◌, ◌≤◌, [], ◌∷◌, sym, ap, ◌∙◌, subst, arith}
 use Rattle.lw_text.proofs.Common.{mul-le-mul_left, mul_comm, Option, Some, None, IfNone, digit_value, Bytes}
 use Rattle.lw_text.proofs.Common.{Digits}
@@ -20,23 +21,27 @@ pub record Reads (base : ℕ) (digits : Bytes) (n : ℕ) (rest : Bytes) : Type 0
 
 module _ {base : ℕ} {digits : Bytes} {n : ℕ} {rest next : Bytes} {x : ℕ} (r : Reads base digits n rest)
     (e : rest ≡ x ∷ next) where
-  here : (v : ℕ) → Digits base 0 digits v → Digits base n (x ∷ next) v
-  here v d = subst (λ l. Digits base n l v) e (r.only v d)
+  -- The digits from this one on represent the same number.
+  Digits-from_value : (v : ℕ) → Digits base 0 digits v → Digits base n (x ∷ next) v
+  Digits-from_value v d = subst (λ l. Digits base n l v) e (r.only v d)
 
   -- If one more digit makes the number `2 ^ 32` or more, the digits represent no smaller number.
   pub Reads-large : 1 ≤ base → 2 ^ 32 ≤ base * n + digit_value x → (v : ℕ) → v < 2 ^ 32 → Digits base 0 digits v → ⊥
-  Reads-large pos large v lt d = omega (arith, large, lt, Digits-grow base (base * n + digit_value x) next v pos (here v d).1)
+  Reads-large pos large v lt d =
+      omega (arith, large, lt, Digits-grow base (base * n + digit_value x) next v pos (Digits-from_value v d).1)
 
   -- One more digit preserves the invariant, with the number extended by it.
   pub Reads-next : (m : ℕ) → m ≡ base * n + digit_value x → digit_value x < base → Reads base digits m next
-  Reads-next m f small =
-      rw f (record { given = λ v d. r.given v (subst (λ l. Digits base n l v) (sym e) (small, d)); only = λ v d. (here v d).1 })
+  Reads-next m f small = rw f (record {
+    given = λ v d. r.given v (subst (λ l. Digits base n l v) (sym e) (small, d));
+    only = λ v d. (Digits-from_value v d).1;
+  })
 
 -- The number with one more digit, as the code computes it, is the one of `Digits`.
 pub next_value : (base n x b d : ℕ) → b ≡ base → d ≡ digit_value x → n * b + d ≡ base * n + digit_value x
 next_value base n x b d e f = rw (e, f) (ap (λ y. y + digit_value x) (mul_comm n base))
 
 -- A fact that holds in every case holds if an option is `None`.
-pub if_none : {A : Type 0} (o : Option A) (P : Type 0) → P → IfNone o P
-if_none None P p = p
-if_none (Some x) P p = tt
+pub IfNone-of_fact : {A : Type 0} (o : Option A) (P : Type 0) → P → IfNone o P
+IfNone-of_fact None P p = p
+IfNone-of_fact (Some x) P p = tt

@@ -1,4 +1,5 @@
--- A text fails at one byte only, and for one cause; and a text with a frame does not fail.
+-- A text fails at one byte only, and for one cause; and a text with a frame does not fail. Two laws of
+-- read.rt: the fault that `read_frame` returns is a function of the text.
 use Rattle.lw_text.proofs.Common.{◌≡◌, ℕ, ◌+◌, inl, inr, List, [], ◌∷◌, ◌++◌, length, refl, sym, ap, ◌∙◌}
 use Rattle.lw_text.proofs.Common.{subst, arith, length-append, length-map, Arch, Bytes, TokenList}
 use Rattle.lw_text.proofs.Common.{PlacedToken, PlacedTokens, ParsesMany, ParsesNothing, IsFirstToken, Tokens}
@@ -9,31 +10,33 @@ use Rattle.lw_text.proofs.ByteFailures.{FailsInFirstToken-unique, FailsInFirstTo
 use Rattle.lw_text.proofs.ByteFailures.{FailsInFirstToken-end, FailsInPreamble-unique, FailsInPreamble-not}
 use Rattle.lw_text.proofs.Preambles.{Preamble-unique}
 use Rattle.lw_text.proofs.StreamFailures.{placed_many}
-use Rattle.lw_text.proofs.TokenRows.{IsFirstToken-unique, no_first, same_token}
+use Rattle.lw_text.proofs.TokenRows.{IsFirstToken-unique, no_first_token-trivia_only, placed_tokens_equal}
 use Rattle.lw_text.proofs.WholeFailures.{FailsInTest-unique, FailsInTest-not}
 
 -- A text's tokens, up to where none follows, and their end are unique.
-tokens_one : (len : ℕ) (text end stop : Bytes) (ts us : List PlacedToken)
+HasTokens-unique : (len : ℕ) (text end stop : Bytes) (ts us : List PlacedToken)
     → HasTokens len text ts end
     → HasTokens len text us stop
     → (ts ≡ us) × (end ≡ stop)
-tokens_one len text end stop [] [] p q = (refl, sym p.0 ∙ q.0)
-tokens_one len text end stop [] (u ∷ us) p q = absurd (p.1 u.text q.0.0 (subst (λ x. IsFirstToken x u.text q.0.0) p.0 q.0.1.0))
-tokens_one len text end stop (t ∷ ts) [] p q = absurd (q.1 t.text p.0.0 (subst (λ x. IsFirstToken x t.text p.0.0) q.0 p.0.1.0))
-tokens_one len text end stop (t ∷ ts) (u ∷ us) p q =
+HasTokens-unique len text end stop [] [] p q = (refl, sym p.0 ∙ q.0)
+HasTokens-unique len text end stop [] (u ∷ us) p q =
+    absurd (p.1 u.text q.0.0 (subst (λ x. IsFirstToken x u.text q.0.0) p.0 q.0.1.0))
+HasTokens-unique len text end stop (t ∷ ts) [] p q =
+    absurd (q.1 t.text p.0.0 (subst (λ x. IsFirstToken x t.text p.0.0) q.0 p.0.1.0))
+HasTokens-unique len text end stop (t ∷ ts) (u ∷ us) p q =
     let e = IsFirstToken-unique text t.text p.0.0 u.text q.0.0 p.0.1.0 q.0.1.0 in
-    let same : t ≡ u = same_token t u (omega (arith, p.0.1.1, q.0.1.1, ap length e.0, ap length e.1)) e.0 in
+    let same : t ≡ u = placed_tokens_equal t u (omega (arith, p.0.1.1, q.0.1.1, ap length e.0, ap length e.1)) e.0 in
     let more =
-    tokens_one len p.0.0 end stop ts us (p.0.2, p.1)
+    HasTokens-unique len p.0.0 end stop ts us (p.0.2, p.1)
     (subst (λ x. ParsesMany (IsPlacedToken len) x us stop) (sym e.1) q.0.2, q.1) in
     (ap (λ x. x ∷ ts) same ∙ ap (λ xs. u ∷ xs) more.0, more.1)
 
 -- Equal lists with ends of the same length have equal ends.
-same_end : {X : Type 0} (a b c d : List X) → a ++ c ≡ b ++ d → length c ≡ length d → c ≡ d
-same_end [] [] c d e n = e
-same_end [] (y ∷ b) c d e n = absurd (omega (arith, ap length e, n, length-append b d))
-same_end (x ∷ a) [] c d e n = absurd (omega (arith, ap length e, n, length-append a c))
-same_end (x ∷ a) (y ∷ b) c d e n = same_end a b c d (cc e) n
+append-equal_ends : {X : Type 0} (a b c d : List X) → a ++ c ≡ b ++ d → length c ≡ length d → c ≡ d
+append-equal_ends [] [] c d e n = e
+append-equal_ends [] (y ∷ b) c d e n = absurd (omega (arith, ap length e, n, length-append b d))
+append-equal_ends (x ∷ a) [] c d e n = absurd (omega (arith, ap length e, n, length-append a c))
+append-equal_ends (x ∷ a) (y ∷ b) c d e n = append-equal_ends a b c d (cc e) n
 
 -- Tokens do not fail both at one of them and at their end.
 token_or_end : (arch : Arch) (ts : TokenList) (t : Bytes) (rest : TokenList) (c d : TextCause)
@@ -44,11 +47,12 @@ token_or_end arch ts t rest c d p q =
     let same = (FailsInTest-unique arch ts (t ∷ rest) [] c d p q).0 in omega (arith, ap length same)
 
 -- The tokens of a whole text, with their end.
-whole_tokens : (len : ℕ) (text : Bytes) (tokens : List PlacedToken)
+HasTokens-PlacedTokens : (len : ℕ) (text : Bytes) (tokens : List PlacedToken)
     → PlacedTokens len text tokens
     → (end : Bytes) × HasTokens len text tokens end × Trivia end []
-whole_tokens len text tokens p =
-    let read = placed_many len text tokens p in (read.0, (read.1, λ t rest is. no_first read.0 t rest read.2 is), read.2)
+HasTokens-PlacedTokens len text tokens p =
+    let read = placed_many len text tokens p in
+    (read.0, (read.1, λ t rest is. no_first_token-trivia_only read.0 t rest read.2 is), read.2)
 
 -- Where the next token fails, no token follows.
 fails_tokens : (len : ℕ) (text end rest : Bytes) (tokens : List PlacedToken) (c : TextCause)
@@ -64,60 +68,63 @@ module _ (arch : Arch) (len : ℕ) (text : Bytes) where
       → FailsInBody arch len text n d
       → (m ≡ n) × (c ≡ d)
   FailsInBody-unique m n c d (at_token tokens behind token before end read parts at fails) (at_token others after other front stop also too place way) =
-      let same = (tokens_one len text end stop tokens others read also).0 in
+      let same = (HasTokens-unique len text end stop tokens others read also).0 in
       let u =
       FailsInTest-unique arch (texts_of_tokens tokens) (texts_of_tokens (token ∷ behind)) (texts_of_tokens (other ∷ after)) c d
       fails (subst (λ ts. FailsInTest arch (texts_of_tokens ts) (texts_of_tokens (other ∷ after)) d) (sym same) way) in
-      let ends = same_end before front (token ∷ behind) (other ∷ after) (sym parts ∙ same ∙ too) (omega (
+      let ends = append-equal_ends before front (token ∷ behind) (other ∷ after) (sym parts ∙ same ∙ too) (omega (
         arith,
         ap length u.0,
         length-map (token ∷ behind) (λ (t : PlacedToken). t.text),
         length-map (other ∷ after) (λ (t : PlacedToken). t.text),
       )) in
-      (at ∙ ap first_at ends ∙ sym place, u.1 (λ e. omega (arith, ap length e)))
+      (at ∙ ap first_offset ends ∙ sym place, u.1 (λ e. omega (arith, ap length e)))
     where
-      first_at : List PlacedToken → ℕ
-      first_at [] = 0
-      first_at (t ∷ ts) = t.at
+      -- The offset of the first token; 0 if there is none.
+      first_offset : List PlacedToken → ℕ
+      first_offset [] = 0
+      first_offset (t ∷ ts) = t.at
   FailsInBody-unique m n c d (at_token tokens behind token before end read parts at fails) (in_next_token others stop rest e many next place (inl way)) =
-      let same = (tokens_one len text end stop tokens others read (fails_tokens len text stop rest others d many next)).0 in
+      let same = (HasTokens-unique len text end stop tokens others read (fails_tokens len text stop rest others d many next)).0 in
       absurd (token_or_end arch (texts_of_tokens tokens) token.text (texts_of_tokens behind) c e fails
       (subst (λ ts. FailsInTest arch (texts_of_tokens ts) [] e) (sym same) way))
   FailsInBody-unique m n c d (at_token tokens behind token before end read parts at fails) (in_next_token others stop rest e many next place (inr (s, p, is, whole))) =
-      let same = (tokens_one len text end stop tokens others read (fails_tokens len text stop rest others d many next)).0 in
+      let same = (HasTokens-unique len text end stop tokens others read (fails_tokens len text stop rest others d many next)).0 in
       absurd (FailsInTest-not arch (texts_of_tokens others) (texts_of_tokens (token ∷ behind)) c
       (subst (λ ts. FailsInTest arch (texts_of_tokens ts) (texts_of_tokens (token ∷ behind)) c) same fails) s p is whole)
   FailsInBody-unique m n c d (at_token tokens behind token before end read parts at fails) (at_end others e whole way place because) =
-      let all = whole_tokens len text others whole in
-      let same = (tokens_one len text end all.0 tokens others read all.1).0 in
+      let all = HasTokens-PlacedTokens len text others whole in
+      let same = (HasTokens-unique len text end all.0 tokens others read all.1).0 in
       absurd (token_or_end arch (texts_of_tokens tokens) token.text (texts_of_tokens behind) c e fails
       (subst (λ ts. FailsInTest arch (texts_of_tokens ts) [] e) (sym same) way))
   FailsInBody-unique m n c d (in_next_token others stop rest e many next place (inl way)) (at_token tokens behind token before end read parts at fails) =
-      let same = (tokens_one len text end stop tokens others read (fails_tokens len text stop rest others c many next)).0 in
+      let same = (HasTokens-unique len text end stop tokens others read (fails_tokens len text stop rest others c many next)).0 in
       absurd (token_or_end arch (texts_of_tokens tokens) token.text (texts_of_tokens behind) d e fails
       (subst (λ ts. FailsInTest arch (texts_of_tokens ts) [] e) (sym same) way))
   FailsInBody-unique m n c d (in_next_token others stop rest e many next place (inr (s, p, is, whole))) (at_token tokens behind token before end read parts at fails) =
-      let same = (tokens_one len text end stop tokens others read (fails_tokens len text stop rest others c many next)).0 in
+      let same = (HasTokens-unique len text end stop tokens others read (fails_tokens len text stop rest others c many next)).0 in
       absurd (FailsInTest-not arch (texts_of_tokens others) (texts_of_tokens (token ∷ behind)) d
       (subst (λ ts. FailsInTest arch (texts_of_tokens ts) (texts_of_tokens (token ∷ behind)) d) same fails) s p is whole)
   FailsInBody-unique m n c d (in_next_token tokens end rest e many next place way) (in_next_token others stop left f read also at too) =
       let same =
-      (tokens_one len text end stop tokens others (fails_tokens len text end rest tokens c many next)
+      (HasTokens-unique len text end stop tokens others (fails_tokens len text end rest tokens c many next)
       (fails_tokens len text stop left others d read also)).1 in
       let u = FailsInFirstToken-unique end rest left c d next (subst (λ x. FailsInFirstToken x left d) (sym same) also) in
       (omega (arith, place, at, ap length u.0), u.1)
   FailsInBody-unique m n c d (in_next_token tokens end rest e many next place way) (at_end others f whole fails at because) =
-      let all = whole_tokens len text others whole in
-      let same = (tokens_one len text end all.0 tokens others (fails_tokens len text end rest tokens c many next) all.1).1 in
+      let all = HasTokens-PlacedTokens len text others whole in
+      let same =
+      (HasTokens-unique len text end all.0 tokens others (fails_tokens len text end rest tokens c many next) all.1).1 in
       absurd (FailsInFirstToken-end end rest c next (subst (λ x. Trivia x []) (sym same) all.2))
   FailsInBody-unique m n c d (at_end others e whole way place because) (at_token tokens behind token before end read parts at fails) =
-      let all = whole_tokens len text others whole in
-      let same = (tokens_one len text end all.0 tokens others read all.1).0 in
+      let all = HasTokens-PlacedTokens len text others whole in
+      let same = (HasTokens-unique len text end all.0 tokens others read all.1).0 in
       absurd (token_or_end arch (texts_of_tokens tokens) token.text (texts_of_tokens behind) d e fails
       (subst (λ ts. FailsInTest arch (texts_of_tokens ts) [] e) (sym same) way))
   FailsInBody-unique m n c d (at_end others f whole fails at because) (in_next_token tokens end rest e many next place way) =
-      let all = whole_tokens len text others whole in
-      let same = (tokens_one len text end all.0 tokens others (fails_tokens len text end rest tokens d many next) all.1).1 in
+      let all = HasTokens-PlacedTokens len text others whole in
+      let same =
+      (HasTokens-unique len text end all.0 tokens others (fails_tokens len text end rest tokens d many next) all.1).1 in
       absurd (FailsInFirstToken-end end rest d next (subst (λ x. Trivia x []) (sym same) all.2))
   FailsInBody-unique m n c d (at_end tokens e whole way place because) (at_end others f also too at cause) =
       (place ∙ sym at, because ∙ sym cause)
@@ -137,16 +144,16 @@ FailsAt-unique text m n c d (in_body arch name rest is fails) (in_body language 
     (subst (λ x. FailsInBody language (length text) x n d) (sym u.2) way))
 
 -- The tokens of a text, with and without their places, are the same.
-tokens_are : (len : ℕ) (text end : Bytes) (ts : List PlacedToken) (us : TokenList)
+HasTokens-Tokens : (len : ℕ) (text end : Bytes) (ts : List PlacedToken) (us : TokenList)
     → HasTokens len text ts end
     → Tokens text us
     → (texts_of_tokens ts ≡ us) × Trivia end []
-tokens_are len text end [] [] p q = (refl, subst (λ x. Trivia x []) p.0 q)
-tokens_are len text end [] (u ∷ us) p q = absurd (p.1 u q.0 (subst (λ x. IsFirstToken x u q.0) p.0 q.1))
-tokens_are len text end (t ∷ ts) [] p q = absurd (no_first text t.text p.0.0 q p.0.1.0)
-tokens_are len text end (t ∷ ts) (u ∷ us) p q =
+HasTokens-Tokens len text end [] [] p q = (refl, subst (λ x. Trivia x []) p.0 q)
+HasTokens-Tokens len text end [] (u ∷ us) p q = absurd (p.1 u q.0 (subst (λ x. IsFirstToken x u q.0) p.0 q.1))
+HasTokens-Tokens len text end (t ∷ ts) [] p q = absurd (no_first_token-trivia_only text t.text p.0.0 q p.0.1.0)
+HasTokens-Tokens len text end (t ∷ ts) (u ∷ us) p q =
     let e = IsFirstToken-unique text t.text p.0.0 u q.0 p.0.1.0 q.1 in
-    let more = tokens_are len p.0.0 end ts us (p.0.2, p.1) (subst (λ x. Tokens x us) (sym e.1) q.2) in
+    let more = HasTokens-Tokens len p.0.0 end ts us (p.0.2, p.1) (subst (λ x. Tokens x us) (sym e.1) q.2) in
     (ap (λ x. x ∷ texts_of_tokens ts) e.0 ∙ ap (λ xs. u ∷ xs) more.0, more.1)
 
 -- A text with a frame does not fail.
@@ -155,20 +162,22 @@ FailsAt-not text m c frame (in_preamble rest fails place) has =
     FailsInPreamble-not text rest has.rest has.name has.arch c fails has.preamble
 FailsAt-not text m c frame (in_body arch name rest is fails) has =
     let u = Preamble-unique text arch name rest has.arch has.name has.rest is has.preamble in
-    at (subst (λ a. FailsInBody a (length text) has.rest m c) u.0 (subst (λ x. FailsInBody arch (length text) x m c) u.2 fails))
+    not_FailsInBody-whole (subst (λ a. FailsInBody a (length text) has.rest m c) u.0
+    (subst (λ x. FailsInBody arch (length text) x m c) u.2 fails))
   where
-    at : FailsInBody has.arch (length text) has.rest m c → ⊥
-    at (at_token tokens behind token before end read parts place way) =
-        let same = (tokens_are (length text) has.rest end tokens has.tokens read has.stream).0 in
+    -- The body of a text with a frame does not fail.
+    not_FailsInBody-whole : FailsInBody has.arch (length text) has.rest m c → ⊥
+    not_FailsInBody-whole (at_token tokens behind token before end read parts place way) =
+        let same = (HasTokens-Tokens (length text) has.rest end tokens has.tokens read has.stream).0 in
         FailsInTest-not has.arch has.tokens (texts_of_tokens (token ∷ behind)) c
         (subst (λ ts. FailsInTest has.arch ts (texts_of_tokens (token ∷ behind)) c) same way) has.syntax has.condition has.parts
         has.proposition
-    at (in_next_token tokens end rest d many next place way) =
+    not_FailsInBody-whole (in_next_token tokens end rest d many next place way) =
         FailsInFirstToken-end end rest c next
-        (tokens_are (length text) has.rest end tokens has.tokens (fails_tokens (length text) has.rest end rest tokens c many next)
-        has.stream).1
-    at (at_end tokens d whole way place because) =
-        let all = whole_tokens (length text) has.rest tokens whole in
-        let same = (tokens_are (length text) has.rest all.0 tokens has.tokens all.1 has.stream).0 in
+        (HasTokens-Tokens (length text) has.rest end tokens has.tokens
+        (fails_tokens (length text) has.rest end rest tokens c many next) has.stream).1
+    not_FailsInBody-whole (at_end tokens d whole way place because) =
+        let all = HasTokens-PlacedTokens (length text) has.rest tokens whole in
+        let same = (HasTokens-Tokens (length text) has.rest all.0 tokens has.tokens all.1 has.stream).0 in
         FailsInTest-not has.arch has.tokens [] d (subst (λ ts. FailsInTest has.arch ts [] d) same way) has.syntax has.condition
         has.parts has.proposition

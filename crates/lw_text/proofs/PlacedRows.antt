@@ -1,4 +1,5 @@
--- The cells of a text, with their positions, are unique; and its tokens are the slices of their spans.
+-- The cells of a text, with their positions, are unique; and its tokens are the slices of their spans. Two
+-- laws of read.rt cite it.
 use Rattle.lw_text.proofs.Common.{◌≡◌, ℕ, ◌+◌, ◌≤◌, List, [], ◌∷◌, ◌++◌, length, take, drop, refl, sym, ap}
 use Rattle.lw_text.proofs.Common.{◌∙◌, subst, arith, append_assoc, length-append, take_at, take-append_seam}
 use Rattle.lw_text.proofs.Common.{drop-append_seam, length-map, Bytes, Arch, arch_keyword, Preamble, columns}
@@ -16,57 +17,57 @@ use Rattle.lw_text.proofs.Cells.{Rows-unique}
 -- ---- uniqueness of cells
 
 -- Equal lists split after the same length have equal parts.
-cut_same : {X : Type 0} (xs ys us vs : List X) → length xs ≡ length ys → xs ++ us ≡ ys ++ vs → (xs ≡ ys) × (us ≡ vs)
-cut_same xs ys us vs len e = (
+append-equal_parts : {X : Type 0} (xs ys us vs : List X) → length xs ≡ length ys → xs ++ us ≡ ys ++ vs → (xs ≡ ys) × (us ≡ vs)
+append-equal_parts xs ys us vs len e = (
   sym (take-append_seam xs us) ∙ ap (take (length xs)) e ∙ ap (λ (n : ℕ). take n (ys ++ vs)) len ∙ take-append_seam ys vs,
   sym (drop-append_seam xs us) ∙ ap (drop (length xs)) e ∙ ap (λ (n : ℕ). drop n (ys ++ vs)) len ∙ drop-append_seam ys vs,
 )
 
 -- Cells with the same tokens and the same end are equal.
-same_cell : (a b : PlacedCell) → a.tokens ≡ b.tokens → a.end ≡ b.end → a ≡ b
-same_cell a b tokens end =
+placed_cells_equal : (a b : PlacedCell) → a.tokens ≡ b.tokens → a.end ≡ b.end → a ≡ b
+placed_cells_equal a b tokens end =
     ap (λ ts. let c : PlacedCell = record { tokens = ts; end = a.end } in c) tokens
     ∙ ap (λ (n : ℕ). let c : PlacedCell = record { tokens = b.tokens; end = n } in c) end
 
 -- Lists of tokens that are equal without positions have the same length.
-as_long : (ts us : List PlacedToken) → texts_of_tokens ts ≡ texts_of_tokens us → length ts ≡ length us
-as_long ts us e = sym (length-map ts (λ t. t.text)) ∙ ap length e ∙ length-map us (λ t. t.text)
+length_equal-same_texts : (ts us : List PlacedToken) → texts_of_tokens ts ≡ texts_of_tokens us → length ts ≡ length us
+length_equal-same_texts ts us e = sym (length-map ts (λ t. t.text)) ∙ ap length e ∙ length-map us (λ t. t.text)
 
 -- Cells read from the same tokens that are equal without positions are equal, and so are the rests.
-cells_same : (ts a b : List PlacedToken) (xs ys : List PlacedCell)
+CellsFrom-unique : (ts a b : List PlacedToken) (xs ys : List PlacedCell)
     → CellsFrom ts xs a
     → CellsFrom ts ys b
     → texts_of_cells xs ≡ texts_of_cells ys
     → (xs ≡ ys) × (a ≡ b)
-cells_same ts a b [] [] p q e = (refl, sym p ∙ q)
-cells_same ts a b (x ∷ xs) (y ∷ ys) p q e =
+CellsFrom-unique ts a b [] [] p q e = (refl, sym p ∙ q)
+CellsFrom-unique ts a b (x ∷ xs) (y ∷ ys) p q e =
     let head : texts_of_tokens x.tokens ≡ texts_of_tokens y.tokens = cc in
     let tail : texts_of_cells xs ≡ texts_of_cells ys = cc in
-    let s = cut_same x.tokens y.tokens _ (q.0 ∷ q.1) (as_long x.tokens y.tokens head) (sym p.2 ∙ q.2) in
+    let s = append-equal_parts x.tokens y.tokens _ (q.0 ∷ q.1) (length_equal-same_texts x.tokens y.tokens head) (sym p.2 ∙ q.2) in
     let behind : p.0 ∷ p.1 ≡ q.0 ∷ q.1 = s.1 in
     let mark : p.0 ≡ q.0 = cc in
     let after : p.1 ≡ q.1 = cc in
-    let more = cells_same p.1 a b xs ys p.5 (subst (λ l. CellsFrom l ys b) (sym after) q.5) tail in
-    let cell : x ≡ y = same_cell x y s.0 (sym p.4 ∙ ap (λ (m : PlacedToken). m.at) mark ∙ q.4) in
+    let more = CellsFrom-unique p.1 a b xs ys p.5 (subst (λ l. CellsFrom l ys b) (sym after) q.5) tail in
+    let cell : x ≡ y = placed_cells_equal x y s.0 (sym p.4 ∙ ap (λ (m : PlacedToken). m.at) mark ∙ q.4) in
     let cells : xs ≡ ys = more.0 in
     (cc, more.1)
-cells_same ts a b _ _ p q e = absurd cc
+CellsFrom-unique ts a b _ _ p q e = absurd cc
 
 -- Rows read from the same tokens that are equal without positions are equal.
-rows_same : (ts a b : List PlacedToken) (xs ys : List (List PlacedCell))
+RowsFrom-unique : (ts a b : List PlacedToken) (xs ys : List (List PlacedCell))
     → RowsFrom ts xs a
     → RowsFrom ts ys b
     → texts_of_grid xs ≡ texts_of_grid ys
     → xs ≡ ys
-rows_same ts a b [] [] p q e = refl
-rows_same ts a b (x ∷ xs) (y ∷ ys) p q e =
+RowsFrom-unique ts a b [] [] p q e = refl
+RowsFrom-unique ts a b (x ∷ xs) (y ∷ ys) p q e =
     let head : texts_of_cells x ≡ texts_of_cells y = cc in
     let tail : texts_of_grid xs ≡ texts_of_grid ys = cc in
-    let s = cells_same ts p.0 q.0 x y p.1 q.1 head in
+    let s = CellsFrom-unique ts p.0 q.0 x y p.1 q.1 head in
     let row : x ≡ y = s.0 in
-    let rows : xs ≡ ys = rows_same p.0 a b xs ys p.2 (subst (λ l. RowsFrom l ys b) (sym s.1) q.2) tail in
+    let rows : xs ≡ ys = RowsFrom-unique p.0 a b xs ys p.2 (subst (λ l. RowsFrom l ys b) (sym s.1) q.2) tail in
     cc
-rows_same ts a b _ _ p q e = absurd cc
+RowsFrom-unique ts a b _ _ p q e = absurd cc
 
 -- Tokens have a unique number of threads, and a unique list of rows with their positions.
 HasRows-unique : (arch : Arch) (tokens : List PlacedToken) (m n : ℕ) (x y : List (List PlacedCell))
@@ -83,12 +84,12 @@ HasRows-unique arch tokens m n x y p q =
       ap length whole,
       length-append p.front p.behind_header,
       length-append q.front q.behind_header,
-      as_long p.behind_header q.behind_header header.1,
+      length_equal-same_texts p.behind_header q.behind_header header.1,
     ) in
-    let behind = (cut_same p.front q.front p.behind_header q.behind_header fronts whole).1 in
+    let behind = (append-equal_parts p.front q.front p.behind_header q.behind_header fronts whole).1 in
     let says = rw (header.0, header.1) at p.says in
     let rows = Rows-unique n _ _ _ (texts_of_grid x) (texts_of_grid y) says q.says in
-    (header.0, rows_same _ _ _ x y (subst (λ l. RowsFrom l x p.behind_rows) behind p.cut) q.cut rows.0)
+    (header.0, RowsFrom-unique _ _ _ x y (subst (λ l. RowsFrom l x p.behind_rows) behind p.cut) q.cut rows.0)
 
 -- The cells of a text, with their positions, are unique.
 pub HasCells-unique : (text : Bytes) (c d : List (List PlacedCell)) → HasCells text c → HasCells text d → c ≡ d
@@ -98,7 +99,7 @@ HasCells-unique text c d p q =
     let tokens = PlacedTokens-unique (length text) p.tokens q.tokens q.rest stream q.stream in
     let has = rw (head.0, tokens) at p.has_rows in
     let rows = HasRows-unique q.arch q.tokens p.threads q.threads p.rows q.rows has q.has_rows in
-    p.are ∙ ap (λ (n : ℕ). columns n p.rows) rows.0 ∙ ap (columns q.threads) rows.1 ∙ sym q.are
+    p.cells_are ∙ ap (λ (n : ℕ). columns n p.rows) rows.0 ∙ ap (columns q.threads) rows.1 ∙ sym q.cells_are
 
 -- ---- the positions of tokens
 

@@ -1,10 +1,11 @@
--- The keyword of a language, blanks, a test's name and its notes have unique parses.
+-- The keyword of a language, blanks, a test's name and its notes have unique parses. A step of the proof that
+-- a text has one frame, and what `parse_preamble` proves if a part is absent.
 use Rattle.lw_text.proofs.Common.{◌≡◌, ℕ, true, false, not, [], ◌∷◌, ◌++◌, refl, sym, ap, subst, arith, codes}
 use Rattle.lw_text.proofs.Common.{AllByRecursion, is_ascii_graphic, not-true, false_from_ne_true}
 use Rattle.lw_text.proofs.Common.{HoldsOfNothing, ParsesNothing, Bytes, Arch, Source, X86, arch_keyword}
 use Rattle.lw_text.proofs.Common.{is_blank, first_byte_is, IsFirstToken, IsTestName, ParsesTestName, Notes}
-use Rattle.lw_text.proofs.Common.{Preamble, blank_all, ◌∙◌, append-nil, false≢true, length, nil_from_length}
-use Rattle.lw_text.proofs.Common.{not-false}
+use Rattle.lw_text.proofs.Common.{Preamble, is_blank-passes, ◌∙◌, append-nil, false≢true, length}
+use Rattle.lw_text.proofs.Common.{nil_from_length, not-false}
 use Rattle.lw_text.proofs.Texts.{is_no_text}
 use Rattle.lw_text.proofs.NameRuns.{run-unique}
 use Rattle.lw_text.proofs.TokenRows.{IsFirstToken-unique}
@@ -18,7 +19,7 @@ Plain name = AllByRecursion (λ b. not (is_blank b) ≡ true) name
 pub graphic_no_blank : (b : ℕ) → is_ascii_graphic b ≡ true → is_blank b ≡ false
 graphic_no_blank b h =
     false_from_ne_true (is_blank b)
-    (λ e. let k = not-true (is_ascii_graphic b) (blank_all (λ x. not (is_ascii_graphic x)) b refl e) in cc)
+    (λ e. let k = not-true (is_ascii_graphic b) (is_blank-passes (λ x. not (is_ascii_graphic x)) b refl e) in cc)
 
 -- Visible ASCII characters contain no blank.
 graphic_plain : (name : Bytes) → AllByRecursion (λ b. is_ascii_graphic b ≡ true) name → Plain name
@@ -27,7 +28,7 @@ graphic_plain (b ∷ name) all = (ap not (graphic_no_blank b all.0), graphic_pla
 
 -- A test's name does not start with a blank.
 name_front : (name rest : Bytes) → IsTestName name → first_byte_is is_blank (name ++ rest) ≡ false
-name_front [] rest h = absurd (let k = h.some in omega arith)
+name_front [] rest h = absurd (let k = h.not_empty in omega arith)
 name_front (b ∷ name) rest h = graphic_no_blank b h.all.0
 
 -- The parts of a text that starts with blanks, followed by a name.
@@ -61,23 +62,23 @@ arch_keyword-unique X86 Source e = absurd (is_no_text (codes "X86") (codes "SRC"
 arch_keyword-unique _ _ e = refl
 
 -- If no name follows a language's keyword, there is no preamble.
-pub no_named : (text mid : Bytes) (arch : Arch)
+pub no_preamble-no_name : (text mid : Bytes) (arch : Arch)
     → IsFirstToken text (arch_keyword arch) mid
     → ParsesNothing (ParsesTestName mid)
     → (a : Arch)
     → ParsesNothing (Preamble text a)
-no_named text mid arch word never a n r p =
+no_preamble-no_name text mid arch word never a n r p =
     never n p.1
     (subst (λ x. ParsesTestName x n p.1) (IsFirstToken-unique text (arch_keyword a) p.0 (arch_keyword arch) mid p.2 word).1 p.3)
 
 -- If no `{` follows the notes after the name, there is no preamble.
-pub no_notes : (text mid name after : Bytes) (arch : Arch)
+pub no_preamble-no_notes : (text mid name after : Bytes) (arch : Arch)
     → IsFirstToken text (arch_keyword arch) mid
     → ParsesTestName mid name after
     → HoldsOfNothing (Notes after)
     → (a : Arch)
     → ParsesNothing (Preamble text a)
-no_notes text mid name after arch word named never a n r p =
+no_preamble-no_notes text mid name after arch word named never a n r p =
     let e = (IsFirstToken-unique text (arch_keyword a) p.0 (arch_keyword arch) mid p.2 word).1 in
     let f = (ParsesTestName-unique mid n p.1 name after (subst (λ x. ParsesTestName x n p.1) e p.3) named).1 in
     never r (subst (λ x. Notes x r) f p.4)
@@ -93,19 +94,19 @@ Preamble-unique text a n r b m s p q =
     (arch_keyword-unique a b e.0, f.0, Notes-unique (subst (λ x. Notes x r) f.1 p.4) q.4)
 
 -- Bytes whose first is neither a blank nor another are none.
-neither_blank : (bytes : Bytes)
+is_empty-no_first_byte : (bytes : Bytes)
     → first_byte_is is_blank bytes ≡ false
     → first_byte_is (λ b. not (is_blank b)) bytes ≡ false
     → bytes ≡ []
-neither_blank [] p q = refl
-neither_blank (b ∷ bytes) p q = absurd (false≢true (sym p ∙ not-false (is_blank b) q))
+is_empty-no_first_byte [] p q = refl
+is_empty-no_first_byte (b ∷ bytes) p q = absurd (false≢true (sym p ∙ not-false (is_blank b) q))
 
 -- An empty front is none.
-pub no_front : (bytes front rest : Bytes) → bytes ≡ front ++ rest → length front ≡ 0 → bytes ≡ rest
-no_front bytes front rest parts none = parts ∙ ap (λ x. x ++ rest) (nil_from_length front none)
+pub append-empty_front : (bytes front rest : Bytes) → bytes ≡ front ++ rest → length front ≡ 0 → bytes ≡ rest
+append-empty_front bytes front rest parts none = parts ∙ ap (λ x. x ++ rest) (nil_from_length front none)
 
 -- If no name follows the blanks, the text is blanks.
-pub all_blank : (bytes blanks after name rest : Bytes)
+pub all_blank-no_name : (bytes blanks after name rest : Bytes)
     → bytes ≡ blanks ++ after
     → AllByRecursion (λ b. is_blank b ≡ true) blanks
     → first_byte_is is_blank after ≡ false
@@ -113,7 +114,7 @@ pub all_blank : (bytes blanks after name rest : Bytes)
     → first_byte_is (λ b. not (is_blank b)) rest ≡ false
     → length name ≡ 0
     → AllByRecursion (λ b. is_blank b ≡ true) bytes
-all_blank bytes blanks after name rest parts all longest rest_is other none =
-    let same = no_front after name rest rest_is none in
-    let end = neither_blank after longest (ap (first_byte_is (λ b. not (is_blank b))) same ∙ other) in
+all_blank-no_name bytes blanks after name rest parts all longest rest_is other none =
+    let same = append-empty_front after name rest rest_is none in
+    let end = is_empty-no_first_byte after longest (ap (first_byte_is (λ b. not (is_blank b))) same ∙ other) in
     subst (AllByRecursion (λ b. is_blank b ≡ true)) (sym (parts ∙ ap (λ x. blanks ++ x) end ∙ append-nil blanks)) all

@@ -1,4 +1,5 @@
--- Reading a proposition terminal by terminal, while the table of names grows.
+-- Reading a proposition terminal by terminal, while the table of names grows. The loop of `parse_proposition`
+-- goes by `TerminalsRead`.
 use Rattle.lw_text.proofs.Common.{◌≡◌, ℕ, ◌+◌, ◌≤◌, inl, inr, Bool, true, false, List, [], ◌∷◌, ◌++◌, length}
 use Rattle.lw_text.proofs.Common.{map, get_or, refl, sym, ap, ◌∙◌, subst, arith, codes, not, if◌then◌else◌}
 use Rattle.lw_text.proofs.Common.{◌||◌, ◌==◌, ◌≢◌, Option, Some, None, is_some, option_map, eqb-true}
@@ -7,20 +8,22 @@ use Rattle.lw_text.proofs.Common.{false_from_ne_true, map-append, filter_map-app
 use Rattle.lw_text.proofs.Common.{slice_get-get_or, Bytes, NameTable, TokenList, Arch, Prop, Formula, Word_is}
 use Rattle.lw_text.proofs.Common.{IsDuplicateFree, formula_of, contains_name, insert_name, insert_names}
 use Rattle.lw_text.proofs.Common.{position_of_name-at, insert_names-longer, contains_name-insert_name}
-use Rattle.lw_text.proofs.Common.{contains_name-insert_names, position_of_name-insert_names, once-along}
-use Rattle.lw_text.proofs.Common.{Cursor, PropositionReader, ParsesMany, with_sites, HasRoomFor, SiteSyntax}
-use Rattle.lw_text.proofs.Common.{InMemory, IsSite, site_names, Terminal, Open, Close, Negation, Conjunction}
-use Rattle.lw_text.proofs.Common.{Disjunction, Atom, is_node, IsProposition, remaining_texts, Pending}
-use Rattle.lw_text.proofs.Common.{begins_part, initial_reader_state, group_of, reader_state_in, state_of}
-use Rattle.lw_text.proofs.Common.{next_state, state_result, terminal_of, AtomSyntax, Holds, IsTerminal}
-use Rattle.lw_text.proofs.Common.{Terminals, begins_token, site_of, sites_in, resolved, named_terminal}
-use Rattle.lw_text.proofs.Common.{TerminalIn, ParsedTerminal, ParsedProposition, NoProposition, Fits}
-use Rattle.lw_text.proofs.Common.{FailsInProposition, HasRoomForNode, after_terminal, place_of, TextCause}
+use Rattle.lw_text.proofs.Common.{contains_name-insert_names, position_of_name-insert_names}
+use Rattle.lw_text.proofs.Common.{IsDuplicateFree-insert_names, Cursor, PropositionReader, ParsesMany}
+use Rattle.lw_text.proofs.Common.{with_sites, HasRoomFor, SiteSyntax, InMemory, IsSite, site_names, Terminal}
+use Rattle.lw_text.proofs.Common.{Open, Close, Negation, Conjunction, Disjunction, Atom, is_node}
+use Rattle.lw_text.proofs.Common.{IsProposition, remaining_texts, Pending, begins_part, initial_reader_state}
+use Rattle.lw_text.proofs.Common.{group_of, reader_state_in, state_of, next_state, state_result, terminal_of}
+use Rattle.lw_text.proofs.Common.{AtomSyntax, Holds, IsTerminal, Terminals, begins_token, site_of, sites_in}
+use Rattle.lw_text.proofs.Common.{resolved, named_terminal, TerminalIn, ParsedTerminal, ParsedProposition}
+use Rattle.lw_text.proofs.Common.{NoProposition, Fits, FailsInProposition, HasRoomForNode, after_terminal}
+use Rattle.lw_text.proofs.Common.{place_of, TextCause}
 use Rattle.lw_text.specs.declared.terminal.Terminal.{Terminal as Made}
-use Rattle.lw_text.proofs.api.PropositionNodes.{count, count_append}
-use Rattle.lw_text.proofs.Atoms.{no_site, is_apart}
+use Rattle.lw_text.proofs.api.PropositionNodes.{node_count, node_count-append}
+use Rattle.lw_text.proofs.Atoms.{no_site, starts_no_site}
 use Rattle.lw_text.proofs.Lists.{ParsesMany-push}
-use Rattle.lw_text.proofs.PropositionReadings.{state_after_terminals, said_at, derived_said, said_derived}
+use Rattle.lw_text.proofs.PropositionReadings.{state_after_terminals, result_of, result-IsProposition}
+use Rattle.lw_text.proofs.PropositionReadings.{IsProposition-result}
 use Rattle.lw_text.proofs.Readings.{with_sites-append}
 use Rattle.lw_text.proofs.Texts.{is_text}
 use Rattle.lw_text.proofs.TerminalLists.{Terminals-peel, Terminals-unique, IsTerminal-unique}
@@ -35,11 +38,11 @@ abbrev pub AllThere : NameTable → List (Terminal AtomSyntax) → Type 0
 AllThere names ss = AllByRecursion (λ x. contains_name names x ≡ true) (site_names (sites_in ss))
 
 -- Inserted names are in the table.
-pub all_entered : (names ns : NameTable) → AllByRecursion (λ x. contains_name (insert_names names ns) x ≡ true) ns
-all_entered names [] = tt
-all_entered names (n ∷ ns) = (
+pub insert_names-contains_all : (names ns : NameTable) → AllByRecursion (λ x. contains_name (insert_names names ns) x ≡ true) ns
+insert_names-contains_all names [] = tt
+insert_names-contains_all names (n ∷ ns) = (
   contains_name-insert_names (insert_name names n) ns n (contains_name-insert_name names n),
-  all_entered (insert_name names n) ns,
+  insert_names-contains_all (insert_name names n) ns,
 )
 
 -- Inserting names preserves the resolved form of terminals whose names are in the table.
@@ -87,16 +90,22 @@ pub record TerminalsRead {A : Type 0} (arch : Arch) (threads : ℕ) (first names
   pub terminals : List (Terminal AtomSyntax)
   pub gone : ParsesMany (IsTerminal arch threads) start terminals here
   pub names_are : names ≡ with_sites first (sites_in terminals)
-  pub count : nodes ≡ count terminals
-  pub few : nodes ≤ 256
+  pub count : nodes ≡ node_count terminals
+  pub within_node_limit : nodes ≤ 256
   pub leads : state_after_terminals (Some initial_reader_state) (map (resolved names) terminals) ≡ Some (state_of reader)
 
 -- A reader in its initial state has read no terminal.
-pub terminals_none : {A : Type 0} (arch : Arch) (threads : ℕ) (names start : TokenList) (reader : PropositionReader A)
+pub TerminalsRead-none : {A : Type 0} (arch : Arch) (threads : ℕ) (names start : TokenList) (reader : PropositionReader A)
     → state_of reader ≡ initial_reader_state
     → TerminalsRead arch threads names names start start 0 reader
-terminals_none arch threads names start reader e =
-    record { terminals = []; gone = refl; names_are = refl; count = refl; few = omega arith; leads = ap Some (sym e) }
+TerminalsRead-none arch threads names start reader e = record {
+  terminals = [];
+  gone = refl;
+  names_are = refl;
+  count = refl;
+  within_node_limit = omega arith;
+  leads = ap Some (sym e);
+}
 
 module _ {A : Type 0} {arch : Arch} {threads : ℕ} {first names start here : TokenList} {nodes : ℕ} {reader : PropositionReader A}
     (read : TerminalsRead arch threads first names start here nodes reader) where
@@ -105,75 +114,83 @@ module _ {A : Type 0} {arch : Arch} {threads : ℕ} {first names start here : To
       → with_sites first (sites_in (read.terminals ++ more)) ≡ with_sites names (sites_in more)
   table_of more = with_sites_in-append first read.terminals more ∙ ap (λ ns. with_sites ns (sites_in more)) (sym read.names_are)
 
-  same_behind : (ns : NameTable) → map (resolved (insert_names names ns)) read.terminals ≡ map (resolved names) read.terminals
-  same_behind ns =
+  -- More names do not change the terminals read.
+  resolved_read_unchanged : (ns : NameTable)
+      → map (resolved (insert_names names ns)) read.terminals ≡ map (resolved names) read.terminals
+  resolved_read_unchanged ns =
       map_resolved-along names ns read.terminals
-      (subst (λ l. AllThere l read.terminals) (sym read.names_are) (all_entered first (site_names (sites_in read.terminals))))
+      (subst (λ l. AllThere l read.terminals) (sym read.names_are)
+      (insert_names-contains_all first (site_names (sites_in read.terminals))))
 
   -- The reader's state after further terminals.
-  lead_on : (ss : List (Terminal Formula))
+  state_after_terminals-of_rest : (ss : List (Terminal Formula))
       → state_after_terminals (Some initial_reader_state) (map (resolved names) read.terminals ++ ss)
       ≡ state_after_terminals (Some (state_of reader)) ss
-  lead_on ss = fold-append _ _ (map (resolved names) read.terminals) ss ∙ ap (λ o. state_after_terminals o ss) read.leads
+  state_after_terminals-of_rest ss =
+      fold-append _ _ (map (resolved names) read.terminals) ss ∙ ap (λ o. state_after_terminals o ss) read.leads
 
   -- The rest of a whole proposition completes it.
-  whole_left : (more : List (Terminal AtomSyntax)) (p : Formula)
+  result-of_rest : (more : List (Terminal AtomSyntax)) (p : Formula)
       → IsProposition (map (resolved (with_sites first (sites_in (read.terminals ++ more)))) (read.terminals ++ more)) p
-      → said_at (state_after_terminals (Some (state_of reader)) (map (resolved (with_sites names (sites_in more))) more)) ≡ Some p
-  whole_left more p whole =
+      → result_of (state_after_terminals (Some (state_of reader)) (map (resolved (with_sites names (sites_in more))) more))
+      ≡ Some p
+  result-of_rest more p whole =
       let after = with_sites names (sites_in more) in
       let e : map (resolved (with_sites first (sites_in (read.terminals ++ more)))) (read.terminals ++ more)
       ≡ map (resolved names) read.terminals ++ map (resolved after) more =
       ap (λ ns. map (resolved ns) (read.terminals ++ more)) (table_of more)
       ∙ map-append (resolved after) read.terminals more
-      ∙ ap (λ l. l ++ map (resolved after) more) (same_behind (site_names (sites_in more))) in
-      sym (ap said_at (ap (state_after_terminals (Some initial_reader_state)) e ∙ lead_on (map (resolved after) more)))
-      ∙ derived_said whole
+      ∙ ap (λ l. l ++ map (resolved after) more) (resolved_read_unchanged (site_names (sites_in more))) in
+      sym (ap result_of
+      (ap (state_after_terminals (Some initial_reader_state)) e ∙ state_after_terminals-of_rest (map (resolved after) more)))
+      ∙ result-IsProposition whole
 
   -- At the end of the tokens a proposition has been read, if the state has a result.
-  pub terminals_end : here ≡ []
+  pub ParsedProposition-at_end : here ≡ []
       → (p : Prop A)
       → state_result (state_of reader) ≡ Some (formula_of p)
       → ParsedProposition arch threads start first names p
-  terminals_end e p is = record {
+  ParsedProposition-at_end e p is = record {
     terminals = read.terminals;
     is = subst (ParsesMany (IsTerminal arch threads) start read.terminals) e read.gone;
     names_are = read.names_are;
-    few = omega (arith, read.count, read.few);
-    says = said_derived (ap said_at read.leads ∙ is);
+    few = omega (arith, read.count, read.within_node_limit);
+    says = IsProposition-result (ap result_of read.leads ∙ is);
   }
 
   -- If the tokens end and the state has no result, the tokens are no proposition.
-  pub terminals_open : here ≡ [] → state_result (state_of reader) ≡ None → NoProposition arch threads start first
-  terminals_open e none all p s fits =
+  pub NoProposition-open : here ≡ [] → state_result (state_of reader) ≡ None → NoProposition arch threads start first
+  NoProposition-open e none all p s fits =
       let k = Terminals-peel arch threads read.terminals all start here read.gone s in
       let same : [] ≡ k.0 = Terminals-unique arch threads [] k.0 here e k.2 in
-      let left = whole_left [] p (rw (k.1 ∙ ap (λ l. read.terminals ++ l) (sym same)) at fits).says in
+      let left = result-of_rest [] p (rw (k.1 ∙ ap (λ l. read.terminals ++ l) (sym same)) at fits).says in
       cc
 
   -- If no terminal follows that is allowed next and has room, the tokens are no proposition.
-  pub terminals_fault : (here ≡ [] → ⊥)
+  pub NoProposition-no_terminal : (here ≡ [] → ⊥)
       → ((s : Terminal AtomSyntax) (rest : TokenList)
       → IsTerminal arch threads here s rest
       → next_state (state_of reader) (resolved (with_sites names (sites_in (s ∷ []))) s) ≢ None
       → HasRoomFor names (sites_in (s ∷ []))
-      → nodes + count (s ∷ []) ≤ 256
+      → nodes + node_count (s ∷ []) ≤ 256
       → ⊥)
       → NoProposition arch threads start first
-  terminals_fault some never all p s whole =
+  NoProposition-no_terminal some never all p s whole =
       let k = Terminals-peel arch threads read.terminals all start here read.gone s in
       at k.0 (subst (λ l. Fits first l p) k.1 whole) k.2
     where
+      -- By the terminals after those read: whether there are none or a next one, a premise refutes them.
       at : (more : List (Terminal AtomSyntax)) → Fits first (read.terminals ++ more) p → Terminals arch threads here more → ⊥
       at [] fits q = some q
       at (t ∷ back) fits q =
           let now = with_sites names (sites_in (t ∷ [])) in
           let last = with_sites names (sites_in (t ∷ back)) in
           let after : last ≡ with_sites now (sites_in back) = with_sites_in-append names (t ∷ []) back in
-          let left = whole_left (t ∷ back) p fits.says in
+          let left = result-of_rest (t ∷ back) p fits.says in
           let alone : resolved last t ∷ [] ≡ resolved now t ∷ [] =
           ap (λ ns. resolved ns t ∷ []) after
-          ∙ map_resolved-along now (site_names (sites_in back)) (t ∷ []) (all_entered names (site_names (sites_in (t ∷ [])))) in
+          ∙ map_resolved-along now (site_names (sites_in back)) (t ∷ [])
+          (insert_names-contains_all names (site_names (sites_in (t ∷ [])))) in
           let same : resolved last t ≡ resolved now t = cc in
           let room : length now ≤ 8 = omega (
             arith,
@@ -182,37 +199,38 @@ module _ {A : Type 0} {arch : Arch} {threads : ℕ} {first names start here : To
             ap length after,
             insert_names-longer now (site_names (sites_in back)),
           ) in
-          let few : nodes + count (t ∷ []) ≤ 256 =
-          omega (arith, fits.few, count_append read.terminals (t ∷ back), count_append (t ∷ []) back, read.count) in
+          let few : nodes + node_count (t ∷ []) ≤ 256 =
+          omega (arith, fits.few, node_count-append read.terminals (t ∷ back), node_count-append (t ∷ []) back, read.count) in
           let more = map (resolved last) back in
           never t q.0 q.1 (λ none.
           let nowhere =
-          ap said_at
+          ap result_of
           (ap (λ o. state_after_terminals o more) (ap (next_state (state_of reader)) same ∙ none)
           ∙ fold_stays _ None (λ s. refl) more) in
           cc) room few
 
   -- The names of the table have no duplicates, if they had none before.
-  pub once_here : IsDuplicateFree first → IsDuplicateFree names
-  once_here once = subst IsDuplicateFree (sym read.names_are) (once-along first (site_names (sites_in read.terminals)) once)
+  pub IsDuplicateFree-names : IsDuplicateFree first → IsDuplicateFree names
+  IsDuplicateFree-names once =
+      subst IsDuplicateFree (sym read.names_are) (IsDuplicateFree-insert_names first (site_names (sites_in read.terminals)) once)
 
 -- A terminal counts as one node if it is one, and as none otherwise.
-pub one_node : (b : Bool) (t : Terminal AtomSyntax) → is_node t ≡ b → count (t ∷ []) ≡ (if b then 1 else 0)
-one_node true t e = rw e refl
-one_node false t e = rw e refl
+pub node_count-of_one : (b : Bool) (t : Terminal AtomSyntax) → is_node t ≡ b → node_count (t ∷ []) ≡ (if b then 1 else 0)
+node_count-of_one true t e = rw e refl
+node_count-of_one false t e = rw e refl
 
 -- A terminal was read.
 module _ {arch : Arch} {threads : ℕ} {before behind : Cursor} {names after : NameTable} {s : Made}
     (taken : ParsedTerminal arch threads before behind names after s) where
   -- A terminal that was read, named by the table and resolved by it, is the same terminal.
-  same_terminal : IsDuplicateFree names → resolved after (named_terminal after s) ≡ terminal_of s
-  same_terminal once =
+  resolved-named_terminal : IsDuplicateFree names → resolved after (named_terminal after s) ≡ terminal_of s
+  resolved-named_terminal once =
       resolved_named after s
-      (subst IsDuplicateFree (sym taken.names_are) (once-along names (site_names (sites_in (named_terminal after s ∷ []))) once))
-      taken.within
+      (subst IsDuplicateFree (sym taken.names_are)
+      (IsDuplicateFree-insert_names names (site_names (sites_in (named_terminal after s ∷ []))) once)) taken.within
 
   -- If one more terminal was read that is allowed next and has room, it is one more terminal read.
-  pub terminals_more : {A : Type 0} {first start : TokenList} {nodes : ℕ} {reader reader_after : PropositionReader A}
+  pub TerminalsRead-one_more : {A : Type 0} {first start : TokenList} {nodes : ℕ} {reader reader_after : PropositionReader A}
       → TerminalsRead arch threads first names start (remaining_texts before) nodes reader
       → IsDuplicateFree first
       → next_state (state_of reader) (terminal_of s) ≡ Some (state_of reader_after)
@@ -220,14 +238,15 @@ module _ {arch : Arch} {threads : ℕ} {before behind : Cursor} {names after : N
       → nodes_after ≡ nodes + (if is_node (terminal_of s) then 1 else 0)
       → nodes_after ≤ 256
       → TerminalsRead arch threads first after start (remaining_texts behind) nodes_after reader_after
-  terminals_more {start = start} read once step nodes_after counts few =
+  TerminalsRead-one_more {start = start} read once step nodes_after counts few =
       let t = named_terminal after s in
       let ns = site_names (sites_in (t ∷ [])) in
       let made_more : map (resolved after) (read.terminals ++ t ∷ [])
       ≡ map (resolved names) read.terminals ++ terminal_of s ∷ [] =
       map-append (resolved after) read.terminals (t ∷ [])
-      ∙ ap (λ l. l ++ resolved after t ∷ []) (ap (λ ns. map (resolved ns) read.terminals) taken.names_are ∙ same_behind read ns)
-      ∙ ap (λ x. map (resolved names) read.terminals ++ x ∷ []) (same_terminal (once_here read once)) in
+      ∙ ap (λ l. l ++ resolved after t ∷ [])
+      (ap (λ ns. map (resolved ns) read.terminals) taken.names_are ∙ resolved_read_unchanged read ns)
+      ∙ ap (λ x. map (resolved names) read.terminals ++ x ∷ []) (resolved-named_terminal (IsDuplicateFree-names read once)) in
       record {
         terminals = read.terminals ++ t ∷ [];
         gone = ParsesMany-push _ read.terminals start (remaining_texts before) (remaining_texts behind) t read.gone taken.is;
@@ -236,11 +255,14 @@ module _ {arch : Arch} {threads : ℕ} {before behind : Cursor} {names after : N
           arith,
           counts,
           read.count,
-          count_append read.terminals (t ∷ []),
-          one_node (is_node (terminal_of s)) t (node_named after s),
+          node_count-append read.terminals (t ∷ []),
+          node_count-of_one (is_node (terminal_of s)) t (node_named after s),
         );
-        few = few;
-        leads = ap (state_after_terminals (Some initial_reader_state)) made_more ∙ lead_on read (terminal_of s ∷ []) ∙ step;
+        within_node_limit = few;
+        leads =
+            ap (state_after_terminals (Some initial_reader_state)) made_more
+            ∙ state_after_terminals-of_rest read (terminal_of s ∷ [])
+            ∙ step;
       }
 
   -- If a proposition fails after the terminal read, it fails before it.
@@ -254,13 +276,13 @@ module _ {arch : Arch} {threads : ℕ} {before behind : Cursor} {names after : N
       → FailsInProposition arch threads rest cause (place_of (state_of reader)) nodes names (remaining_texts before)
   Fails-after_terminal reader reader_after {nodes} {nodes_after} {rest} {cause} room step counts few w =
       let t = named_terminal after s in
-      let one = one_node (is_node (terminal_of s)) t (node_named after s) in
-      let same : nodes_after ≡ nodes + count (t ∷ []) = counts ∙ ap (λ (n : ℕ). nodes + n) (sym one) in
+      let one = node_count-of_one (is_node (terminal_of s)) t (node_named after s) in
+      let same : nodes_after ≡ nodes + node_count (t ∷ []) = counts ∙ ap (λ (n : ℕ). nodes + n) (sym one) in
       after_terminal t (remaining_texts behind) _ room taken.is
       (subst (λ (table : NameTable). length table ≤ 8) taken.names_are few)
       (next_place-state (state_of reader) after s ∙ ap (option_map place_of) step)
       (subst (λ table.
-      FailsInProposition arch threads rest cause (place_of (state_of reader_after)) (nodes + count (t ∷ [])) table
+      FailsInProposition arch threads rest cause (place_of (state_of reader_after)) (nodes + node_count (t ∷ [])) table
       (remaining_texts behind)) taken.names_are
       (subst
       (λ (n : ℕ). FailsInProposition arch threads rest cause (place_of (state_of reader_after)) n after (remaining_texts behind))
@@ -280,7 +302,7 @@ module _ {arch : Arch} {threads : ℕ} {before behind : Cursor} {names after : N
       let f : resolved (with_sites names (sites_in (t ∷ []))) t ≡ terminal_of s =
       ap (λ (x : Terminal AtomSyntax). resolved (with_sites names (sites_in (x ∷ []))) x) e
       ∙ ap (λ ns. resolved ns (named_terminal after s)) (sym taken.names_are)
-      ∙ same_terminal once in
+      ∙ resolved-named_terminal once in
       ap (next_state (state_of reader)) f ∙ step
 
 -- A terminal that is allowed next starts a part if and only if a part must come next.
@@ -306,51 +328,55 @@ pub begins_right : {A : Type 0} (reader : PropositionReader A) (part : Bool)
     → begins_part s ≡ part
 begins_right reader part next names s some =
     sym (begins_resolved names s)
-    ∙ next_begins _ (group_of reader.group) _ (resolved names s) part (same_some formula_of reader.part ∙ next) some
+    ∙ next_begins _ (group_of reader.group) _ (resolved names s) part (is_some-option_map formula_of reader.part ∙ next) some
   where
-    same_some : {X Y : Type 0} (f : X → Y) (o : Option X) → is_some (option_map f o) ≡ is_some o
-    same_some f None = refl
-    same_some f (Some x) = refl
+    -- Mapping an optional value preserves whether it is present.
+    is_some-option_map : {X Y : Type 0} (f : X → Y) (o : Option X) → is_some (option_map f o) ≡ is_some o
+    is_some-option_map f None = refl
+    is_some-option_map f (Some x) = refl
 
 -- ---- parentheses
 
 -- Tests whether the tokens start with a parenthesis.
-abbrev pub at_parenthesis : TokenList → Bool
-at_parenthesis here = begins_token (codes "(") here || begins_token (codes ")") here
+abbrev pub begins_parenthesis : TokenList → Bool
+begins_parenthesis here = begins_token (codes "(") here || begins_token (codes ")") here
 
--- Tokens that start with a site do not start with a token for which `is_apart` is true.
-site_elsewhere : (arch : Arch) (w : Bytes)
-    → is_apart w ≡ true
+-- Tokens that start with a site do not start with a token for which `starts_no_site` is true.
+no_site_at_apart_token : (arch : Arch) (w : Bytes)
+    → starts_no_site w ≡ true
     → (here rest : TokenList) (site : SiteSyntax)
     → IsSite arch here site rest
     → begins_token w here ≡ false
-site_elsewhere arch w apart [] rest site is = refl
-site_elsewhere arch w apart (t ∷ here) rest site is =
+no_site_at_apart_token arch w apart [] rest site is = refl
+no_site_at_apart_token arch w apart (t ∷ here) rest site is =
     false_from_ne_true (begins_token w (t ∷ here))
     (λ e. no_site w apart arch (t ∷ here) here rest site (ap (λ x. x ∷ here) (is_text t w e)) is)
 
 -- A terminal is a node, unless it is a parenthesis.
-node_here : (arch : Arch) (threads : ℕ) (here rest : TokenList) (s : Terminal AtomSyntax)
+is_node-not_parenthesis : (arch : Arch) (threads : ℕ) (here rest : TokenList) (s : Terminal AtomSyntax)
     → IsTerminal arch threads here s rest
-    → is_node s ≡ not (at_parenthesis here)
-node_here arch threads here rest Negation (inl is) = sym (ap (λ l. not (at_parenthesis l)) is)
-node_here arch threads here rest Negation (inr is) = sym (ap (λ l. not (at_parenthesis l)) is)
-node_here arch threads here rest (Atom (Holds site n)) is =
-    rw (site_elsewhere arch (codes "(") refl here is.0 site is.1, site_elsewhere arch (codes ")") refl here is.0 site is.1) refl
-node_here arch threads here rest _ is = sym (ap (λ l. not (at_parenthesis l)) is)
+    → is_node s ≡ not (begins_parenthesis here)
+is_node-not_parenthesis arch threads here rest Negation (inl is) = sym (ap (λ l. not (begins_parenthesis l)) is)
+is_node-not_parenthesis arch threads here rest Negation (inr is) = sym (ap (λ l. not (begins_parenthesis l)) is)
+is_node-not_parenthesis arch threads here rest (Atom (Holds site n)) is =
+    rw (
+      no_site_at_apart_token arch (codes "(") refl here is.0 site is.1,
+      no_site_at_apart_token arch (codes ")") refl here is.0 site is.1,
+    ) refl
+is_node-not_parenthesis arch threads here rest _ is = sym (ap (λ l. not (begins_parenthesis l)) is)
 
 -- If there is room, the number of nodes with one more terminal is within the limit.
-pub room_left : {arch : Arch} {threads : ℕ} {before behind : Cursor} {names after : NameTable} {s : Made}
+pub node_count_at_most : {arch : Arch} {threads : ℕ} {before behind : Cursor} {names after : NameTable} {s : Made}
     → ParsedTerminal arch threads before behind names after s
     → (nodes : ℕ)
     → nodes ≤ 256
-    → (not (nodes == 256) || at_parenthesis (remaining_texts before)) ≡ true
+    → (not (nodes == 256) || begins_parenthesis (remaining_texts before)) ≡ true
     → nodes + (if is_node (terminal_of s) then 1 else 0) ≤ 256
-room_left {arch} {threads} {before} {behind} {after = after} {s = s} taken nodes few room =
+node_count_at_most {arch} {threads} {before} {behind} {after = after} {s = s} taken nodes few room =
     rw
     (sym (node_named after s)
-    ∙ node_here arch threads (remaining_texts before) (remaining_texts behind) (named_terminal after s) taken.is)
-    (at (at_parenthesis (remaining_texts before)) room)
+    ∙ is_node-not_parenthesis arch threads (remaining_texts before) (remaining_texts behind) (named_terminal after s) taken.is)
+    (at (begins_parenthesis (remaining_texts before)) room)
   where
     at : (b : Bool) → (not (nodes == 256) || b) ≡ true → nodes + (if not b then 1 else 0) ≤ 256
     at true room = omega (arith, few)
@@ -360,12 +386,12 @@ room_left {arch} {threads} {before} {behind} {after = after} {s = s} taken nodes
     ]
 
 -- If there is no room for another node, only a parenthesis fits.
-pub no_room : (arch : Arch) (threads nodes : ℕ) (here rest : TokenList) (s : Terminal AtomSyntax)
-    → (not (nodes == 256) || at_parenthesis here) ≡ false
+pub no_room_for_node : (arch : Arch) (threads nodes : ℕ) (here rest : TokenList) (s : Terminal AtomSyntax)
+    → (not (nodes == 256) || begins_parenthesis here) ≡ false
     → IsTerminal arch threads here s rest
-    → nodes + count (s ∷ []) ≤ 256
+    → nodes + node_count (s ∷ []) ≤ 256
     → ⊥
-no_room arch threads nodes here rest s none is le =
-    let e = or_parts (not (nodes == 256)) (at_parenthesis here) none in
-    let one = one_node true s (node_here arch threads here rest s is ∙ ap not e.1) in
+no_room_for_node arch threads nodes here rest s none is le =
+    let e = or_parts (not (nodes == 256)) (begins_parenthesis here) none in
+    let one = node_count-of_one true s (is_node-not_parenthesis arch threads here rest s is ∙ ap not e.1) in
     omega (arith, le, one, eqb-true nodes 256 (not-false (nodes == 256) e.0))

@@ -1,4 +1,5 @@
--- The places of a proposition are those of the reader's states.
+-- The places of a proposition are those of the reader's states. So the place that a failure names can be
+-- computed from the reader's state.
 use Rattle.lw_text.proofs.Common.{◌≡◌, ◌≢◌, ℕ, Bool, true, false, not, List, [], ◌∷◌, Option, Some, None}
 use Rattle.lw_text.proofs.Common.{refl, sym, ap, ◌∙◌, is_some, option_map, bytes_eq, inl, inr, or_cases}
 use Rattle.lw_text.proofs.Common.{or_parts, not-false, not-true, eqb-true, eqb-false, codes, begins_token}
@@ -43,48 +44,52 @@ incomplete_place (BehindPart x p (o ∷ os)) e q = let k = ap (λ x. x.1) q in c
 pub wants_part-place : {A : Type 0} (reader : PropositionReader A) (part : Bool)
     → is_some reader.part ≡ not part
     → (place_of (state_of reader)).0 ≡ part
-wants_part-place reader part e = at _ _ (option_map formula_of reader.part) part (same_some formula_of reader.part ∙ e)
+wants_part-place reader part e =
+    place-by_cases _ _ (option_map formula_of reader.part) part (is_some-option_map formula_of reader.part ∙ e)
   where
-    same_some : {X Y : Type 0} (f : X → Y) (o : Option X) → is_some (option_map f o) ≡ is_some o
-    same_some f None = refl
-    same_some f (Some x) = refl
+    -- Mapping an optional value preserves whether it is present.
+    is_some-option_map : {X Y : Type 0} (f : X → Y) (o : Option X) → is_some (option_map f o) ≡ is_some o
+    is_some-option_map f None = refl
+    is_some-option_map f (Some x) = refl
 
-    at : (l : Pending) (os : List Pending) (o : Option Formula) (part : Bool)
+    -- A part must begin if and only if the state has no last part.
+    place-by_cases : (l : Pending) (os : List Pending) (o : Option Formula) (part : Bool)
         → is_some o ≡ not part
         → (place_of (reader_state_in o l os)).0 ≡ part
-    at l os None true e = refl
-    at l os None false e = absurd cc
-    at l os (Some p) true e = absurd cc
-    at l os (Some p) false e = refl
+    place-by_cases l os None true e = refl
+    place-by_cases l os None false e = absurd cc
+    place-by_cases l os (Some p) true e = absurd cc
+    place-by_cases l os (Some p) false e = refl
 
 -- If there is no room for one more node, 256 have been read, and no parenthesis is next.
-pub no_room-first : (nodes : ℕ) (ts : TokenList)
+pub node_limit_reached-no_parenthesis : (nodes : ℕ) (ts : TokenList)
     → (not (nodes == 256) || (begins_token (codes "(") ts || begins_token (codes ")") ts)) ≡ false
     → (nodes ≡ 256) × IfFirst (λ t. AllByRecursion (λ w. t ≢ w) (codes "(" ∷ codes ")" ∷ [])) ts
-no_room-first nodes ts e =
+node_limit_reached-no_parenthesis nodes ts e =
     let p = or_parts (not (nodes == 256)) (begins_token (codes "(") ts || begins_token (codes ")") ts) e in
     let q = or_parts (begins_token (codes "(") ts) (begins_token (codes ")") ts) p.1 in
-    (eqb-true nodes 256 (not-false (nodes == 256) p.0), at ts q.0 q.1)
+    (eqb-true nodes 256 (not-false (nodes == 256) p.0), place-by_cases ts q.0 q.1)
   where
-    at : (ts : TokenList)
+    place-by_cases : (ts : TokenList)
         → begins_token (codes "(") ts ≡ false
         → begins_token (codes ")") ts ≡ false
         → IfFirst (λ t. AllByRecursion (λ w. t ≢ w) (codes "(" ∷ codes ")" ∷ [])) ts
-    at [] a b = tt
-    at (t ∷ ts) a b = (is_no_text t (codes "(") a, (is_no_text t (codes ")") b, tt))
+    place-by_cases [] a b = tt
+    place-by_cases (t ∷ ts) a b = (is_no_text t (codes "(") a, (is_no_text t (codes ")") b, tt))
 
 -- There is room for one more node, or a parenthesis is next.
-pub room-first : (nodes : ℕ) (ts : TokenList)
+pub HasRoomForNode-by_test : (nodes : ℕ) (ts : TokenList)
     → (not (nodes == 256) || (begins_token (codes "(") ts || begins_token (codes ")") ts)) ≡ true
     → HasRoomForNode nodes ts
-room-first nodes [] e full = tt
-room-first nodes (t ∷ ts) e full = elim (or_cases (not (nodes == 256)) (bytes_eq t (codes "(") || bytes_eq t (codes ")")) e) [
-  | inl h ↦ absurd (eqb-false nodes 256 (not-true (nodes == 256) h) full)
-  | inr h ↦ elim (or_cases (bytes_eq t (codes "(")) (bytes_eq t (codes ")")) h) [
-    | inl opens ↦ inl (is_text t (codes "(") opens)
-    | inr closes ↦ inr (is_text t (codes ")") closes)
-  ]
-]
+HasRoomForNode-by_test nodes [] e full = tt
+HasRoomForNode-by_test nodes (t ∷ ts) e full =
+    elim (or_cases (not (nodes == 256)) (bytes_eq t (codes "(") || bytes_eq t (codes ")")) e) [
+      | inl h ↦ absurd (eqb-false nodes 256 (not-true (nodes == 256) h) full)
+      | inr h ↦ elim (or_cases (bytes_eq t (codes "(")) (bytes_eq t (codes ")")) h) [
+        | inl opens ↦ inl (is_text t (codes "(") opens)
+        | inr closes ↦ inr (is_text t (codes ")") closes)
+      ]
+    ]
 
 -- A terminal that is not possible in a state, though it begins a part if and only if one must begin there, is a `)` that closes nothing.
 pub closes_nothing : (state : ReaderState) (s : Made)

@@ -1,4 +1,6 @@
--- Terminals are a proposition if and only if the reader's state after them has that proposition as its result.
+-- Terminals are a proposition if and only if the reader's state after them has that proposition as its
+-- result. The proposition of terminals is unique, and the operator-precedence parser accepts exactly the
+-- propositions.
 use Rattle.lw_text.proofs.Common.{◌≡◌, ℕ, zero, suc, List, [], ◌∷◌, ◌++◌, Option, Some, None, option_and_then}
 use Rattle.lw_text.proofs.Common.{fold, refl, sym, ap, ◌∙◌, subst, append_assoc, append-nil, Formula, Not, Or}
 use Rattle.lw_text.proofs.Common.{Terminal, Open, Close, Negation, Conjunction, Disjunction, Atom, Level}
@@ -16,8 +18,8 @@ abbrev pub state_after_terminals : Option ReaderState → Terms → Option Reade
 state_after_terminals o ss = fold (λ o s. option_and_then (λ r. next_state r s) o) o ss
 
 -- The result of a state, or `None` if there is no state or no result.
-abbrev pub said_at : Option ReaderState → Option Formula
-said_at o = option_and_then state_result o
+abbrev pub result_of : Option ReaderState → Option Formula
+result_of o = option_and_then state_result o
 
 -- A negation inside n negations equals one outside.
 negations-not : (n : ℕ) (p : Formula) → negations n (Not p) ≡ Not (negations n p)
@@ -52,45 +54,48 @@ Derives-level DisjunctionLevel ss p =
     × (state_after_terminals (Some (BeforePart opened os)) (ss ++ rest) ≡ state_after_terminals (Some (BehindPart e a os)) rest)
 
 -- Terminals that derive p at a level satisfy `Derives-level`.
-leads : {k : Level} {ss : Terms} {p : Formula} → Derives k ss p → Derives-level k ss p
-leads atom = λ l os rest. refl
-leads (negated {p = p} d) = λ l os rest.
-    leads d (with_not l) os rest ∙ ap (λ a. state_after_terminals (Some (BehindPart l.either a os)) rest) (ands_of-not l p)
-leads (parens {ss} d) = λ l os rest.
-    let k = leads d (l ∷ os) (Close ∷ rest) in
+Derives-level_of_Derives : {k : Level} {ss : Terms} {p : Formula} → Derives k ss p → Derives-level k ss p
+Derives-level_of_Derives atom = λ l os rest. refl
+Derives-level_of_Derives (negated {p = p} d) = λ l os rest.
+    Derives-level_of_Derives d (with_not l) os rest
+    ∙ ap (λ a. state_after_terminals (Some (BehindPart l.either a os)) rest) (ands_of-not l p)
+Derives-level_of_Derives (parens {ss} d) = λ l os rest.
+    let k = Derives-level_of_Derives d (l ∷ os) (Close ∷ rest) in
     ap (state_after_terminals (Some (BeforePart opened (l ∷ os)))) (append_assoc ss (Close ∷ []) rest)
     ∙ k.3
     ∙ ap (λ a. state_after_terminals (Some (BehindPart l.either (ands_of l a) os)) rest) k.2
-leads (part d) = λ e os rest. leads d (row_begun e) os rest
-leads (and {ss} {ts} {p} d e) = λ f os rest.
+Derives-level_of_Derives (part d) = λ e os rest. Derives-level_of_Derives d (row_begun e) os rest
+Derives-level_of_Derives (and {ss} {ts} {p} d e) = λ f os rest.
     ap (state_after_terminals (Some (BeforePart (row_begun f) os))) (append_assoc ss (Conjunction ∷ ts) rest)
-    ∙ leads d f os (Conjunction ∷ (ts ++ rest))
-    ∙ leads e (record { either = f; both = Some p; nots = 0 }) os rest
-leads (conjunction {p = p} d) = λ os rest. (None, p, refl, leads d None os rest)
-leads (or {ss} {ts} {p} {q} d e) = λ os rest.
-    let k = leads d os (Disjunction ∷ (ts ++ rest)) in (
+    ∙ Derives-level_of_Derives d f os (Conjunction ∷ (ts ++ rest))
+    ∙ Derives-level_of_Derives e (record { either = f; both = Some p; nots = 0 }) os rest
+Derives-level_of_Derives (conjunction {p = p} d) = λ os rest. (None, p, refl, Derives-level_of_Derives d None os rest)
+Derives-level_of_Derives (or {ss} {ts} {p} {q} d e) = λ os rest.
+    let k = Derives-level_of_Derives d os (Disjunction ∷ (ts ++ rest)) in (
       Some p,
       q,
       refl,
       ap (state_after_terminals (Some (BeforePart opened os))) (append_assoc ss (Disjunction ∷ ts) rest)
           ∙ k.3
           ∙ ap (λ a. state_after_terminals (Some (BeforePart (row_begun (Some a)) os)) (ts ++ rest)) k.2
-          ∙ leads e (Some p) os rest,
+          ∙ Derives-level_of_Derives e (Some p) os rest,
     )
 
 -- After the terminals of a proposition the reader's result is that proposition.
-pub derived_said : {ss : Terms} {p : Formula}
+pub result-IsProposition : {ss : Terms} {p : Formula}
     → IsProposition ss p
-    → said_at (state_after_terminals (Some initial_reader_state) ss) ≡ Some p
-derived_said {ss} d =
-    let k = leads d [] [] in
-    ap (λ l. said_at (state_after_terminals (Some initial_reader_state) l)) (sym (append-nil ss)) ∙ ap said_at k.3 ∙ ap Some k.2
+    → result_of (state_after_terminals (Some initial_reader_state) ss) ≡ Some p
+result-IsProposition {ss} d =
+    let k = Derives-level_of_Derives d [] [] in
+    ap (λ l. result_of (state_after_terminals (Some initial_reader_state) l)) (sym (append-nil ss))
+    ∙ ap result_of k.3
+    ∙ ap Some k.2
 
 -- Terminals are a proposition of at most one formula.
 pub IsProposition-unique : (ss : Terms) (p q : Formula) → IsProposition ss p → IsProposition ss q → p ≡ q
 IsProposition-unique ss p q d e =
-    let h = derived_said d in
-    let k = derived_said e in
+    let h = result-IsProposition d in
+    let k = result-IsProposition e in
     cc
 
 -- ---- what is accepted has a derivation
@@ -105,7 +110,7 @@ record Row (Outside : Terms → Type 0) (ts : Terms) (e : Option Formula) (p : F
   outside : Terms
   front : Terms
   conjuncts : Terms
-  is : ts ≡ outside ++ (front ++ conjuncts)
+  terminals_are : ts ≡ outside ++ (front ++ conjuncts)
   around : Outside outside
   before : Front e front
   says : Derives ConjunctionLevel conjuncts p
@@ -119,16 +124,16 @@ Outside (o ∷ os) ts =
     × ((ss : Terms) (p : Formula) → Derives PartLevel ss p → Row (Outside os) (before ++ ss) o.either (ands_of o p))
 
 -- The state is right for the terminals: they are such a row; before a part, they are with each part that may follow.
-abbrev Stands : Option ReaderState → Terms → Type 0
-Stands None ts = Unit {0}
-Stands (Some (BeforePart l os)) ts =
+abbrev IsStateAfter : Option ReaderState → Terms → Type 0
+IsStateAfter None ts = Unit {0}
+IsStateAfter (Some (BeforePart l os)) ts =
     (ss : Terms) (p : Formula) → Derives PartLevel ss p → Row (Outside os) (ts ++ ss) l.either (ands_of l p)
-Stands (Some (BehindPart e p os)) ts = Row (Outside os) ts e p
+IsStateAfter (Some (BehindPart e p os)) ts = Row (Outside os) ts e p
 
 -- At the start of a group each part that may follow is the first.
-first_part : (os : List Pending) (ts : Terms) → Outside os ts → Stands (Some (BeforePart opened os)) ts
-first_part os ts out =
-    λ ss p d. record { outside = ts; front = []; conjuncts = ss; is = refl; around = out; before = refl; says = part d }
+IsStateAfter-before_first_part : (os : List Pending) (ts : Terms) → Outside os ts → IsStateAfter (Some (BeforePart opened os)) ts
+IsStateAfter-before_first_part os ts out = λ ss p d.
+    record { outside = ts; front = []; conjuncts = ss; terminals_are = refl; around = out; before = refl; says = part d }
 
 -- The terminals of a group derive its formula.
 group_says : {Out : Terms → Type 0} {ts : Terms} {e : Option Formula} {p : Formula} (r : Row Out ts e p)
@@ -140,69 +145,78 @@ group_says {e = Some a} {p = p} r =
     (sym (ap (λ l. l ++ r.conjuncts) f.1 ∙ append_assoc f.0 (Disjunction ∷ []) r.conjuncts)) (or f.2 r.says)
 
 -- If a state is right for the terminals so far, the next state is right for one more.
-one_more : (o : Option ReaderState) (s : Terminal Formula) (ts : Terms)
-    → Stands o ts
-    → Stands (option_and_then (λ r. next_state r s) o) (ts ++ s ∷ [])
-one_more (Some (BeforePart l os)) Open ts h = first_part (l ∷ os) (ts ++ Open ∷ []) (ts, refl, h)
-one_more (Some (BeforePart l os)) Negation ts h = λ ss p d.
+IsStateAfter-next_state : (o : Option ReaderState) (s : Terminal Formula) (ts : Terms)
+    → IsStateAfter o ts
+    → IsStateAfter (option_and_then (λ r. next_state r s) o) (ts ++ s ∷ [])
+IsStateAfter-next_state (Some (BeforePart l os)) Open ts h =
+    IsStateAfter-before_first_part (l ∷ os) (ts ++ Open ∷ []) (ts, refl, h)
+IsStateAfter-next_state (Some (BeforePart l os)) Negation ts h = λ ss p d.
     subst (λ x. Row (Outside os) x l.either (ands_of (with_not l) p)) (sym (append_assoc ts (Negation ∷ []) ss))
     (subst (λ a. Row (Outside os) (ts ++ Negation ∷ ss) l.either a) (sym (ands_of-not l p))
     (h (Negation ∷ ss) (Not p) (negated d)))
-one_more (Some (BeforePart l os)) (Atom p) ts h = h (Atom p ∷ []) p atom
-one_more (Some (BehindPart e p (o ∷ os))) Close ts h =
+IsStateAfter-next_state (Some (BeforePart l os)) (Atom p) ts h = h (Atom p ∷ []) p atom
+IsStateAfter-next_state (Some (BehindPart e p (o ∷ os))) Close ts h =
     let k = h.around in
     let inside = h.front ++ h.conjuncts in
     let whole : ts ++ Close ∷ [] ≡ k.0 ++ (Open ∷ (inside ++ Close ∷ [])) =
-    ap (λ x. x ++ Close ∷ []) (h.is ∙ ap (λ x. x ++ inside) k.1)
+    ap (λ x. x ++ Close ∷ []) (h.terminals_are ∙ ap (λ x. x ++ inside) k.1)
     ∙ append_assoc (k.0 ++ Open ∷ []) inside (Close ∷ [])
     ∙ append_assoc k.0 (Open ∷ []) (inside ++ Close ∷ []) in
     subst (λ x. Row (Outside os) x o.either (ands_of o (after_or e p))) (sym whole)
     (k.2 (Open ∷ (inside ++ Close ∷ [])) (after_or e p) (parens (group_says h)))
-one_more (Some (BehindPart e p os)) Conjunction ts h = λ ss q d. record {
+IsStateAfter-next_state (Some (BehindPart e p os)) Conjunction ts h = λ ss q d. record {
   outside = h.outside;
   front = h.front;
   conjuncts = h.conjuncts ++ Conjunction ∷ ss;
-  is =
+  terminals_are =
       append_assoc ts (Conjunction ∷ []) ss
-      ∙ ap (λ x. x ++ Conjunction ∷ ss) h.is
+      ∙ ap (λ x. x ++ Conjunction ∷ ss) h.terminals_are
       ∙ append_assoc h.outside (h.front ++ h.conjuncts) (Conjunction ∷ ss)
       ∙ ap (λ x. h.outside ++ x) (append_assoc h.front h.conjuncts (Conjunction ∷ ss));
   around = h.around;
   before = h.before;
   says = and h.says d;
 }
-one_more (Some (BehindPart e p os)) Disjunction ts h = λ ss q d.
+IsStateAfter-next_state (Some (BehindPart e p os)) Disjunction ts h = λ ss q d.
     let inside = h.front ++ h.conjuncts in
     record {
       outside = h.outside;
       front = inside ++ Disjunction ∷ [];
       conjuncts = ss;
-      is =
-          ap (λ x. (x ++ Disjunction ∷ []) ++ ss) h.is
+      terminals_are =
+          ap (λ x. (x ++ Disjunction ∷ []) ++ ss) h.terminals_are
           ∙ ap (λ x. x ++ ss) (append_assoc h.outside inside (Disjunction ∷ []))
           ∙ append_assoc h.outside (inside ++ Disjunction ∷ []) ss;
       around = h.around;
       before = (inside, refl, group_says h);
       says = part d;
     }
-one_more _ _ ts h = tt
+IsStateAfter-next_state _ _ ts h = tt
 
 -- If a state is right for the terminals so far, the state after more terminals is right for all of them.
-all_more : (ss : Terms) (o : Option ReaderState) (ts : Terms) → Stands o ts → Stands (state_after_terminals o ss) (ts ++ ss)
-all_more [] o ts h = subst (Stands o) (sym (append-nil ts)) h
-all_more (s ∷ ss) o ts h =
+IsStateAfter-state_after_terminals : (ss : Terms) (o : Option ReaderState) (ts : Terms)
+    → IsStateAfter o ts
+    → IsStateAfter (state_after_terminals o ss) (ts ++ ss)
+IsStateAfter-state_after_terminals [] o ts h = subst (IsStateAfter o) (sym (append-nil ts)) h
+IsStateAfter-state_after_terminals (s ∷ ss) o ts h =
     let next = option_and_then (λ r. next_state r s) o in
-    subst (Stands (state_after_terminals next ss)) (append_assoc ts (s ∷ []) ss) (all_more ss next _ (one_more o s ts h))
+    subst (IsStateAfter (state_after_terminals next ss)) (append_assoc ts (s ∷ []) ss)
+    (IsStateAfter-state_after_terminals ss next _ (IsStateAfter-next_state o s ts h))
 
 -- If a state that is right for the terminals has a result, they are that proposition.
-whole_said : (o : Option ReaderState) (ts : Terms) (p : Formula) → Stands o ts → said_at o ≡ Some p → IsProposition ts p
-whole_said (Some (BehindPart e a [])) ts p h is =
-    subst (λ l. IsProposition l p) (sym (h.is ∙ ap (λ x. x ++ (h.front ++ h.conjuncts)) h.around))
+IsProposition-of_result : (o : Option ReaderState) (ts : Terms) (p : Formula)
+    → IsStateAfter o ts
+    → result_of o ≡ Some p
+    → IsProposition ts p
+IsProposition-of_result (Some (BehindPart e a [])) ts p h is =
+    subst (λ l. IsProposition l p) (sym (h.terminals_are ∙ ap (λ x. x ++ (h.front ++ h.conjuncts)) h.around))
     (subst (IsProposition (h.front ++ h.conjuncts)) (let k : after_or e a ≡ p = cc in k) (group_says h))
-whole_said _ ts p h is = absurd cc
+IsProposition-of_result _ ts p h is = absurd cc
 
 -- If the reader's result after some terminals is a formula, they are a proposition of that formula.
-pub said_derived : {ss : Terms} {p : Formula}
-    → said_at (state_after_terminals (Some initial_reader_state) ss) ≡ Some p
+pub IsProposition-result : {ss : Terms} {p : Formula}
+    → result_of (state_after_terminals (Some initial_reader_state) ss) ≡ Some p
     → IsProposition ss p
-said_derived {ss} {p} is = whole_said _ ss p (all_more ss (Some initial_reader_state) [] (first_part [] [] refl)) is
+IsProposition-result {ss} {p} is =
+    IsProposition-of_result _ ss p
+    (IsStateAfter-state_after_terminals ss (Some initial_reader_state) [] (IsStateAfter-before_first_part [] [] refl)) is

@@ -1,19 +1,23 @@
--- Reading lists of initializers and of sites in sequence, while the table of names grows.
+-- Reading lists of initializers and of sites in sequence, while the table of names grows. The loops of
+-- `parse_block` and `parse_listed` are of this form; SiteLists says how.
 use Rattle.lw_text.proofs.Common.{◌≡◌, ◌≤◌, List, [], ◌∷◌, ◌++◌, length, map, refl, sym, ap, ◌∙◌, subst}
 use Rattle.lw_text.proofs.Common.{arith, All, AllByRecursion, append_cancel_left, map-append, map_push}
 use Rattle.lw_text.proofs.Common.{filter_map-append, All-from_recursion, ParsesNothing, Bytes, NameTable}
-use Rattle.lw_text.proofs.Common.{TokenList, insert_names, all_append, All-append_inv, insert_names-append}
-use Rattle.lw_text.proofs.Common.{insert_names-longer, ParsesSepEndBy, with_sites, HasRoomFor, SiteSyntax}
-use Rattle.lw_text.proofs.Common.{site_name, site_names, site_by_name, IsIn}
+use Rattle.lw_text.proofs.Common.{TokenList, insert_names, AllByRecursion-append, All-append_inv}
+use Rattle.lw_text.proofs.Common.{insert_names-append, insert_names-longer, ParsesSepEndBy, with_sites}
+use Rattle.lw_text.proofs.Common.{HasRoomFor, SiteSyntax, site_name, site_names, site_by_name, IsIn}
 use Rattle.lw_text.specs.declared.site.Site.{Site as Made}
 use Rattle.lw_text.proofs.Atoms.{semicolon}
 use Rattle.lw_text.proofs.Lists.{ParsesMany-push, ParsesSepEndBy-unique, Listing, Listing-end, Listing-last}
 use Rattle.lw_text.proofs.Lists.{IsDeterministic, Listing-here, Listing-mark}
-use Rattle.lw_text.proofs.NameTables.{all_along}
+use Rattle.lw_text.proofs.NameTables.{names_and_sites-insert_names}
 
 -- What holds of all elements of a list and of x holds of all elements of the list with x appended.
-pub all_push : {X : Type 0} (P : X → Type 0) (xs : List X) (x : X) → AllByRecursion P xs → P x → AllByRecursion P (xs ++ x ∷ [])
-all_push P xs x all p = all_append P xs (x ∷ []) all (p, tt)
+pub AllByRecursion-snoc : {X : Type 0} (P : X → Type 0) (xs : List X) (x : X)
+    → AllByRecursion P xs
+    → P x
+    → AllByRecursion P (xs ++ x ∷ [])
+AllByRecursion-snoc P xs x all p = AllByRecursion-append P xs (x ∷ []) all (p, tt)
 
 -- Inserting the names of sites a and then of b is inserting those of `a ++ b`.
 pub with_sites-append : (names : NameTable) (a b : List SiteSyntax)
@@ -74,8 +78,8 @@ module _ {X Y : Type 0} (kind : Kind X Y) where
     pub there : AllByRecursion kind.asks (map (kind.at names) xs)
 
   -- After the opening nothing has been read.
-  pub read_none : (names ts start : TokenList) → ts ≡ kind.opening ++ start → Read names names ts start []
-  read_none names ts start e = record { start = start; begun = e; listing = refl; names_are = refl; within = tt; there = tt }
+  pub Read-none : (names ts start : TokenList) → ts ≡ kind.opening ++ start → Read names names ts start []
+  Read-none names ts start e = record { start = start; begun = e; listing = refl; names_are = refl; within = tt; there = tt }
 
   -- The syntax of elements' sites is that of their sites in memory, by the names of the table.
   syntax_sites : (names : NameTable) (xs : List X) → map kind.syntax (map (kind.at names) xs) ≡ sites_of names xs
@@ -86,18 +90,18 @@ module _ {X Y : Type 0} (kind : Kind X Y) where
       cc
 
   -- The list after its opening.
-  behind_opening : (ts start : TokenList)
+  Whole-after_opening : (ts start : TokenList)
       → ts ≡ kind.opening ++ start
       → (ys : List Y) (rest : TokenList)
       → Whole ts ys rest
       → ParsesSepEndBy kind.stands semicolon kind.close start ys rest
-  behind_opening ts start e ys rest w = rw (append_cancel_left kind.opening w.0 start (sym w.1 ∙ e)) at w.2
+  Whole-after_opening ts start e ys rest w = rw (append_cancel_left kind.opening w.0 start (sym w.1 ∙ e)) at w.2
 
   -- The parse of a list is unique.
   pub Whole-unique : IsDeterministic Whole
   Whole-unique ts a b r s p q =
       ParsesSepEndBy-unique kind.stands semicolon kind.close kind.one kind.apart kind.unlike a b p.0 r s p.2
-      (behind_opening ts p.0 p.1 b s q)
+      (Whole-after_opening ts p.0 p.1 b s q)
 
 -- One more element x was read, from `here` to `mid`, and its name inserted into the table.
 pub record More {X Y : Type 0} (kind : Kind X Y) (names after : NameTable) (here mid : TokenList) (x : X) : Type 0 where
@@ -109,8 +113,8 @@ pub record More {X Y : Type 0} (kind : Kind X Y) (names after : NameTable) (here
 module _ {X Y : Type 0} {kind : Kind X Y} {first names ts here : TokenList} {xs : List X}
     (read : Read kind first names ts here xs) where
   -- If the closing token follows a separator, the elements are the whole list.
-  pub read_end : (rest : TokenList) → here ≡ kind.close ∷ rest → ReadWhole kind first names ts rest xs
-  read_end rest e = record {
+  pub Read-at_close : (rest : TokenList) → here ≡ kind.close ∷ rest → ReadWhole kind first names ts rest xs
+  Read-at_close rest e = record {
     whole = (read.start, read.begun, Listing-end _ semicolon _ _ read.start here rest read.listing e);
     names_are = read.names_are;
     within = All-from_recursion (λ x. IsIn names (kind.site x)) xs read.within;
@@ -118,14 +122,14 @@ module _ {X Y : Type 0} {kind : Kind X Y} {first names ts here : TokenList} {xs 
   }
 
   -- If neither the closing token nor an element whose name has room follows, there is no list.
-  pub read_none_here : ((l : TokenList) → here ≡ kind.close ∷ l → ⊥)
+  pub no_list-no_element : ((l : TokenList) → here ≡ kind.close ∷ l → ⊥)
       → ((y : Y) (rest : TokenList) → kind.stands here y rest → kind.asks y → HasRoomFor names (kind.syntax y ∷ []) → ⊥)
       → (ys : List Y) (rest : TokenList)
       → Whole kind ts ys rest
       → AllByRecursion kind.asks ys
       → HasRoomFor first (map kind.syntax ys)
       → ⊥
-  read_none_here no_end never ys rest w all few =
+  no_list-no_element no_end never ys rest w all few =
       let before = map (kind.at names) xs in
       Listing-here kind.stands semicolon kind.close kind.one kind.apart kind.unlike before ys read.start here rest read.listing
       (no_end rest) (λ y more mid e p.
@@ -139,64 +143,72 @@ module _ {X Y : Type 0} {kind : Kind X Y} {first names ts here : TokenList} {xs 
         names_up_to first (sites_of kind names xs) (kind.syntax y) (map kind.syntax more),
         ap (λ l. length (with_sites first l)) f,
         ap (λ ns. length (with_sites ns (kind.syntax y ∷ []))) read.names_are,
-      ))) (behind_opening kind ts read.start read.begun ys rest w)
+      ))) (Whole-after_opening kind ts read.start read.begun ys rest w)
 
   -- If neither a separator nor the closing token follows an element, there is no list.
-  pub read_no_mark : (x : Y) (mid : TokenList)
+  pub no_list-no_separator : (x : Y) (mid : TokenList)
       → kind.stands here x mid
       → ((l : TokenList) → mid ≡ semicolon ∷ l → ⊥)
       → ((l : TokenList) → mid ≡ kind.close ∷ l → ⊥)
       → ParsesNothing (Whole kind ts)
-  read_no_mark x mid p no_sep no_close ys rest w =
+  no_list-no_separator x mid p no_sep no_close ys rest w =
       Listing-mark kind.stands semicolon kind.close kind.one kind.apart kind.unlike _ ys read.start here mid rest x read.listing p
-      no_sep no_close (behind_opening kind ts read.start read.begun ys rest w)
+      no_sep no_close (Whole-after_opening kind ts read.start read.begun ys rest w)
 
   -- One more element.
   module _ {after : NameTable} {x : X} {mid : TokenList} (more : More kind names after here mid x) where
-    along : (map (kind.at after) xs ≡ map (kind.at names) xs) × AllByRecursion (λ x. IsIn after (kind.site x)) xs
-    along = all_along _ _ kind.stable _ _ (site_names (site_by_name after (kind.site x) ∷ [])) xs more.grows read.within
+    -- The names and sites of the elements read are the same in the new table.
+    sites_and_IsIn-unchanged : (map (kind.at after) xs ≡ map (kind.at names) xs)
+        × AllByRecursion (λ x. IsIn after (kind.site x)) xs
+    sites_and_IsIn-unchanged =
+        names_and_sites-insert_names _ _ kind.stable _ _ (site_names (site_by_name after (kind.site x) ∷ [])) xs more.grows
+        read.within
 
-    at_more : map (kind.at after) (xs ++ x ∷ []) ≡ map (kind.at names) xs ++ kind.at after x ∷ []
-    at_more = map_push (kind.at after) xs x ∙ ap (λ l. l ++ kind.at after x ∷ []) along.0
+    -- The named elements are those, and the new one.
+    at-one_more : map (kind.at after) (xs ++ x ∷ []) ≡ map (kind.at names) xs ++ kind.at after x ∷ []
+    at-one_more = map_push (kind.at after) xs x ∙ ap (λ l. l ++ kind.at after x ∷ []) sites_and_IsIn-unchanged.0
 
-    names_are_more : after ≡ with_sites first (sites_of kind after (xs ++ x ∷ []))
-    names_are_more =
+    -- The table has the names of all, in order.
+    names-one_more : after ≡ with_sites first (sites_of kind after (xs ++ x ∷ []))
+    names-one_more =
         let s = site_by_name after (kind.site x) in
-        let same = sym (syntax_sites kind _ xs) ∙ ap (map kind.syntax) along.0 ∙ syntax_sites kind names xs in
+        let same = sym (syntax_sites kind _ xs) ∙ ap (map kind.syntax) sites_and_IsIn-unchanged.0 ∙ syntax_sites kind names xs in
         let e = map_push (λ x. site_by_name after (kind.site x)) xs x ∙ ap (λ l. l ++ s ∷ []) same in
         more.grows
         ∙ ap (λ ns. with_sites ns (s ∷ [])) read.names_are
         ∙ sym (ap (λ l. with_sites first l) e ∙ with_sites-append first (sites_of kind names xs) (s ∷ []))
 
-    within_more : AllByRecursion (λ x. IsIn after (kind.site x)) (xs ++ x ∷ [])
-    within_more = all_push (λ x. IsIn after (kind.site x)) xs x along.1 more.is_in
+    -- All sites are in the table.
+    IsIn-one_more : AllByRecursion (λ x. IsIn after (kind.site x)) (xs ++ x ∷ [])
+    IsIn-one_more = AllByRecursion-snoc (λ x. IsIn after (kind.site x)) xs x sites_and_IsIn-unchanged.1 more.is_in
 
-    there_more : AllByRecursion kind.asks (map (kind.at after) (xs ++ x ∷ []))
-    there_more = subst (AllByRecursion kind.asks) (sym at_more) (all_push kind.asks _ _ read.there more.fits)
+    -- All elements satisfy what is asked of them.
+    asks-one_more : AllByRecursion kind.asks (map (kind.at after) (xs ++ x ∷ []))
+    asks-one_more = subst (AllByRecursion kind.asks) (sym at-one_more) (AllByRecursion-snoc kind.asks _ _ read.there more.fits)
 
     -- If a separator follows one more element, it is one more element read.
-    pub read_more : (next : TokenList) → mid ≡ semicolon ∷ next → Read kind first after ts next (xs ++ x ∷ [])
-    read_more next e = record {
+    pub Read-separator : (next : TokenList) → mid ≡ semicolon ∷ next → Read kind first after ts next (xs ++ x ∷ [])
+    Read-separator next e = record {
       start = read.start;
       begun = read.begun;
       listing =
-          subst (λ l. Listing kind.stands semicolon kind.close read.start l next) (sym at_more)
+          subst (λ l. Listing kind.stands semicolon kind.close read.start l next) (sym at-one_more)
           (ParsesMany-push _ _ read.start here next (kind.at after x) read.listing (mid, more.stands, e));
-      names_are = names_are_more;
-      within = within_more;
-      there = there_more;
+      names_are = names-one_more;
+      within = IsIn-one_more;
+      there = asks-one_more;
     }
 
     -- If the closing token follows one more element, the whole list has been read.
-    pub read_last : (rest : TokenList) → mid ≡ kind.close ∷ rest → ReadWhole kind first after ts rest (xs ++ x ∷ [])
-    read_last rest e = record {
+    pub Read-closed : (rest : TokenList) → mid ≡ kind.close ∷ rest → ReadWhole kind first after ts rest (xs ++ x ∷ [])
+    Read-closed rest e = record {
       whole = (
         read.start,
         read.begun,
-        subst (λ l. ParsesSepEndBy kind.stands semicolon kind.close read.start l rest) (sym at_more)
+        subst (λ l. ParsesSepEndBy kind.stands semicolon kind.close read.start l rest) (sym at-one_more)
             (Listing-last kind.stands semicolon kind.close _ read.start here mid rest _ read.listing more.stands e),
       );
-      names_are = names_are_more;
-      within = All-from_recursion (λ x. IsIn after (kind.site x)) (xs ++ x ∷ []) within_more;
-      there = there_more;
+      names_are = names-one_more;
+      within = All-from_recursion (λ x. IsIn after (kind.site x)) (xs ++ x ∷ []) IsIn-one_more;
+      there = asks-one_more;
     }

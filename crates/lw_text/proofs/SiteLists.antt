@@ -1,12 +1,13 @@
--- Reading the initializers of an initial block, and the list of names, in sequence.
+-- Reading the initializers of an initial block, and the list of names, in sequence. They are the two
+-- instances of Readings.
 use Rattle.lw_text.proofs.Common.{◌≡◌, false, List, [], ◌∷◌, refl, codes, ℕ, inl, inr, map, sym, ◌∙◌, subst}
 use Rattle.lw_text.proofs.Common.{map-id, AllByRecursion, TokenList, Arch, HasRoomFor, SiteSyntax, IsSite}
 use Rattle.lw_text.proofs.Common.{ThreadExists, begins_token, Listed, InitializerSyntax, IsInitializer, Block}
 use Rattle.lw_text.proofs.Common.{sites_of, named_initializer, site_by_name}
 use Rattle.lw_text.specs.declared.block.Initializer.{Initializer as MadeInitializer}
 use Rattle.lw_text.proofs.Atoms.{no_site, IsSite-unique, IsInitializer-unique, brace, semicolon, bracket}
-use Rattle.lw_text.proofs.NameTables.{initializer-along, site_by_name-along}
-use Rattle.lw_text.proofs.Readings.{Kind, Read, read_none_here, Whole-unique, Whole}
+use Rattle.lw_text.proofs.NameTables.{named_initializer-insert_names, site_by_name-insert_names}
+use Rattle.lw_text.proofs.Readings.{Kind, Read, no_list-no_element, Whole-unique, Whole}
 use Rattle.lw_text.proofs.Texts.{is_no_text, token_not_next}
 use Rattle.lw_text.proofs.Lists.{IsDeterministic}
 use Rattle.lw_text.specs.declared.site.Site.{Site as MadeSite}
@@ -14,8 +15,8 @@ use Rattle.lw_text.specs.declared.site.Site.{Site as MadeSite}
 -- ---- the initial block
 
 -- The initial block, as a list of initializers between braces.
-abbrev pub initializers : Arch → Kind MadeInitializer InitializerSyntax
-initializers arch = record {
+abbrev pub initializer_kind : Arch → Kind MadeInitializer InitializerSyntax
+initializer_kind arch = record {
   opening = codes "{" ∷ [];
   close = brace;
   stands = IsInitializer arch;
@@ -24,20 +25,20 @@ initializers arch = record {
   at = named_initializer;
   syntax = λ e. e.site;
   same = λ names e. refl;
-  stable = initializer-along;
+  stable = named_initializer-insert_names;
   one = IsInitializer-unique arch;
   apart = is_no_text semicolon brace refl;
   unlike = λ ts r l e at p. no_site brace refl arch ts l p.0 e.site at p.1;
 }
 
 -- Nothing is required of initializers.
-all_unit : (all : List InitializerSyntax) → AllByRecursion (λ e. Unit {0}) all
-all_unit [] = tt
-all_unit (e ∷ all) = (tt, all_unit all)
+All-Unit : (all : List InitializerSyntax) → AllByRecursion (λ e. Unit {0}) all
+All-Unit [] = tt
+All-Unit (e ∷ all) = (tt, All-Unit all)
 
 -- If neither an initializer nor the closing brace follows, there is no initial block.
 pub initializers_fault : (arch : Arch) {first names ts here : TokenList} {es : List MadeInitializer}
-    → Read (initializers arch) first names ts here es
+    → Read (initializer_kind arch) first names ts here es
     → begins_token brace here ≡ false
     → ((e : InitializerSyntax) (rest : TokenList) → IsInitializer arch here e rest → HasRoomFor names (e.site ∷ []) → ⊥)
     → (all : List InitializerSyntax) (rest : TokenList)
@@ -45,18 +46,18 @@ pub initializers_fault : (arch : Arch) {first names ts here : TokenList} {es : L
     → HasRoomFor first (sites_of all)
     → ⊥
 initializers_fault arch {here = here} read h never all rest block few =
-    read_none_here read (λ l. token_not_next brace here l h) (λ e rest p none few. never e rest p few) all rest block
-    (all_unit all) few
+    no_list-no_element read (λ l. token_not_next brace here l h) (λ e rest p none few. never e rest p few) all rest block
+    (All-Unit all) few
 
 -- The parse of an initial block is unique.
 pub Block-unique : (arch : Arch) → IsDeterministic (Block arch)
-Block-unique arch = Whole-unique (initializers arch)
+Block-unique arch = Whole-unique (initializer_kind arch)
 
 -- ---- the list of names
 
 -- The list of names, as a list of sites whose threads exist.
-abbrev pub sites : Arch → ℕ → Kind MadeSite SiteSyntax
-sites arch threads = record {
+abbrev pub site_kind : Arch → ℕ → Kind MadeSite SiteSyntax
+site_kind arch threads = record {
   opening = codes "locations" ∷ codes "[" ∷ [];
   close = bracket;
   stands = IsSite arch;
@@ -65,28 +66,28 @@ sites arch threads = record {
   at = site_by_name;
   syntax = λ s. s;
   same = λ names s. refl;
-  stable = site_by_name-along;
+  stable = site_by_name-insert_names;
   one = IsSite-unique arch;
   apart = is_no_text semicolon bracket refl;
   unlike = λ ts r l s at p. no_site bracket refl arch ts l r s at p;
 }
 
--- If tokens start with `locations`, they have a list of the kind `sites`.
-pub list_behind : (arch : Arch) (threads : ℕ) (ts behind : TokenList)
+-- If tokens start with `locations`, they have a list of the kind `site_kind`.
+pub Whole-Listed : (arch : Arch) (threads : ℕ) (ts behind : TokenList)
     → ts ≡ codes "locations" ∷ behind
     → (all : List SiteSyntax) (rest : TokenList)
     → Listed arch ts all rest
-    → Whole (sites arch threads) ts all rest
-list_behind arch threads ts behind word all rest (inl p) = p
-list_behind arch threads ts behind word all rest (inr p) = absurd (token_not_next _ ts behind p.0 word)
+    → Whole (site_kind arch threads) ts all rest
+Whole-Listed arch threads ts behind word all rest (inl p) = p
+Whole-Listed arch threads ts behind word all rest (inr p) = absurd (token_not_next _ ts behind p.0 word)
 
 -- A table with room for sites has room for their syntax, which are the sites themselves.
-pub syntax_same : (names : TokenList) (all : List SiteSyntax) → HasRoomFor names all → HasRoomFor names (map (λ s. s) all)
-syntax_same names all few = subst (λ x. HasRoomFor names x) (sym (map-id all)) few
+pub HasRoomFor-map_same : (names : TokenList) (all : List SiteSyntax) → HasRoomFor names all → HasRoomFor names (map (λ s. s) all)
+HasRoomFor-map_same names all few = subst (λ x. HasRoomFor names x) (sym (map-id all)) few
 
 -- The parse of a list of names, or of none, is unique.
 pub Listed-unique : (arch : Arch) → IsDeterministic (Listed arch)
 Listed-unique arch ts a b r s (inl p) q =
-    Whole-unique (sites arch 0) ts a b r s p (list_behind arch 0 ts (codes "[" ∷ p.0) p.1 b s q)
+    Whole-unique (site_kind arch 0) ts a b r s p (Whole-Listed arch 0 ts (codes "[" ∷ p.0) p.1 b s q)
 Listed-unique arch ts a b r s (inr p) (inl q) = absurd (token_not_next _ ts (codes "[" ∷ q.0) p.0 q.1)
 Listed-unique arch ts a b r s (inr p) (inr q) = (p.1 ∙ sym q.1, sym p.2 ∙ q.2)

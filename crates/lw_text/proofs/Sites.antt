@@ -1,4 +1,5 @@
--- When tokens start with a site, and when they do not.
+-- When tokens start with a site, and when they do not. `parse_site` returns by these lemmas, one for each way
+-- to fail.
 use Rattle.lw_text.proofs.Common.{◌≡◌, ◌⊎◌, ℕ, ◌<◌, inl, inr, [], ◌∷◌, Option, None, Some, true, false}
 use Rattle.lw_text.proofs.Common.{slice_get, subst, sym, ap, ◌∙◌, arith, codes, true≢false, ltb-false}
 use Rattle.lw_text.proofs.Common.{ltb-true, length, ◌≤◌, slice_get_within, HoldsOfNothing, ParsesNothing}
@@ -22,22 +23,23 @@ allowed_thread None t r e = tt
 allowed_thread (Some threads) t r e = ltb-true t threads e
 
 -- A register of a thread that is not allowed is not allowed.
-pub refused_thread : (threads : Option ℕ) (t r : ℕ) → is_allowed threads t ≡ false → ThreadAllowed threads (InThread t r) → ⊥
-refused_thread None t r e there = absurd (true≢false e)
-refused_thread (Some threads) t r e there = omega (arith, there, ltb-false t threads e)
+pub thread_not_allowed : (threads : Option ℕ) (t r : ℕ) → is_allowed threads t ≡ false → ThreadAllowed threads (InThread t r) → ⊥
+thread_not_allowed None t r e there = absurd (true≢false e)
+thread_not_allowed (Some threads) t r e there = omega (arith, there, ltb-false t threads e)
 
 -- If a location's name was inserted, and is next with or without brackets, its site was read.
-pub entered : {arch : Arch} {threads : Option ℕ} {before after : Cursor} {names table : NameTable} {loc : ℕ} {t : Bytes}
+pub location_site_parsed : {arch : Arch} {threads : Option ℕ} {before after : Cursor} {names table : NameTable} {loc : ℕ}
+    {t : Bytes}
     → IsLocationName t × (slice_get table loc ≡ Some t) × (table ≡ insert_name names t) × (length table ≤ 8)
     → AdvancesTo before after
     → (remaining_texts before ≡ t ∷ remaining_texts after)
     ⊎ (remaining_texts before ≡ codes "[" ∷ t ∷ codes "]" ∷ remaining_texts after)
     → ParsedSite arch threads before after names table (made.Location loc)
-entered {arch} {threads} {before} {after} {names} {table} {loc} {t} made leaves e =
+location_site_parsed {arch} {threads} {before} {after} {names} {table} {loc} {t} made leaves e =
     let same = sym (site_by_name-at table loc t made.1) in
     record {
       is = subst (λ s. IsSite arch (remaining_texts before) s (remaining_texts after)) same (made.0, e);
-      there = allowed_location threads _;
+      threads_exist = allowed_location threads _;
       names_are = made.2 ∙ ap (λ s. with_sites names (s ∷ [])) same;
       within = slice_get_within table loc t made.1;
       leaves = leaves;
@@ -46,30 +48,32 @@ entered {arch} {threads} {before} {after} {names} {table} {loc} {t} made leaves 
 
 module _ (arch : Arch) (names : NameTable) {ts l : TokenList} {t : Bytes} (e : ts ≡ t ∷ l) where
   -- If `[` is next, but no location that has room and `]` follow, no site fits.
-  pub brackets_none : t ≡ codes "["
+  pub no_site-no_location_in_brackets : t ≡ codes "["
       → ((x : Bytes) (rest : TokenList) → l ≡ x ∷ codes "]" ∷ rest → IsLocationName x → HasRoomForName names x → ⊥)
       → (s : SiteSyntax) (rest : TokenList)
       → IsSite arch ts s rest
       → HasRoomFor names (s ∷ [])
       → ⊥
-  brackets_none b never (InMemory x) rest (p, inl f) few = let k : x ≡ codes "[" = cc in bracket_no_name (subst IsName k p.0)
-  brackets_none b never (InMemory x) rest (p, inr f) few = let k : l ≡ x ∷ codes "]" ∷ rest = cc in never x rest k p few
-  brackets_none b never (InThread u r) rest p few =
+  no_site-no_location_in_brackets b never (InMemory x) rest (p, inl f) few =
+      let k : x ≡ codes "[" = cc in bracket_no_name (subst IsName k p.0)
+  no_site-no_location_in_brackets b never (InMemory x) rest (p, inr f) few =
+      let k : l ≡ x ∷ codes "]" ∷ rest = cc in never x rest k p few
+  no_site-no_location_in_brackets b never (InThread u r) rest p few =
       let f = p.2 in
       let k : p.0 ≡ codes "[" = cc in
       bracket_no_number u (subst (λ w. IsNumber w u) k p.3)
 
   -- A site that starts with a number is a register of that thread.
-  behind_number : (n : ℕ)
+  site_after_number : (n : ℕ)
       → IsNumber t n
       → (s : SiteSyntax) (rest : TokenList)
       → IsSite arch ts s rest
       → (q : Bytes) × (r : ℕ) × (s ≡ InThread n r) × (l ≡ codes ":" ∷ q ∷ rest) × IsRegisterName arch q r
-  behind_number n number (InMemory x) rest (p, inl f) =
+  site_after_number n number (InMemory x) rest (p, inl f) =
       absurd (let k : x ≡ t = cc in number_no_name t n number (subst IsName k p.0))
-  behind_number n number (InMemory x) rest (p, inr f) =
+  site_after_number n number (InMemory x) rest (p, inr f) =
       absurd (let k : t ≡ codes "[" = cc in bracket_no_number n (subst (λ w. IsNumber w n) k number))
-  behind_number n number (InThread u r) rest p =
+  site_after_number n number (InThread u r) rest p =
       let f = p.2 in
       let k : p.0 ≡ t = cc in
       let same : u ≡ n = number-unique t u n (subst (λ w. IsNumber w u) k p.3) number in
@@ -86,28 +90,28 @@ module _ (arch : Arch) (names : NameTable) {ts l : TokenList} {t : Bytes} (e : t
       → ⊥
   thread_refused n number None refused s rest p there = absurd (true≢false refused)
   thread_refused n number (Some threads) refused s rest p there =
-      let exists : n < threads = subst (ThreadExists threads) ((behind_number n number s rest p).2) there in
+      let exists : n < threads = subst (ThreadExists threads) ((site_after_number n number s rest p).2) there in
       omega (arith, exists, ltb-false n threads refused)
 
   -- If no `:` and register follow a number, there is no site.
-  pub register_none : (n : ℕ)
+  pub no_site-no_register : (n : ℕ)
       → IsNumber t n
       → ((q : Bytes) (r : ℕ) (rest : TokenList) → l ≡ codes ":" ∷ q ∷ rest → IsRegisterName arch q r → ⊥)
       → ParsesNothing (IsSite arch ts)
-  register_none n number never s rest p = let k = behind_number n number s _ p in never k.0 k.1 rest k.3 k.4
+  no_site-no_register n number never s rest p = let k = site_after_number n number s _ p in never k.0 k.1 rest k.3 k.4
 
   -- If the token is no `[`, no number and no location that has room, no site fits.
-  pub location_none : (t ≡ codes "[" → ⊥)
+  pub no_site-no_location : (t ≡ codes "[" → ⊥)
       → HoldsOfNothing (IsNumber t)
       → (IsLocationName t → HasRoomForName names t → ⊥)
       → (s : SiteSyntax) (rest : TokenList)
       → IsSite arch ts s rest
       → HasRoomFor names (s ∷ [])
       → ⊥
-  location_none no_bracket no_number never (InMemory x) rest (p, inl f) few =
+  no_site-no_location no_bracket no_number never (InMemory x) rest (p, inl f) few =
       let k : x ≡ t = cc in never (subst IsLocationName k p) (subst (λ y. HasRoomForName names y) k few)
-  location_none no_bracket no_number never (InMemory x) rest (p, inr f) few = let k : t ≡ codes "[" = cc in no_bracket k
-  location_none no_bracket no_number never (InThread u r) rest p few =
+  no_site-no_location no_bracket no_number never (InMemory x) rest (p, inr f) few = let k : t ≡ codes "[" = cc in no_bracket k
+  no_site-no_location no_bracket no_number never (InThread u r) rest p few =
       let f = p.2 in
       let k : p.0 ≡ t = cc in
       no_number u (subst (λ w. IsNumber w u) k p.3)

@@ -5,29 +5,29 @@ use Rattle.lw_text.proofs.Common.{take_all, range_with_len, flat_map-append, map
 use Rattle.lw_text.proofs.Common.{map-range_with_len_more, Seen, thread_registers, all_registers}
 
 -- The images of the first `n + 1` indices that pass a test are those of the first n that do, followed by the last, if it does.
-pub filter_more : {X : Type 0} (p : X → Bool) (f : ℕ → X) (n : ℕ)
+pub filter-one_more : {X : Type 0} (p : X → Bool) (f : ℕ → X) (n : ℕ)
     → filter p (map f (range_with_len 0 (n + 1))) ≡ filter p (map f (range_with_len 0 n)) ++ filter p (f n ∷ [])
-filter_more p f n = ap (filter p) (map-range_with_len_more f 0 n n (zero-add n)) ∙ filter-append p _ _
+filter-one_more p f n = ap (filter p) (map-range_with_len_more f 0 n n (zero-add n)) ∙ filter-append p _ _
 
 -- Appending h of the image of index n extends the list for the first n indices to `n + 1`.
-pub mapped_more : {X Y : Type 0} (h : X → Y) (f : ℕ → X) (before after : List Y) (n : ℕ) (y : Y)
+pub map-one_more : {X Y : Type 0} (h : X → Y) (f : ℕ → X) (before after : List Y) (n : ℕ) (y : Y)
     → before ≡ map h (map f (range_with_len 0 n))
     → after ≡ before ++ y ∷ []
     → y ≡ h (f n)
     → after ≡ map h (map f (range_with_len 0 (n + 1)))
-mapped_more h f before after n y e p q =
+map-one_more h f before after n y e p q =
     rw (map-range_with_len_more f 0 n n (zero-add n), map_push h (map f (range_with_len 0 n)) (f n), ← e, ← q) p
 
 -- Appending the image of index n, if it passes a test, extends the filtered images of the first n indices to `n + 1`.
-pub seen_more : {X : Type 0} (p : X → Bool) (before seen after : List X) (f : ℕ → X) (n : ℕ)
+pub filtered_seen-one_more : {X : Type 0} (p : X → Bool) (before seen after : List X) (f : ℕ → X) (n : ℕ)
     → seen ≡ before ++ filter p (map f (range_with_len 0 n))
     → after ≡ seen ++ filter p (f n ∷ [])
     → after ≡ before ++ filter p (map f (range_with_len 0 (n + 1)))
-seen_more p before seen after f n e h =
+filtered_seen-one_more p before seen after f n e h =
     h
     ∙ ap (λ l. l ++ filter p (f n ∷ [])) e
     ∙ append_assoc before (filter p (map f (range_with_len 0 n))) (filter p (f n ∷ []))
-    ∙ ap (λ l. before ++ l) (sym (filter_more p f n))
+    ∙ ap (λ l. before ++ l) (sym (filter-one_more p f n))
 
 -- The `n + 1` indices from a are the n from a, followed by `a + n`.
 range-more : (a n : ℕ) → range_with_len a (n + 1) ≡ range_with_len a n ++ (a + n) ∷ []
@@ -37,11 +37,11 @@ range-more a n =
     ∙ ap (λ l. l ++ (a + n) ∷ []) (map-id (range_with_len a n))
 
 -- Appending the registers of thread n that pass a test extends those of the first n threads to `n + 1`.
-pub registers_more : (p : Seen → Bool) (seen after : List Seen) (n : ℕ)
+pub registers-one_more : (p : Seen → Bool) (seen after : List Seen) (n : ℕ)
     → seen ≡ filter p (all_registers n)
     → after ≡ seen ++ filter p (thread_registers n)
     → after ≡ filter p (all_registers (n + 1))
-registers_more p seen after n e f =
+registers-one_more p seen after n e f =
     let more =
     ap (flat_map thread_registers) (range-more 0 n ∙ ap (λ (k : ℕ). range_with_len 0 n ++ k ∷ []) (zero-add n))
     ∙ flat_map-append thread_registers (range_with_len 0 n) (n ∷ [])
@@ -51,5 +51,8 @@ registers_more p seen after n e f =
 -- ---- the whole list
 
 -- What holds of the items that a loop has passed holds of the whole list at the loop's end.
-pub at_end : {X Y : Type 0} (f : List X → Y) (xs : List X) (i : ℕ) (y : Y) → length xs ≤ i → f (take i xs) ≡ y → f xs ≡ y
-at_end f xs i y le all = ap f (sym (take_all i xs le)) ∙ all
+pub whole_list-at_end : {X Y : Type 0} (f : List X → Y) (xs : List X) (i : ℕ) (y : Y)
+    → length xs ≤ i
+    → f (take i xs) ≡ y
+    → f xs ≡ y
+whole_list-at_end f xs i y le all = ap f (sym (take_all i xs le)) ∙ all

@@ -1,4 +1,5 @@
 -- The tokens of a text fail to be a test's body where the parser refuses one, or where the lexer stops.
+-- `body` and `read_text` go by it from a refused token to the byte at which the text fails.
 use Rattle.lw_text.proofs.Common.{◌≡◌, ◌≢◌, ◌⊎◌, ℕ, ◌≤◌, Option, Some, None, IfSome, IfNone, MatchOption}
 use Rattle.lw_text.proofs.Common.{List, [], ◌∷◌, ◌++◌, map, refl, sym, ap, inl, ◌+◌, subst, ◌∙◌, map-append}
 use Rattle.lw_text.proofs.Common.{All, AllByRecursion, Arch, Bytes, Formula, HoldsOfNothing, Tokens, length}
@@ -11,7 +12,7 @@ use Rattle.lw_text.proofs.Common.{TextCause, StopsAt, StreamFails, at_stream_tok
 use Rattle.lw_text.proofs.Common.{at_stream_fault}
 use Rattle.lw_text.proofs.api.Places.{texts_placed}
 use Rattle.lw_text.proofs.ByteFailures.{FailsInFirstToken-not}
-use Rattle.lw_text.proofs.TokenRows.{no_first}
+use Rattle.lw_text.proofs.TokenRows.{no_first_token-trivia_only}
 
 -- What holds of all items holds of one after others.
 holds_after : {X : Type 0} (P : X → Type 0) (front : List X) (x : X) (more : List X) → AllByRecursion P (front ++ x ∷ more) → P x
@@ -41,14 +42,16 @@ pub stream_fails : {arch : Arch} {len : ℕ} (tokens : List Token) (fault : Opti
     → StreamFails arch len (with_spans tokens) fault f.at f.cause
 stream_fails {arch} {len} tokens fault refusal f [] suffix place way some none = at fault (rw place at none)
   where
-    fails : FailsInTest arch (texts_of_tokens (with_spans tokens)) [] refusal.cause
-    fails = subst (λ ts. FailsInTest arch ts [] refusal.cause) (sym (texts_placed tokens)) way
+    -- The tokens end too early.
+    FailsInTest-at_refusal : FailsInTest arch (texts_of_tokens (with_spans tokens)) [] refusal.cause
+    FailsInTest-at_refusal = subst (λ ts. FailsInTest arch ts [] refusal.cause) (sym (texts_placed tokens)) way
 
+    -- By whether a lexical fault ends them.
     at : (fault : Option Fault)
         → MatchOption fault ((f.at ≡ len) × (f.cause ≡ Unterminated)) (λ g. (f.at ≡ g.at) × (f.cause ≡ g.cause))
         → StreamFails arch len (with_spans tokens) fault f.at f.cause
-    at None h = at_stream_end refusal.cause refl fails h.0 h.1
-    at (Some g) h = at_stream_fault g refusal.cause refl h.0 h.1 (inl fails)
+    at None h = at_stream_end refusal.cause refl FailsInTest-at_refusal h.0 h.1
+    at (Some g) h = at_stream_fault g refusal.cause refl h.0 h.1 (inl FailsInTest-at_refusal)
 stream_fails {arch} {len} tokens fault refusal f (t ∷ rest) suffix place way some none =
     let is = rw place at some in
     at_stream_token (with_spans suffix.0) (with_spans rest) (with_span t)
@@ -73,14 +76,17 @@ pub body_fails : {arch : Arch} {len : ℕ} {text : Bytes} {tokens : List PlacedT
     → StreamFails arch len tokens fault at cause
     → FailsInBody arch len text at cause
 body_fails {arch} {len} {text} {tokens} {fault} {at} {cause} stream (at_stream_token before behind token parts place way) =
-    let read = many fault stream in at_token tokens behind token before read.0 read.1 parts place way
+    let read = HasTokens-by_fault fault stream in at_token tokens behind token before read.0 read.1 parts place way
   where
-    many : (o : Option Fault)
+    -- Whether or not a fault ends the stream, its tokens are those of the text, up to some end.
+    HasTokens-by_fault : (o : Option Fault)
         → MatchOption o (PlacedTokens len text tokens)
         (λ g. HoldsOfNothing (Tokens text) × (g.at ≤ len) × StopsAt len text tokens g.at g.cause)
         → (end : Bytes) × HasTokens len text tokens end
-    many None p = let read = placed_many len text tokens p in (read.0, (read.1, λ t rest is. no_first read.0 t rest read.2 is))
-    many (Some g) p =
+    HasTokens-by_fault None p =
+        let read = placed_many len text tokens p in
+        (read.0, (read.1, λ t rest is. no_first_token-trivia_only read.0 t rest read.2 is))
+    HasTokens-by_fault (Some g) p =
         (p.2.end, (p.2.read, λ t rest is. FailsInFirstToken-not p.2.end p.2.fails.rest t rest g.cause p.2.fails.way is))
 body_fails stream (at_stream_end c none way place cause) = at_end _ c (rw none at stream) way place cause
 body_fails {arch} {len} {text} {tokens} {fault} {at} {cause} stream (at_stream_fault g c is place because way) =

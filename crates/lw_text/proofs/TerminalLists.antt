@@ -1,11 +1,11 @@
--- The parse of a proposition's terminals is unique.
+-- The parse of a proposition's terminals is unique. A step of the proof that a text has one frame.
 use Rattle.lw_text.proofs.Common.{◌≡◌, ℕ, ◌<◌, inl, inr, true, false, List, [], ◌∷◌, ◌++◌, length, refl, sym}
 use Rattle.lw_text.proofs.Common.{ap, ◌∙◌, subst, arith, codes, if◌then◌else◌, ◌⊎◌, Option, Some, None}
 use Rattle.lw_text.proofs.Common.{bytes_eq, append-nil, ParsesNothing, Bytes, TokenList, Arch, ParsesMany}
 use Rattle.lw_text.proofs.Common.{SiteSyntax, IsSite, Value, Terminal, Open, Close, Negation, Conjunction}
 use Rattle.lw_text.proofs.Common.{Disjunction, Atom, AtomSyntax, Always, Never, Holds, IsTerminal, Terminals}
 use Rattle.lw_text.proofs.Common.{begins_token, begins_part}
-use Rattle.lw_text.proofs.Atoms.{IsSite-unique, IsSite-shorter, Value-unique, Value-shorter, is_apart}
+use Rattle.lw_text.proofs.Atoms.{IsSite-unique, IsSite-shorter, Value-unique, Value-shorter, starts_no_site}
 use Rattle.lw_text.proofs.Atoms.{no_site}
 use Rattle.lw_text.proofs.Lists.{ParsesMany-peel, IsDeterministic}
 use Rattle.lw_text.proofs.Texts.{token_not_next}
@@ -30,42 +30,48 @@ terminal_word w =
     else if bytes_eq w (codes "true") then Some (Atom Always) else if bytes_eq w (codes "false") then Some (Atom Never) else None
 
 -- The tokens start with a terminal that is a single token.
-record Word (ts : TokenList) (s : Terminal AtomSyntax) (rest : TokenList) : Type 0 where
+record ParsesSingleToken (ts : TokenList) (s : Terminal AtomSyntax) (rest : TokenList) : Type 0 where
   pub word : Bytes
   pub stands : ts ≡ word ∷ rest
-  pub is : terminal_word word ≡ Some s
-  pub apart : is_apart word ≡ true
+  pub terminal_is : terminal_word word ≡ Some s
+  pub apart : starts_no_site word ≡ true
 
 -- The tokens start with an atom: a site, and its value after it.
-record Claimed (arch : Arch) (threads : ℕ) (ts : TokenList) (s : Terminal AtomSyntax) (rest : TokenList) : Type 0 where
+record ParsesAtom (arch : Arch) (threads : ℕ) (ts : TokenList) (s : Terminal AtomSyntax) (rest : TokenList) : Type 0 where
   pub site : SiteSyntax
   pub n : ℕ
   pub mid : TokenList
-  pub is : s ≡ Atom (Holds site n)
+  pub terminal_is : s ≡ Atom (Holds site n)
   pub site_is : IsSite arch ts site mid
   pub value : Value mid n rest
 
 -- A terminal is a single token, or an atom about a site.
 terminal_front : (arch : Arch) (threads : ℕ) (ts rest : TokenList) (s : Terminal AtomSyntax)
     → IsTerminal arch threads ts s rest
-    → Word ts s rest ⊎ Claimed arch threads ts s rest
-terminal_front arch threads ts rest Open e = inl (record { word = codes "("; stands = e; is = refl; apart = refl })
-terminal_front arch threads ts rest Close e = inl (record { word = codes ")"; stands = e; is = refl; apart = refl })
-terminal_front arch threads ts rest Negation (inl e) = inl (record { word = codes "~"; stands = e; is = refl; apart = refl })
-terminal_front arch threads ts rest Negation (inr e) = inl (record { word = codes "not"; stands = e; is = refl; apart = refl })
-terminal_front arch threads ts rest Conjunction e = inl (record { word = codes "/\\"; stands = e; is = refl; apart = refl })
-terminal_front arch threads ts rest Disjunction e = inl (record { word = codes "\\/"; stands = e; is = refl; apart = refl })
-terminal_front arch threads ts rest (Atom Always) e = inl (record { word = codes "true"; stands = e; is = refl; apart = refl })
-terminal_front arch threads ts rest (Atom Never) e = inl (record { word = codes "false"; stands = e; is = refl; apart = refl })
+    → ParsesSingleToken ts s rest ⊎ ParsesAtom arch threads ts s rest
+terminal_front arch threads ts rest Open e = inl (record { word = codes "("; stands = e; terminal_is = refl; apart = refl })
+terminal_front arch threads ts rest Close e = inl (record { word = codes ")"; stands = e; terminal_is = refl; apart = refl })
+terminal_front arch threads ts rest Negation (inl e) =
+    inl (record { word = codes "~"; stands = e; terminal_is = refl; apart = refl })
+terminal_front arch threads ts rest Negation (inr e) =
+    inl (record { word = codes "not"; stands = e; terminal_is = refl; apart = refl })
+terminal_front arch threads ts rest Conjunction e =
+    inl (record { word = codes "/\\"; stands = e; terminal_is = refl; apart = refl })
+terminal_front arch threads ts rest Disjunction e =
+    inl (record { word = codes "\\/"; stands = e; terminal_is = refl; apart = refl })
+terminal_front arch threads ts rest (Atom Always) e =
+    inl (record { word = codes "true"; stands = e; terminal_is = refl; apart = refl })
+terminal_front arch threads ts rest (Atom Never) e =
+    inl (record { word = codes "false"; stands = e; terminal_is = refl; apart = refl })
 terminal_front arch threads ts rest (Atom (Holds site n)) p =
-    inr (record { site = site; n = n; mid = p.0; is = refl; site_is = p.1; value = p.3 })
+    inr (record { site = site; n = n; mid = p.0; terminal_is = refl; site_is = p.1; value = p.3 })
 
 -- If no value follows a site, there is no terminal.
-pub site_alone : (arch : Arch) (threads : ℕ) (ts mid : TokenList) (site : SiteSyntax)
+pub no_terminal-site_without_value : (arch : Arch) (threads : ℕ) (ts mid : TokenList) (site : SiteSyntax)
     → IsSite arch ts site mid
     → ParsesNothing (Value mid)
     → ParsesNothing (IsTerminal arch threads ts)
-site_alone arch threads ts mid site p never s rest is = elim (terminal_front arch threads ts rest s is) [
+no_terminal-site_without_value arch threads ts mid site p never s rest is = elim (terminal_front arch threads ts rest s is) [
   | inl w ↦ no_site w.word w.apart arch ts rest mid site w.stands p
   | inr w ↦ never w.n rest (subst (λ l. Value l w.n rest) (IsSite-unique arch ts w.site site w.mid mid w.site_is p).1 w.value)
 ]
@@ -88,7 +94,7 @@ IsTerminal-unique arch threads ts a b r s p q = elim (terminal_front arch thread
         let f = Value-unique v.mid r s v.n w.n v.value (subst (λ l. Value l w.n s) (sym e.1) w.value) in
         let i : v.site ≡ w.site = e.0 in
         let j : v.n ≡ w.n = f.0 in
-        (v.is ∙ ap (λ x. Atom (Holds x v.n)) i ∙ ap (λ (x : ℕ). Atom (Holds w.site x)) j ∙ sym w.is, f.1)
+        (v.terminal_is ∙ ap (λ x. Atom (Holds x v.n)) i ∙ ap (λ (x : ℕ). Atom (Holds w.site x)) j ∙ sym w.terminal_is, f.1)
   ]
 ]
 
@@ -104,17 +110,17 @@ IsTerminal-shorter arch threads ts rest s p = elim (terminal_front arch threads 
 -- ---- sequences of terminals
 
 -- No tokens have no terminals.
-no_terminals : (arch : Arch) (threads : ℕ) (more : List (Terminal AtomSyntax)) → Terminals arch threads [] more → more ≡ []
-no_terminals arch threads [] p = refl
-no_terminals arch threads (s ∷ ss) p = absurd (omega (arith, IsTerminal-shorter arch threads [] p.0 s p.1))
+Terminals-empty : (arch : Arch) (threads : ℕ) (more : List (Terminal AtomSyntax)) → Terminals arch threads [] more → more ≡ []
+Terminals-empty arch threads [] p = refl
+Terminals-empty arch threads (s ∷ ss) p = absurd (omega (arith, IsTerminal-shorter arch threads [] p.0 s p.1))
 
 -- If all tokens are terminals that start with s, the tokens after s are the others.
-terminals_behind : (arch : Arch) (threads : ℕ) (ts mid : TokenList) (s : Terminal AtomSyntax) (all : List (Terminal AtomSyntax))
+Terminals-tail : (arch : Arch) (threads : ℕ) (ts mid : TokenList) (s : Terminal AtomSyntax) (all : List (Terminal AtomSyntax))
     → IsTerminal arch threads ts s mid
     → Terminals arch threads ts all
     → (more : List (Terminal AtomSyntax)) × (all ≡ s ∷ more) × Terminals arch threads mid more
-terminals_behind arch threads ts mid s [] p e = absurd (omega (arith, IsTerminal-shorter arch threads ts mid s p, ap length e))
-terminals_behind arch threads ts mid s (t ∷ all) p q =
+Terminals-tail arch threads ts mid s [] p e = absurd (omega (arith, IsTerminal-shorter arch threads ts mid s p, ap length e))
+Terminals-tail arch threads ts mid s (t ∷ all) p q =
     let e = IsTerminal-unique arch threads ts s t mid q.0 p q.1 in
     let k : s ≡ t = e.0 in
     (all, cc, subst (λ l. Terminals arch threads l all) (sym e.1) q.2)
@@ -124,7 +130,7 @@ pub Terminals-peel : (arch : Arch) (threads : ℕ) (ss all : List (Terminal Atom
     → ParsesMany (IsTerminal arch threads) ts ss here
     → Terminals arch threads ts all
     → (more : List (Terminal AtomSyntax)) × (all ≡ ss ++ more) × Terminals arch threads here more
-Terminals-peel arch threads = ParsesMany-peel {W = Terminals arch threads} (terminals_behind arch threads)
+Terminals-peel arch threads = ParsesMany-peel {W = Terminals arch threads} (Terminals-tail arch threads)
 
 -- The parse of a proposition's terminals is unique.
 pub Terminals-unique : (arch : Arch) (threads : ℕ) (a b : List (Terminal AtomSyntax)) (ts : TokenList)
@@ -133,10 +139,10 @@ pub Terminals-unique : (arch : Arch) (threads : ℕ) (a b : List (Terminal AtomS
     → a ≡ b
 Terminals-unique arch threads a b ts p q =
     let k = Terminals-peel arch threads a b ts [] p q in
-    sym (k.1 ∙ ap (λ l. a ++ l) (no_terminals arch threads k.0 k.2) ∙ append-nil a)
+    sym (k.1 ∙ ap (λ l. a ++ l) (Terminals-empty arch threads k.0 k.2) ∙ append-nil a)
 
 -- If the token starts no other part, only a site's atom can start there.
-pub only_claim : (arch : Arch) (threads : ℕ) (ts : TokenList)
+pub terminal_is_claim : (arch : Arch) (threads : ℕ) (ts : TokenList)
     → begins_token (codes "(") ts ≡ false
     → begins_token (codes "~") ts ≡ false
     → begins_token (codes "not") ts ≡ false
@@ -146,10 +152,10 @@ pub only_claim : (arch : Arch) (threads : ℕ) (ts : TokenList)
     → IsTerminal arch threads ts s rest
     → begins_part s ≡ true
     → (site : SiteSyntax) × (n : ℕ) × (s ≡ Atom (Holds site n))
-only_claim arch threads ts a b c d e Open rest p begins = absurd (token_not_next (codes "(") ts rest a p)
-only_claim arch threads ts a b c d e Negation rest (inl p) begins = absurd (token_not_next _ ts rest b p)
-only_claim arch threads ts a b c d e Negation rest (inr p) begins = absurd (token_not_next _ ts rest c p)
-only_claim arch threads ts a b c d e (Atom Always) rest p begins = absurd (token_not_next _ ts rest d p)
-only_claim arch threads ts a b c d e (Atom Never) rest p begins = absurd (token_not_next _ ts rest e p)
-only_claim arch threads ts a b c d e (Atom (Holds site n)) rest p begins = (site, n, refl)
-only_claim arch threads ts a b c d e _ rest p begins = absurd cc
+terminal_is_claim arch threads ts a b c d e Open rest p begins = absurd (token_not_next (codes "(") ts rest a p)
+terminal_is_claim arch threads ts a b c d e Negation rest (inl p) begins = absurd (token_not_next _ ts rest b p)
+terminal_is_claim arch threads ts a b c d e Negation rest (inr p) begins = absurd (token_not_next _ ts rest c p)
+terminal_is_claim arch threads ts a b c d e (Atom Always) rest p begins = absurd (token_not_next _ ts rest d p)
+terminal_is_claim arch threads ts a b c d e (Atom Never) rest p begins = absurd (token_not_next _ ts rest e p)
+terminal_is_claim arch threads ts a b c d e (Atom (Holds site n)) rest p begins = (site, n, refl)
+terminal_is_claim arch threads ts a b c d e _ rest p begins = absurd cc

@@ -1,35 +1,37 @@
--- Tokens fail to be a test at one place only, and for one cause: lists of sites, the header, the rows, the condition, and the whole.
-use Rattle.lw_text.proofs.Common.{cons_head, ◌≡◌, ◌≢◌, ◌⊎◌, ℕ, zero, suc, ◌+◌, ◌<◌, ◌≤◌, Option, None, Some}
-use Rattle.lw_text.proofs.Common.{List, [], ◌∷◌, length, map, filter, map-id, Bool, true, false, refl, sym}
-use Rattle.lw_text.proofs.Common.{ap, ◌∙◌, subst, inl, inr, arith, codes, bytes_eq, begins_token, begins_stop}
-use Rattle.lw_text.proofs.Common.{AllByRecursion, Arch, Bytes, NameTable, TokenList, Cells, CellGrid, Quant}
-use Rattle.lw_text.proofs.Common.{Exists, NotExists, Forall, InitializerSyntax, IsInitializer, IsSite}
-use Rattle.lw_text.proofs.Common.{SiteSyntax, InThread, ThreadExists, ThreadAllowed, HasRoomFor, site_names}
-use Rattle.lw_text.proofs.Common.{with_sites, insert_names-longer, sites_of, Block, Header, Names, Row}
-use Rattle.lw_text.proofs.Common.{RowCells, Rows, Listed, Quantified, thread_name, Terminal, Open, Close}
-use Rattle.lw_text.proofs.Common.{Negation, Conjunction, Disjunction, Atom, AtomSyntax, Always, Never, Holds}
-use Rattle.lw_text.proofs.Common.{IsTerminal, is_node, sites_in, ParsesMany, ParsesManyTill, ParsesSepBy}
-use Rattle.lw_text.proofs.Common.{ParsesSepEndBy, Value, IfFirst, FailsBefore, FailsInAssignment, FailsInSite}
-use Rattle.lw_text.proofs.Common.{FailsInElements, in_element, no_mark, in_elements_after}
-use Rattle.lw_text.proofs.Common.{FailsInInitializers, FailsInBlock, no_brace, in_initializers, FailsInSites}
-use Rattle.lw_text.proofs.Common.{FailsInList, no_list_bracket, in_sites, FailsInHeader, no_thread_name}
-use Rattle.lw_text.proofs.Common.{no_thread_mark, in_next_thread, too_many_threads, FailsInRow, no_end}
-use Rattle.lw_text.proofs.Common.{ragged, FailsInRows, too_many_rows, in_row, in_rows_after}
-use Rattle.lw_text.proofs.Common.{FailsInQuantifier, no_quantifier, no_exists, TextCause, Unexpected}
-use Rattle.lw_text.proofs.Common.{Condition, TooManyThreads}
+-- Tokens fail to be a test at one place only, and for one cause: lists of sites, the header, the rows, the
+-- condition, and the whole. A step of the law that a text fails at one place (OneFault).
+use Rattle.lw_text.proofs.Common.{cons-head_eq, ◌≡◌, ◌≢◌, ◌⊎◌, ℕ, zero, suc, ◌+◌, ◌<◌, ◌≤◌, Option, None}
+use Rattle.lw_text.proofs.Common.{Some, List, [], ◌∷◌, length, map, filter, map-id, Bool, true, false, refl}
+use Rattle.lw_text.proofs.Common.{sym, ap, ◌∙◌, subst, inl, inr, arith, codes, bytes_eq, begins_token}
+use Rattle.lw_text.proofs.Common.{begins_stop, AllByRecursion, Arch, Bytes, NameTable, TokenList, Cells}
+use Rattle.lw_text.proofs.Common.{CellGrid, Quant, Exists, NotExists, Forall, InitializerSyntax}
+use Rattle.lw_text.proofs.Common.{IsInitializer, IsSite, SiteSyntax, InThread, ThreadExists, ThreadAllowed}
+use Rattle.lw_text.proofs.Common.{HasRoomFor, site_names, with_sites, insert_names-longer, sites_of, Block}
+use Rattle.lw_text.proofs.Common.{Header, Names, Row, RowCells, Rows, Listed, Quantified, thread_name}
+use Rattle.lw_text.proofs.Common.{Terminal, Open, Close, Negation, Conjunction, Disjunction, Atom, AtomSyntax}
+use Rattle.lw_text.proofs.Common.{Always, Never, Holds, IsTerminal, is_node, sites_in, ParsesMany}
+use Rattle.lw_text.proofs.Common.{ParsesManyTill, ParsesSepBy, ParsesSepEndBy, Value, IfFirst, FailsBefore}
+use Rattle.lw_text.proofs.Common.{FailsInAssignment, FailsInSite, FailsInElements, in_element, no_mark}
+use Rattle.lw_text.proofs.Common.{in_elements_after, FailsInInitializers, FailsInBlock, no_brace}
+use Rattle.lw_text.proofs.Common.{in_initializers, FailsInSites, FailsInList, no_list_bracket, in_sites}
+use Rattle.lw_text.proofs.Common.{FailsInHeader, no_thread_name, no_thread_mark, in_next_thread}
+use Rattle.lw_text.proofs.Common.{too_many_threads, FailsInRow, no_end, ragged, FailsInRows, too_many_rows}
+use Rattle.lw_text.proofs.Common.{in_row, in_rows_after, FailsInQuantifier, no_quantifier, no_exists}
+use Rattle.lw_text.proofs.Common.{TextCause, Unexpected, Condition, TooManyThreads}
 use Rattle.lw_text.proofs.Atoms.{IsSite-unique, IsInitializer-unique, IsSite-shorter, brace, bracket}
 use Rattle.lw_text.proofs.Atoms.{semicolon}
-use Rattle.lw_text.proofs.Cells.{Cell-exact, Row-one, Rows-unique}
-use Rattle.lw_text.proofs.Failures.{same_tail}
-use Rattle.lw_text.proofs.FailureUniqueness.{IsSameFailure, FailsUniquely, first_holds, at_once}
-use Rattle.lw_text.proofs.FailureUniqueness.{FailsBefore-unique, FailsBefore-not, FailsInSite-unique}
-use Rattle.lw_text.proofs.FailureUniqueness.{FailsInSite-not, FailsInAssignment-unique, FailsInAssignment-not}
+use Rattle.lw_text.proofs.Cells.{Cell-exact, Row-deterministic, Rows-unique}
+use Rattle.lw_text.proofs.Failures.{cons-tail_unique}
+use Rattle.lw_text.proofs.FailureUniqueness.{IsSameFailure, FailsUniquely, IfFirst-of_head}
+use Rattle.lw_text.proofs.FailureUniqueness.{FailsUniquely-at_first_token, FailsBefore-unique}
+use Rattle.lw_text.proofs.FailureUniqueness.{FailsBefore-not, FailsInSite-unique, FailsInSite-not}
+use Rattle.lw_text.proofs.FailureUniqueness.{FailsInAssignment-unique, FailsInAssignment-not}
 use Rattle.lw_text.proofs.Headers.{Names-unique}
 use Rattle.lw_text.proofs.Lists.{IsDeterministic, ParsesSepBy-unique}
 use Rattle.lw_text.proofs.Readings.{with_sites-append}
-use Rattle.lw_text.proofs.SiteLists.{Block-unique, Listed-unique, syntax_same}
+use Rattle.lw_text.proofs.SiteLists.{Block-unique, Listed-unique, HasRoomFor-map_same}
 use Rattle.lw_text.proofs.TerminalLists.{IsTerminal-unique, IsTerminal-shorter}
-use Rattle.lw_text.proofs.Texts.{is_no_text, marks_apart, token_not_next}
+use Rattle.lw_text.proofs.Texts.{is_no_text, bar_is_no_semicolon, token_not_next}
 use Rattle.lw_text.proofs.Whole.{Quantified-unique}
 use Rattle.lw_text.specs.Rows.{Cell}
 
@@ -44,37 +46,40 @@ module _ {X : Type 0} (Parses : TokenList → X → TokenList → Type 0) (site_
     → HasRoomFor names (site_by x ∷ [])
     → ⊥) (apart : codes ";" ≡ close → ⊥) where
   -- Elements fail uniquely.
-  elements_unique : (r s : TokenList) (d e : TextCause) (names : NameTable) (ts : TokenList)
+  FailsInElements-unique : (r s : TokenList) (d e : TextCause) (names : NameTable) (ts : TokenList)
       → FailsInElements Parses site_by Way close c r d names ts
       → FailsInElements Parses site_by Way close c s e names ts
       → IsSameFailure r d s e
-  elements_unique r s d e names ts (in_element go p) (in_element too q) = way_one names ts r s d e p q
-  elements_unique r s d e names ts (in_element go p) (no_mark {x = x} too is room q) = absurd (way_not names ts r _ d x p is room)
-  elements_unique r s d e names ts (in_element go p) (in_elements_after {x = x} too is room q) =
+  FailsInElements-unique r s d e names ts (in_element go p) (in_element too q) = way_one names ts r s d e p q
+  FailsInElements-unique r s d e names ts (in_element go p) (no_mark {x = x} too is room q) =
       absurd (way_not names ts r _ d x p is room)
-  elements_unique r s d e names ts (no_mark {x = x} go is room p) (in_element too q) = absurd (way_not names ts s _ e x q is room)
-  elements_unique r s d e names ts (no_mark {mid = mid} {x = x} go is room p) (no_mark {mid = other} {x = y} too also has q) =
+  FailsInElements-unique r s d e names ts (in_element go p) (in_elements_after {x = x} too is room q) =
+      absurd (way_not names ts r _ d x p is room)
+  FailsInElements-unique r s d e names ts (no_mark {x = x} go is room p) (in_element too q) =
+      absurd (way_not names ts s _ e x q is room)
+  FailsInElements-unique r s d e names ts (no_mark {mid = mid} {x = x} go is room p) (no_mark {mid = other} {x = y} too also has q) =
       FailsBefore-unique (close ∷ codes ";" ∷ []) c mid r s d e p
       (subst (λ l. FailsBefore (close ∷ codes ";" ∷ []) c l s e) (sym (one ts x y mid other is also).1) q)
-  elements_unique r s d e names ts (no_mark {mid = mid} {x = x} go is room p) (in_elements_after {next = next} {x = y} too also has q) =
+  FailsInElements-unique r s d e names ts (no_mark {mid = mid} {x = x} go is room p) (in_elements_after {next = next} {x = y} too also has q) =
       absurd (FailsBefore-not (close ∷ codes ";" ∷ []) c mid r next d (codes ";") p (one ts x y mid (codes ";" ∷ next) is also).1
       (λ all. all.1.0 refl))
-  elements_unique r s d e names ts (in_elements_after {x = x} go is room p) (in_element too q) =
+  FailsInElements-unique r s d e names ts (in_elements_after {x = x} go is room p) (in_element too q) =
       absurd (way_not names ts s _ e x q is room)
-  elements_unique r s d e names ts (in_elements_after {next = next} {x = x} go is room p) (no_mark {mid = mid} {x = y} too also has q) =
+  FailsInElements-unique r s d e names ts (in_elements_after {next = next} {x = x} go is room p) (no_mark {mid = mid} {x = y} too also has q) =
       absurd (FailsBefore-not (close ∷ codes ";" ∷ []) c mid s next e (codes ";") q (one ts y x mid (codes ";" ∷ next) also is).1
       (λ all. all.1.0 refl))
-  elements_unique r s d e names ts (in_elements_after {next = next} {x = x} go is room p) (in_elements_after {next = other} {x = y} too also has q) =
+  FailsInElements-unique r s d e names ts (in_elements_after {next = next} {x = x} go is room p) (in_elements_after {next = other} {x = y} too also has q) =
       let same = one ts x y (codes ";" ∷ next) (codes ";" ∷ other) is also in
-      elements_unique r s d e (with_sites names (site_by x ∷ [])) next p
+      FailsInElements-unique r s d e (with_sites names (site_by x ∷ [])) next p
       (subst (λ (y : X). FailsInElements Parses site_by Way close c s e (with_sites names (site_by y ∷ [])) next) (sym same.0)
-      (subst (FailsInElements Parses site_by Way close c s e (with_sites names (site_by y ∷ []))) (sym (same_tail same.1)) q))
+      (subst (FailsInElements Parses site_by Way close c s e (with_sites names (site_by y ∷ []))) (sym (cons-tail_unique same.1))
+      q))
 
   -- A table with room for sites has room for the first.
-  first_room : (names : NameTable) (x : SiteSyntax) (sites : List SiteSyntax)
+  HasRoomFor-first : (names : NameTable) (x : SiteSyntax) (sites : List SiteSyntax)
       → HasRoomFor names (x ∷ sites)
       → HasRoomFor names (x ∷ [])
-  first_room names x sites room = omega (
+  HasRoomFor-first names x sites room = omega (
     arith,
     room,
     ap length (with_sites-append names (x ∷ []) sites),
@@ -82,52 +87,59 @@ module _ {X : Type 0} (Parses : TokenList → X → TokenList → Type 0) (site_
   )
 
   -- Elements that are closed, and for whose locations there is room, do not fail.
-  elements_not : (rest : TokenList) (cause : TextCause) (names : NameTable) (ts after : TokenList) (xs : List X)
+  FailsInElements-not : (rest : TokenList) (cause : TextCause) (names : NameTable) (ts after : TokenList) (xs : List X)
       → FailsInElements Parses site_by Way close c rest cause names ts
       → ParsesSepEndBy Parses (codes ";") close ts xs after
       → HasRoomFor names (map site_by xs)
       → ⊥
-  elements_not rest cause names ts after [] (in_element go p) is room = token_not_next close ts after go is
-  elements_not rest cause names ts after [] (no_mark go also has p) is room = token_not_next close ts after go is
-  elements_not rest cause names ts after [] (in_elements_after go also has p) is room = token_not_next close ts after go is
-  elements_not rest cause names ts after (x ∷ xs) (in_element go p) is room =
-      way_not names ts rest is.0 cause x p is.1 (first_room names (site_by x) (map site_by xs) room)
-  elements_not rest cause names ts after (x ∷ xs) (no_mark {mid = mid} {x = y} go also has p) is room =
+  FailsInElements-not rest cause names ts after [] (in_element go p) is room = token_not_next close ts after go is
+  FailsInElements-not rest cause names ts after [] (no_mark go also has p) is room = token_not_next close ts after go is
+  FailsInElements-not rest cause names ts after [] (in_elements_after go also has p) is room = token_not_next close ts after go is
+  FailsInElements-not rest cause names ts after (x ∷ xs) (in_element go p) is room =
+      way_not names ts rest is.0 cause x p is.1 (HasRoomFor-first names (site_by x) (map site_by xs) room)
+  FailsInElements-not rest cause names ts after (x ∷ xs) (no_mark {mid = mid} {x = y} go also has p) is room =
       let same = (one ts y x mid is.0 also is.1).1 in
       elim is.2 [
         | inl end ↦ FailsBefore-not (close ∷ codes ";" ∷ []) c mid rest after cause close p (same ∙ end.1) (λ all. all.0 refl)
         | inr more ↦
             FailsBefore-not (close ∷ codes ";" ∷ []) c mid rest more.0 cause (codes ";") p (same ∙ more.1) (λ all. all.1.0 refl)
       ]
-  elements_not rest cause names ts after (x ∷ xs) (in_elements_after {next = next} {x = y} go also has p) is room =
+  FailsInElements-not rest cause names ts after (x ∷ xs) (in_elements_after {next = next} {x = y} go also has p) is room =
       let same = one ts y x (codes ";" ∷ next) is.0 also is.1 in
       elim is.2 [
-        | inl end ↦ apart (cons_head _ _ _ _ (same.1 ∙ end.1))
+        | inl end ↦ apart (cons-head_eq _ _ _ _ (same.1 ∙ end.1))
         | inr more ↦
-            elements_not rest cause (with_sites names (site_by x ∷ [])) next after xs
+            FailsInElements-not rest cause (with_sites names (site_by x ∷ [])) next after xs
             (subst (λ (y : X). FailsInElements Parses site_by Way close c rest cause (with_sites names (site_by y ∷ [])) next)
-            same.0 p) (subst (λ l. ParsesSepEndBy Parses (codes ";") close l xs after) (sym (same_tail (same.1 ∙ more.1))) more.2)
+            same.0 p)
+            (subst (λ l. ParsesSepEndBy Parses (codes ";") close l xs after) (sym (cons-tail_unique (same.1 ∙ more.1))) more.2)
             (subst (λ (table : NameTable). length table ≤ 8) (with_sites-append names (site_by x ∷ []) (map site_by xs)) room)
       ]
 
 -- ---- The initial block.
 
-initializer_not : (arch : Arch) (names : NameTable) (ts rest after : TokenList) (cause : TextCause) (e : InitializerSyntax)
+-- An initializer for which there is room does not fail.
+FailsInAssignment-not_initializer : (arch : Arch) (names : NameTable) (ts rest after : TokenList) (cause : TextCause)
+    (e : InitializerSyntax)
     → FailsInAssignment arch None names Unexpected ts rest cause
     → IsInitializer arch ts e after
     → HasRoomFor names (e.site ∷ [])
     → ⊥
-initializer_not arch names ts rest after cause e fails is room =
-    FailsInAssignment-not arch None names Unexpected ts rest is.0 after cause e.site e.word fails is.1 (at e.site) room is.2
+FailsInAssignment-not_initializer arch names ts rest after cause e fails is room =
+    FailsInAssignment-not arch None names Unexpected ts rest is.0 after cause e.site e.word fails is.1 (ThreadAllowed-None e.site)
+    room is.2
   where
-    at : (site : SiteSyntax) → ThreadAllowed None site
-    at site = tt
+    -- While the number of threads is not known, each thread is allowed.
+    ThreadAllowed-None : (site : SiteSyntax) → ThreadAllowed None site
+    ThreadAllowed-None site = tt
 
-brace_apart : codes ";" ≡ codes "}" → ⊥
-brace_apart = is_no_text (codes ";") (codes "}") refl
+-- A `;` is no brace.
+semicolon_is_no_brace : codes ";" ≡ codes "}" → ⊥
+semicolon_is_no_brace = is_no_text (codes ";") (codes "}") refl
 
-bracket_apart : codes ";" ≡ codes "]" → ⊥
-bracket_apart = is_no_text (codes ";") (codes "]") refl
+-- A `;` is no bracket.
+semicolon_is_no_bracket : codes ";" ≡ codes "]" → ⊥
+semicolon_is_no_bracket = is_no_text (codes ";") (codes "]") refl
 
 module _ (arch : Arch) (names : NameTable) where
   -- The initial block fails uniquely.
@@ -138,9 +150,10 @@ module _ (arch : Arch) (names : NameTable) where
   FailsInBlock-unique ts r s d e (in_initializers begins p) (no_brace q) =
       absurd (FailsBefore-not (codes "{" ∷ []) Unexpected ts s _ e (codes "{") q begins (λ all. all.0 refl))
   FailsInBlock-unique ts r s d e (in_initializers {inside = inside} begins p) (in_initializers again q) =
-      elements_unique (IsInitializer arch) (λ e. e.site) (λ names. FailsInAssignment arch None names Unexpected) (codes "}")
-      Unexpected (IsInitializer-unique arch) (λ names. FailsInAssignment-unique arch None names Unexpected) (initializer_not arch)
-      brace_apart r s d e names inside p (subst (FailsInInitializers arch s e names) (sym (same_tail (sym begins ∙ again))) q)
+      FailsInElements-unique (IsInitializer arch) (λ e. e.site) (λ names. FailsInAssignment arch None names Unexpected)
+      (codes "}") Unexpected (IsInitializer-unique arch) (λ names. FailsInAssignment-unique arch None names Unexpected)
+      (FailsInAssignment-not_initializer arch) semicolon_is_no_brace r s d e names inside p
+      (subst (FailsInInitializers arch s e names) (sym (cons-tail_unique (sym begins ∙ again))) q)
 
   -- A block that has room for its locations does not fail.
   pub FailsInBlock-not : (ts rest after : TokenList) (cause : TextCause) (es : List InitializerSyntax)
@@ -151,11 +164,11 @@ module _ (arch : Arch) (names : NameTable) where
   FailsInBlock-not ts rest after cause es (no_brace p) is room =
       FailsBefore-not (codes "{" ∷ []) Unexpected ts rest is.0 cause (codes "{") p is.1 (λ all. all.0 refl)
   FailsInBlock-not ts rest after cause es (in_initializers {inside = inside} begins p) is room =
-      elements_not (IsInitializer arch) (λ e. e.site) (λ names. FailsInAssignment arch None names Unexpected) (codes "}")
-      Unexpected (IsInitializer-unique arch) (λ names. FailsInAssignment-unique arch None names Unexpected) (initializer_not arch)
-      brace_apart rest cause names inside after es p
-      (subst (λ l. ParsesSepEndBy (IsInitializer arch) (codes ";") (codes "}") l es after) (sym (same_tail (sym begins ∙ is.1)))
-      is.2) room
+      FailsInElements-not (IsInitializer arch) (λ e. e.site) (λ names. FailsInAssignment arch None names Unexpected) (codes "}")
+      Unexpected (IsInitializer-unique arch) (λ names. FailsInAssignment-unique arch None names Unexpected)
+      (FailsInAssignment-not_initializer arch) semicolon_is_no_brace rest cause names inside after es p
+      (subst (λ l. ParsesSepEndBy (IsInitializer arch) (codes ";") (codes "}") l es after)
+      (sym (cons-tail_unique (sym begins ∙ is.1))) is.2) room
 
 -- ---- The list of names.
 
@@ -164,27 +177,29 @@ module _ (arch : Arch) (threads : ℕ) where
   abbrev IsListed : TokenList → SiteSyntax → TokenList → Type 0
   IsListed ts site mid = IsSite arch ts site mid × ThreadExists threads site
 
-  listed_one : IsDeterministic IsListed
-  listed_one ts x y r s p q = IsSite-unique arch ts x y r s p.0 q.0
+  -- The parse of a listed site is unique.
+  IsListed-deterministic : IsDeterministic IsListed
+  IsListed-deterministic ts x y r s p q = IsSite-unique arch ts x y r s p.0 q.0
 
-  listed_not : (names : NameTable) (ts rest mid : TokenList) (cause : TextCause) (site : SiteSyntax)
+  -- A listed site for which there is room does not fail.
+  FailsInSite-not_listed : (names : NameTable) (ts rest mid : TokenList) (cause : TextCause) (site : SiteSyntax)
       → FailsInSite arch (Some threads) names Condition ts rest cause
       → IsListed ts site mid
       → HasRoomFor names (site ∷ [])
       → ⊥
-  listed_not names ts rest mid cause site fails is room =
+  FailsInSite-not_listed names ts rest mid cause site fails is room =
       FailsInSite-not arch (Some threads) names Condition ts rest mid cause site fails is.0 is.1 room
 
   -- Sites whose threads exist are listed.
-  listed_all : (ts after : TokenList) (sites : List SiteSyntax)
+  IsListed-all : (ts after : TokenList) (sites : List SiteSyntax)
       → ParsesSepEndBy (IsSite arch) (codes ";") (codes "]") ts sites after
       → AllByRecursion (ThreadExists threads) sites
       → ParsesSepEndBy IsListed (codes ";") (codes "]") ts sites after
-  listed_all ts after [] is all = is
-  listed_all ts after (x ∷ sites) is all = (
+  IsListed-all ts after [] is all = is
+  IsListed-all ts after (x ∷ sites) is all = (
     is.0,
     (is.1, all.0),
-    elim is.2 [ inl end ↦ inl end | inr more ↦ inr (more.0, more.1, listed_all more.0 after sites more.2 all.1) ],
+    elim is.2 [ inl end ↦ inl end | inr more ↦ inr (more.0, more.1, IsListed-all more.0 after sites more.2 all.1) ],
   )
 
   module _ (names : NameTable) where
@@ -192,17 +207,18 @@ module _ (arch : Arch) (threads : ℕ) where
     pub FailsInList-unique : FailsUniquely (FailsInList arch threads names)
     FailsInList-unique ts r s d e (no_list_bracket {after = after} begins p) (no_list_bracket again q) =
         FailsBefore-unique (codes "[" ∷ []) Condition after r s d e p
-        (subst (λ l. FailsBefore (codes "[" ∷ []) Condition l s e) (sym (same_tail (sym begins ∙ again))) q)
+        (subst (λ l. FailsBefore (codes "[" ∷ []) Condition l s e) (sym (cons-tail_unique (sym begins ∙ again))) q)
     FailsInList-unique ts r s d e (no_list_bracket begins p) (in_sites again q) =
-        absurd (FailsBefore-not (codes "[" ∷ []) Condition _ r _ d (codes "[") p (same_tail (sym begins ∙ again))
+        absurd (FailsBefore-not (codes "[" ∷ []) Condition _ r _ d (codes "[") p (cons-tail_unique (sym begins ∙ again))
         (λ all. all.0 refl))
     FailsInList-unique ts r s d e (in_sites begins p) (no_list_bracket again q) =
-        absurd (FailsBefore-not (codes "[" ∷ []) Condition _ s _ e (codes "[") q (same_tail (sym again ∙ begins))
+        absurd (FailsBefore-not (codes "[" ∷ []) Condition _ s _ e (codes "[") q (cons-tail_unique (sym again ∙ begins))
         (λ all. all.0 refl))
     FailsInList-unique ts r s d e (in_sites {inside = inside} begins p) (in_sites again q) =
-        elements_unique IsListed (λ site. site) (λ names. FailsInSite arch (Some threads) names Condition) (codes "]") Condition
-        listed_one (λ names. FailsInSite-unique arch (Some threads) names Condition) listed_not bracket_apart r s d e names inside
-        p (subst (FailsInSites arch threads s e names) (sym (same_tail (same_tail (sym begins ∙ again)))) q)
+        FailsInElements-unique IsListed (λ site. site) (λ names. FailsInSite arch (Some threads) names Condition) (codes "]")
+        Condition IsListed-deterministic (λ names. FailsInSite-unique arch (Some threads) names Condition) FailsInSite-not_listed
+        semicolon_is_no_bracket r s d e names inside p
+        (subst (FailsInSites arch threads s e names) (sym (cons-tail_unique (cons-tail_unique (sym begins ∙ again)))) q)
 
     -- A list on threads that exist, which has room for its locations, does not fail.
     pub FailsInList-not : (ts rest after : TokenList) (cause : TextCause) (sites : List SiteSyntax)
@@ -212,16 +228,17 @@ module _ (arch : Arch) (threads : ℕ) where
         → HasRoomFor names sites
         → ⊥
     FailsInList-not ts rest after cause sites (no_list_bracket begins p) (inl is) all room =
-        FailsBefore-not (codes "[" ∷ []) Condition _ rest is.0 cause (codes "[") p (same_tail (sym begins ∙ is.1))
+        FailsBefore-not (codes "[" ∷ []) Condition _ rest is.0 cause (codes "[") p (cons-tail_unique (sym begins ∙ is.1))
         (λ all. all.0 refl)
     FailsInList-not ts rest after cause sites (no_list_bracket begins p) (inr is) all room =
         token_not_next (codes "locations") ts _ is.0 begins
     FailsInList-not ts rest after cause sites (in_sites {inside = inside} begins p) (inl is) all room =
-        elements_not IsListed (λ site. site) (λ names. FailsInSite arch (Some threads) names Condition) (codes "]") Condition
-        listed_one (λ names. FailsInSite-unique arch (Some threads) names Condition) listed_not bracket_apart rest cause names
-        inside after sites p
+        FailsInElements-not IsListed (λ site. site) (λ names. FailsInSite arch (Some threads) names Condition) (codes "]")
+        Condition IsListed-deterministic (λ names. FailsInSite-unique arch (Some threads) names Condition) FailsInSite-not_listed
+        semicolon_is_no_bracket rest cause names inside after sites p
         (subst (λ l. ParsesSepEndBy IsListed (codes ";") (codes "]") l sites after)
-        (sym (same_tail (same_tail (sym begins ∙ is.1)))) (listed_all is.0 after sites is.2 all)) (syntax_same names sites room)
+        (sym (cons-tail_unique (cons-tail_unique (sym begins ∙ is.1)))) (IsListed-all is.0 after sites is.2 all))
+        (HasRoomFor-map_same names sites room)
     FailsInList-not ts rest after cause sites (in_sites begins p) (inr is) all room =
         token_not_next (codes "locations") ts _ is.0 begins
 
@@ -243,35 +260,37 @@ FailsInHeader-unique r s d e k ts (no_thread_mark few begins p) (no_thread_name 
     absurd (FailsBefore-not (thread_name k ∷ []) Unexpected ts s _ e (thread_name k) q begins (λ all. all.0 refl))
 FailsInHeader-unique r s d e k ts (no_thread_mark {mid = mid} few begins p) (no_thread_mark also again q) =
     FailsBefore-unique (codes ";" ∷ codes "|" ∷ []) Unexpected mid r s d e p
-    (subst (λ l. FailsBefore (codes ";" ∷ codes "|" ∷ []) Unexpected l s e) (sym (same_tail (sym begins ∙ again))) q)
+    (subst (λ l. FailsBefore (codes ";" ∷ codes "|" ∷ []) Unexpected l s e) (sym (cons-tail_unique (sym begins ∙ again))) q)
 FailsInHeader-unique r s d e k ts (no_thread_mark {mid = mid} few begins p) (in_next_thread also again q) =
-    absurd (FailsBefore-not (codes ";" ∷ codes "|" ∷ []) Unexpected mid r _ d (codes "|") p (same_tail (sym begins ∙ again))
-    (λ all. all.1.0 refl))
+    absurd (FailsBefore-not (codes ";" ∷ codes "|" ∷ []) Unexpected mid r _ d (codes "|") p
+    (cons-tail_unique (sym begins ∙ again)) (λ all. all.1.0 refl))
 FailsInHeader-unique r s d e k ts (no_thread_mark few begins p) (too_many_threads full is q) = absurd (omega (arith, few, full))
 FailsInHeader-unique r s d e k ts (in_next_thread few begins p) (no_thread_name also q) =
     absurd (FailsBefore-not (thread_name k ∷ []) Unexpected ts s _ e (thread_name k) q begins (λ all. all.0 refl))
 FailsInHeader-unique r s d e k ts (in_next_thread few begins p) (no_thread_mark {mid = mid} also again q) =
-    absurd (FailsBefore-not (codes ";" ∷ codes "|" ∷ []) Unexpected mid s _ e (codes "|") q (same_tail (sym again ∙ begins))
-    (λ all. all.1.0 refl))
+    absurd (FailsBefore-not (codes ";" ∷ codes "|" ∷ []) Unexpected mid s _ e (codes "|") q
+    (cons-tail_unique (sym again ∙ begins)) (λ all. all.1.0 refl))
 FailsInHeader-unique r s d e k ts (in_next_thread {next = next} few begins p) (in_next_thread also again q) =
     FailsInHeader-unique r s d e (suc k) next p
-    (subst (FailsInHeader s e (suc k)) (sym (same_tail (same_tail (sym begins ∙ again)))) q)
+    (subst (FailsInHeader s e (suc k)) (sym (cons-tail_unique (cons-tail_unique (sym begins ∙ again)))) q)
 FailsInHeader-unique r s d e k ts (in_next_thread few begins p) (too_many_threads full is q) = absurd (omega (arith, few, full))
 FailsInHeader-unique r s d e k ts (too_many_threads full is p) (no_thread_name few q) = absurd (omega (arith, few, full))
 FailsInHeader-unique r s d e k ts (too_many_threads full is p) (no_thread_mark few begins q) = absurd (omega (arith, few, full))
 FailsInHeader-unique r s d e k ts (too_many_threads full is p) (in_next_thread few begins q) = absurd (omega (arith, few, full))
 FailsInHeader-unique r s d e k ts (too_many_threads full is p) (too_many_threads also too q) =
-    at_once (λ t cause. ((t ≡ thread_name 4) × (cause ≡ TooManyThreads)) ⊎ ((t ≢ thread_name 4) × (cause ≡ Unexpected))) one ts r
-    s d e (is, p) (too, q)
+    FailsUniquely-at_first_token
+    (λ t cause. ((t ≡ thread_name 4) × (cause ≡ TooManyThreads)) ⊎ ((t ≢ thread_name 4) × (cause ≡ Unexpected))) name_cause-unique
+    ts r s d e (is, p) (too, q)
   where
-    one : (t : Bytes) (cause because : TextCause)
+    -- A fifth name of a thread has one cause, and any other token another.
+    name_cause-unique : (t : Bytes) (cause because : TextCause)
         → ((t ≡ thread_name 4) × (cause ≡ TooManyThreads)) ⊎ ((t ≢ thread_name 4) × (cause ≡ Unexpected))
         → ((t ≡ thread_name 4) × (because ≡ TooManyThreads)) ⊎ ((t ≢ thread_name 4) × (because ≡ Unexpected))
         → cause ≡ because
-    one t cause because (inl x) (inl y) = x.1 ∙ sym y.1
-    one t cause because (inl x) (inr y) = absurd (y.0 x.0)
-    one t cause because (inr x) (inl y) = absurd (x.0 y.0)
-    one t cause because (inr x) (inr y) = x.1 ∙ sym y.1
+    name_cause-unique t cause because (inl x) (inl y) = x.1 ∙ sym y.1
+    name_cause-unique t cause because (inl x) (inr y) = absurd (y.0 x.0)
+    name_cause-unique t cause because (inr x) (inl y) = absurd (x.0 y.0)
+    name_cause-unique t cause because (inr x) (inr y) = x.1 ∙ sym y.1
 
 -- The names of at most four threads do not fail to be a header.
 pub FailsInHeader-not : (rest : TokenList) (cause : TextCause) (k n : ℕ) (ts after : TokenList)
@@ -283,26 +302,27 @@ FailsInHeader-not rest cause k zero ts after fails is few = absurd is
 FailsInHeader-not rest cause k (suc zero) ts after (no_thread_name low p) is few =
     FailsBefore-not (thread_name k ∷ []) Unexpected ts rest _ cause (thread_name k) p is (λ all. all.0 refl)
 FailsInHeader-not rest cause k (suc zero) ts after (no_thread_mark {mid = mid} low begins p) is few =
-    FailsBefore-not (codes ";" ∷ codes "|" ∷ []) Unexpected mid rest after cause (codes ";") p (same_tail (sym begins ∙ is))
-    (λ all. all.0 refl)
+    FailsBefore-not (codes ";" ∷ codes "|" ∷ []) Unexpected mid rest after cause (codes ";") p
+    (cons-tail_unique (sym begins ∙ is)) (λ all. all.0 refl)
 FailsInHeader-not rest cause k (suc zero) ts after (in_next_thread low begins p) is few =
-    marks_apart (cons_head _ _ _ _ (same_tail (sym begins ∙ is)))
+    bar_is_no_semicolon (cons-head_eq _ _ _ _ (cons-tail_unique (sym begins ∙ is)))
 FailsInHeader-not rest cause k (suc zero) ts after (too_many_threads full at p) is few = omega (arith, full, few)
 FailsInHeader-not rest cause k (suc (suc n)) ts after (no_thread_name low p) is few =
     FailsBefore-not (thread_name k ∷ []) Unexpected ts rest _ cause (thread_name k) p is.1 (λ all. all.0 refl)
 FailsInHeader-not rest cause k (suc (suc n)) ts after (no_thread_mark {mid = mid} low begins p) is few =
-    FailsBefore-not (codes ";" ∷ codes "|" ∷ []) Unexpected mid rest is.0 cause (codes "|") p (same_tail (sym begins ∙ is.1))
-    (λ all. all.1.0 refl)
+    FailsBefore-not (codes ";" ∷ codes "|" ∷ []) Unexpected mid rest is.0 cause (codes "|") p
+    (cons-tail_unique (sym begins ∙ is.1)) (λ all. all.1.0 refl)
 FailsInHeader-not rest cause k (suc (suc n)) ts after (in_next_thread {next = next} low begins p) is few =
     FailsInHeader-not rest cause (suc k) (suc n) next after p
-    (subst (λ l. Names (suc k) (suc n) l after) (sym (same_tail (same_tail (sym begins ∙ is.1)))) is.2) (omega (arith, few))
+    (subst (λ l. Names (suc k) (suc n) l after) (sym (cons-tail_unique (cons-tail_unique (sym begins ∙ is.1)))) is.2)
+    (omega (arith, few))
 FailsInHeader-not rest cause k (suc (suc n)) ts after (too_many_threads full at p) is few = omega (arith, full, few)
 
 -- ---- The rows.
 
 -- The cells of a row are unique.
-cells_one : (ts r s : TokenList) (a b : Cells) → RowCells ts a r → RowCells ts b s → (a ≡ b) × (r ≡ s)
-cells_one ts r s a b p q = ParsesSepBy-unique Cell (codes "|") (codes ";") Cell-exact marks_apart a b ts r s p q
+RowCells-unique : (ts r s : TokenList) (a b : Cells) → RowCells ts a r → RowCells ts b s → (a ≡ b) × (r ≡ s)
+RowCells-unique ts r s a b p q = ParsesSepBy-unique Cell (codes "|") (codes ";") Cell-exact bar_is_no_semicolon a b ts r s p q
 
 module _ (threads : ℕ) where
   -- A row fails uniquely.
@@ -310,16 +330,19 @@ module _ (threads : ℕ) where
   FailsInRow-unique ts r s d e (no_end is never) (no_end also none) = (is ∙ sym also, λ some. absurd (some is))
   FailsInRow-unique ts r s d e (no_end is never) (ragged cells line at other because) = absurd (never cells _ line)
   FailsInRow-unique ts r s d e (ragged cells line at other because) (no_end also none) = absurd (none cells _ line)
-  FailsInRow-unique ts r s d e (ragged cells {after = after} line at other because) (ragged more {after = behind} too also another cause) =
-      (at ∙ ap (λ l. codes ";" ∷ l) (cells_one ts after behind cells more line too).1 ∙ sym also, λ some. because ∙ sym cause)
+  FailsInRow-unique ts r s d e (ragged cells {after = after} line at other because) (ragged more {after = behind} too also another cause) = (
+    at ∙ ap (λ l. codes ";" ∷ l) (RowCells-unique ts after behind cells more line too).1 ∙ sym also,
+    λ some. because ∙ sym cause,
+  )
 
+  -- A row does not fail.
   FailsInRow-not : (ts rest after : TokenList) (cause : TextCause) (cells : Cells)
       → FailsInRow threads ts rest cause
       → Row threads ts cells after
       → ⊥
   FailsInRow-not ts rest after cause cells (no_end is never) row = never cells after row.0
-  FailsInRow-not ts rest after cause cells (ragged more {after = behind} line at other because) row =
-      other (ap length (cells_one ts behind after more cells line row.0).0 ∙ row.1)
+  FailsInRow-not ts rest after cause cells (ragged more {after = behind} line ThreadAllowed-None other because) row =
+      other (ap length (RowCells-unique ts behind after more cells line row.0).0 ∙ row.1)
 
   -- The rows fail uniquely, after each number of them.
   pub FailsInRows-unique : (r s : TokenList) (d e : TextCause) (k : ℕ) (ts : TokenList)
@@ -341,7 +364,7 @@ module _ (threads : ℕ) where
       absurd (FailsInRow-not ts s _ e cells q row)
   FailsInRows-unique r s d e k ts (in_rows_after {next = next} cells few go row p) (in_rows_after {next = other} more also on line q) =
       FailsInRows-unique r s d e (suc k) next p
-      (subst (FailsInRows threads s e (suc k)) (sym (Row-one threads ts cells more next other row line).1) q)
+      (subst (FailsInRows threads s e (suc k)) (sym (Row-deterministic threads ts cells more next other row line).1) q)
 
   -- Rows of which there are not too many do not fail.
   pub FailsInRows-not : (rest : TokenList) (cause : TextCause) (k : ℕ) (ts after : TokenList) (rows : CellGrid)
@@ -358,15 +381,17 @@ module _ (threads : ℕ) where
   FailsInRows-not rest cause k ts after (x ∷ rows) (in_rows_after {next = next} cells low go row p) read few =
       FailsInRows-not rest cause (suc k) next after rows p
       (subst (λ l. ParsesManyTill begins_stop (Row threads) l rows after)
-      (sym (Row-one threads ts cells x next read.1.0 row read.1.1).1) read.1.2) (omega (arith, few))
+      (sym (Row-deterministic threads ts cells x next read.1.0 row read.1.1).1) read.1.2) (omega (arith, few))
 
 -- ---- The quantifier.
 
-exists_or_tilde : codes "exists" ≡ codes "~" → ⊥
-exists_or_tilde = is_no_text (codes "exists") (codes "~") refl
+-- `exists` is not `~`.
+not_exists_and_tilde : codes "exists" ≡ codes "~" → ⊥
+not_exists_and_tilde = is_no_text (codes "exists") (codes "~") refl
 
-forall_or_tilde : codes "forall" ≡ codes "~" → ⊥
-forall_or_tilde = is_no_text (codes "forall") (codes "~") refl
+-- `forall` is not `~`.
+not_forall_and_tilde : codes "forall" ≡ codes "~" → ⊥
+not_forall_and_tilde = is_no_text (codes "forall") (codes "~") refl
 
 -- The words of quantifiers.
 abbrev quantifier_words : List Bytes
@@ -382,7 +407,7 @@ FailsInQuantifier-unique ts r s d e (no_exists begins p) (no_quantifier q) =
     absurd (FailsBefore-not quantifier_words Condition ts s _ e (codes "~") q begins (λ all. all.0 refl))
 FailsInQuantifier-unique ts r s d e (no_exists {mid = mid} begins p) (no_exists again q) =
     FailsBefore-unique (codes "exists" ∷ []) Condition mid r s d e p
-    (subst (λ l. FailsBefore (codes "exists" ∷ []) Condition l s e) (sym (same_tail (sym begins ∙ again))) q)
+    (subst (λ l. FailsBefore (codes "exists" ∷ []) Condition l s e) (sym (cons-tail_unique (sym begins ∙ again))) q)
 
 -- A quantifier does not fail.
 pub FailsInQuantifier-not : (ts rest after : TokenList) (cause : TextCause) (quant : Quant)
@@ -395,8 +420,10 @@ FailsInQuantifier-not ts rest after cause NotExists (no_quantifier p) is =
     FailsBefore-not quantifier_words Condition ts rest _ cause (codes "~") p is (λ all. all.0 refl)
 FailsInQuantifier-not ts rest after cause Forall (no_quantifier p) is =
     FailsBefore-not quantifier_words Condition ts rest after cause (codes "forall") p is (λ all. all.1.1.0 refl)
-FailsInQuantifier-not ts rest after cause Exists (no_exists begins p) is = exists_or_tilde (cons_head _ _ _ _ (sym is ∙ begins))
+FailsInQuantifier-not ts rest after cause Exists (no_exists begins p) is =
+    not_exists_and_tilde (cons-head_eq _ _ _ _ (sym is ∙ begins))
 FailsInQuantifier-not ts rest after cause NotExists (no_exists {mid = mid} begins p) is =
-    FailsBefore-not (codes "exists" ∷ []) Condition mid rest after cause (codes "exists") p (same_tail (sym begins ∙ is))
+    FailsBefore-not (codes "exists" ∷ []) Condition mid rest after cause (codes "exists") p (cons-tail_unique (sym begins ∙ is))
     (λ all. all.0 refl)
-FailsInQuantifier-not ts rest after cause Forall (no_exists begins p) is = forall_or_tilde (cons_head _ _ _ _ (sym is ∙ begins))
+FailsInQuantifier-not ts rest after cause Forall (no_exists begins p) is =
+    not_forall_and_tilde (cons-head_eq _ _ _ _ (sym is ∙ begins))

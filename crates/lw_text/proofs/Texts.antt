@@ -1,4 +1,5 @@
--- What follows if the comparison of two texts is true or false, such as whether a token is next.
+-- What follows if the comparison of two texts is true or false, such as whether a token is next. The parser
+-- branches on such comparisons only.
 use Rattle.lw_text.proofs.Common.{◌≡◌, ℕ, zero, suc, ◌+◌, ◌<◌, ◌≤◌, true, false, List, [], ◌∷◌, drop, length}
 use Rattle.lw_text.proofs.Common.{length-drop, get_or, refl, sym, ap, ◌∙◌, subst, arith, add-one, drop-cons}
 use Rattle.lw_text.proofs.Common.{codes, bytes_eq, drop_all, length-map, bytes_eq-Decides, Bytes, TokenList}
@@ -13,8 +14,8 @@ pub is_no_text : (t u : Bytes) → bytes_eq t u ≡ false → t ≡ u → ⊥
 is_no_text t u h e = let k = (bytes_eq-Decides t u).1 e in cc
 
 -- The two marks after cells differ.
-pub marks_apart : codes "|" ≡ codes ";" → ⊥
-marks_apart e = is_no_text (codes "|") (codes ";") refl e
+pub bar_is_no_semicolon : codes "|" ≡ codes ";" → ⊥
+bar_is_no_semicolon e = is_no_text (codes "|") (codes ";") refl e
 
 -- A token that is not found to be next is not at the start.
 pub token_not_next : (w : Bytes) (ts l : TokenList) → begins_token w ts ≡ false → ts ≡ w ∷ l → ⊥
@@ -45,14 +46,14 @@ word_next (t ∷ tokens) (suc next) w h =
     )
 
 -- Past the last token no tokens remain.
-pub nothing_left : (tokens : List Token) (next : ℕ) → length tokens ≤ next → token_texts (drop next tokens) ≡ []
-nothing_left tokens next le = ap token_texts (drop_all next tokens le)
+pub no_tokens-past_last : (tokens : List Token) (next : ℕ) → length tokens ≤ next → token_texts (drop next tokens) ≡ []
+no_tokens-past_last tokens next le = ap token_texts (drop_all next tokens le)
 
 -- Before the last token some tokens remain.
-pub some_left : (tokens : List Token) (next : ℕ)
+pub tokens_remain-before_last : (tokens : List Token) (next : ℕ)
     → next ≤ length tokens
     → (next ≡ length tokens → ⊥)
     → token_texts (drop next tokens) ≡ []
     → ⊥
-some_left tokens next le ne e =
+tokens_remain-before_last tokens next le ne e =
     ne (omega (arith, le, length-map (drop next tokens) (λ (t : Token). t.text.now), length-drop next tokens, ap length e))

@@ -1,4 +1,5 @@
--- The list of tokens of a text, with their positions, is unique.
+-- The list of tokens of a text, with their positions, is unique. A step of the proof that a text has one
+-- frame; the loop of `TokenStream::read` goes by `Read`.
 use Rattle.lw_text.proofs.Common.{◌≡◌, ℕ, ◌+◌, ◌<◌, false, List, [], ◌∷◌, ◌++◌, length, refl, sym, ap, ◌∙◌}
 use Rattle.lw_text.proofs.Common.{subst, arith, length-append, HoldsOfNothing, ParsesNothing, Bytes}
 use Rattle.lw_text.proofs.Common.{TokenList, Token, ParsesMany, begins_trivia, Trivia, IsToken, IsFirstToken}
@@ -14,8 +15,8 @@ IsFirstToken-unique text t r u s p q =
     token-unique t r u s p.1 q.1 (Trivia-unique p.0 q.0 (token_no_trivia t r p.1) (token_no_trivia u s q.1))
 
 -- If only trivia remains, there is no first token.
-pub no_first : (text t r : Bytes) → Trivia text [] → IsFirstToken text t r → ⊥
-no_first text t r g p =
+pub no_first_token-trivia_only : (text t r : Bytes) → Trivia text [] → IsFirstToken text t r → ⊥
+no_first_token-trivia_only text t r g p =
     let e = Trivia-unique g p.0 refl (token_no_trivia t r p.1) in
     let n = token_nonempty t r p.1 in
     omega (arith, ap length e, length-append t r)
@@ -23,8 +24,8 @@ no_first text t r g p =
 -- The list of tokens of a text is unique.
 pub Tokens-unique : (ts us : TokenList) (text : Bytes) → Tokens text ts → Tokens text us → ts ≡ us
 Tokens-unique [] [] text p q = refl
-Tokens-unique [] (u ∷ us) text p q = absurd (no_first text u q.0 p q.1)
-Tokens-unique (t ∷ ts) [] text p q = absurd (no_first text t p.0 q p.1)
+Tokens-unique [] (u ∷ us) text p q = absurd (no_first_token-trivia_only text u q.0 p q.1)
+Tokens-unique (t ∷ ts) [] text p q = absurd (no_first_token-trivia_only text t p.0 q p.1)
 Tokens-unique (t ∷ ts) (u ∷ us) text p q =
     let e = IsFirstToken-unique text t p.0 u q.0 p.1 q.1 in
     let i : t ≡ u = e.0 in
@@ -51,7 +52,7 @@ pub Read-fault : (len : ℕ) (ts : List PlacedToken) (text rest : Bytes)
     → HoldsOfNothing (Tokens rest)
     → HoldsOfNothing (Tokens text)
 Read-fault len [] text rest p never us q = never us (subst (λ x. Tokens x us) p q)
-Read-fault len (t ∷ ts) text rest p never [] q = no_first text t.text p.0 q p.1.0
+Read-fault len (t ∷ ts) text rest p never [] q = no_first_token-trivia_only text t.text p.0 q p.1.0
 Read-fault len (t ∷ ts) text rest p never (u ∷ us) q =
     Read-fault _ ts _ _ p.2 never us (subst (λ x. Tokens x us) (sym (IsFirstToken-unique _ _ _ u _ p.1.0 q.1).1) q.2)
 
@@ -59,18 +60,19 @@ Read-fault len (t ∷ ts) text rest p never (u ∷ us) q =
 
 module _ (text start : Bytes) (g : Trivia text start) (stop : begins_trivia start ≡ false) where
   -- If something remains after the trivia, the text has not ended.
-  pub not_ended : 0 < length start → Trivia text [] → ⊥
-  not_ended pos q = omega (arith, ap length (Trivia-unique g q stop refl))
+  pub not_ended-nonempty : 0 < length start → Trivia text [] → ⊥
+  not_ended-nonempty pos q = omega (arith, ap length (Trivia-unique g q stop refl))
 
   -- If no token follows the trivia, the text has no first token.
-  pub no_first_from : ((t rest : Bytes) → start ≡ t ++ rest → IsToken t rest → ⊥) → ParsesNothing (IsFirstToken text)
-  no_first_from never t rest q = never t rest (Trivia-unique g q.0 stop (token_no_trivia t rest q.1)) q.1
+  pub no_first_token-after_trivia : ((t rest : Bytes) → start ≡ t ++ rest → IsToken t rest → ⊥)
+      → ParsesNothing (IsFirstToken text)
+  no_first_token-after_trivia never t rest q = never t rest (Trivia-unique g q.0 stop (token_no_trivia t rest q.1)) q.1
 
 -- If a comment is not closed, the text has no first token.
-pub no_first_open : (text : Bytes)
+pub no_first_token-open_comment : (text : Bytes)
     → ((start : Bytes) → begins_trivia start ≡ false → Trivia text start → ⊥)
     → ParsesNothing (IsFirstToken text)
-no_first_open text never t rest q = never (t ++ rest) (token_no_trivia t rest q.1) q.0
+no_first_token-open_comment text never t rest q = never (t ++ rest) (token_no_trivia t rest q.1) q.0
 
 -- A text that is not only trivia and has no first token is no list of tokens.
 pub Tokens-none : (text : Bytes) → (Trivia text [] → ⊥) → ParsesNothing (IsFirstToken text) → HoldsOfNothing (Tokens text)
@@ -93,8 +95,8 @@ pub read_whole : (len : ℕ) (rest : Bytes) (ts : List Token) → PlacedTokens l
 read_whole len rest ts p = subst (Tokens rest) (texts_placed ts) (Tokens-of len rest (with_spans ts) p)
 
 -- Tokens with the same position and the same bytes are equal.
-pub same_token : (a b : PlacedToken) → a.at ≡ b.at → a.text ≡ b.text → a ≡ b
-same_token a b at text =
+pub placed_tokens_equal : (a b : PlacedToken) → a.at ≡ b.at → a.text ≡ b.text → a ≡ b
+placed_tokens_equal a b at text =
     ap (λ (n : ℕ). let t : PlacedToken = record { at = n; text = a.text } in t) at
     ∙ ap (λ (x : Bytes). let t : PlacedToken = record { at = b.at; text = x } in t) text
 
@@ -104,11 +106,11 @@ pub PlacedTokens-unique : (len : ℕ) (ts us : List PlacedToken) (text : Bytes)
     → PlacedTokens len text us
     → ts ≡ us
 PlacedTokens-unique len [] [] text p q = refl
-PlacedTokens-unique len [] (u ∷ us) text p q = absurd (no_first text u.text q.0 p q.1)
-PlacedTokens-unique len (t ∷ ts) [] text p q = absurd (no_first text t.text p.0 q p.1)
+PlacedTokens-unique len [] (u ∷ us) text p q = absurd (no_first_token-trivia_only text u.text q.0 p q.1)
+PlacedTokens-unique len (t ∷ ts) [] text p q = absurd (no_first_token-trivia_only text t.text p.0 q p.1)
 PlacedTokens-unique len (t ∷ ts) (u ∷ us) text p q =
     let e = IsFirstToken-unique text t.text p.0 u.text q.0 p.1 q.1 in
     let at : t.at ≡ u.at = omega (arith, p.2, q.2, ap length e.0, ap length e.1) in
-    let i : t ≡ u = same_token t u at e.0 in
+    let i : t ≡ u = placed_tokens_equal t u at e.0 in
     let h = PlacedTokens-unique len ts us p.0 p.3 (subst (λ r. PlacedTokens len r us) (sym e.1) q.3) in
     cc

@@ -1,4 +1,5 @@
--- The end of blanks and comments is unique, and a loop finds it.
+-- The end of blanks and comments is unique, and a loop finds it. The loop of `after_trivia` goes by
+-- `Skipped`.
 use Rattle.lw_text.proofs.Common.{◌≡◌, ℕ, true, false, ◌||◌, [], ◌∷◌, ◌++◌, ◌≤◌, length, length-append, arith}
 use Rattle.lw_text.proofs.Common.{refl, sym, ap, ◌∙◌, subst, AllByRecursion, HoldsOfNothing, Bytes, is_blank}
 use Rattle.lw_text.proofs.Common.{first_byte_is, begins_pair, begins_trivia, Comment, Trivia, blank, comment}
@@ -8,44 +9,44 @@ use Rattle.lw_text.proofs.Comments.{Comment-unique, Comment-suffix}
 use Rattle.lw_text.proofs.Lists.{IsSuffix-join}
 
 -- Trivia that starts with a comment continues after it.
-at_comment : {ts rest : Bytes}
+Trivia-comment_inv : {ts rest : Bytes}
     → Trivia ts rest
     → (text : Bytes)
     → ts ≡ 40 ∷ 42 ∷ text
     → begins_trivia rest ≡ false
     → (after : Bytes) × Comment text after × Trivia after rest
-at_comment (none {rest}) text e stop = absurd (let h : begins_trivia rest ≡ true = ap begins_trivia e in cc)
-at_comment (blank {b} t g) text e stop = absurd (let h : is_blank b ≡ false = ap (first_byte_is is_blank) e in cc)
-at_comment (comment {text = t} {after} c g) text e stop = (after, rw (let k : t ≡ text = cc in k) at c, g)
+Trivia-comment_inv (none {rest}) text e stop = absurd (let h : begins_trivia rest ≡ true = ap begins_trivia e in cc)
+Trivia-comment_inv (blank {b} t g) text e stop = absurd (let h : is_blank b ≡ false = ap (first_byte_is is_blank) e in cc)
+Trivia-comment_inv (comment {text = t} {after} c g) text e stop = (after, rw (let k : t ≡ text = cc in k) at c, g)
 
 -- A blank starts trivia.
 blank_begins : (l : Bytes) → first_byte_is is_blank l ≡ true → begins_trivia l ≡ false → ⊥
 blank_begins l p q = let h : true || begins_pair 40 42 l ≡ false = rw p at q in cc
 
 -- Trivia that starts with a blank continues after it.
-at_blank : {ts rest : Bytes}
+Trivia-blank_inv : {ts rest : Bytes}
     → Trivia ts rest
     → (b : ℕ) (text : Bytes)
     → ts ≡ b ∷ text
     → is_blank b ≡ true
     → begins_trivia rest ≡ false
     → Trivia text rest
-at_blank (none {rest}) b text e test stop = absurd (blank_begins rest (ap (first_byte_is is_blank) e ∙ test) stop)
-at_blank {rest = rest} (blank {text = t} h g) b text e test stop = rw (let k : t ≡ text = cc in k) at g
-at_blank (comment c g) b text e test stop = absurd (let h : false ≡ is_blank b = ap (first_byte_is is_blank) e in cc)
+Trivia-blank_inv (none {rest}) b text e test stop = absurd (blank_begins rest (ap (first_byte_is is_blank) e ∙ test) stop)
+Trivia-blank_inv {rest = rest} (blank {text = t} h g) b text e test stop = rw (let k : t ≡ text = cc in k) at g
+Trivia-blank_inv (comment c g) b text e test stop = absurd (let h : false ≡ is_blank b = ap (first_byte_is is_blank) e in cc)
 
 -- If no trivia starts, there is none.
-at_none : {text rest : Bytes} → Trivia text rest → begins_trivia text ≡ false → text ≡ rest
-at_none none stop = refl
-at_none (blank {b} {text} h g) stop = absurd (blank_begins (b ∷ text) h stop)
-at_none (comment c g) stop = absurd cc
+Trivia-none_inv : {text rest : Bytes} → Trivia text rest → begins_trivia text ≡ false → text ≡ rest
+Trivia-none_inv none stop = refl
+Trivia-none_inv (blank {b} {text} h g) stop = absurd (blank_begins (b ∷ text) h stop)
+Trivia-none_inv (comment c g) stop = absurd cc
 
 -- The end of blanks and comments is unique, if none follow.
 pub Trivia-unique : {text a b : Bytes} → Trivia text a → Trivia text b → begins_trivia a ≡ false → begins_trivia b ≡ false → a ≡ b
-Trivia-unique none g p q = at_none g p
-Trivia-unique (blank {b} {text} h f) g p q = Trivia-unique f (at_blank g b text refl h q) p q
+Trivia-unique none g p q = Trivia-none_inv g p
+Trivia-unique (blank {b} {text} h f) g p q = Trivia-unique f (Trivia-blank_inv g b text refl h q) p q
 Trivia-unique {b = end} (comment {text} {after} c f) g p q =
-    let o = at_comment g text refl q in Trivia-unique f (subst (λ x. Trivia x end) (sym (Comment-unique c o.1)) o.2) p q
+    let o = Trivia-comment_inv g text refl q in Trivia-unique f (subst (λ x. Trivia x end) (sym (Comment-unique c o.1)) o.2) p q
 
 -- What follows trivia is a suffix of the text.
 pub Trivia-suffix : {text rest : Bytes} → Trivia text rest → IsSuffix text rest
@@ -74,7 +75,7 @@ Skipped-blanks [] bytes text rest s e all = subst (λ x. Skipped bytes x) e s
 Skipped-blanks (b ∷ bs) bytes text rest s e all =
     let next : Skipped bytes (bs ++ rest) = record {
       given = λ end g. s.given end (rw e (blank all.0 g));
-      only = λ end stop g. at_blank (s.only end stop g) b (bs ++ rest) e all.0 stop;
+      only = λ end stop g. Trivia-blank_inv (s.only end stop g) b (bs ++ rest) e all.0 stop;
     } in
     Skipped-blanks bs bytes (bs ++ rest) rest next refl all.1
 
@@ -90,7 +91,7 @@ pub Skipped-comment : {bytes rest inner after : Bytes}
     → Skipped bytes after
 Skipped-comment {bytes} {rest} {inner} {after} s e c = record {
   given = λ end g. s.given end (rw e (comment c g));
-  only = λ end stop g. let o = at_comment (s.only end stop g) _ e stop in rw (Comment-unique o.1 c) at o.2;
+  only = λ end stop g. let o = Trivia-comment_inv (s.only end stop g) _ e stop in rw (Comment-unique o.1 c) at o.2;
 }
 
 -- If a comment is not closed, the bytes have no trivia.
@@ -102,7 +103,8 @@ pub Skipped-open : {bytes rest inner : Bytes}
     → begins_trivia end ≡ false
     → Trivia bytes end
     → ⊥
-Skipped-open {bytes} {rest} {inner} s e never end stop g = let o = at_comment (s.only end stop g) inner e stop in never o.0 o.1
+Skipped-open {bytes} {rest} {inner} s e never end stop g =
+    let o = Trivia-comment_inv (s.only end stop g) inner e stop in never o.0 o.1
 
 -- What has been passed is trivia.
 pub Skipped-done : {bytes rest : Bytes} → Skipped bytes rest → Trivia bytes rest

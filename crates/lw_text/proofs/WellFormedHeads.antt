@@ -1,35 +1,38 @@
--- The head of a text's frame is well-formed, and a body in memory has the head that its text says.
+-- The head of a text's frame is well-formed, and a body in memory has the head that its text says. `finish`
+-- returns a frame by it, and the law on a frame's head cites it.
 use Rattle.lw_text.proofs.Common.{◌≡◌, ℕ, ◌<◌, inl, inr, Bool, true, false, List, [], ◌∷◌, ◌++◌, length, map}
 use Rattle.lw_text.proofs.Common.{refl, sym, ◌∙◌, subst, arith, fold, if◌then◌else◌, codes, ap, filter}
 use Rattle.lw_text.proofs.Common.{AllByRecursion, range_with_len, length-map, length-map-range_with_len, Seen}
 use Rattle.lw_text.proofs.Common.{Location, Formula, formula_of, IsWordNumber, MentionsOnly, IsWellFormedHead}
 use Rattle.lw_text.proofs.Common.{IsLocationName, IsTestName, contains_name, insert_name, insert_names}
-use Rattle.lw_text.proofs.Common.{once-along, position_of_name-within, Arch, ParsesSepEndBy, with_sites}
-use Rattle.lw_text.proofs.Common.{SiteSyntax, InMemory, InThread, IsSite, ThreadExists, site_names, seen_in}
-use Rattle.lw_text.proofs.Common.{Terminal, Close, Atom, Level, Derives, atom, negated, parens, part, and}
-use Rattle.lw_text.proofs.Common.{conjunction, or, IsProposition, AtomSyntax, Holds, IsTerminal, Terminals}
-use Rattle.lw_text.proofs.Common.{Listed, sites_in, resolved, InitializerSyntax, IsInitializer, Block}
-use Rattle.lw_text.proofs.Common.{initial_word_of, location_table, TestSyntax, ParsesTest, TestFrame}
-use Rattle.lw_text.proofs.Common.{HasFrame, head_of_syntax, sites_of, seen_eq, thread_registers}
-use Rattle.lw_text.proofs.Common.{all_registers, locations, ParsedBody, syntax_of, HasSyntax, resolved_head}
-use Rattle.lw_text.proofs.Common.{IsIn, all_append, all_map, All-append_inv, all_filter, all_of_range}
-use Rattle.lw_text.proofs.Common.{all_mapped, each_of, ascending_filter, all_seen, all_ascending, fun_ext}
-use Rattle.lw_text.proofs.Common.{Bytes, TokenList, IsDuplicateFree}
-use Rattle.lw_text.proofs.api.ConditionTokens.{all_names, all_sites}
-use Rattle.lw_text.proofs.api.PropositionNodes.{proposition_nodes, resolved_single, resolved_count}
-use Rattle.lw_text.proofs.PropositionCases.{AllThere, all_entered}
+use Rattle.lw_text.proofs.Common.{IsDuplicateFree-insert_names, position_of_name-within, Arch, ParsesSepEndBy}
+use Rattle.lw_text.proofs.Common.{with_sites, SiteSyntax, InMemory, InThread, IsSite, ThreadExists}
+use Rattle.lw_text.proofs.Common.{site_names, seen_in, Terminal, Close, Atom, Level, Derives, atom, negated}
+use Rattle.lw_text.proofs.Common.{parens, part, and, conjunction, or, IsProposition, AtomSyntax, Holds}
+use Rattle.lw_text.proofs.Common.{IsTerminal, Terminals, Listed, sites_in, resolved, InitializerSyntax}
+use Rattle.lw_text.proofs.Common.{IsInitializer, Block, initial_word_of, location_table, TestSyntax}
+use Rattle.lw_text.proofs.Common.{ParsesTest, TestFrame, HasFrame, head_of_syntax, sites_of, seen_eq}
+use Rattle.lw_text.proofs.Common.{thread_registers, all_registers, locations, ParsedBody, syntax_of}
+use Rattle.lw_text.proofs.Common.{HasSyntax, resolved_head, IsIn, AllByRecursion-append, AllByRecursion-map}
+use Rattle.lw_text.proofs.Common.{All-append_inv, AllByRecursion-filter, AllByRecursion-map_range}
+use Rattle.lw_text.proofs.Common.{AllByRecursion-every_image, AllByRecursion-of_All, IsAscending-filter}
+use Rattle.lw_text.proofs.Common.{IsSeenInRange-all_seen, IsAscending-all_seen, fun_ext, Bytes, TokenList}
+use Rattle.lw_text.proofs.Common.{IsDuplicateFree}
+use Rattle.lw_text.proofs.api.ConditionTokens.{site_names-all, sites_in-all}
+use Rattle.lw_text.proofs.api.PropositionNodes.{proposition_nodes, resolved_single, node_count-resolved}
+use Rattle.lw_text.proofs.PropositionCases.{AllThere, insert_names-contains_all}
 use Rattle.lw_text.proofs.Whole.{header_some, table_parts}
 use Rattle.lw_text.proofs.NameTables.{words-site_by_name, listed-site_by_name}
 
 -- ---- names
 
 -- The site is a location with an allowed name, or one of six registers of a thread.
-abbrev IsRight : SiteSyntax → Type 0
-IsRight (InMemory x) = IsLocationName x
-IsRight (InThread t r) = r < 6
+abbrev IsValidSite : SiteSyntax → Type 0
+IsValidSite (InMemory x) = IsLocationName x
+IsValidSite (InThread t r) = r < 6
 
--- A site that was read satisfies `IsRight`.
-site_right : (arch : Arch) (ts rest : List (List ℕ)) (s : SiteSyntax) → IsSite arch ts s rest → IsRight s
+-- A site that was read satisfies `IsValidSite`.
+site_right : (arch : Arch) (ts rest : List (List ℕ)) (s : SiteSyntax) → IsSite arch ts s rest → IsValidSite s
 site_right arch ts rest (InMemory x) p = p.0
 site_right arch ts rest (InThread t r) p = p.4.0
 
@@ -45,19 +48,21 @@ ended_right {P = P} {Q = Q} f sep close (x ∷ xs) ts rest e = (
   elim e.2 [ inl g ↦ subst (AllByRecursion Q) (sym g.0) tt | inr g ↦ ended_right {P = P} {Q = Q} f sep _ xs g.0 _ g.2 ],
 )
 
--- All sites of a list of names that was read satisfy `IsRight`.
-listed_right : (arch : Arch) (ts rest : List (List ℕ)) (ss : List SiteSyntax) → Listed arch ts ss rest → AllByRecursion IsRight ss
+-- All sites of a list of names that was read satisfy `IsValidSite`.
+listed_right : (arch : Arch) (ts rest : List (List ℕ)) (ss : List SiteSyntax)
+    → Listed arch ts ss rest
+    → AllByRecursion IsValidSite ss
 listed_right arch ts rest ss (inl p) = ended_right (site_right arch) _ (codes "]") ss p.0 rest p.2
-listed_right arch ts rest ss (inr p) = subst (AllByRecursion IsRight) (sym p.1) tt
+listed_right arch ts rest ss (inr p) = subst (AllByRecursion IsValidSite) (sym p.1) tt
 
--- All sites of an initial block that was read satisfy `IsRight`.
+-- All sites of an initial block that was read satisfy `IsValidSite`.
 block_right : (arch : Arch) (ts rest : List (List ℕ)) (es : List InitializerSyntax)
     → Block arch ts es rest
-    → AllByRecursion IsRight (sites_of es)
+    → AllByRecursion IsValidSite (sites_of es)
 block_right arch ts rest es b =
-    all_map IsRight (λ e. e.site) es
-    (ended_right {P = IsInitializer arch} {Q = λ e. IsRight e.site} (λ ts rest e p. site_right arch ts p.0 e.site p.1) (codes ";")
-    (codes "}") es b.0 rest b.2)
+    AllByRecursion-map IsValidSite (λ e. e.site) es
+    (ended_right {P = IsInitializer arch} {Q = λ e. IsValidSite e.site} (λ ts rest e p. site_right arch ts p.0 e.site p.1)
+    (codes ";") (codes "}") es b.0 rest b.2)
 
 -- ---- words
 
@@ -69,32 +74,32 @@ block_words arch ts rest es b =
     ended_right {P = IsInitializer arch} {Q = λ e. IsWordNumber e.word} (λ ts rest e p. p.2.2.0) _ (codes "}") es b.0 rest b.2
 
 -- If two numbers are words, so is the one that a test selects.
-either_word : (b : Bool) (v w : ℕ) → IsWordNumber v → IsWordNumber w → IsWordNumber (if b then v else w)
-either_word true v w h k = h
-either_word false v w h k = k
+IsWordNumber-if : (b : Bool) (v w : ℕ) → IsWordNumber v → IsWordNumber w → IsWordNumber (if b then v else w)
+IsWordNumber-if true v w h k = h
+IsWordNumber-if false v w h k = k
 
 -- The word of the last initializer for a site, or the default, is a word.
-last_word : (names : List (List ℕ)) (s : Seen) (es : List InitializerSyntax) (w : ℕ)
+word_of_last-IsWordNumber : (names : List (List ℕ)) (s : Seen) (es : List InitializerSyntax) (w : ℕ)
     → AllByRecursion (λ e. IsWordNumber e.word) es
     → IsWordNumber w
     → IsWordNumber (fold (λ w e. if seen_eq (seen_in names e.site) s then e.word else w) w es)
-last_word names s [] w h k = k
-last_word names s (e ∷ es) w h k =
+word_of_last-IsWordNumber names s [] w h k = k
+word_of_last-IsWordNumber names s (e ∷ es) w h k =
     let now = seen_eq (seen_in names e.site) s in
-    last_word names s es (if now then e.word else w) h.1 (either_word now e.word w h.0 k)
+    word_of_last-IsWordNumber names s es (if now then e.word else w) h.1 (IsWordNumber-if now e.word w h.0 k)
 
 -- The initial value of a register or location is a word.
-first_word : (names : List (List ℕ)) (es : List InitializerSyntax)
+initial_word-IsWordNumber : (names : List (List ℕ)) (es : List InitializerSyntax)
     → AllByRecursion (λ e. IsWordNumber e.word) es
     → (s : Seen)
     → IsWordNumber (initial_word_of names es s)
-first_word names es h s = last_word names s es 0 h (omega arith)
+initial_word-IsWordNumber names es h s = word_of_last-IsWordNumber names s es 0 h (omega arith)
 
 -- ---- terminals
 
--- The terminal's site satisfies `IsRight`, its thread exists, and its number is a word.
+-- The terminal's site satisfies `IsValidSite`, its thread exists, and its number is a word.
 abbrev IsFit : ℕ → Terminal AtomSyntax → Type 0
-IsFit threads (Atom (Holds s n)) = IsRight s × ThreadExists threads s × IsWordNumber n
+IsFit threads (Atom (Holds s n)) = IsValidSite s × ThreadExists threads s × IsWordNumber n
 IsFit threads _ = Unit {0}
 
 -- A terminal that was read satisfies `IsFit`.
@@ -117,11 +122,13 @@ table_right : (names ns : List (List ℕ))
     → AllByRecursion IsLocationName ns
     → AllByRecursion IsLocationName (insert_names names ns)
 table_right names [] h k = h
-table_right names (n ∷ ns) h k = table_right (insert_name names n) ns (one (contains_name names n) refl) k.1
+table_right names (n ∷ ns) h k =
+    table_right (insert_name names n) ns (insert_name-IsLocationName (contains_name names n) refl) k.1
   where
-    one : (b : Bool) → contains_name names n ≡ b → AllByRecursion IsLocationName (insert_name names n)
-    one true e = rw e h
-    one false e = rw e (all_append IsLocationName names (n ∷ []) h (k.0, tt))
+    -- Inserting a location's name preserves that all names are locations' names.
+    insert_name-IsLocationName : (b : Bool) → contains_name names n ≡ b → AllByRecursion IsLocationName (insert_name names n)
+    insert_name-IsLocationName true e = rw e h
+    insert_name-IsLocationName false e = rw e (AllByRecursion-append IsLocationName names (n ∷ []) h (k.0, tt))
 
 -- ---- the proposition
 
@@ -131,17 +138,20 @@ IsSpoken threads locs (Atom p) = MentionsOnly threads locs p
 IsSpoken threads locs _ = Unit {0}
 
 module _ (threads locs : ℕ) where
-  says_speaks : {k : Level} {ss : List (Terminal Formula)} {p : Formula}
+  -- A formula mentions only what its atoms mention.
+  MentionsOnly-Derives : {k : Level} {ss : List (Terminal Formula)} {p : Formula}
       → Derives k ss p
       → AllByRecursion (IsSpoken threads locs) ss
       → MentionsOnly threads locs p
-  says_speaks atom h = h.0
-  says_speaks (negated d) h = says_speaks d h.1
-  says_speaks (parens {ss} d) h = says_speaks d (All-append_inv (IsSpoken threads locs) ss (Close ∷ []) h.1).0
-  says_speaks (part d) h = says_speaks d h
-  says_speaks (and {ss} {ts} d e) h = let k = All-append_inv _ ss _ h in (says_speaks d k.0, says_speaks e k.1.1)
-  says_speaks (conjunction d) h = says_speaks d h
-  says_speaks (or {ss} {ts} d e) h = let k = All-append_inv _ ss _ h in (says_speaks d k.0, says_speaks e k.1.1)
+  MentionsOnly-Derives atom h = h.0
+  MentionsOnly-Derives (negated d) h = MentionsOnly-Derives d h.1
+  MentionsOnly-Derives (parens {ss} d) h = MentionsOnly-Derives d (All-append_inv (IsSpoken threads locs) ss (Close ∷ []) h.1).0
+  MentionsOnly-Derives (part d) h = MentionsOnly-Derives d h
+  MentionsOnly-Derives (and {ss} {ts} d e) h =
+      let k = All-append_inv _ ss _ h in (MentionsOnly-Derives d k.0, MentionsOnly-Derives e k.1.1)
+  MentionsOnly-Derives (conjunction d) h = MentionsOnly-Derives d h
+  MentionsOnly-Derives (or {ss} {ts} d e) h =
+      let k = All-append_inv _ ss _ h in (MentionsOnly-Derives d k.0, MentionsOnly-Derives e k.1.1)
 
 -- If terminals satisfy `IsFit` and their names are in the table, their resolved forms mention only threads and locations in range.
 terminals_spoken : (threads : ℕ) (names : List (List ℕ)) (ss : List (Terminal AtomSyntax))
@@ -167,49 +177,55 @@ head_well_formed arch ts name s p allowed parts whole =
     let c = parts.condition in
     let fit = terminals_fit arch s.threads c.behind_quant s.terminals c.says in
     let right =
-    all_append IsRight (sites_of s.initializers ++ s.listed) (sites_in s.terminals)
-    (all_append IsRight (sites_of s.initializers) s.listed (block_right arch ts parts.behind_block s.initializers parts.block)
+    AllByRecursion-append IsValidSite (sites_of s.initializers ++ s.listed) (sites_in s.terminals)
+    (AllByRecursion-append IsValidSite (sites_of s.initializers) s.listed
+    (block_right arch ts parts.behind_block s.initializers parts.block)
     (listed_right arch parts.behind_rows c.behind_list s.listed c.lists))
-    (all_sites (IsFit s.threads) IsRight (λ s n h. h.0) s.terminals fit) in
+    (sites_in-all (IsFit s.threads) IsValidSite (λ s n h. h.0) s.terminals fit) in
     let named =
     rw (← table_parts s) at
-    (all_entered (with_sites (with_sites [] (sites_of s.initializers)) s.listed) (site_names (sites_in s.terminals))) in
-    let begins = first_word _ s.initializers (block_words arch ts parts.behind_block s.initializers parts.block) in
+    (insert_names-contains_all (with_sites (with_sites [] (sites_of s.initializers)) s.listed)
+    (site_names (sites_in s.terminals))) in
+    let begins = initial_word-IsWordNumber _ s.initializers (block_words arch ts parts.behind_block s.initializers parts.block) in
     record {
       name = allowed;
-      some = header_some parts.behind_block parts.behind_header s.threads parts.header;
+      has_thread = header_some parts.behind_block parts.behind_header s.threads parts.header;
       few = parts.header.1;
       table = record {
         few = parts.few_names;
         all =
             table_right [] (site_names (sites_of s.initializers ++ s.listed ++ sites_in s.terminals)) tt
-            (all_names IsRight _ (λ x h. h) (sites_of s.initializers ++ s.listed ++ sites_in s.terminals) right);
-        once = once-along [] (site_names (sites_of s.initializers ++ s.listed ++ sites_in s.terminals)) tt;
+            (site_names-all IsValidSite _ (λ x h. h) (sites_of s.initializers ++ s.listed ++ sites_in s.terminals) right);
+        without_duplicates =
+            IsDuplicateFree-insert_names [] (site_names (sites_of s.initializers ++ s.listed ++ sites_in s.terminals)) tt;
       };
       regs = length-map-range_with_len (λ t. map (initial_word_of (location_table s) s.initializers) (thread_registers t)) 0 _;
-      six =
-          all_of_range (λ row. length row ≡ 6) (λ t. map (initial_word_of (location_table s) s.initializers) (thread_registers t))
-          0 s.threads (λ t le lt. refl);
+      register_counts =
+          AllByRecursion-map_range (λ row. length row ≡ 6)
+          (λ t. map (initial_word_of (location_table s) s.initializers) (thread_registers t)) 0 s.threads (λ t le lt. refl);
       register_words =
-          all_of_range (AllByRecursion IsWordNumber)
-          (λ t. map (initial_word_of (location_table s) s.initializers) (thread_registers t)) 0 s.threads
-          (λ t le lt. all_mapped IsWordNumber (initial_word_of (location_table s) s.initializers) begins (thread_registers t));
+          AllByRecursion-map_range (AllByRecursion IsWordNumber)
+          (λ t. map (initial_word_of (location_table s) s.initializers) (thread_registers t)) 0 s.threads (λ t le lt.
+          AllByRecursion-every_image IsWordNumber (initial_word_of (location_table s) s.initializers) begins
+          (thread_registers t));
       words =
           length-map (locations (length (location_table s))) (initial_word_of (location_table s) s.initializers)
           ∙ length-map-range_with_len (λ x. Location x) 0 (length (location_table s));
-      location_words = all_mapped IsWordNumber _ begins (locations (length (location_table s)));
-      there = all_filter _ _ (all_registers s.threads ++ locations (length (location_table s))) (all_seen s.threads _);
+      location_words = AllByRecursion-every_image IsWordNumber _ begins (locations (length (location_table s)));
+      listed_in_range =
+          AllByRecursion-filter _ _ (all_registers s.threads ++ locations (length (location_table s)))
+          (IsSeenInRange-all_seen s.threads _);
       ascending =
-          ascending_filter _ (all_registers s.threads ++ locations (length (location_table s)))
-          (all_ascending s.threads (length (location_table s)));
+          IsAscending-filter _ (all_registers s.threads ++ locations (length (location_table s)))
+          (IsAscending-all_seen s.threads (length (location_table s)));
       nodes_few = omega (
         arith,
         proposition_nodes whole (resolved_single (location_table s) s.terminals),
-        resolved_count (location_table s) s.terminals,
+        node_count-resolved (location_table s) s.terminals,
         parts.few_nodes,
       );
       condition =
-          says_speaks s.threads (length (location_table s)) whole
+          MentionsOnly-Derives s.threads (length (location_table s)) whole
           (terminals_spoken s.threads (location_table s) s.terminals fit named);
     }
 
@@ -222,16 +238,18 @@ frame_well_formed text f h =
 -- ---- bodies in memory
 
 -- The head of a body in memory, computed from locations' indices, is the head that its text says, computed from their names.
-pub head_made : {A : Type 0} (arch : Arch) (name : Bytes) (ts : TokenList) (b : ParsedBody A) (says : HasSyntax arch ts b)
+pub resolved_head-head_of_syntax : {A : Type 0} (arch : Arch) (name : Bytes) (ts : TokenList) (b : ParsedBody A)
+    (says : HasSyntax arch ts b)
     → resolved_head arch name b.parts ≡ head_of_syntax arch name (syntax_of b says.terminals) (formula_of b.parts.prop)
-head_made arch name ts b says =
+resolved_head-head_of_syntax arch name ts b says =
     let s = b.parts in
     let syntax = syntax_of b says.terminals in
-    let es_in = each_of s.initializers (λ e. IsIn s.locs e.site) says.initializers_in in
-    let ss_in = each_of s.listed (IsIn s.locs) says.listed_in in
+    let es_in = AllByRecursion-of_All s.initializers (λ e. IsIn s.locs e.site) says.initializers_in in
+    let ss_in = AllByRecursion-of_All s.listed (IsIn s.locs) says.listed_in in
     let once : IsDuplicateFree s.locs =
     subst IsDuplicateFree (sym says.names)
-    (once-along [] (site_names (map (λ e. e.site) syntax.initializers ++ syntax.listed ++ sites_in says.terminals)) tt) in
+    (IsDuplicateFree-insert_names []
+    (site_names (map (λ e. e.site) syntax.initializers ++ syntax.listed ++ sites_in says.terminals)) tt) in
     let word = fun_ext (λ (x : Seen). sym (words-site_by_name s.locs s.initializers x once es_in)) in
     let is_seen = fun_ext (λ (x : Seen). sym (listed-site_by_name s.locs s.listed x once ss_in)) in
     let regs = ap (λ f. map (λ t. map f (thread_registers t)) (range_with_len 0 s.threads)) word in
@@ -249,5 +267,5 @@ pub resolved_well_formed : {A : Type 0} (arch : Arch) (ts : List (List ℕ)) (na
     → HasSyntax arch ts b
     → IsWellFormedHead (resolved_head arch name b.parts)
 resolved_well_formed arch ts name b allowed says =
-    subst IsWellFormedHead (sym (head_made arch name ts b says))
+    subst IsWellFormedHead (sym (resolved_head-head_of_syntax arch name ts b says))
     (head_well_formed arch ts name (syntax_of b says.terminals) _ allowed says.parts (body_proposition arch ts b says))

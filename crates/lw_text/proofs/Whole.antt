@@ -1,19 +1,20 @@
--- The parse of a test's parts is unique. If one of them is absent, the tokens are no test, and the text has no frame.
+-- The parse of a test's parts is unique. If one of them is absent, the tokens are no test, and the text has
+-- no frame. `parse_body` returns by these lemmas where a part is absent.
 use Rattle.lw_text.proofs.Common.{◌≡◌, ℕ, zero, suc, ◌≤◌, true, false, List, [], ◌∷◌, ◌++◌, length, map, refl}
 use Rattle.lw_text.proofs.Common.{sym, ap, ◌∙◌, subst, arith, Option, Some, None, MatchOption, IfNone, codes}
 use Rattle.lw_text.proofs.Common.{All, AllByRecursion, list_all, length-map, ltb-false, All-from_recursion}
 use Rattle.lw_text.proofs.Common.{ParsedBlock, ReadsBlock, HoldsOfNothing, ParsesNothing, Bytes, NameTable}
-use Rattle.lw_text.proofs.Common.{TokenList, CellGrid, Arch, Quant, Exists, NotExists, Forall, all_map}
-use Rattle.lw_text.proofs.Common.{All-mono, insert_names-longer, Cell, Cursor, Token, Tokens, PlacedTokens}
-use Rattle.lw_text.proofs.Common.{token_texts, Preamble, ParsesManyTill, Header, Row, Rows, begins_stop}
-use Rattle.lw_text.proofs.Common.{with_sites, HasRoomFor, SiteSyntax, ThreadExists, site_names, Terminal}
-use Rattle.lw_text.proofs.Common.{IsProposition, AtomSyntax, Quantified, begins_token, sites_in, resolved}
-use Rattle.lw_text.proofs.Common.{InitializerSyntax, sites_of, Block, TestSyntax, location_table, ParsesTest}
-use Rattle.lw_text.proofs.Common.{ParsesNoTest, HasFrame, all_texts, with_spans, remaining_texts}
-use Rattle.lw_text.proofs.Common.{site_by_name, named_initializer, thread_exists, ParsedNameList}
-use Rattle.lw_text.proofs.Common.{NoProposition, NoCondition}
+use Rattle.lw_text.proofs.Common.{TokenList, CellGrid, Arch, Quant, Exists, NotExists, Forall}
+use Rattle.lw_text.proofs.Common.{AllByRecursion-map, All-mono, insert_names-longer, Cell, Cursor, Token}
+use Rattle.lw_text.proofs.Common.{Tokens, PlacedTokens, token_texts, Preamble, ParsesManyTill, Header, Row}
+use Rattle.lw_text.proofs.Common.{Rows, begins_stop, with_sites, HasRoomFor, SiteSyntax, ThreadExists}
+use Rattle.lw_text.proofs.Common.{site_names, Terminal, IsProposition, AtomSyntax, Quantified, begins_token}
+use Rattle.lw_text.proofs.Common.{sites_in, resolved, InitializerSyntax, sites_of, Block, TestSyntax}
+use Rattle.lw_text.proofs.Common.{location_table, ParsesTest, ParsesNoTest, HasFrame, all_texts, with_spans}
+use Rattle.lw_text.proofs.Common.{remaining_texts, site_by_name, named_initializer, thread_exists}
+use Rattle.lw_text.proofs.Common.{ParsedNameList, NoProposition, NoCondition}
 use Rattle.lw_text.specs.Conditions.{Condition}
-use Rattle.lw_text.proofs.api.Spelling.{all_pass}
+use Rattle.lw_text.proofs.api.Spelling.{list_all-AllByRecursion}
 use Rattle.lw_text.specs.declared.site.Site.{Site as MadeSite}
 use Rattle.lw_text.specs.declared.block.Initializer.{Initializer as MadeInitializer}
 use Rattle.lw_text.proofs.SiteLists.{Block-unique, Listed-unique}
@@ -45,31 +46,33 @@ sites_of_block names (e ∷ es) = ap (λ l. site_by_name names e.site ∷ l) (si
 -- ---- threads that exist
 
 -- If the thread of a site in memory exists, so does that of its syntax.
-there_one : (threads : ℕ) (names : NameTable) (s : MadeSite)
+ThreadExists-thread_exists : (threads : ℕ) (names : NameTable) (s : MadeSite)
     → thread_exists threads s ≡ true
     → ThreadExists threads (site_by_name names s)
-there_one threads names (made.Location loc) h = tt
-there_one threads names (made.Register t r) h = grind arith
+ThreadExists-thread_exists threads names (made.Location loc) h = tt
+ThreadExists-thread_exists threads names (made.Register t r) h = grind arith
 
 -- If the thread of a site's syntax exists, so does that of the site in memory.
-one_there : (threads : ℕ) (names : NameTable) (s : MadeSite)
+thread_exists-ThreadExists : (threads : ℕ) (names : NameTable) (s : MadeSite)
     → ThreadExists threads (site_by_name names s)
     → thread_exists threads s ≡ true
-one_there threads names (made.Location loc) h = refl
-one_there threads names (made.Register t r) h = grind arith
+thread_exists-ThreadExists threads names (made.Location loc) h = refl
+thread_exists-ThreadExists threads names (made.Register t r) h = grind arith
 
 -- If the threads of all initializers in memory exist, so do those of their syntax.
-pub all_there : (threads : ℕ) (names : NameTable) (es : List MadeInitializer)
+pub ThreadExists-all_initializers : (threads : ℕ) (names : NameTable) (es : List MadeInitializer)
     → list_all (λ e. thread_exists threads e.site) es ≡ true
     → AllByRecursion (λ e. ThreadExists threads e.site) (map (named_initializer names) es)
-all_there threads names es h = all_map _ _ es (All-mono _ _ (λ e. there_one _ names _) es (all_pass _ es h))
+ThreadExists-all_initializers threads names es h =
+    AllByRecursion-map _ _ es (All-mono _ _ (λ e. ThreadExists-thread_exists _ names _) es (list_all-AllByRecursion _ es h))
 
 -- If the threads of the syntax of all initializers exist, so do those of the initializers in memory.
-pub there_all : (threads : ℕ) (names : NameTable) (es : List MadeInitializer)
+pub thread_exists-all_initializers : (threads : ℕ) (names : NameTable) (es : List MadeInitializer)
     → AllByRecursion (λ e. ThreadExists threads e.site) (map (named_initializer names) es)
     → list_all (λ e. thread_exists threads e.site) es ≡ true
-there_all threads names [] h = refl
-there_all threads names (e ∷ es) h = rw (one_there threads names e.site h.0, there_all threads names es h.1) refl
+thread_exists-all_initializers threads names [] h = refl
+thread_exists-all_initializers threads names (e ∷ es) h =
+    rw (thread_exists-ThreadExists threads names e.site h.0, thread_exists-all_initializers threads names es h.1) refl
 
 -- ---- the quantifier
 
@@ -86,8 +89,10 @@ Quantified-unique ts _ _ r s e f = (refl, cc)
 -- ---- if the block ends early
 
 -- If tokens are the parts of a test, the empty table has room for the names of the initial block.
-pub few_first : (arch : Arch) (ts : TokenList) (s : TestSyntax) → ParsesTest arch ts s → HasRoomFor [] (sites_of s.initializers)
-few_first arch ts s p = omega (
+pub HasRoomFor-initial_block : (arch : Arch) (ts : TokenList) (s : TestSyntax)
+    → ParsesTest arch ts s
+    → HasRoomFor [] (sites_of s.initializers)
+HasRoomFor-initial_block arch ts s p = omega (
   arith,
   p.few_names,
   ap length (table_parts s),
@@ -98,13 +103,14 @@ few_first arch ts s p = omega (
 -- ---- if the condition ends early
 
 -- If no proposition follows the list and the quantifier, there is no condition.
-pub no_terminals : {arch : Arch} {threads : ℕ} {before behind : Cursor} {first names : NameTable} {made : List MadeSite}
+pub no_condition-no_proposition : {arch : Arch} {threads : ℕ} {before behind : Cursor} {first names : NameTable}
+    {made : List MadeSite}
     → ParsedNameList arch threads before behind first names made
     → (quant : Quant) (end : TokenList)
     → Quantified (remaining_texts behind) quant end
     → NoProposition arch threads end names
     → NoCondition arch threads (remaining_texts before) first
-no_terminals {arch} {threads} {before} {behind} {first} {names} {made} taken quant end quantifies never all q ss p c fits =
+no_condition-no_proposition {arch} {threads} {before} {behind} {first} {names} {made} taken quant end quantifies never all q ss p c fits =
     let u =
     Listed-unique arch (remaining_texts before) all (map (site_by_name names) made) c.behind_list (remaining_texts behind) c.lists
     taken.is in
@@ -114,56 +120,61 @@ no_terminals {arch} {threads} {before} {behind} {first} {names} {made} taken qua
 -- ---- if the parts end early
 
 module _ (arch : Arch) (ts a : TokenList) (initializers : List InitializerSyntax) (block : Block arch ts initializers a) where
-  at_header : (s : TestSyntax) (p : ParsesTest arch ts s) → (s.initializers ≡ initializers) × Header a s.threads p.behind_header
-  at_header s p =
+  -- If the tokens are a test, its block is this one, and its header follows.
+  ParsesTest-header_inv : (s : TestSyntax) (p : ParsesTest arch ts s)
+      → (s.initializers ≡ initializers) × Header a s.threads p.behind_header
+  ParsesTest-header_inv s p =
       let e = Block-unique arch ts s.initializers initializers p.behind_block a p.block block in
       (e.0, subst (λ l. Header l s.threads p.behind_header) e.1 p.header)
 
   -- If no header follows the block, the tokens are no test.
-  pub no_header : ParsesNothing (Header a) → HoldsOfNothing (ParsesTest arch ts)
-  no_header never s p = never s.threads p.behind_header (at_header s p).1
+  pub no_test-no_header : ParsesNothing (Header a) → HoldsOfNothing (ParsesTest arch ts)
+  no_test-no_header never s p = never s.threads p.behind_header (ParsesTest-header_inv s p).1
 
   module _ (n : ℕ) (b : TokenList) (header : Header a n b) where
-    at_rows : (s : TestSyntax) (p : ParsesTest arch ts s)
+    -- If they are a test, its threads are these, and its rows follow.
+    ParsesTest-rows_inv : (s : TestSyntax) (p : ParsesTest arch ts s)
         → (s.initializers ≡ initializers)
         × (s.threads ≡ n)
         × Rows n b s.rows p.behind_rows
         × Condition arch n p.behind_rows s.listed s.quant s.terminals
-    at_rows s p =
-        let e = at_header s p in
+    ParsesTest-rows_inv s p =
+        let e = ParsesTest-header_inv s p in
         let u = Names-unique 0 s.threads n a p.behind_header b e.1.0 header.0 in
         (e.0, u.0, rw (u.0, u.1) at p.rows, rw u.0 at p.condition)
 
     -- If the thread of an initializer is not one of the header's, the tokens are no test.
-    pub no_thread : (names : NameTable) (made : List MadeInitializer)
+    pub no_test-missing_thread : (names : NameTable) (made : List MadeInitializer)
         → initializers ≡ map (named_initializer names) made
         → list_all (λ e. thread_exists n e.site) made ≡ false
         → HoldsOfNothing (ParsesTest arch ts)
-    no_thread names made is none s p =
-        let h = at_rows s p in
+    no_test-missing_thread names made is none s p =
+        let h = ParsesTest-rows_inv s p in
         let all =
-        there_all n names made
+        thread_exists-all_initializers n names made
         (subst (λ l. AllByRecursion (λ e. ThreadExists n e.site) l) (h.0 ∙ is)
-        (subst (λ k. AllByRecursion (λ e. ThreadExists k e.site) s.initializers) h.1 p.there)) in
+        (subst (λ k. AllByRecursion (λ e. ThreadExists k e.site) s.initializers) h.1 p.threads_exist)) in
         cc
 
     -- If no rows follow the header, the tokens are no test.
-    pub no_rows : ParsesNothing (Rows n b) → HoldsOfNothing (ParsesTest arch ts)
-    no_rows never s p = never s.rows p.behind_rows (at_rows s p).2
+    pub no_test-no_rows : ParsesNothing (Rows n b) → HoldsOfNothing (ParsesTest arch ts)
+    no_test-no_rows never s p = never s.rows p.behind_rows (ParsesTest-rows_inv s p).2
 
     module _ (rows : CellGrid) (c : TokenList) (are_rows : Rows n b rows c) (first : TokenList)
         (is_first : first ≡ with_sites [] (sites_of initializers)) where
-      at_condition : (s : TestSyntax)
+      -- If they are a test, its rows are these, and its condition follows.
+      ParsesTest-condition_inv : (s : TestSyntax)
           → ParsesTest arch ts s
           → (s.initializers ≡ initializers) × (s.threads ≡ n) × (s.rows ≡ rows) × Condition arch n c s.listed s.quant s.terminals
-      at_condition s p =
-          let h = at_rows s p in
+      ParsesTest-condition_inv s p =
+          let h = ParsesTest-rows_inv s p in
           let u = Rows-unique n b p.behind_rows c s.rows rows h.2 are_rows in
           (h.0, h.1, u.0, subst (λ l. Condition arch n l s.listed s.quant s.terminals) u.1 h.3)
 
-      pub no_condition : NoCondition arch n c first → ParsesNoTest arch ts
-      no_condition never s f p whole =
-          let h = at_condition s p in
+      -- If no condition follows the rows, the tokens are no test.
+      pub no_test-no_condition : NoCondition arch n c first → ParsesNoTest arch ts
+      no_test-no_condition never s f p whole =
+          let h = ParsesTest-condition_inv s p in
           let names = ap (λ es. with_sites [] (sites_of es)) h.0 ∙ sym is_first in
           let all : location_table s ≡ with_sites (with_sites first s.listed) (sites_in s.terminals) =
           table_parts s ∙ ap (λ ns. with_sites (with_sites ns s.listed) (sites_in s.terminals)) names in
@@ -176,7 +187,7 @@ module _ (arch : Arch) (ts a : TokenList) (initializers : List InitializerSyntax
 -- The parse of a test's parts is unique.
 pub ParsesTest-unique : (arch : Arch) (ts : TokenList) (s t : TestSyntax) → ParsesTest arch ts s → ParsesTest arch ts t → s ≡ t
 ParsesTest-unique arch ts s t p q =
-    let h = at_condition arch ts _ t.initializers q.block t.threads _ q.header t.rows _ q.rows _ refl s p in
+    let h = ParsesTest-condition_inv arch ts _ t.initializers q.block t.threads _ q.header t.rows _ q.rows _ refl s p in
     let u =
     Listed-unique arch q.behind_rows s.listed t.listed h.3.behind_list q.condition.behind_list h.3.lists q.condition.lists in
     let v =
@@ -194,10 +205,10 @@ ParsesTest-unique arch ts s t p q =
 -- ---- the syntax of a body
 
 -- A table of the names of the initializers' sites in memory is that of their syntax.
-pub first_names : (names : NameTable) (es : List MadeInitializer)
+pub names_of_initializers : (names : NameTable) (es : List MadeInitializer)
     → names ≡ with_sites [] (map (λ e. site_by_name names e.site) es)
     → names ≡ with_sites [] (sites_of (map (named_initializer names) es))
-first_names names es e = e ∙ ap (λ l. with_sites [] l) (sym (sites_of_block names es))
+names_of_initializers names es e = e ∙ ap (λ l. with_sites [] l) (sym (sites_of_block names es))
 
 -- ---- rows
 
@@ -207,17 +218,17 @@ header_some ts rest zero h = absurd h.0
 header_some ts rest (suc n) h = omega arith
 
 -- Each row up to a token that ends the rows has a cell for each thread.
-lines_even : {A : Type 0} (n : ℕ) (rows : List (List (Cell A))) (ts rest : TokenList)
+row_lengths-of_rows : {A : Type 0} (n : ℕ) (rows : List (List (Cell A))) (ts rest : TokenList)
     → ParsesManyTill begins_stop (Row n) ts (all_texts rows) rest
     → AllByRecursion (λ row. length row ≡ n) rows
-lines_even n [] ts rest u = tt
-lines_even n (row ∷ rows) ts rest u = (sym (length-map row _) ∙ u.1.1.1, lines_even n rows u.1.0 rest u.1.2)
+row_lengths-of_rows n [] ts rest u = tt
+row_lengths-of_rows n (row ∷ rows) ts rest u = (sym (length-map row _) ∙ u.1.1.1, row_lengths-of_rows n rows u.1.0 rest u.1.2)
 
 -- Each of a test's rows has a cell for each thread.
 pub Rows-even : {A : Type 0} (n : ℕ) (rows : List (List (Cell A))) (ts rest : TokenList)
     → Rows n ts (all_texts rows) rest
     → All (λ row. length row ≡ n) rows
-Rows-even n rows ts rest r = All-from_recursion (λ row. length row ≡ n) rows (lines_even n rows ts rest r.0)
+Rows-even n rows ts rest r = All-from_recursion (λ row. length row ≡ n) rows (row_lengths-of_rows n rows ts rest r.0)
 
 -- ---- the text
 
@@ -226,47 +237,48 @@ abbrev HasNoTest : Arch → Bytes → Type 0
 HasNoTest arch text = (ts : TokenList) → Tokens text ts → ParsesNoTest arch ts
 
 -- If the tokens after a text's preamble are no test, the text has no frame.
-pub no_frame : (text : Bytes) (arch : Arch) (name rest : Bytes)
+pub no_frame-HasNoTest : (text : Bytes) (arch : Arch) (name rest : Bytes)
     → Preamble text arch name rest
     → HasNoTest arch rest
     → HoldsOfNothing (HasFrame text)
-no_frame text arch name rest preamble never frame h =
+no_frame-HasNoTest text arch name rest preamble never frame h =
     let e = Preamble-unique text h.arch h.name h.rest arch name rest h.preamble preamble in
     never h.tokens (subst (λ x. Tokens x h.tokens) e.2 h.stream) h.syntax h.condition
     (subst (λ a. ParsesTest a h.tokens h.syntax) e.0 h.parts) h.proposition
 
 -- If a lexical fault ends the tokens, or there is none and they are no test, the text's tokens are no test.
-pub no_test : {F : Type 0} (arch : Arch) (o : Option F) (Q : F → Type 0) (len : ℕ) (rest : Bytes) (ts : List Token)
+pub HasNoTest-no_tokens_or_no_parse : {F : Type 0} (arch : Arch) (o : Option F) (Q : F → Type 0) (len : ℕ) (rest : Bytes)
+    (ts : List Token)
     → MatchOption o (PlacedTokens len rest (with_spans ts)) (λ f. HoldsOfNothing (Tokens rest) × Q f)
     → IfNone o (ParsesNoTest arch (token_texts ts))
     → HasNoTest arch rest
-no_test arch None Q len rest ts stream never us other s p parts whole =
+HasNoTest-no_tokens_or_no_parse arch None Q len rest ts stream never us other s p parts whole =
     never s p
     (subst (λ x. ParsesTest arch x s) (Tokens-unique us (token_texts ts) rest other (read_whole len rest ts stream)) parts) whole
-no_test arch (Some f) Q len rest ts stream never us other s p parts whole = stream.0 us other
+HasNoTest-no_tokens_or_no_parse arch (Some f) Q len rest ts stream never us other s p parts whole = stream.0 us other
 
 -- If tokens start with none of the three quantifiers, there is none.
-pub no_quantifier : (ts : TokenList)
+pub no_quantifier-other_word : (ts : TokenList)
     → begins_token (codes "~") ts ≡ false
     → ((rest : TokenList) → ts ≡ codes "exists" ∷ rest → ⊥)
     → ((rest : TokenList) → ts ≡ codes "forall" ∷ rest → ⊥)
     → ParsesNothing (Quantified ts)
-no_quantifier ts no_tilde no_first no_second Exists rest f = no_first rest f
-no_quantifier ts no_tilde no_first no_second NotExists rest f = token_not_next (codes "~") ts _ no_tilde f
-no_quantifier ts no_tilde no_first no_second Forall rest f = no_second rest f
+no_quantifier-other_word ts no_tilde no_first no_second Exists rest f = no_first rest f
+no_quantifier-other_word ts no_tilde no_first no_second NotExists rest f = token_not_next (codes "~") ts _ no_tilde f
+no_quantifier-other_word ts no_tilde no_first no_second Forall rest f = no_second rest f
 
 -- The site of a thread that does not exist is a register.
-pub missing_thread : (site : MadeSite) (threads : ℕ)
+pub site_is_register-missing_thread : (site : MadeSite) (threads : ℕ)
     → thread_exists threads site ≡ false
     → (t r : ℕ) × (site ≡ made.Register t r) × (threads ≤ t)
-missing_thread (made.Location loc) threads e = absurd cc
-missing_thread (made.Register t r) threads e = (t, r, refl, ltb-false t threads e)
+site_is_register-missing_thread (made.Location loc) threads e = absurd cc
+site_is_register-missing_thread (made.Register t r) threads e = (t, r, refl, ltb-false t threads e)
 
 -- The block that was read into an empty table has room for its locations.
-pub block_read : {arch : Arch} {before after : Cursor} {first table : NameTable} {es : List MadeInitializer}
+pub ReadsBlock-ParsedBlock : {arch : Arch} {before after : Cursor} {first table : NameTable} {es : List MadeInitializer}
     → first ≡ []
     → ParsedBlock arch before after first table es
     → ReadsBlock arch (remaining_texts before) (map (named_initializer table) es) (remaining_texts after)
-block_read {table = table} {es} none block =
-    let names = first_names table es (rw none at block.names_are) in
+ReadsBlock-ParsedBlock {table = table} {es} none block =
+    let names = names_of_initializers table es (rw none at block.names_are) in
     (block.is, subst (λ (names : NameTable). length names ≤ 8) names block.few)

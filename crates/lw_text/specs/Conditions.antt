@@ -95,6 +95,6 @@ pub record Condition (arch : Arch) (threads : ℕ) (ts : TokenList) (listed : Li
   pub behind_list : TokenList
   pub behind_quant : TokenList
   pub lists : Listed arch ts listed behind_list
-  pub there : AllByRecursion (ThreadExists threads) listed
+  pub threads_exist : AllByRecursion (ThreadExists threads) listed
   pub quantifies : Quantified behind_list quant behind_quant
   pub says : Terminals arch threads behind_quant ss

@@ -62,7 +62,7 @@ pub record ParsesTest (arch : Arch) (ts : TokenList) (s : TestSyntax) : Type 0 w
   pub behind_rows : TokenList
   pub block : Block arch ts s.initializers behind_block
   pub header : Header behind_block s.threads behind_header
-  pub there : AllByRecursion (λ e. ThreadExists s.threads e.site) s.initializers
+  pub threads_exist : AllByRecursion (λ e. ThreadExists s.threads e.site) s.initializers
   pub rows : Rows s.threads behind_header s.rows behind_rows
   pub condition : Condition arch s.threads behind_rows s.listed s.quant s.terminals
   pub few_names : length (location_table s) ≤ most_locations

@@ -56,4 +56,4 @@ pub record HasCells (text : Bytes) (cells : List (List PlacedCell)) : Type 0 whe
   pub threads : ℕ
   pub rows : List (List PlacedCell)
   pub has_rows : HasRows arch tokens threads rows
-  pub are : cells ≡ columns threads rows
+  pub cells_are : cells ≡ columns threads rows

@@ -29,7 +29,7 @@ pub record KeyLine (text rest : Bytes) : Type 0 where
   pub spaces : Bytes
   pub value : Bytes
   pub parts : text ≡ key ++ spaces ++ byte "=" ∷ value ++ rest
-  pub some : 0 < length key
+  pub not_empty : 0 < length key
   pub all : AllByRecursion (λ b. is_key_byte b ≡ true) key
   pub spaced : AllByRecursion (λ b. is_space b ≡ true) spaces
   pub one_line : AllByRecursion (λ b. (b == byte "\n") ≡ false) value

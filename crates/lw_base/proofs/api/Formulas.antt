@@ -1,10 +1,15 @@
--- The locations that a formula mentions.
+-- The locations that a formula mentions. If a formula mentions only a test's threads and locations, its
+-- locations are in the table, as printing requires.
 use Rattle.lw_base.proofs.Common.{ℕ, Formula, Word_is, Not, And, Or, MentionsOnly, MentionsLocationsBelow}
 
 -- A formula that mentions only existing threads and locations mentions only locations below their number.
-pub has_locations : (threads locs : ℕ) (p : Formula) → MentionsOnly threads locs p → MentionsLocationsBelow locs p
-has_locations threads locs (Word_is x n) h = h.0
-has_locations threads locs (Not p) h = has_locations threads locs p h
-has_locations threads locs (And p q) h = (has_locations threads locs p h.0, has_locations threads locs q h.1)
-has_locations threads locs (Or p q) h = (has_locations threads locs p h.0, has_locations threads locs q h.1)
-has_locations threads locs _ h = tt
+pub MentionsLocationsBelow-if_mentions_only : (threads locs : ℕ) (p : Formula)
+    → MentionsOnly threads locs p
+    → MentionsLocationsBelow locs p
+MentionsLocationsBelow-if_mentions_only threads locs (Word_is x n) h = h.0
+MentionsLocationsBelow-if_mentions_only threads locs (Not p) h = MentionsLocationsBelow-if_mentions_only threads locs p h
+MentionsLocationsBelow-if_mentions_only threads locs (And p q) h =
+    (MentionsLocationsBelow-if_mentions_only threads locs p h.0, MentionsLocationsBelow-if_mentions_only threads locs q h.1)
+MentionsLocationsBelow-if_mentions_only threads locs (Or p q) h =
+    (MentionsLocationsBelow-if_mentions_only threads locs p h.0, MentionsLocationsBelow-if_mentions_only threads locs q h.1)
+MentionsLocationsBelow-if_mentions_only threads locs _ h = tt

@@ -1,9 +1,10 @@
--- Growing tables: names keep their indices.
+-- Growing tables: names keep their indices. A reader inserts names as it meets them; what was read before
+-- stays right.
 use Rattle.lw_base.proofs.Common.{◌≡◌, ℕ, ◌<◌, ◌≤◌, ◌+◌, Bool, true, false, [], ◌∷◌, ◌++◌, length, refl, sym}
 use Rattle.lw_base.proofs.Common.{ap, ◌∙◌, length-append, arith, if◌then◌else◌, bytes_eq, append-nil, or_left}
 use Rattle.lw_base.proofs.Common.{or_right, unsigned_Decides, pointwise_decides, Bytes, NameTable}
 use Rattle.lw_base.proofs.Common.{IsDuplicateFree, contains_name, insert_name, insert_names, position_of_name}
-use Rattle.lw_base.proofs.api.Tables.{once_more, contains_name-Contains}
+use Rattle.lw_base.proofs.api.Tables.{IsDuplicateFree-push, contains_name-Contains}
 
 -- A table after inserting a name, by whether it had the name.
 insert_name-case : (names : NameTable) (n : Bytes) (b : Bool)
@@ -113,15 +114,17 @@ position_of_name-within (m ∷ names) n e = go (bytes_eq m n) refl (position_of_
     go false f further = rw f (omega (arith, further (rw f at e)))
 
 -- Inserting a name preserves that a table has no duplicates.
-pub once-name : (names : NameTable) (n : Bytes) → IsDuplicateFree names → IsDuplicateFree (insert_name names n)
-once-name names n once = go (contains_name names n) refl
+pub IsDuplicateFree-insert_name : (names : NameTable) (n : Bytes) → IsDuplicateFree names → IsDuplicateFree (insert_name names n)
+IsDuplicateFree-insert_name names n once = go (contains_name names n) refl
   where
     go : (b : Bool) → contains_name names n ≡ b → IsDuplicateFree (insert_name names n)
     go true e = rw (insert_name-case names n true e) once
     go false e =
-        rw (insert_name-case names n false e) (once_more names n once (λ h. let k = contains_name-Contains names n h in cc))
+        rw (insert_name-case names n false e)
+        (IsDuplicateFree-push names n once (λ h. let k = contains_name-Contains names n h in cc))
 
 -- Inserting names preserves that a table has no duplicates.
-pub once-along : (names ns : NameTable) → IsDuplicateFree names → IsDuplicateFree (insert_names names ns)
-once-along names [] once = once
-once-along names (n ∷ ns) once = once-along (insert_name names n) ns (once-name names n once)
+pub IsDuplicateFree-insert_names : (names ns : NameTable) → IsDuplicateFree names → IsDuplicateFree (insert_names names ns)
+IsDuplicateFree-insert_names names [] once = once
+IsDuplicateFree-insert_names names (n ∷ ns) once =
+    IsDuplicateFree-insert_names (insert_name names n) ns (IsDuplicateFree-insert_name names n once)

@@ -1,4 +1,4 @@
--- Items of a list by their indices.
+-- Items of a list by their indices. Proofs of nearly all crates use this.
 use Rattle.lw_base.proofs.Common.{◌≡◌, ◌≢◌, ℕ, zero, suc, ◌<◌, ◌≤◌, Some, ◌⊎◌, inl, inr, ⊎_elim, List, []}
 use Rattle.lw_base.proofs.Common.{◌∷◌, ◌++◌, length, take, drop, refl, sym, ap, ◌∙◌, subst, arith, slice_get}
 use Rattle.lw_base.proofs.Common.{slice_set, set-get_or, cases_eq, same_Some, get_or_from_slice_get, Option}
@@ -11,48 +11,48 @@ pub cons-ne : {X : Type 0} (a b : X) (u v : List X) → (a ≡ b → ⊥) → a 
 cons-ne a b u v differ same = differ cc
 
 -- Equal lists have the same first item.
-pub cons_head : {X : Type 0} (a b : X) (u v : List X) → a ∷ u ≡ b ∷ v → a ≡ b
-cons_head a b u v same = cc
+pub cons-head_eq : {X : Type 0} (a b : X) (u v : List X) → a ∷ u ≡ b ∷ v → a ≡ b
+cons-head_eq a b u v same = cc
 
 -- A list, split at an index.
-pub cut_at : {X : Type 0} (xs : List X) (k : ℕ) (x : X) → slice_get xs k ≡ Some x → xs ≡ take k xs ++ x ∷ drop (suc k) xs
-cut_at [] k x e = absurd cc
-cut_at {X} (y ∷ xs) zero x e = let f : y ≡ x = cc in ap (λ (z : X). z ∷ xs) f
-cut_at {X} (y ∷ xs) (suc k) x e = ap (λ (zs : List X). y ∷ zs) (cut_at xs k x e)
+pub take_drop-at : {X : Type 0} (xs : List X) (k : ℕ) (x : X) → slice_get xs k ≡ Some x → xs ≡ take k xs ++ x ∷ drop (suc k) xs
+take_drop-at [] k x e = absurd cc
+take_drop-at {X} (y ∷ xs) zero x e = let f : y ≡ x = cc in ap (λ (z : X). z ∷ xs) f
+take_drop-at {X} (y ∷ xs) (suc k) x e = ap (λ (zs : List X). y ∷ zs) (take_drop-at xs k x e)
 
 -- The rest of a list from an index on begins with the item there.
-pub drop_at : {X : Type 0} (xs : List X) (k : ℕ) (x : X) → slice_get xs k ≡ Some x → drop k xs ≡ x ∷ drop (suc k) xs
-drop_at [] k x e = absurd cc
-drop_at {X} (y ∷ xs) zero x e = let f : y ≡ x = cc in ap (λ (z : X). z ∷ xs) f
-drop_at (y ∷ xs) (suc k) x e = drop_at xs k x e
+pub drop-cons_at : {X : Type 0} (xs : List X) (k : ℕ) (x : X) → slice_get xs k ≡ Some x → drop k xs ≡ x ∷ drop (suc k) xs
+drop-cons_at [] k x e = absurd cc
+drop-cons_at {X} (y ∷ xs) zero x e = let f : y ≡ x = cc in ap (λ (z : X). z ∷ xs) f
+drop-cons_at (y ∷ xs) (suc k) x e = drop-cons_at xs k x e
 
 -- The rest past the end of a list is empty.
-pub drop_all : {X : Type 0} (xs : List X) (n : ℕ) → length xs ≤ n → drop n xs ≡ []
-drop_all [] zero le = refl
-drop_all [] (suc n) le = refl
-drop_all (x ∷ xs) zero le = absurd (omega (arith, le))
-drop_all (x ∷ xs) (suc n) le = drop_all xs n (omega (arith, le))
+pub drop-past_end : {X : Type 0} (xs : List X) (n : ℕ) → length xs ≤ n → drop n xs ≡ []
+drop-past_end [] zero le = refl
+drop-past_end [] (suc n) le = refl
+drop-past_end (x ∷ xs) zero le = absurd (omega (arith, le))
+drop-past_end (x ∷ xs) (suc n) le = drop-past_end xs n (omega (arith, le))
 
 -- There is an item at each index in range.
-pub get_some : {X : Type 0} (xs : List X) (k : ℕ) → k < length xs → (x : X) × (slice_get xs k ≡ Some x)
-get_some [] k lt = absurd (omega arith)
-get_some (x ∷ xs) zero lt = (x, refl)
-get_some (x ∷ xs) (suc k) lt = get_some xs k (omega (arith, lt))
+pub slice_get-in_range : {X : Type 0} (xs : List X) (k : ℕ) → k < length xs → (x : X) × (slice_get xs k ≡ Some x)
+slice_get-in_range [] k lt = absurd (omega arith)
+slice_get-in_range (x ∷ xs) zero lt = (x, refl)
+slice_get-in_range (x ∷ xs) (suc k) lt = slice_get-in_range xs k (omega (arith, lt))
 
 -- One more item from the start is the item at the next index.
-pub take_one : {X : Type 0} (xs : List X) (k : ℕ) (x : X) → slice_get xs k ≡ Some x → take (suc k) xs ≡ take k xs ++ x ∷ []
-take_one [] k x e = absurd cc
-take_one {X} (y ∷ xs) zero x e = let f : y ≡ x = cc in ap (λ (z : X). z ∷ []) f
-take_one {X} (y ∷ xs) (suc k) x e = ap (λ (zs : List X). y ∷ zs) (take_one xs k x e)
+pub take-suc : {X : Type 0} (xs : List X) (k : ℕ) (x : X) → slice_get xs k ≡ Some x → take (suc k) xs ≡ take k xs ++ x ∷ []
+take-suc [] k x e = absurd cc
+take-suc {X} (y ∷ xs) zero x e = let f : y ≡ x = cc in ap (λ (z : X). z ∷ []) f
+take-suc {X} (y ∷ xs) (suc k) x e = ap (λ (zs : List X). y ∷ zs) (take-suc xs k x e)
 
 -- Each index of a list with one appended item has the list's item, or the new one.
-pub get_append : {X : Type 0} (xs : List X) (y z : X) (k : ℕ)
+pub slice_get-append_cases : {X : Type 0} (xs : List X) (y z : X) (k : ℕ)
     → slice_get (xs ++ y ∷ []) k ≡ Some z
     → (slice_get xs k ≡ Some z) ⊎ ((k ≡ length xs) × (y ≡ z))
-get_append [] y z zero e = inr (refl, cc)
-get_append [] y z (suc k) e = absurd cc
-get_append (x ∷ xs) y z zero e = inl e
-get_append {X} (x ∷ xs) y z (suc k) e = go (get_append xs y z k e)
+slice_get-append_cases [] y z zero e = inr (refl, cc)
+slice_get-append_cases [] y z (suc k) e = absurd cc
+slice_get-append_cases (x ∷ xs) y z zero e = inl e
+slice_get-append_cases {X} (x ∷ xs) y z (suc k) e = go (slice_get-append_cases xs y z k e)
   where
     go : (slice_get xs k ≡ Some z) ⊎ ((k ≡ length xs) × (y ≡ z))
         → (slice_get (x ∷ xs) (suc k) ≡ Some z) ⊎ ((suc k ≡ length (x ∷ xs)) × (y ≡ z))
@@ -91,17 +91,18 @@ abbrev pub AtEach : {X : Type 0} → (ℕ → X → Type 0) → List X → Type 
 AtEach {X} P xs = (u : ℕ) (y : X) → slice_get xs u ≡ Some y → P u y
 
 -- Setting an item preserves a property of all indices, if the new item has it.
-pub each_after : {X : Type 0} (P : ℕ → X → Type 0) (xs : List X) (i : ℕ) (x : X)
+pub AtEach-set : {X : Type 0} (P : ℕ → X → Type 0) (xs : List X) (i : ℕ) (x : X)
     → i < length xs
     → AtEach P xs
     → P i x
     → AtEach P (slice_set xs i x)
-each_after P xs i x within before here u y at = go (cases_eq u i)
+AtEach-set P xs i x within before here u y at = go (cases_eq u i)
   where
     go : (u ≡ i) ⊎ (u ≡ i → ⊥) → P u y
     go (inl e) =
         let there : slice_get (slice_set xs i x) u ≡ Some x =
-        ap (slice_get (slice_set xs i x)) e ∙ get-set_same xs i x (get_some xs i within).0 (get_some xs i within).1 in
+        ap (slice_get (slice_set xs i x)) e
+        ∙ get-set_same xs i x (slice_get-in_range xs i within).0 (slice_get-in_range xs i within).1 in
         let same : x ≡ y = cc in
         subst (λ (k : ℕ). P k y) (sym e) (subst (P i) same here)
     go (inr other) = before u y (sym (get-set_other xs i u x (λ e. other (sym e))) ∙ at)
@@ -116,13 +117,13 @@ pub record AreFellows {X Y : Type 0} (xs : List X) (ys : List Y) (t : ℕ) (a : 
   pub right : slice_get ys t ≡ Some b
 
 -- Setting x and y at t in two lists preserves a property of all fellows, if x and y have it.
-pub fellows_after : {X Y : Type 0} {old : X} {was : Y} (P : ℕ → X → Y → Type 0) (xs : List X) (ys : List Y) (t : ℕ) (x : X)
+pub OfFellows-set_both : {X Y : Type 0} {old : X} {was : Y} (P : ℕ → X → Y → Type 0) (xs : List X) (ys : List Y) (t : ℕ) (x : X)
     (y : Y)
     → AreFellows xs ys t old was
     → OfFellows (λ u a b. t ≢ u → P u a b) xs ys
     → P t x y
     → OfFellows P (slice_set xs t x) (slice_set ys t y)
-fellows_after {X} {Y} {old} {was} P xs ys t x y fellows others now u a b e f =
+OfFellows-set_both {X} {Y} {old} {was} P xs ys t x y fellows others now u a b e f =
     ⊎_elim here (λ ne. others u a b (sym (get-set_other xs t u x ne) ∙ e) (sym (get-set_other ys t u y ne) ∙ f) ne) (cases_eq t u)
   where
     here : t ≡ u → P u a b

@@ -1,4 +1,5 @@
--- Membership in lists: in the empty list, and in a list with one more item at its head.
+-- Membership in lists: in the empty list, and in a list with one more item at its head. What the crates above
+-- use of membership.
 use Rattle.lw_base.proofs.Common.{◌≡◌, zero, suc, ◌⊎◌, inl, inr, List, [], ◌∷◌, arith, Contains}
 
 -- The empty list has no member.

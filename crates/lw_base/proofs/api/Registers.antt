@@ -1,11 +1,11 @@
--- A token names at most one register.
+-- A token names at most one register. So a cell of a test is read in one way.
 use Rattle.lw_base.proofs.Common.{◌≡◌, ℕ, suc, ◌+◌, ◌<◌, [], ◌∷◌, Some, None, Option, refl, sym, ap, ◌∙◌}
 use Rattle.lw_base.proofs.Common.{arith, if◌then◌else◌, codes, bytes_eq, Bytes, Arch, Source, X86}
 use Rattle.lw_base.proofs.Common.{IsRegisterName, register_name, lowercase_if_x86}
 
 -- The x86 register that a text in small letters names.
-abbrev spelled : Bytes → Option ℕ
-spelled w =
+abbrev x86_register_of : Bytes → Option ℕ
+x86_register_of w =
     if bytes_eq w (codes "eax")
     then Some 0
     else (if bytes_eq w (codes "ebx")
@@ -17,15 +17,17 @@ spelled w =
     else (if bytes_eq w (codes "esi") then Some 4 else (if bytes_eq w (codes "edi") then Some 5 else None)))))
 
 -- The name of an x86 register, in small letters, names that register.
-spelled_name : (r : ℕ) → r < 6 → spelled (lowercase_if_x86 X86 (register_name X86 r)) ≡ Some r
-spelled_name (suc (suc (suc (suc (suc (suc r)))))) h = absurd (omega arith)
-spelled_name _ h = refl
+x86_register_of-register_name : (r : ℕ) → r < 6 → x86_register_of (lowercase_if_x86 X86 (register_name X86 r)) ≡ Some r
+x86_register_of-register_name (suc (suc (suc (suc (suc (suc r)))))) h = absurd (omega arith)
+x86_register_of-register_name _ h = refl
 
 -- A token names at most one register of a language.
-pub register_unique : (arch : Arch) (w : Bytes) (r q : ℕ) → IsRegisterName arch w r → IsRegisterName arch w q → r ≡ q
-register_unique Source w r q h k =
+pub register_of_name-unique : (arch : Arch) (w : Bytes) (r q : ℕ) → IsRegisterName arch w r → IsRegisterName arch w q → r ≡ q
+register_of_name-unique Source w r q h k =
     let e : 114 ∷ (48 + r) ∷ [] ≡ 114 ∷ (48 + q) ∷ [] = h.1 ∙ sym k.1 in
     let f : 48 + r ≡ 48 + q = cc in
     omega arith
-register_unique X86 w r q h k =
-    let e : Some r ≡ Some q = sym (spelled_name r h.0) ∙ ap spelled (h.1 ∙ sym k.1) ∙ spelled_name q k.0 in cc
+register_of_name-unique X86 w r q h k =
+    let e : Some r ≡ Some q =
+    sym (x86_register_of-register_name r h.0) ∙ ap x86_register_of (h.1 ∙ sym k.1) ∙ x86_register_of-register_name q k.0 in
+    cc

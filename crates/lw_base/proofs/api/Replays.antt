@@ -1,4 +1,5 @@
--- Concatenating runs, and extending a run by one event.
+-- Concatenating runs, and extending a run by one event. For runs of the source, of the machine and of
+-- searches.
 use Rattle.lw_base.proofs.Common.{◌≡◌, ℕ, suc, ◌+◌, ◌<◌, List, [], ◌∷◌, ◌++◌, length, take, get_or, Ok}
 use Rattle.lw_base.proofs.Common.{Result, refl, sym, ap, ◌∙◌, subst, arith, take-suc, Event, Stop, RunsTo}
 
@@ -11,6 +12,7 @@ module _ {State : Type 0} (Done : Event → State → Result (Unit {0}) Stop →
   RunsTo-append [] fs s mid end r q = subst (λ (m : State). RunsTo Done fs m end) r q
   RunsTo-append (e ∷ es) fs s mid end r q = (r.0, r.1, RunsTo-append es fs r.0 mid end r.2 q)
 
+  -- A run followed by one more event is a run.
   RunsTo-push : (es : List Event) (e : Event) (s mid end : State)
       → RunsTo Done es s mid
       → Done e mid (Ok tt) end

@@ -1,4 +1,5 @@
--- Clauses at early returns by `?`.
+-- Clauses at early returns by `?`. A clause about a caller's fault follows from the callee's: passed on,
+-- converted, or trivial since memory ran out.
 use Rattle.lw_base.proofs.Common.{◌≡◌, ◌≢◌, sym, subst, Option, None, Result, Ok, Err, IfErr, IsErrAnd}
 use Rattle.lw_base.proofs.Common.{MatchOption, MatchResult}
 
@@ -16,18 +17,21 @@ Err-clause_known P Q (Ok x) h q = absurd h
 Err-clause_known P Q (Err y) h q = subst Q (sym h) q
 
 -- The callee's error is converted by `From`, and the clause holds of each possible result.
-pub turned : {T E : Type 0} {Q : E → Type 0} (P : E → Type 0) (r : Result T E) → IsErrAnd r Q → ((y : E) → Q y → P y) → IfErr r P
-turned P (Ok x) h f = absurd h
-turned P (Err y) h f = f y h
+pub Err-clause_converted : {T E : Type 0} {Q : E → Type 0} (P : E → Type 0) (r : Result T E)
+    → IsErrAnd r Q
+    → ((y : E) → Q y → P y)
+    → IfErr r P
+Err-clause_converted P (Ok x) h f = absurd h
+Err-clause_converted P (Err y) h f = f y h
 
 -- Memory ran out: a clause on all other causes is trivial. Each crate has its own instance of this for each error type, where `cause` is
 -- the type's field, and R is what else `From` says.
-pub out_of_memory : {T E C : Type 0} (cause : E → C) (memory : C) (R P : E → Type 0) (r : Result T E)
+pub Err-clause_memory : {T E C : Type 0} (cause : E → C) (memory : C) (R P : E → Type 0) (r : Result T E)
     → IsErrAnd r (λ f. R f × (cause f ≡ memory))
     → IfErr r (λ f. cause f ≢ memory → P f)
-out_of_memory cause memory R P (Ok x) h = absurd h
-out_of_memory cause memory R P (Err y) h = λ other. absurd (other h.1)
+Err-clause_memory cause memory R P (Ok x) h = absurd h
+Err-clause_memory cause memory R P (Err y) h = λ other. absurd (other h.1)
 
 -- `None` is returned, and the clause for it holds.
-pub none_answered : {X P : Type 0} (Q : X → Type 0) (r : Option X) → r ≡ None → P → MatchOption r P Q
-none_answered {P} Q r is p = subst (λ s. MatchOption s P Q) (sym is) p
+pub None-clause_known : {X P : Type 0} (Q : X → Type 0) (r : Option X) → r ≡ None → P → MatchOption r P Q
+None-clause_known {P} Q r is p = subst (λ s. MatchOption s P Q) (sym is) p

@@ -1,4 +1,5 @@
--- The index of a name in a table, and tables with one more name.
+-- The index of a name in a table, and tables with one more name. Lemmas for `location.rt`, and for the
+-- readers above.
 use Rattle.lw_base.proofs.Common.{bytes_eq, true≢false, append-nil, append_assoc, ◌++◌, ◌∷◌, length-append}
 use Rattle.lw_base.proofs.Common.{◌≡◌, ℕ, ◌<◌, ◌+◌, true, false, suc, zero, List, [], map, length, take}
 use Rattle.lw_base.proofs.Common.{get_or, slice_get, Option, Some, None, MatchOption, Contains, ◌⊎◌, inl, inr}
@@ -13,108 +14,117 @@ use Rattle.lw_base.proofs.Common.{slice_get_within, get_or_from_slice_get}
 -- There is an entry at index p of a list, and f gives this name for it.
 pub record EntryAt {S : Type 0} (f : S → Bytes) (ss : List S) (p : ℕ) (name : Bytes) : Type 0 where
   pub entry : S
-  pub within : p < length ss
-  pub is : entry ≡ get_or ss p entry
+  pub index_in_range : p < length ss
+  pub entry_is : entry ≡ get_or ss p entry
   pub named : name ≡ f entry
 
 module _ {S : Type 0} (f : S → Bytes) (ss : List S) (p : ℕ) (t : Bytes) (x : EntryAt f ss p t) where
+  -- The item at the index p of the mapped list is t.
   at_index : slice_get (map f ss) p ≡ Some t
-  at_index = slice_get-map f _ p ∙ ap (option_map f) (slice_get_read ss _ p x.entry refl x.within x.is) ∙ ap Some (sym x.named)
+  at_index =
+      slice_get-map f _ p
+      ∙ ap (option_map f) (slice_get_read ss _ p x.entry refl x.index_in_range x.entry_is)
+      ∙ ap Some (sym x.named)
 
   -- If the entry at an index has another name, the table does not have this name at that index.
-  pub not_here : (name : Bytes) → pointwise nat_eq t name ≡ false → get_or (map f ss) p [] ≡ name → ⊥
-  not_here name other e =
+  pub not_found_at_index : (name : Bytes) → pointwise nat_eq t name ≡ false → get_or (map f ss) p [] ≡ name → ⊥
+  not_found_at_index name other e =
       let same : t ≡ name = sym (get_or_from_slice_get (map f ss) p t [] at_index) ∙ e in
       true≢false (sym ((pointwise_decides unsigned_Decides t name).1 same) ∙ other)
 
   -- If the entry at an index has this name, the location with that index has the name.
-  pub here : (name : Bytes) (o : Option ℕ)
+  pub found_at_index : (name : Bytes) (o : Option ℕ)
       → length ss < 9
       → SomeIff o (p < 8) p
       → pointwise nat_eq t name ≡ true
       → MatchOption o (Contains (map f ss) name → ⊥) (λ loc. slice_get (map f ss) loc ≡ Some name)
-  here name None few h same = absurd (h (omega arith))
-  here name (Some loc) few h same =
+  found_at_index name None few h same = absurd (h (omega arith))
+  found_at_index name (Some loc) few h same =
       subst (λ (i : ℕ). slice_get (map f ss) i ≡ Some name) (sym h.1)
       (at_index ∙ ap Some ((pointwise_decides unsigned_Decides t name).0 same))
 
 -- The name of an entry of a list is the table's name at that index.
-pub name_at : {S : Type 0} {names : NameTable} {place : ℕ} (f : S → Bytes) (ss : List S) (p : ℕ) (t : Bytes)
+pub slice_get-entry_name : {S : Type 0} {names : NameTable} {place : ℕ} (f : S → Bytes) (ss : List S) (p : ℕ) (t : Bytes)
     → EntryAt f ss p t
     → map f ss ≡ names
     → p ≡ place
     → slice_get names place ≡ Some t
-name_at {place} f ss p t x view same =
+slice_get-entry_name {place} f ss p t x view same =
     subst (λ ns. slice_get ns place ≡ Some t) view (subst (λ (q : ℕ). slice_get (map f ss) q ≡ Some t) same (at_index f ss p t x))
 
 -- Appending a new name preserves that names have no duplicates.
-pub once_more : (ns : NameTable) (n : Bytes) → IsDuplicateFree ns → (Contains ns n → ⊥) → IsDuplicateFree (ns ++ n ∷ [])
-once_more [] n once fresh = ((λ h. let k : h.0 < 0 = h.1 in absurd (omega arith)), tt)
-once_more (m ∷ ns) n once fresh =
-    ((λ h. apart (Contains-push_cases ns n m h)), once_more ns n once.1 (λ h. fresh (Contains-append_right (m ∷ []) ns n h)))
+pub IsDuplicateFree-push : (ns : NameTable) (n : Bytes)
+    → IsDuplicateFree ns
+    → (Contains ns n → ⊥)
+    → IsDuplicateFree (ns ++ n ∷ [])
+IsDuplicateFree-push [] n once fresh = ((λ h. let k : h.0 < 0 = h.1 in absurd (omega arith)), tt)
+IsDuplicateFree-push (m ∷ ns) n once fresh = (
+  (λ h. apart (Contains-push_cases ns n m h)),
+  IsDuplicateFree-push ns n once.1 (λ h. fresh (Contains-append_right (m ∷ []) ns n h)),
+)
   where
     apart : Contains ns m ⊎ (n ≡ m) → ⊥
     apart (inl h) = once.0 h
     apart (inr e) = fresh (0, omega arith, sym e)
 
 -- Appending a valid name preserves that all names are valid.
-all_more : (ns : NameTable) (n : Bytes)
+IsLocationName-push : (ns : NameTable) (n : Bytes)
     → AllByRecursion IsLocationName ns
     → IsLocationName n
     → AllByRecursion IsLocationName (ns ++ n ∷ [])
-all_more [] n all is = (is, tt)
-all_more (m ∷ ns) n all is = (all.0, all_more ns n all.1 is)
+IsLocationName-push [] n all is = (is, tt)
+IsLocationName-push (m ∷ ns) n all is = (all.0, IsLocationName-push ns n all.1 is)
 
 -- The names of a list with one more entry are one more name.
-pub names_more : {S : Type 0} (f : S → Bytes) (ss ts : List S) (s : S) (name : Bytes)
+pub map_names-push : {S : Type 0} (f : S → Bytes) (ss ts : List S) (s : S) (name : Bytes)
     → ts ≡ ss ++ s ∷ []
     → f s ≡ name
     → map f ts ≡ map f ss ++ name ∷ []
-names_more f ss ts s name more text = ap (map f) more ∙ map-append f ss (s ∷ []) ∙ ap (λ n. map f ss ++ n ∷ []) text
+map_names-push f ss ts s name more text = ap (map f) more ∙ map-append f ss (s ∷ []) ∙ ap (λ n. map f ss ++ n ∷ []) text
 
 -- If the names of the entries before index k were copied, and then that of the entry at k, the names of the first k + 1 were copied.
-pub copied_more : {S : Type 0} {ts : List S} (f : S → Bytes) (us ss : List S) (s : S) (k : ℕ)
+pub copied_names-push : {S : Type 0} {ts : List S} (f : S → Bytes) (us ss : List S) (s : S) (k : ℕ)
     → EntryAt f us k (f s)
     → map f ss ≡ map f (take k us)
     → ts ≡ ss ++ s ∷ []
     → map f ts ≡ map f (take (k + 1) us)
-copied_more {ts} f us ss s k x done more =
-    names_more f ss ts s _ more x.named
+copied_names-push {ts} f us ss s k x done more =
+    map_names-push f ss ts s _ more x.named
     ∙ ap (λ ns. ns ++ f x.entry ∷ []) done
-    ∙ sym (ap (map f) (take_more us k x.entry x.within)
+    ∙ sym (ap (map f) (take_more us k x.entry x.index_in_range)
     ∙ map-append f (take k us) (get_or us k x.entry ∷ [])
-    ∙ ap (λ t. map f (take k us) ++ f t ∷ []) (sym x.is))
+    ∙ ap (λ t. map f (take k us) ++ f t ∷ []) (sym x.entry_is))
 
 -- Appending a new valid name to a table with room gives a table.
-pub table_more : (names : NameTable) (name : Bytes)
+pub IsNameTable-push : (names : NameTable) (name : Bytes)
     → length names < 8
     → IsLocationName name
     → (Contains names name → ⊥)
     → IsNameTable names
     → IsNameTable (names ++ name ∷ [])
-table_more names name few is fresh table = record {
+IsNameTable-push names name few is fresh table = record {
   few = omega (arith, length-append names (name ∷ []));
-  all = all_more names name table.all is;
-  once = once_more names name table.once fresh;
+  all = IsLocationName-push names name table.all is;
+  without_duplicates = IsDuplicateFree-push names name table.without_duplicates fresh;
 }
 
 -- The location that results from the index of an appended name has that index.
-pub last_index : (o : Option ℕ) (p at n : ℕ) → SomeIff o (p < 8) p → p ≡ n → n < 8 → o ≡ Some at → at ≡ n
-last_index None p at n is e few same = absurd (is (omega arith))
-last_index (Some loc) p at n is e few same = let h : loc ≡ at = cc in sym h ∙ is.1 ∙ e
+pub index-of_pushed_name : (o : Option ℕ) (p at n : ℕ) → SomeIff o (p < 8) p → p ≡ n → n < 8 → o ≡ Some at → at ≡ n
+index-of_pushed_name None p at n is e few same = absurd (is (omega arith))
+index-of_pushed_name (Some loc) p at n is e few same = let h : loc ≡ at = cc in sym h ∙ is.1 ∙ e
 
 -- A location results from any index below eight.
-pub has_index : (o : Option ℕ) (p n : ℕ) → SomeIff o (p < 8) p → p ≡ n → n < 8 → IsSome o
-has_index None p n is e few = absurd (is (omega arith))
-has_index (Some loc) p n is e few = refl
+pub IsSome-if_below_eight : (o : Option ℕ) (p n : ℕ) → SomeIff o (p < 8) p → p ≡ n → n < 8 → IsSome o
+IsSome-if_below_eight None p n is e few = absurd (is (omega arith))
+IsSome-if_below_eight (Some loc) p n is e few = refl
 
 -- Equal texts compare equal.
-same_bytes : (a b : Bytes) → a ≡ b → bytes_eq a b ≡ true
-same_bytes a b e = (pointwise_decides unsigned_Decides a b).1 e
+bytes_eq-true : (a b : Bytes) → a ≡ b → bytes_eq a b ≡ true
+bytes_eq-true a b e = (pointwise_decides unsigned_Decides a b).1 e
 
 -- Different texts compare unequal.
-other_bytes : (a b : Bytes) → (a ≡ b → ⊥) → bytes_eq a b ≡ false
-other_bytes a b n = false_from_ne_true (bytes_eq a b) (λ e. n ((pointwise_decides unsigned_Decides a b).0 e))
+bytes_eq-false : (a b : Bytes) → (a ≡ b → ⊥) → bytes_eq a b ≡ false
+bytes_eq-false a b n = false_from_ne_true (bytes_eq a b) (λ e. n ((pointwise_decides unsigned_Decides a b).0 e))
 
 -- A name that is in the table is found there.
 pub contains_name-Contains : (names : NameTable) (n : Bytes) → Contains names n → contains_name names n ≡ true
@@ -126,16 +136,17 @@ contains_name-Contains (m ∷ names) n h = go h.0 h.1 h.2 (contains_name-Contain
         → get_or (m ∷ names) k n ≡ n
         → (Contains names n → contains_name names n ≡ true)
         → contains_name (m ∷ names) n ≡ true
-    go zero l e further = rw (same_bytes m n e) refl
+    go zero l e further = rw (bytes_eq-true m n e) refl
     go (suc k) l e further = rw (further (k, omega arith, e)) (or_right (bytes_eq m n) true refl)
 
 -- A name that is not in the table is not found there.
 contains_name-not : (names : NameTable) (n : Bytes) → (Contains names n → ⊥) → contains_name names n ≡ false
 contains_name-not [] n h = refl
 contains_name-not (m ∷ names) n h =
-    rw
-    (other_bytes m n (λ e. h (0, omega arith, e)), contains_name-not names n (λ k. h (Contains-append_right (m ∷ []) names n k)))
-    refl
+    rw (
+      bytes_eq-false m n (λ e. h (0, omega arith, e)),
+      contains_name-not names n (λ k. h (Contains-append_right (m ∷ []) names n k)),
+    ) refl
 
 -- Inserting a name that is in the table leaves it unchanged.
 pub insert_name-there : (names : NameTable) (n : Bytes) (l : ℕ) → slice_get names l ≡ Some n → insert_name names n ≡ names
@@ -152,11 +163,11 @@ pub position_of_name-at : (names : NameTable) (n : Bytes) (l : ℕ)
     → slice_get names l ≡ Some n
     → position_of_name names n ≡ l
 position_of_name-at [] n l once at = absurd cc
-position_of_name-at (m ∷ names) n zero once at = let e : m ≡ n = cc in rw (same_bytes m n e) refl
+position_of_name-at (m ∷ names) n zero once at = let e : m ≡ n = cc in rw (bytes_eq-true m n e) refl
 position_of_name-at (m ∷ names) n (suc l) once at =
     let other : m ≡ n → ⊥ = λ e.
     once.0 (l, slice_get_within names l m (at ∙ ap Some (sym e)), get_or_from_slice_get names l m m (at ∙ ap Some (sym e))) in
-    rw (other_bytes m n other) (ap (λ (k : ℕ). 1 + k) (position_of_name-at names n l once.1 at) ∙ omega arith)
+    rw (bytes_eq-false m n other) (ap (λ (k : ℕ). 1 + k) (position_of_name-at names n l once.1 at) ∙ omega arith)
 
 -- The name at an index is found at that index.
 pub position_of_name-again : (names : NameTable)
@@ -170,9 +181,9 @@ position_of_name-again names once x h = position_of_name-at names (get_or names 
 pub position_of_name-new : (names : NameTable) (n : Bytes)
     → (Contains names n → ⊥)
     → position_of_name (names ++ n ∷ []) n ≡ length names
-position_of_name-new [] n fresh = rw (same_bytes n n refl) refl
+position_of_name-new [] n fresh = rw (bytes_eq-true n n refl) refl
 position_of_name-new (m ∷ names) n fresh =
-    rw (other_bytes m n (λ e. fresh (0, omega arith, e)))
+    rw (bytes_eq-false m n (λ e. fresh (0, omega arith, e)))
     (ap (λ (k : ℕ). 1 + k) (position_of_name-new names n (λ k. fresh (Contains-append_right (m ∷ []) names n k))) ∙ omega arith)
 
 -- The name is at some index of the table.
@@ -186,9 +197,9 @@ insert_names-there names (n ∷ ns) h =
     ap (λ (t : NameTable). insert_names t ns) (insert_name-there names n h.0.0 h.0.1) ∙ insert_names-there names ns h.1
 
 -- A name of a list without duplicates is none of those before it.
-not_before : (before ns : NameTable) (n : Bytes) → IsDuplicateFree (before ++ (n ∷ ns)) → Contains before n → ⊥
-not_before [] ns n once there = let k : there.0 < 0 = there.1 in absurd (omega arith)
-not_before (b ∷ before) ns n once there = at there.0 there.1 there.2 (not_before before ns n once.1)
+not-Contains-before : (before ns : NameTable) (n : Bytes) → IsDuplicateFree (before ++ (n ∷ ns)) → Contains before n → ⊥
+not-Contains-before [] ns n once there = let k : there.0 < 0 = there.1 in absurd (omega arith)
+not-Contains-before (b ∷ before) ns n once there = at there.0 there.1 there.2 (not-Contains-before before ns n once.1)
   where
     at : (k : ℕ) → k < length (b ∷ before) → get_or (b ∷ before) k n ≡ n → (Contains before n → ⊥) → ⊥
     at zero lt e further =
@@ -201,7 +212,7 @@ insert_names-new : (before ns : NameTable) → IsDuplicateFree (before ++ ns) �
 insert_names-new before [] once = sym (append-nil before)
 insert_names-new before (n ∷ ns) once =
     let e : before ++ (n ∷ ns) ≡ (before ++ n ∷ []) ++ ns = sym (append_assoc before (n ∷ []) ns) in
-    ap (λ (t : NameTable). insert_names t ns) (insert_name-new before n (not_before before ns n once))
+    ap (λ (t : NameTable). insert_names t ns) (insert_name-new before n (not-Contains-before before ns n once))
     ∙ insert_names-new (before ++ n ∷ []) ns (subst IsDuplicateFree e once)
     ∙ sym e
 

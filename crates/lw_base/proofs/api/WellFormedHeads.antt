@@ -1,36 +1,50 @@
--- A longer table of locations preserves that a head is well-formed.
+-- A longer table of locations preserves that a head is well-formed. Reading cells inserts names into the table of a head that was read
+-- before.
 use Rattle.lw_base.proofs.Common.{ℕ, zero, suc, ◌-◌, ◌≤◌, List, [], ◌∷◌, ◌++◌, length, arith, length-append}
 use Rattle.lw_base.proofs.Common.{replicate, AllByRecursion, length-replicate, Seen, Register, Location}
 use Rattle.lw_base.proofs.Common.{Formula, Word_is, Not, And, Or, TestHead, set_location_names, IsNameTable}
 use Rattle.lw_base.proofs.Common.{IsSeenInRange, IsWordNumber, MentionsOnly, IsWellFormedHead}
 
 -- A longer table of locations preserves that a register or location is in range.
-seen_more : (threads few more : ℕ) → few ≤ more → (s : Seen) → IsSeenInRange threads few s → IsSeenInRange threads more s
-seen_more threads few more le (Register t r) h = h
-seen_more threads few more le (Location x) h = omega (arith, h)
+IsSeenInRange-more_locations : (threads few more : ℕ)
+    → few ≤ more
+    → (s : Seen)
+    → IsSeenInRange threads few s
+    → IsSeenInRange threads more s
+IsSeenInRange-more_locations threads few more le (Register t r) h = h
+IsSeenInRange-more_locations threads few more le (Location x) h = omega (arith, h)
 
 -- A longer table of locations preserves that registers and locations in a list are in range.
-all_seen_more : (threads few more : ℕ)
+IsSeenInRange-all_more_locations : (threads few more : ℕ)
     → few ≤ more
     → (ss : List Seen)
     → AllByRecursion (IsSeenInRange threads few) ss
     → AllByRecursion (IsSeenInRange threads more) ss
-all_seen_more threads few more le [] h = tt
-all_seen_more threads few more le (s ∷ ss) h = (seen_more _ few _ le s h.0, all_seen_more _ few _ le ss h.1)
+IsSeenInRange-all_more_locations threads few more le [] h = tt
+IsSeenInRange-all_more_locations threads few more le (s ∷ ss) h =
+    (IsSeenInRange-more_locations _ few _ le s h.0, IsSeenInRange-all_more_locations _ few _ le ss h.1)
 
 -- More locations preserve that a formula mentions only existing threads and locations.
-speaks_more : (threads few more : ℕ) → few ≤ more → (p : Formula) → MentionsOnly threads few p → MentionsOnly threads more p
-speaks_more threads few more le (Word_is x n) h = (omega (arith, h.0), h.1)
-speaks_more threads few more le (Not p) h = speaks_more threads few more le p h
-speaks_more threads few more le (And p q) h = (speaks_more _ few _ le p h.0, speaks_more _ few more le q h.1)
-speaks_more threads few more le (Or p q) h = (speaks_more _ few _ le p h.0, speaks_more _ few more le q h.1)
-speaks_more threads few more le _ h = h
+MentionsOnly-more_locations : (threads few more : ℕ)
+    → few ≤ more
+    → (p : Formula)
+    → MentionsOnly threads few p
+    → MentionsOnly threads more p
+MentionsOnly-more_locations threads few more le (Word_is x n) h = (omega (arith, h.0), h.1)
+MentionsOnly-more_locations threads few more le (Not p) h = MentionsOnly-more_locations threads few more le p h
+MentionsOnly-more_locations threads few more le (And p q) h =
+    (MentionsOnly-more_locations _ few _ le p h.0, MentionsOnly-more_locations _ few more le q h.1)
+MentionsOnly-more_locations threads few more le (Or p q) h =
+    (MentionsOnly-more_locations _ few _ le p h.0, MentionsOnly-more_locations _ few more le q h.1)
+MentionsOnly-more_locations threads few more le _ h = h
 
 -- Words followed by zeros are words.
-words_more : (ws : List ℕ) (n : ℕ) → AllByRecursion IsWordNumber ws → AllByRecursion IsWordNumber (ws ++ replicate n 0)
-words_more [] zero h = tt
-words_more [] (suc n) h = (omega arith, words_more [] n tt)
-words_more (w ∷ ws) n h = (h.0, words_more ws n h.1)
+IsWordNumber-append_zeros : (ws : List ℕ) (n : ℕ)
+    → AllByRecursion IsWordNumber ws
+    → AllByRecursion IsWordNumber (ws ++ replicate n 0)
+IsWordNumber-append_zeros [] zero h = tt
+IsWordNumber-append_zeros [] (suc n) h = (omega arith, IsWordNumber-append_zeros [] n tt)
+IsWordNumber-append_zeros (w ∷ ws) n h = (h.0, IsWordNumber-append_zeros ws n h.1)
 
 -- The head of a test with a longer table, and 0 for each new location, is well-formed.
 pub set_location_names-well_formed : (head : TestHead) (names : List (List ℕ))
@@ -40,11 +54,11 @@ pub set_location_names-well_formed : (head : TestHead) (names : List (List ℕ))
     → IsWellFormedHead (set_location_names head names)
 set_location_names-well_formed head names h table le = record {
   name = h.name;
-  some = h.some;
+  has_thread = h.has_thread;
   few = h.few;
   table = table;
   regs = h.regs;
-  six = h.six;
+  register_counts = h.register_counts;
   register_words = h.register_words;
   words = omega (
     arith,
@@ -52,9 +66,10 @@ set_location_names-well_formed head names h table le = record {
     length-append head.init_words (replicate (length names - length head.locs) 0),
     length-replicate {A = ℕ} (length names - length head.locs) 0,
   );
-  location_words = words_more head.init_words (length names - length head.locs) h.location_words;
-  there = all_seen_more head.threads (length head.locs) (length names) le head.listed h.there;
+  location_words = IsWordNumber-append_zeros head.init_words (length names - length head.locs) h.location_words;
+  listed_in_range =
+      IsSeenInRange-all_more_locations head.threads (length head.locs) (length names) le head.listed h.listed_in_range;
   ascending = h.ascending;
   nodes_few = h.nodes_few;
-  condition = speaks_more head.threads (length head.locs) (length names) le head.condition h.condition;
+  condition = MentionsOnly-more_locations head.threads (length head.locs) (length names) le head.condition h.condition;
 }

@@ -23,26 +23,25 @@ use Rattle.indexmap.specs.IndexMap.{insert_entry}
 use Rattle.indexmap.specs.Layout.{hash_map}
 use Rattle.indexmap.proofs.CallerLemmas.{insert_entry-new}
 use Rattle.lw_base.specs.Outcomes.{FinalState, final_state_cmp}
-use Rattle.lw_base.specs.declared.event.Event.{Event}
-use Rattle.lw_outcome_map.specs.Listings.{OutcomeEntries, outcomes_of, IsStrictlySorted}
+use Rattle.lw_outcome_map.specs.Listings.{OutcomesWith, outcomes_of, IsStrictlySorted}
 
 -- The test of `==` on outcomes.
 abbrev pub final_eq : FinalState → FinalState → Bool
 final_eq o p = pointwise (pointwise nat_eq) o.regs p.regs && pointwise nat_eq o.words p.words
 
 -- Outcomes with equal registers and equal words are equal.
-joined : (o p : FinalState) → o.regs ≡ p.regs → o.words ≡ p.words → o ≡ p
-joined o p e f = λ i. record { regs = e i; words = f i }
+FinalState-eq : (o p : FinalState) → o.regs ≡ p.regs → o.words ≡ p.words → o ≡ p
+FinalState-eq o p e f = λ i. record { regs = e i; words = f i }
 
 -- `==` decides equality of outcomes.
-pub final_eq_decides : (o p : FinalState) → Decides (final_eq o p) (o ≡ p)
-final_eq_decides o p =
+pub final_eq-Decides : (o p : FinalState) → Decides (final_eq o p) (o ≡ p)
+final_eq-Decides o p =
     let row : (xs ys : List ℕ) → Decides (pointwise nat_eq xs ys) (xs ≡ ys) = pointwise_decides unsigned_Decides in
     let rows : (xs ys : List (List ℕ)) → Decides (pointwise (pointwise nat_eq) xs ys) (xs ≡ ys) = pointwise_decides row in
     let same_regs : Bool = pointwise (pointwise nat_eq) o.regs p.regs in
     let same_words : Bool = pointwise nat_eq o.words p.words in (
       λ e.
-          joined o p ((rows o.regs p.regs).0 (first_so same_regs same_words e))
+          FinalState-eq o p ((rows o.regs p.regs).0 (first_so same_regs same_words e))
           ((row o.words p.words).0 (second_so same_regs same_words e)),
       λ e. λ i.
           (rows o.regs p.regs).1 (ap (λ (f : FinalState). f.regs) e) i
@@ -50,109 +49,122 @@ final_eq_decides o p =
     )
 
 -- `==` of outcomes is an equivalence, as a map's keys require.
-pub final_equiv : IsEquivalence final_eq
-final_equiv =
+pub final_eq-IsEquivalence : IsEquivalence final_eq
+final_eq-IsEquivalence =
     and_equiv (on_equiv (λ (f : FinalState). f.regs) (lists_equiv nat_list_eq_equiv))
     (on_equiv (λ (f : FinalState). f.words) nat_list_eq_equiv)
 
 -- `cmp` of outcomes is a total order.
-pub final_total : IsTotalOrder final_state_cmp
-final_total =
+pub final_state_cmp-IsTotalOrder : IsTotalOrder final_state_cmp
+final_state_cmp-IsTotalOrder =
     then_total (on_total (λ (f : FinalState). f.regs) (lists_total nat_list_cmp_total))
     (on_total (λ (f : FinalState). f.words) nat_list_cmp_total)
 
 -- `==` holds of the outcomes that `cmp` reports as equal.
-pub final_ties : (o p : FinalState) → final_eq o p ≡ is_eq (final_state_cmp o p)
-final_ties o p =
+pub final_eq-is_cmp_equal : (o p : FinalState) → final_eq o p ≡ is_eq (final_state_cmp o p)
+final_eq-is_cmp_equal o p =
     let row : (xs ys : List ℕ) → pointwise nat_eq xs ys ≡ is_eq (slice_cmp nat_cmp xs ys) = lists_ties nat_cmp unsigned_ties in
     both_tied _ _ _ _ (lists_ties (slice_cmp nat_cmp) row o.regs p.regs) (row o.words p.words)
 
 -- If a look-up by `==` finds an outcome among the keys, it is listed.
-known : (es : OutcomeEntries) (o : FinalState) → is_some (lookup (final_eq o) es) ≡ true → Contains (outcomes_of es) o
-known es o h = Contains-keys_from_lookup (λ x y. (final_eq_decides x y).0) o es h
+Contains-if_lookup : {Kept : Type 0} (es : OutcomesWith Kept) (o : FinalState)
+    → is_some (lookup (final_eq o) es) ≡ true
+    → Contains (outcomes_of es) o
+Contains-if_lookup es o h = Contains-keys_from_lookup (λ x y. (final_eq-Decides x y).0) o es h
 
 -- If a look-up by `==` finds no such key, the outcome is not listed.
-unknown : (es : OutcomeEntries) (o : FinalState) → is_some (lookup (final_eq o) es) ≡ false → Contains (outcomes_of es) o → ⊥
-unknown es o h i = true≢false (sym (IsSome-lookup_from_Contains final_equiv o es i) ∙ h)
+not-Contains-if_no_lookup : {Kept : Type 0} (es : OutcomesWith Kept) (o : FinalState)
+    → is_some (lookup (final_eq o) es) ≡ false
+    → Contains (outcomes_of es) o
+    → ⊥
+not-Contains-if_no_lookup es o h i = true≢false (sym (IsSome-lookup_from_Contains final_eq-IsEquivalence o es i) ∙ h)
 
 -- The result b of a look-up of the outcome says whether it is listed.
-pub found : (es : OutcomeEntries) (o : FinalState) (b : Bool)
+pub lookup-iff_Contains : {Kept : Type 0} (es : OutcomesWith Kept) (o : FinalState) (b : Bool)
     → b ≡ is_some (lookup (final_eq o) es)
     → IsTrue b ↔ Contains (outcomes_of es) o
-found es o b e = ((λ t. known es o (sym e ∙ t)), (λ i. e ∙ IsSome-lookup_from_Contains final_equiv o es i))
+lookup-iff_Contains es o b e =
+    ((λ t. Contains-if_lookup es o (sym e ∙ t)), (λ i. e ∙ IsSome-lookup_from_Contains final_eq-IsEquivalence o es i))
 
 -- The result r of a search is the index of the outcome, or `None` if it is not listed.
-pub placed : (es : OutcomeEntries) (o : FinalState) (r : Option ℕ)
+pub position-of_outcome : {Kept : Type 0} (es : OutcomesWith Kept) (o : FinalState) (r : Option ℕ)
     → r ≡ position (final_eq o) (outcomes_of es)
     → is_some r ≡ is_some (lookup (final_eq o) es)
     → MatchOption r (Contains (outcomes_of es) o → ⊥) (λ i. slice_get (outcomes_of es) i ≡ Some o)
-placed es o None h s = unknown es o (sym s)
-placed es o (Some i) h s =
+position-of_outcome es o None h s = not-Contains-if_no_lookup es o (sym s)
+position-of_outcome es o (Some i) h s =
     let p = position-Some (final_eq o) (outcomes_of es) i o (sym h) in
-    slice_get-get_or (outcomes_of es) i o p.0 ∙ ap Some (sym ((final_eq_decides o (get_or (outcomes_of es) i o)).0 p.1))
+    slice_get-get_or (outcomes_of es) i o p.0 ∙ ap Some (sym ((final_eq-Decides o (get_or (outcomes_of es) i o)).0 p.1))
 
 -- An option without a value is `None`.
-absent : {X : Type 0} (o : Option X) → (is_some o ≡ true → ⊥) → o ≡ None
-absent None h = refl
-absent (Some x) h = absurd (h refl)
+None-if_not_some : {X : Type 0} (o : Option X) → (is_some o ≡ true → ⊥) → o ≡ None
+None-if_not_some None h = refl
+None-if_not_some (Some x) h = absurd (h refl)
 
--- Inserting an outcome that is not listed appends it with its schedule.
-pub added : (es fs : OutcomeEntries) (o : FinalState) (s : List Event)
+-- Inserting an outcome that is not listed appends it with its value.
+pub insert_entry-appends : {Kept : Type 0} (es fs : OutcomesWith Kept) (o : FinalState) (s : Kept)
     → (Contains (outcomes_of es) o → ⊥)
     → fs ≡ insert_entry final_eq es o s
     → fs ≡ es ++ (o, s) ∷ []
-added es fs o s new e =
-    e ∙ insert_entry-new final_eq (hash_map es (tt {0}) 0) o s (absent (lookup (final_eq o) es) (λ h. new (known es o h)))
+insert_entry-appends es fs o s new e =
+    e
+    ∙ insert_entry-new final_eq (hash_map es (tt {0}) 0) o s
+    (None-if_not_some (lookup (final_eq o) es) (λ h. new (Contains-if_lookup es o h)))
 
 -- An outcome that is neither greater than another nor equal to it is less.
-below : (o p : FinalState) (c : Ordering) → c ≡ final_state_cmp o p → is_lt (ordering_reverse c) ≡ false → o ≢ p → c ≡ Less
-below o p Less e up other = refl
-below o p Equal e up other = absurd (other ((final_eq_decides o p).0 (final_ties o p ∙ sym (ap is_eq e))))
-below o p Greater e up other = absurd (true≢false up)
+final_state_cmp-Less : (o p : FinalState) (c : Ordering)
+    → c ≡ final_state_cmp o p
+    → is_lt (ordering_reverse c) ≡ false
+    → o ≢ p
+    → c ≡ Less
+final_state_cmp-Less o p Less e up other = refl
+final_state_cmp-Less o p Equal e up other =
+    absurd (other ((final_eq-Decides o p).0 (final_eq-is_cmp_equal o p ∙ sym (ap is_eq e))))
+final_state_cmp-Less o p Greater e up other = absurd (true≢false up)
 
 -- A list sorted by `cmp`, without duplicates, is strictly ascending.
-pub goes_up : (es : OutcomeEntries)
+pub IsStrictlySorted-of_distinct : {Kept : Type 0} (es : OutcomesWith Kept)
     → IsSorted final_state_cmp (outcomes_of es)
     → IsDistinct final_eq (outcomes_of es)
     → IsStrictlySorted es
-goes_up es sorted once i j d lt within =
+IsStrictlySorted-of_distinct es sorted once i j d lt within =
     let first : FinalState = get_or (outcomes_of es) i d in
     let later : FinalState = get_or (outcomes_of es) j d in
     let up : is_lt (final_state_cmp later first) ≡ false =
-    sorted_far _ (ranks_by final_total (λ o. o)) (outcomes_of es) sorted i j d (omega (arith, lt)) within in
+    sorted_far _ (ranks_by final_state_cmp-IsTotalOrder (λ o. o)) (outcomes_of es) sorted i j d (omega (arith, lt)) within in
     let turned : is_lt (ordering_reverse (final_state_cmp first later)) ≡ false =
-    sym (ap is_lt (final_total.antisymm later first)) ∙ up in
-    below first later (final_state_cmp first later) refl turned
-    (AllPairs-from_IsDistinct final_eq_decides (outcomes_of es) once i j d lt within)
+    sym (ap is_lt (final_state_cmp-IsTotalOrder.antisymm later first)) ∙ up in
+    final_state_cmp-Less first later (final_state_cmp first later) refl turned
+    (AllPairs-from_IsDistinct final_eq-Decides (outcomes_of es) once i j d lt within)
 
 -- A permutation of a list has the same outcomes.
-pub stays_listed : (es fs : OutcomeEntries) (o : FinalState)
+pub Contains-permuted_outcomes : {Kept : Type 0} (es fs : OutcomesWith Kept) (o : FinalState)
     → IsPermutation es fs
     → Contains (outcomes_of es) o ↔ Contains (outcomes_of fs) o
-stays_listed es fs o same =
+Contains-permuted_outcomes es fs o same =
     let keys : IsPermutation (outcomes_of es) (outcomes_of fs) = IsPermutation-map (λ e. e.0) es fs same in
     (Contains-permutation _ _ o keys, Contains-permutation _ _ o (IsPermutation-sym _ _ keys))
 
 -- In a strictly ascending list an outcome does not occur again at a later index.
-not_later : (es : OutcomeEntries) (i j : ℕ) (o : FinalState)
+not-listed_later : {Kept : Type 0} (es : OutcomesWith Kept) (i j : ℕ) (o : FinalState)
     → IsStrictlySorted es
     → slice_get (outcomes_of es) i ≡ Some o
     → slice_get (outcomes_of es) j ≡ Some o
     → i < j
     → ⊥
-not_later es i j o sorted at to lt =
+not-listed_later es i j o sorted at to lt =
     let first = get_or_from_slice_get (outcomes_of es) i o o at in
     let later = get_or_from_slice_get (outcomes_of es) j o o to in
     let less : final_state_cmp o o ≡ Less =
     sym (λ k. final_state_cmp (first k) (later k)) ∙ sorted i j o lt (slice_get_within (outcomes_of es) j o to) in
-    true≢false (ap is_lt (sym less ∙ tied_itself final_total o))
+    true≢false (ap is_lt (sym less ∙ tied_itself final_state_cmp-IsTotalOrder o))
 
 -- In a strictly ascending list an outcome is at one index.
-pub stands_once : (es : OutcomeEntries) (i j : ℕ) (o : FinalState)
+pub outcome_index-unique : {Kept : Type 0} (es : OutcomesWith Kept) (i j : ℕ) (o : FinalState)
     → IsStrictlySorted es
     → slice_get (outcomes_of es) i ≡ Some o
     → slice_get (outcomes_of es) j ≡ Some o
     → i ≡ j
-stands_once es i j o sorted at to =
-    ⊎_elim (λ lt. absurd (not_later es i j o sorted at to lt))
-    (λ le. ⊎_elim (λ lt. absurd (not_later es j i o sorted to at lt)) (λ ge. omega arith) (cases_lt j i)) (cases_lt i j)
+outcome_index-unique es i j o sorted at to =
+    ⊎_elim (λ lt. absurd (not-listed_later es i j o sorted at to lt))
+    (λ le. ⊎_elim (λ lt. absurd (not-listed_later es j i o sorted to at lt)) (λ ge. omega arith) (cases_lt j i)) (cases_lt i j)

@@ -1,4 +1,4 @@
--- Tokens of which none ends a cell.
+-- Tokens of which none ends a cell. A cell is read up to the first token that ends it.
 use Rattle.lw_text.proofs.Common.{◌≡◌, false, AllByRecursion, TokenList, ends_cell}
 
 -- No token is `|` or `;`.

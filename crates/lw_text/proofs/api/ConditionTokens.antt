@@ -10,7 +10,7 @@ use Rattle.lw_text.proofs.Common.{register_name, IsSeenInRange, MentionsOnly, Si
 use Rattle.lw_text.proofs.Common.{IsSite, ThreadExists, Value, site_names, seen_in, ParsesSepEndBy, Terminal}
 use Rattle.lw_text.proofs.Common.{Open, Close, Negation, Conjunction, Disjunction, Atom, AtomSyntax, Always}
 use Rattle.lw_text.proofs.Common.{Never, Holds, IsTerminal, Terminals, Quantified, sites_in, resolved}
-use Rattle.lw_text.proofs.Common.{all_append}
+use Rattle.lw_text.proofs.Common.{AllByRecursion-append}
 use Rattle.lw_text.proofs.api.Spelling.{decimal_is_number}
 use Rattle.lw_text.proofs.api.PrintedPropositions.{enclosed, enclosed_if, terminals_of}
 
@@ -77,74 +77,78 @@ IsPrintableTerminal threads names _ = Unit {0}
 
 module _ (arch : Arch) (threads : ℕ) (few : threads ≤ most_threads) (names : NameTable) where
   -- The tokens of a site say it.
-  pub site_said : (s : SiteSyntax) (rest : TokenList)
+  pub IsSite-site_tokens : (s : SiteSyntax) (rest : TokenList)
       → IsPrintable threads names s
       → IsSite arch (site_tokens arch s ++ rest) s rest
-  site_said (InMemory x) rest h = (h.0, inl refl)
-  site_said (InThread t r) rest h =
+  IsSite-site_tokens (InMemory x) rest h = (h.0, inl refl)
+  IsSite-site_tokens (InThread t r) rest h =
       (decimal t, register_name arch r, refl, decimal_is_number t (omega (arith, h.0, few)), (h.1, refl))
 
   -- The tokens of `=` and a word say that word.
-  pub value_said : (n : ℕ) (rest : TokenList) → n < 2 ^ 32 → Value (value_tokens n ++ rest) n rest
-  value_said n rest h = (decimal n, refl, decimal_is_number n h)
+  pub Value-value_tokens : (n : ℕ) (rest : TokenList) → n < 2 ^ 32 → Value (value_tokens n ++ rest) n rest
+  Value-value_tokens n rest h = (decimal n, refl, decimal_is_number n h)
 
   -- A site that can be printed is of a thread that exists.
   pub site_exists : (s : SiteSyntax) → IsPrintable threads names s → ThreadExists threads s
   site_exists (InMemory x) h = tt
   site_exists (InThread t r) h = h.0
 
-  terminal_said : (s : Terminal AtomSyntax) (rest : TokenList)
+  -- The tokens of a terminal say it.
+  IsTerminal-terminal_tokens : (s : Terminal AtomSyntax) (rest : TokenList)
       → IsPrintableTerminal threads names s
       → IsTerminal arch threads (terminal_tokens arch s ++ rest) s rest
-  terminal_said Negation rest h = inl refl
-  terminal_said (Atom (Holds s n)) rest h = (
+  IsTerminal-terminal_tokens Negation rest h = inl refl
+  IsTerminal-terminal_tokens (Atom (Holds s n)) rest h = (
     value_tokens n ++ rest,
     subst (λ ts. IsSite arch ts s (value_tokens n ++ rest)) (sym (append_assoc (site_tokens arch s) (value_tokens n) rest))
-        (site_said s (value_tokens n ++ rest) h.0),
+        (IsSite-site_tokens s (value_tokens n ++ rest) h.0),
     site_exists s h.0,
-    value_said n rest h.1,
+    Value-value_tokens n rest h.1,
   )
-  terminal_said _ rest h = refl
+  IsTerminal-terminal_tokens _ rest h = refl
 
   -- The tokens of terminals say them.
-  pub terminals_said : (ss : List (Terminal AtomSyntax))
+  pub Terminals-terminal_tokens : (ss : List (Terminal AtomSyntax))
       → AllByRecursion (IsPrintableTerminal threads names) ss
       → Terminals arch threads (flat_map (terminal_tokens arch) ss) ss
-  terminals_said [] h = refl
-  terminals_said (s ∷ ss) h =
-      (flat_map (terminal_tokens arch) ss, terminal_said s (flat_map (terminal_tokens arch) ss) h.0, terminals_said ss h.1)
+  Terminals-terminal_tokens [] h = refl
+  Terminals-terminal_tokens (s ∷ ss) h = (
+    flat_map (terminal_tokens arch) ss,
+    IsTerminal-terminal_tokens s (flat_map (terminal_tokens arch) ss) h.0,
+    Terminals-terminal_tokens ss h.1,
+  )
 
 -- If all sites have P, and the name of each location with P has Q, then all locations' names among the sites have Q.
-pub all_names : (P : SiteSyntax → Type 0) (Q : Bytes → Type 0)
+pub site_names-all : (P : SiteSyntax → Type 0) (Q : Bytes → Type 0)
     → ((x : Bytes) → P (InMemory x) → Q x)
     → (ss : List SiteSyntax)
     → AllByRecursion P ss
     → AllByRecursion Q (site_names ss)
-all_names P Q f [] h = tt
-all_names P Q f (InMemory x ∷ ss) h = (f x h.0, all_names P Q f ss h.1)
-all_names P Q f (InThread t r ∷ ss) h = all_names P Q f ss h.1
+site_names-all P Q f [] h = tt
+site_names-all P Q f (InMemory x ∷ ss) h = (f x h.0, site_names-all P Q f ss h.1)
+site_names-all P Q f (InThread t r ∷ ss) h = site_names-all P Q f ss h.1
 
 -- If all terminals have P, and the site of each atom with P has Q, then all sites of the terminals have Q.
-pub all_sites : (P : Terminal AtomSyntax → Type 0) (Q : SiteSyntax → Type 0)
+pub sites_in-all : (P : Terminal AtomSyntax → Type 0) (Q : SiteSyntax → Type 0)
     → ((s : SiteSyntax) (n : ℕ) → P (Atom (Holds s n)) → Q s)
     → (ss : List (Terminal AtomSyntax))
     → AllByRecursion P ss
     → AllByRecursion Q (sites_in ss)
-all_sites P Q f [] h = tt
-all_sites P Q f (Atom (Holds s n) ∷ ss) h = (f s n h.0, all_sites P Q f ss h.1)
-all_sites P Q f (_ ∷ ss) h = all_sites P Q f ss h.1
+sites_in-all P Q f [] h = tt
+sites_in-all P Q f (Atom (Holds s n) ∷ ss) h = (f s n h.0, sites_in-all P Q f ss h.1)
+sites_in-all P Q f (_ ∷ ss) h = sites_in-all P Q f ss h.1
 
 -- The names of sites that can be printed are in the table.
 pub sites_in_table : (threads : ℕ) (names : NameTable) (ss : List SiteSyntax)
     → AllByRecursion (IsPrintable threads names) ss
     → AllByRecursion (IsInTable names) (site_names ss)
-sites_in_table threads names = all_names (IsPrintable threads names) (IsInTable names) (λ x h. h.1)
+sites_in_table threads names = site_names-all (IsPrintable threads names) (IsInTable names) (λ x h. h.1)
 
 -- The sites of terminals that can be printed can be printed.
 pub sites_printable : (threads : ℕ) (names : NameTable) (ss : List (Terminal AtomSyntax))
     → AllByRecursion (IsPrintableTerminal threads names) ss
     → AllByRecursion (IsPrintable threads names) (sites_in ss)
-sites_printable threads names = all_sites _ (IsPrintable threads names) (λ s n h. h.0)
+sites_printable threads names = sites_in-all _ (IsPrintable threads names) (λ s n h. h.0)
 
 module _ (threads : ℕ) (names : NameTable) (table : AllByRecursion IsLocationName names) where
   -- A register or location of a test can be printed by its name.
@@ -152,102 +156,130 @@ module _ (threads : ℕ) (names : NameTable) (table : AllByRecursion IsLocationN
   named_printable (Register t r) h = h
   named_printable (Location x) h = (All-from_recursion _ _ table x [] h, (x, slice_get-get_or names x [] h))
 
-  abbrev AreFine : List (Terminal AtomSyntax) → Type 0
-  AreFine ss = AllByRecursion (IsPrintableTerminal threads names) ss
+  -- All terminals can be printed.
+  abbrev ArePrintableTerminals : List (Terminal AtomSyntax) → Type 0
+  ArePrintableTerminals ss = AllByRecursion (IsPrintableTerminal threads names) ss
 
   -- Terminals that can be printed can be printed in parentheses.
-  enclosed_fine : (ss : List (Terminal AtomSyntax)) → AreFine ss → AreFine (enclosed ss)
-  enclosed_fine ss h = (tt, all_append (IsPrintableTerminal threads names) ss (Close ∷ []) h (tt, tt))
+  ArePrintableTerminals-enclosed : (ss : List (Terminal AtomSyntax))
+      → ArePrintableTerminals ss
+      → ArePrintableTerminals (enclosed ss)
+  ArePrintableTerminals-enclosed ss h = (tt, AllByRecursion-append (IsPrintableTerminal threads names) ss (Close ∷ []) h (tt, tt))
 
-  part_fine : (needed : Bool) (ss : List (Terminal AtomSyntax)) → AreFine ss → AreFine (enclosed_if needed ss)
-  part_fine true ss h = enclosed_fine ss h
-  part_fine false ss h = h
+  -- If terminals can be printed, so can a part made of them, in parentheses or not.
+  ArePrintableTerminals-enclosed_if : (needed : Bool) (ss : List (Terminal AtomSyntax))
+      → ArePrintableTerminals ss
+      → ArePrintableTerminals (enclosed_if needed ss)
+  ArePrintableTerminals-enclosed_if true ss h = ArePrintableTerminals-enclosed ss h
+  ArePrintableTerminals-enclosed_if false ss h = h
 
-  joined_fine : (a b : Bool) (ss us : List (Terminal AtomSyntax)) (t : Terminal AtomSyntax)
+  -- If the terminals of two parts can be printed, so can both parts with a connective between them.
+  ArePrintableTerminals-joined : (a b : Bool) (ss us : List (Terminal AtomSyntax)) (t : Terminal AtomSyntax)
       → IsPrintableTerminal threads names t
-      → AreFine ss
-      → AreFine us
-      → AreFine (enclosed_if a ss ++ (t ∷ enclosed_if b us))
-  joined_fine a b ss us t k h i = all_append _ (enclosed_if a ss) _ (part_fine a ss h) (k, part_fine b us i)
+      → ArePrintableTerminals ss
+      → ArePrintableTerminals us
+      → ArePrintableTerminals (enclosed_if a ss ++ (t ∷ enclosed_if b us))
+  ArePrintableTerminals-joined a b ss us t k h i =
+      AllByRecursion-append _ (enclosed_if a ss) _ (ArePrintableTerminals-enclosed_if a ss h)
+      (k, ArePrintableTerminals-enclosed_if b us i)
 
-  terminals_fine : (p : Formula) → MentionsOnly threads (length names) p → AreFine (terminals_of (named_claim names) p)
-  terminals_fine (Reg_is t r n) h = (((h.0, h.1), h.2), tt)
-  terminals_fine (Word_is x n) h = ((named_printable (Location x) h.0, h.1), tt)
-  terminals_fine (Not p) h = (tt, part_fine (is_binary p) _ (terminals_fine p h))
-  terminals_fine (And p q) h = joined_fine (is_or p) _ _ _ _ tt (terminals_fine p h.0) (terminals_fine q h.1)
-  terminals_fine (Or p q) h = joined_fine false _ _ _ _ tt (terminals_fine p h.0) (terminals_fine q h.1)
-  terminals_fine _ h = (tt, tt)
+  -- The terminals of a formula over a test's registers and locations can be printed.
+  ArePrintableTerminals-terminals_of : (p : Formula)
+      → MentionsOnly threads (length names) p
+      → ArePrintableTerminals (terminals_of (named_claim names) p)
+  ArePrintableTerminals-terminals_of (Reg_is t r n) h = (((h.0, h.1), h.2), tt)
+  ArePrintableTerminals-terminals_of (Word_is x n) h = ((named_printable (Location x) h.0, h.1), tt)
+  ArePrintableTerminals-terminals_of (Not p) h =
+      (tt, ArePrintableTerminals-enclosed_if (is_binary p) _ (ArePrintableTerminals-terminals_of p h))
+  ArePrintableTerminals-terminals_of (And p q) h =
+      ArePrintableTerminals-joined (is_or p) _ _ _ _ tt (ArePrintableTerminals-terminals_of p h.0)
+      (ArePrintableTerminals-terminals_of q h.1)
+  ArePrintableTerminals-terminals_of (Or p q) h =
+      ArePrintableTerminals-joined false _ _ _ _ tt (ArePrintableTerminals-terminals_of p h.0)
+      (ArePrintableTerminals-terminals_of q h.1)
+  ArePrintableTerminals-terminals_of _ h = (tt, tt)
 
   -- All terminals of a test's condition can be printed.
-  pub whole_fine : (p : Formula) → MentionsOnly threads (length names) p → AreFine (enclosed (terminals_of (named_claim names) p))
-  whole_fine p h = enclosed_fine (terminals_of (named_claim names) p) (terminals_fine p h)
+  pub condition_is_printable : (p : Formula)
+      → MentionsOnly threads (length names) p
+      → ArePrintableTerminals (enclosed (terminals_of (named_claim names) p))
+  condition_is_printable p h =
+      ArePrintableTerminals-enclosed (terminals_of (named_claim names) p) (ArePrintableTerminals-terminals_of p h)
 
 -- ---- names are resolved to indices
 
 module _ (threads : ℕ) (names : NameTable) (once : IsDuplicateFree names) where
   -- A site's name is resolved to the register or location that was named.
-  pub seen_again : (s : Seen) → IsSeenInRange threads (length names) s → seen_in names (named_site names s) ≡ s
-  seen_again (Register t r) h = refl
-  seen_again (Location x) h = ap (λ (y : ℕ). Location y) (position_of_name-again names once x h)
+  pub seen_in-named_site : (s : Seen) → IsSeenInRange threads (length names) s → seen_in names (named_site names s) ≡ s
+  seen_in-named_site (Register t r) h = refl
+  seen_in-named_site (Location x) h = ap (λ (y : ℕ). Location y) (position_of_name-again names once x h)
 
-  enclosed_again : (ss : List (Terminal AtomSyntax)) (us : List (Terminal Formula))
+  -- Resolving terminals in parentheses resolves the terminals.
+  resolved-enclosed : (ss : List (Terminal AtomSyntax)) (us : List (Terminal Formula))
       → map (resolved names) ss ≡ us
       → map (resolved names) (enclosed ss) ≡ enclosed us
-  enclosed_again ss us e =
+  resolved-enclosed ss us e =
       ap (λ (l : List (Terminal Formula)). Open ∷ l)
       (map-append (resolved names) ss (Close ∷ []) ∙ ap (λ (l : List (Terminal Formula)). l ++ (Close ∷ [])) e)
 
-  part_again : (needed : Bool) (ss : List (Terminal AtomSyntax)) (us : List (Terminal Formula))
+  -- Resolving the names in a part, in parentheses or not, resolves its terminals.
+  resolved-enclosed_if : (needed : Bool) (ss : List (Terminal AtomSyntax)) (us : List (Terminal Formula))
       → map (resolved names) ss ≡ us
       → map (resolved names) (enclosed_if needed ss) ≡ enclosed_if needed us
-  part_again true ss us e = enclosed_again ss us e
-  part_again false ss us e = e
+  resolved-enclosed_if true ss us e = resolved-enclosed ss us e
+  resolved-enclosed_if false ss us e = e
 
-  joined_again : (a b : Bool) (ss ws : List (Terminal AtomSyntax)) (us vs : List (Terminal Formula)) (t : Terminal AtomSyntax)
+  -- Resolving the names in two parts with a connective between them resolves each part.
+  resolved-joined : (a b : Bool) (ss ws : List (Terminal AtomSyntax)) (us vs : List (Terminal Formula)) (t : Terminal AtomSyntax)
       → map (resolved names) ss ≡ us
       → map (resolved names) ws ≡ vs
       → map (resolved names) (enclosed_if a ss ++ (t ∷ enclosed_if b ws))
       ≡ enclosed_if a us ++ (resolved names t ∷ enclosed_if b vs)
-  joined_again a b ss ws us vs t e f =
-      let j = part_again b ws vs f in
-      map-append (resolved names) (enclosed_if a ss) (t ∷ enclosed_if b ws) ∙ cc ((part_again a ss us e), j)
+  resolved-joined a b ss ws us vs t e f =
+      let j = resolved-enclosed_if b ws vs f in
+      map-append (resolved names) (enclosed_if a ss) (t ∷ enclosed_if b ws) ∙ cc ((resolved-enclosed_if a ss us e), j)
 
+  -- The terminals of a formula, named by the table.
   abbrev named_terms : Formula → List (Terminal AtomSyntax)
   named_terms p = terminals_of (named_claim names) p
 
+  -- The terminals of a formula, with formulas as atoms.
   abbrev formula_terms : Formula → List (Terminal Formula)
   formula_terms p = terminals_of (λ q. q) p
 
-  terminals_again : (p : Formula) → MentionsOnly threads (length names) p → map (resolved names) (named_terms p) ≡ formula_terms p
-  terminals_again (Word_is x n) h = ap (λ (y : ℕ). Atom (Word_is y n) ∷ []) (position_of_name-again names once x h.0)
-  terminals_again (Not p) h = ap (λ l. Negation ∷ l) (part_again (is_binary p) _ _ (terminals_again p h))
-  terminals_again (And p q) h = joined_again _ _ _ _ _ _ _ (terminals_again p h.0) (terminals_again q h.1)
-  terminals_again (Or p q) h = joined_again false _ _ _ _ _ _ (terminals_again p h.0) (terminals_again q h.1)
-  terminals_again _ h = refl
+  -- Naming and then resolving the terminals gives those of the formula.
+  resolved-named_terms : (p : Formula)
+      → MentionsOnly threads (length names) p
+      → map (resolved names) (named_terms p) ≡ formula_terms p
+  resolved-named_terms (Word_is x n) h = ap (λ (y : ℕ). Atom (Word_is y n) ∷ []) (position_of_name-again names once x h.0)
+  resolved-named_terms (Not p) h = ap (λ l. Negation ∷ l) (resolved-enclosed_if (is_binary p) _ _ (resolved-named_terms p h))
+  resolved-named_terms (And p q) h = resolved-joined _ _ _ _ _ _ _ (resolved-named_terms p h.0) (resolved-named_terms q h.1)
+  resolved-named_terms (Or p q) h = resolved-joined false _ _ _ _ _ _ (resolved-named_terms p h.0) (resolved-named_terms q h.1)
+  resolved-named_terms _ h = refl
 
   -- The terminals of a condition, named and resolved, are those of its formula.
-  pub whole_again : (p : Formula)
+  pub resolved-enclosed_named_terms : (p : Formula)
       → MentionsOnly threads (length names) p
       → map (resolved names) (enclosed (named_terms p)) ≡ enclosed (formula_terms p)
-  whole_again p h = enclosed_again (named_terms p) (formula_terms p) (terminals_again p h)
+  resolved-enclosed_named_terms p h = resolved-enclosed (named_terms p) (formula_terms p) (resolved-named_terms p h)
 
 -- The tokens of a quantifier say it.
-pub quantifier_said : (q : Quant) (rest : TokenList) → Quantified (quantifier_tokens q ++ rest) q rest
-quantifier_said Exists rest = refl
-quantifier_said _ rest = refl
+pub Quantified-quantifier_tokens : (q : Quant) (rest : TokenList) → Quantified (quantifier_tokens q ++ rest) q rest
+Quantified-quantifier_tokens Exists rest = refl
+Quantified-quantifier_tokens _ rest = refl
 
 -- If the tokens of each element say it, those of all, each followed by a separator, and the closing token say the list.
-pub ended_said : {X : Type 0} (P : TokenList → X → TokenList → Type 0) (tokens : X → TokenList) (sep close : Bytes) (xs : List X)
-    (rest : TokenList)
+pub ParsesSepEndBy-tokens : {X : Type 0} (P : TokenList → X → TokenList → Type 0) (tokens : X → TokenList) (sep close : Bytes)
+    (xs : List X) (rest : TokenList)
     → AllByRecursion (λ x. (l : TokenList) → P (tokens x ++ l) x l) xs
     → ParsesSepEndBy P sep close (flat_map (λ x. tokens x ++ sep ∷ []) xs ++ (close ∷ rest)) xs rest
-ended_said P tokens sep close [] rest h = refl
-ended_said P tokens sep close (x ∷ xs) rest h =
+ParsesSepEndBy-tokens P tokens sep close [] rest h = refl
+ParsesSepEndBy-tokens P tokens sep close (x ∷ xs) rest h =
     let more = flat_map (λ y. tokens y ++ sep ∷ []) xs in
     let next = more ++ (close ∷ rest) in
     let e : ((tokens x ++ sep ∷ []) ++ more) ++ (close ∷ rest) ≡ tokens x ++ (sep ∷ next) =
     append_assoc (tokens x ++ sep ∷ []) more (close ∷ rest) ∙ append_assoc (tokens x) (sep ∷ []) next in (
       sep ∷ next,
       subst (λ (ts : TokenList). P ts x (sep ∷ next)) (sym e) (h.0 (sep ∷ next)),
-      inr (next, refl, ended_said P tokens sep close xs rest h.1),
+      inr (next, refl, ParsesSepEndBy-tokens P tokens sep close xs rest h.1),
     )

@@ -9,11 +9,11 @@ use Rattle.lw_text.proofs.Common.{parenthesized, parenthesized_if, is_binary, pr
 use Rattle.lw_text.proofs.Common.{quantifier_text, Formula, Yes, No, Reg_is, Word_is, Not, And, Or, nodes}
 use Rattle.lw_text.proofs.Common.{most_threads, IsName, IsLocationName, register_name, IsSeenInRange}
 use Rattle.lw_text.proofs.Common.{MentionsOnly, is_two_byte_symbol, Terminal, Conjunction, Disjunction, Atom}
-use Rattle.lw_text.proofs.Common.{AtomSyntax, Always, Never, Holds, blank_all}
+use Rattle.lw_text.proofs.Common.{AtomSyntax, Always, Never, Holds, is_blank-passes}
 use Rattle.lw_text.proofs.api.Spelling.{Anything, EndsName, IsBlankNext, HasNoStar, HasNoEquals, Spells}
-use Rattle.lw_text.proofs.api.Spelling.{name_by_test, Spells-then, Spells-on, Spells-before, Spells-within}
-use Rattle.lw_text.proofs.api.Spelling.{Spells-space, Spells-symbol, Spells-mark, Spells-pair, Spells-name}
-use Rattle.lw_text.proofs.api.Spelling.{Spells-number, decimal_is_name_run}
+use Rattle.lw_text.proofs.api.Spelling.{name_by_test, Spells-append, Spells-append_anything, Spells-before}
+use Rattle.lw_text.proofs.api.Spelling.{Spells-mono, Spells-space, Spells-symbol, Spells-mark, Spells-pair}
+use Rattle.lw_text.proofs.api.Spelling.{Spells-name, Spells-number, decimal_is_name_run}
 use Rattle.lw_text.proofs.api.PrintedPropositions.{enclosed, enclosed_if, terminals_of}
 use Rattle.lw_text.proofs.api.ConditionTokens.{named_site, site_tokens, value_tokens, named_claim}
 use Rattle.lw_text.proofs.api.ConditionTokens.{terminal_tokens, quantifier_tokens}
@@ -31,17 +31,17 @@ pub Spells-register : (arch : Arch) (r : ℕ) → r < 6 → Spells EndsName 32 (
 Spells-register arch r h = Spells-name (register_name arch r) (register_is_name arch r h)
 
 -- A name byte makes no symbol with `:` before it.
-no_equals : (b : ℕ) → is_name_byte b ≡ true → is_two_byte_symbol 58 b ≡ false
-no_equals b h = grind (arith, nat_tests)
+no_symbol_with_colon : (b : ℕ) → is_name_byte b ≡ true → is_two_byte_symbol 58 b ≡ false
+no_symbol_with_colon b h = grind (arith, nat_tests)
 
 -- A name byte is no `*`.
-no_star : (b : ℕ) → is_name_byte b ≡ true → (b == 42) ≡ false
-no_star b h = grind (arith, nat_tests)
+is_not_star : (b : ℕ) → is_name_byte b ≡ true → (b == 42) ≡ false
+is_not_star b h = grind (arith, nat_tests)
 
 -- A name makes no symbol with `:` before it.
 name_no_equals : (w rest : Bytes) → IsName w → first_byte_is (is_two_byte_symbol 58) (w ++ rest) ≡ false
-name_no_equals [] rest n = absurd (let h = n.0.some in omega arith)
-name_no_equals (b ∷ w) rest n = no_equals b n.0.all.0
+name_no_equals [] rest n = absurd (let h = n.0.not_empty in omega arith)
+name_no_equals (b ∷ w) rest n = no_symbol_with_colon b n.0.all.0
 
 -- `:` spells one token, if no `=` follows.
 pub Spells-colon : Spells HasNoEquals 1 (58 ∷ []) ((58 ∷ []) ∷ [])
@@ -50,7 +50,7 @@ Spells-colon = Spells-symbol 58 refl (λ rest f. f) (λ rest f. refl) (omega ari
 -- A blank after `:` is no `=`.
 pub blank_no_equals : (rest : Bytes) → IsBlankNext rest → first_byte_is (is_two_byte_symbol 58) rest ≡ false
 blank_no_equals [] h = refl
-blank_no_equals (b ∷ rest) h = not-true (is_two_byte_symbol 58 b) (blank_all (λ c. not (is_two_byte_symbol 58 c)) b refl h)
+blank_no_equals (b ∷ rest) h = not-true (is_two_byte_symbol 58 b) (is_blank-passes (λ c. not (is_two_byte_symbol 58 c)) b refl h)
 
 -- ---- the texts
 
@@ -59,24 +59,24 @@ abbrev pub Starts : Bytes → Type 0
 Starts text = (b : ℕ) × (more : Bytes) × (text ≡ b ∷ more) × ((b == 42) ≡ false)
 
 -- A text that does not start with `*` does not do so with more appended.
-starts-then : (a b : Bytes) → Starts a → Starts (a ++ b)
-starts-then a b s = (s.0, s.1 ++ b, ap (λ t. t ++ b) s.2, s.3)
+Starts-append : (a b : Bytes) → Starts a → Starts (a ++ b)
+Starts-append a b s = (s.0, s.1 ++ b, ap (λ t. t ++ b) s.2, s.3)
 
--- Such a text does not start with `*`, so `(` before it opens no comment.
+-- A text that satisfies `Starts` does not start with `*`, so `(` before it opens no comment.
 starts_no_star : (text rest : Bytes) → Starts text → HasNoStar (text ++ rest)
 starts_no_star text rest s = ap (λ t. first_byte_is (λ b. b == 42) (t ++ rest)) s.2 ∙ s.3
 
 -- A run of name bytes that is not empty does not start with `*`.
 starts_name_run : (w : Bytes) → 0 < length w → AllByRecursion (λ b. is_name_byte b ≡ true) w → Starts w
 starts_name_run [] some all = absurd (omega arith)
-starts_name_run (b ∷ w) some all = (b, w, refl, no_star b all.0)
+starts_name_run (b ∷ w) some all = (b, w, refl, is_not_star b all.0)
 
 -- Each name of a table of locations is a location's name.
-pub name_there : (names : NameTable) (x : ℕ)
+pub IsLocationName-in_table : (names : NameTable) (x : ℕ)
     → AllByRecursion IsLocationName names
     → x < length names
     → IsLocationName (slice_index_or names x [])
-name_there names x table h = All-from_recursion IsLocationName names table x [] h
+IsLocationName-in_table names x table h = All-from_recursion IsLocationName names table x [] h
 
 module _ (arch : Arch) (threads : ℕ) (few : threads ≤ most_threads) (names : NameTable)
     (table : AllByRecursion IsLocationName names) where
@@ -86,19 +86,20 @@ module _ (arch : Arch) (threads : ℕ) (few : threads ≤ most_threads) (names :
       → Spells EndsName 43 (site_text arch names s) (site_tokens arch (named_site names s))
   site_spelled (Register t r) h =
       let number = Spells-number t (omega (arith, h.0, few)) in
-      (Spells-then (λ rest g. refl) number
-      (Spells-then (λ rest g. name_no_equals (register_name arch r) rest (register_is_name arch r h.1)) Spells-colon
+      (Spells-append (λ rest g. refl) number
+      (Spells-append (λ rest g. name_no_equals (register_name arch r) rest (register_is_name arch r h.1)) Spells-colon
       (Spells-register arch r h.1)))
   site_spelled (Location x) h =
-      Spells-within 43 (omega arith) (Spells-name (slice_index_or names x []) (name_there names x table h).0)
+      Spells-mono 43 (omega arith) (Spells-name (slice_index_or names x []) (IsLocationName-in_table names x table h).0)
 
+  -- The text of a site does not start with `*`.
   site_starts : (s : Seen) → IsSeenInRange threads (length names) s → Starts (site_text arch names s)
   site_starts (Register t r) h =
       let small : t < 2 ^ 32 = omega (arith, h.0, few) in
-      starts-then (decimal t) (codes ":" ++ register_name arch r)
+      Starts-append (decimal t) (codes ":" ++ register_name arch r)
       (starts_name_run (decimal t) (decimal_nonempty t (omega (arith, small))) (decimal_is_name_run t small))
   site_starts (Location x) h =
-      let n = (name_there names x table h).0 in starts_name_run (slice_index_or names x []) n.0.some n.0.all
+      let n = (IsLocationName-in_table names x table h).0 in starts_name_run (slice_index_or names x []) n.0.not_empty n.0.all
 
   -- The text of a site with its word, such as `x=1`, spells their tokens.
   pub assignment_spelled : (s : Seen) (n : ℕ)
@@ -106,38 +107,44 @@ module _ (arch : Arch) (threads : ℕ) (few : threads ≤ most_threads) (names :
       → n < 2 ^ 32
       → Spells EndsName 54 (assignment (site_text arch names s) n) (site_tokens arch (named_site names s) ++ value_tokens n)
   assignment_spelled s n h small =
-      Spells-then (λ rest g. refl) (site_spelled s h)
-      (Spells-on (Spells-mark 61 refl (λ c. refl) refl (omega arith)) (Spells-number n small))
+      Spells-append (λ rest g. refl) (site_spelled s h)
+      (Spells-append_anything (Spells-mark 61 refl (λ c. refl) refl (omega arith)) (Spells-number n small))
 
   -- ---- propositions
 
+  -- The tokens of terminals.
   abbrev tokens_of : List (Terminal AtomSyntax) → TokenList
   tokens_of ss = flat_map (terminal_tokens arch) ss
 
-  abbrev terms : Formula → List (Terminal AtomSyntax)
-  terms p = terminals_of (named_claim names) p
+  -- The terminals of a formula, named by the table.
+  abbrev proposition_terms : Formula → List (Terminal AtomSyntax)
+  proposition_terms p = terminals_of (named_claim names) p
 
+  -- The text spells the tokens of these terminals, with at most `most` bytes, and does not start with `*`.
   record IsSpelled (text : Bytes) (most : ℕ) (ss : List (Terminal AtomSyntax)) : Type 0 where
     spells : Spells EndsName most text (tokens_of ss)
     starts : Starts text
 
+  -- A text in parentheses spells its tokens in parentheses.
   enclosed_spelled : (text : Bytes) (most : ℕ) (ss : List (Terminal AtomSyntax))
       → IsSpelled text most ss
       → Spells Anything (most + 2) (parenthesized text) (tokens_of (enclosed ss))
   enclosed_spelled text most ss s =
-      let opening = Spells-symbol {F = HasNoStar} 40 refl (λ rest f. alone _) (λ rest f. f) (omega arith) in
+      let opening = Spells-symbol {F = HasNoStar} 40 refl (λ rest f. no_symbol_with_parenthesis _) (λ rest f. f) (omega arith) in
       let closing = Spells-mark 41 refl (λ c. refl) refl (omega arith) in
       let whole : Spells Anything (1 + (most + 1)) (parenthesized text) ((codes "(" ∷ []) ++ (tokens_of ss ++ (codes ")" ∷ []))) =
-      Spells-then
+      Spells-append
       (λ rest g. subst HasNoStar (sym (append_assoc text (codes ")") rest)) (starts_no_star text (codes ")" ++ rest) s.starts))
-      opening (Spells-then (λ rest g. refl) s.spells closing) in
+      opening (Spells-append (λ rest g. refl) s.spells closing) in
       subst (λ (ts : TokenList). Spells Anything (most + 2) (parenthesized text) (codes "(" ∷ ts))
-      (sym (flat_map-append (terminal_tokens arch) ss _)) (Spells-within (most + 2) (omega arith) whole)
+      (sym (flat_map-append (terminal_tokens arch) ss _)) (Spells-mono (most + 2) (omega arith) whole)
     where
-      alone : (rest : Bytes) → first_byte_is (is_two_byte_symbol 40) rest ≡ false
-      alone [] = refl
-      alone (b ∷ rest) = refl
+      -- A `(` makes no symbol with the next byte.
+      no_symbol_with_parenthesis : (rest : Bytes) → first_byte_is (is_two_byte_symbol 40) rest ≡ false
+      no_symbol_with_parenthesis [] = refl
+      no_symbol_with_parenthesis (b ∷ rest) = refl
 
+  -- The text of a part, in parentheses or not, spells its tokens.
   part_spelled : (needed : Bool) (text : Bytes) (most : ℕ) (ss : List (Terminal AtomSyntax))
       → IsSpelled text most ss
       → IsSpelled (parenthesized_if needed text) (most + 2) (enclosed_if needed ss)
@@ -145,7 +152,7 @@ module _ (arch : Arch) (threads : ℕ) (few : threads ≤ most_threads) (names :
     spells = Spells-before EndsName (λ rest g. tt) (enclosed_spelled text most ss s);
     starts = (40, text ++ codes ")", refl, refl);
   }
-  part_spelled false text most ss s = record { spells = Spells-within (most + 2) (omega arith) s.spells; starts = s.starts }
+  part_spelled false text most ss s = record { spells = Spells-mono (most + 2) (omega arith) s.spells; starts = s.starts }
 
   -- The text of two parts and the connective between them spells their tokens.
   joined_spelled : (a b : Bytes) (m n : ℕ) (ss us : List (Terminal AtomSyntax)) (between : Bytes) (t : Terminal AtomSyntax)
@@ -158,76 +165,89 @@ module _ (arch : Arch) (threads : ℕ) (few : threads ≤ most_threads) (names :
     spells =
         subst (λ (ts : TokenList). Spells EndsName (m + (4 + n)) (a ++ (between ++ b)) ts)
         (sym (flat_map-append (terminal_tokens arch) ss (t ∷ us)))
-        (Spells-then (λ rest g. subst EndsName (sym (append_assoc between b rest)) (ends (b ++ rest))) s.spells
-        (Spells-on mid u.spells));
-    starts = starts-then a (between ++ b) s.starts;
+        (Spells-append (λ rest g. subst EndsName (sym (append_assoc between b rest)) (ends (b ++ rest))) s.spells
+        (Spells-append_anything mid u.spells));
+    starts = Starts-append a (between ++ b) s.starts;
   }
 
-  within : (text : Bytes) (m n : ℕ) (ss : List (Terminal AtomSyntax)) → m ≤ n → IsSpelled text m ss → IsSpelled text n ss
-  within text m n ss le s = record { spells = Spells-within n le s.spells; starts = s.starts }
+  -- A greater bound on the length holds too.
+  IsSpelled-mono : (text : Bytes) (m n : ℕ) (ss : List (Terminal AtomSyntax)) → m ≤ n → IsSpelled text m ss → IsSpelled text n ss
+  IsSpelled-mono text m n ss le s = record { spells = Spells-mono n le s.spells; starts = s.starts }
 
-  conjunction : Spells Anything 4 (codes " /\\ ") (codes "/\\" ∷ [])
-  conjunction = Spells-on Spells-space (Spells-on (Spells-pair 47 92 refl (omega arith) (omega arith)) Spells-space)
+  -- ` /\ ` spells the sign of a conjunction.
+  Spells-conjunction : Spells Anything 4 (codes " /\\ ") (codes "/\\" ∷ [])
+  Spells-conjunction =
+      Spells-append_anything Spells-space
+      (Spells-append_anything (Spells-pair 47 92 refl (omega arith) (omega arith)) Spells-space)
 
-  disjunction : Spells Anything 4 (codes " \\/ ") (codes "\\/" ∷ [])
-  disjunction = Spells-on Spells-space (Spells-on (Spells-pair 92 47 refl (omega arith) (omega arith)) Spells-space)
+  -- ` \/ ` spells the sign of a disjunction.
+  Spells-disjunction : Spells Anything 4 (codes " \\/ ") (codes "\\/" ∷ [])
+  Spells-disjunction =
+      Spells-append_anything Spells-space
+      (Spells-append_anything (Spells-pair 92 47 refl (omega arith) (omega arith)) Spells-space)
 
+  -- A keyword spells itself.
   word_spelled : (w : Bytes) → IsName w → (ss : List (Terminal AtomSyntax)) → tokens_of ss ≡ w ∷ [] → IsSpelled w 60 ss
   word_spelled w name ss e = record {
-    spells = Spells-within 60 (omega arith) (subst (λ (ts : TokenList). Spells EndsName 32 w ts) (sym e) (Spells-name w name));
-    starts = starts_name_run w name.0.some name.0.all;
+    spells = Spells-mono 60 (omega arith) (subst (λ (ts : TokenList). Spells EndsName 32 w ts) (sym e) (Spells-name w name));
+    starts = starts_name_run w name.0.not_empty name.0.all;
   }
 
+  -- The text of an atom spells its tokens.
   claim_spelled : (s : Seen) (n : ℕ)
       → IsSeenInRange threads (length names) s
       → n < 2 ^ 32
       → IsSpelled (assignment (site_text arch names s) n) 60 (Atom (Holds (named_site names s) n) ∷ [])
   claim_spelled s n h small = record {
     spells =
-        subst (λ (ts : TokenList). Spells EndsName 60 (assignment (site_text arch names s) n) ts) (nil_behind s)
-        (Spells-within 60 (omega arith) (assignment_spelled s n h small));
-    starts = starts-then (site_text arch names s) (codes "=" ++ decimal n) (site_starts s h);
+        subst (λ (ts : TokenList). Spells EndsName 60 (assignment (site_text arch names s) n) ts) (claim_tokens-append_nil s)
+        (Spells-mono 60 (omega arith) (assignment_spelled s n h small));
+    starts = Starts-append (site_text arch names s) (codes "=" ++ decimal n) (site_starts s h);
   }
     where
-      nil_behind : (s : Seen)
+      -- The tokens of a site and a value are those of the atom.
+      claim_tokens-append_nil : (s : Seen)
           → site_tokens arch (named_site names s) ++ value_tokens n ≡ tokens_of (Atom (Holds (named_site names s) n) ∷ [])
-      nil_behind (Register t r) = refl
-      nil_behind (Location x) = refl
+      claim_tokens-append_nil (Register t r) = refl
+      claim_tokens-append_nil (Location x) = refl
 
+  -- The text of a formula spells its tokens, within 60 bytes for each node.
   proposition_spelled : (p : Formula)
       → MentionsOnly threads (length names) p
-      → IsSpelled (proposition_text arch names p) (60 * nodes p) (terms p)
+      → IsSpelled (proposition_text arch names p) (60 * nodes p) (proposition_terms p)
   proposition_spelled Yes h = word_spelled (codes "true") (name_by_test _ refl) (Atom Always ∷ []) refl
   proposition_spelled No h = word_spelled (codes "false") (name_by_test _ refl) (Atom Never ∷ []) refl
   proposition_spelled (Reg_is t r n) h = claim_spelled (Register t r) n (h.0, h.1) h.2
   proposition_spelled (Word_is x n) h = claim_spelled (Location x) n h.0 h.1
   proposition_spelled (Not p) h =
-      let part = part_spelled _ (proposition_text arch names p) _ (terms p) (proposition_spelled p h) in
+      let part = part_spelled _ (proposition_text arch names p) _ (proposition_terms p) (proposition_spelled p h) in
       record {
         spells =
-            Spells-within (60 * suc (nodes p)) (omega arith)
-            (Spells-on (Spells-mark 126 refl (λ c. refl) refl (omega arith)) part.spells);
+            Spells-mono (60 * suc (nodes p)) (omega arith)
+            (Spells-append_anything (Spells-mark 126 refl (λ c. refl) refl (omega arith)) part.spells);
         starts = (126, parenthesized_if (is_binary p) (proposition_text arch names p), refl, refl);
       }
   proposition_spelled (And p q) h =
-      let left = part_spelled _ (proposition_text arch names p) _ (terms p) (proposition_spelled p h.0) in
-      let right = part_spelled _ (proposition_text arch names q) _ (terms q) (proposition_spelled q h.1) in
-      within _ _ (60 * suc (nodes p + nodes q)) _ (omega arith)
-      (joined_spelled _ _ _ _ _ _ (codes " /\\ ") Conjunction (λ rest. refl) conjunction left right)
+      let left = part_spelled _ (proposition_text arch names p) _ (proposition_terms p) (proposition_spelled p h.0) in
+      let right = part_spelled _ (proposition_text arch names q) _ (proposition_terms q) (proposition_spelled q h.1) in
+      IsSpelled-mono _ _ (60 * suc (nodes p + nodes q)) _ (omega arith)
+      (joined_spelled _ _ _ _ _ _ (codes " /\\ ") Conjunction (λ rest. refl) Spells-conjunction left right)
   proposition_spelled (Or p q) h =
-      let right = part_spelled _ (proposition_text arch names q) _ (terms q) (proposition_spelled q h.1) in
-      within _ _ (60 * suc (nodes p + nodes q)) _ (omega arith)
-      (joined_spelled _ _ _ _ _ _ (codes " \\/ ") Disjunction (λ rest. refl) disjunction (proposition_spelled p h.0) right)
+      let right = part_spelled _ (proposition_text arch names q) _ (proposition_terms q) (proposition_spelled q h.1) in
+      IsSpelled-mono _ _ (60 * suc (nodes p + nodes q)) _ (omega arith)
+      (joined_spelled _ _ _ _ _ _ (codes " \\/ ") Disjunction (λ rest. refl) Spells-disjunction (proposition_spelled p h.0) right)
 
   -- The text of a proposition in parentheses spells its tokens.
   pub whole_spelled : (p : Formula)
       → MentionsOnly threads (length names) p
-      → Spells Anything (60 * nodes p + 2) (parenthesized (proposition_text arch names p)) (tokens_of (enclosed (terms p)))
-  whole_spelled p h = enclosed_spelled (proposition_text arch names p) _ (terms p) (proposition_spelled p h)
+      → Spells Anything (60 * nodes p + 2) (parenthesized (proposition_text arch names p))
+      (tokens_of (enclosed (proposition_terms p)))
+  whole_spelled p h = enclosed_spelled (proposition_text arch names p) _ (proposition_terms p) (proposition_spelled p h)
 
 -- The text of a quantifier spells its tokens.
 pub quantifier_spelled : (q : Quant) → Spells EndsName 33 (quantifier_text q) (quantifier_tokens q)
-quantifier_spelled Exists = Spells-within 33 (omega arith) (Spells-name _ (name_by_test _ refl))
+quantifier_spelled Exists = Spells-mono 33 (omega arith) (Spells-name _ (name_by_test _ refl))
 quantifier_spelled NotExists =
-    Spells-on (Spells-mark 126 refl (λ c. refl) refl (omega arith)) (Spells-name (codes "exists") (name_by_test _ refl))
-quantifier_spelled Forall = Spells-within 33 (omega arith) (Spells-name _ (name_by_test _ refl))
+    Spells-append_anything (Spells-mark 126 refl (λ c. refl) refl (omega arith))
+    (Spells-name (codes "exists") (name_by_test _ refl))
+quantifier_spelled Forall = Spells-mono 33 (omega arith) (Spells-name _ (name_by_test _ refl))

@@ -31,45 +31,55 @@ abbrev Terms : Type 0
 Terms = List (Terminal Formula)
 
 -- The printed terminals of a formula.
-abbrev terms : Formula → Terms
-terms p = terminals_of (λ q. q) p
+abbrev printed_terms : Formula → Terms
+printed_terms p = terminals_of (λ q. q) p
 
 -- A formula's terminals derive it, at the level of its outermost connective.
 record Shown (p : Formula) : Type 0 where
-  part : is_binary p ≡ false → Derives PartLevel (terms p) p
-  conjuncts : is_or p ≡ false → Derives ConjunctionLevel (terms p) p
-  whole : Derives DisjunctionLevel (terms p) p
+  part : is_binary p ≡ false → Derives PartLevel (printed_terms p) p
+  conjuncts : is_or p ≡ false → Derives ConjunctionLevel (printed_terms p) p
+  whole : Derives DisjunctionLevel (printed_terms p) p
 
 -- A formula without a binary connective outermost is derived at every level.
-plain : (p : Formula) → Derives PartLevel (terms p) p → Shown p
-plain p d = record { part = λ h. d; conjuncts = λ h. part d; whole = conjunction (part d) }
+Shown-of_part : (p : Formula) → Derives PartLevel (printed_terms p) p → Shown p
+Shown-of_part p d = record { part = λ h. d; conjuncts = λ h. part d; whole = conjunction (part d) }
 
 -- A formula is derived as a part, in parentheses if its outermost connective is binary.
-any_part : (p : Formula) → Shown p → (b : Bool) → is_binary p ≡ b → Derives PartLevel (enclosed_if b (terms p)) p
-any_part p s true e = parens s.whole
-any_part p s false e = s.part e
+Derives-enclosed_part : (p : Formula)
+    → Shown p
+    → (b : Bool)
+    → is_binary p ≡ b
+    → Derives PartLevel (enclosed_if b (printed_terms p)) p
+Derives-enclosed_part p s true e = parens s.whole
+Derives-enclosed_part p s false e = s.part e
 
 -- A formula is derived as a conjunction, in parentheses if it is a disjunction.
-any_conjuncts : (p : Formula) → Shown p → (b : Bool) → is_or p ≡ b → Derives ConjunctionLevel (enclosed_if b (terms p)) p
-any_conjuncts p s true e = part (parens s.whole)
-any_conjuncts p s false e = s.conjuncts e
+Derives-enclosed_conjuncts : (p : Formula)
+    → Shown p
+    → (b : Bool)
+    → is_or p ≡ b
+    → Derives ConjunctionLevel (enclosed_if b (printed_terms p)) p
+Derives-enclosed_conjuncts p s true e = part (parens s.whole)
+Derives-enclosed_conjuncts p s false e = s.conjuncts e
 
 -- The printed terminals of each formula derive it.
-shown : (p : Formula) → Shown p
-shown Yes = plain Yes atom
-shown No = plain No atom
-shown (Reg_is t r n) = plain (Reg_is t r n) atom
-shown (Word_is x n) = plain (Word_is x n) atom
-shown (Not p) = plain (Not p) (negated (any_part p (shown p) (is_binary p) refl))
-shown (And p q) =
-    let d = and (any_conjuncts p (shown p) (is_or p) refl) (any_part q (shown q) (is_binary q) refl) in
+Shown-each : (p : Formula) → Shown p
+Shown-each Yes = Shown-of_part Yes atom
+Shown-each No = Shown-of_part No atom
+Shown-each (Reg_is t r n) = Shown-of_part (Reg_is t r n) atom
+Shown-each (Word_is x n) = Shown-of_part (Word_is x n) atom
+Shown-each (Not p) = Shown-of_part (Not p) (negated (Derives-enclosed_part p (Shown-each p) (is_binary p) refl))
+Shown-each (And p q) =
+    let d =
+    and (Derives-enclosed_conjuncts p (Shown-each p) (is_or p) refl)
+    (Derives-enclosed_part q (Shown-each q) (is_binary q) refl) in
     record { part = λ h. absurd cc; conjuncts = λ h. d; whole = conjunction d }
-shown (Or p q) = record {
+Shown-each (Or p q) = record {
   part = λ h. absurd cc;
   conjuncts = λ h. absurd cc;
-  whole = or (shown p).whole (any_conjuncts q (shown q) (is_or q) refl);
+  whole = or (Shown-each p).whole (Derives-enclosed_conjuncts q (Shown-each q) (is_or q) refl);
 }
 
 -- A formula in parentheses is a proposition that says it.
 pub printed_proposition : (p : Formula) → IsProposition (enclosed (terminals_of (λ q. q) p)) p
-printed_proposition p = let s = shown p in conjunction (part (parens s.whole))
+printed_proposition p = let s = Shown-each p in conjunction (part (parens s.whole))

@@ -8,7 +8,7 @@ use Rattle.lw_text.proofs.Common.{nat_tests, decimal_is_IsNumeral, length-decima
 use Rattle.lw_text.proofs.Common.{IsUtf8-append, IsUtf8-from_ascii, digit_from_value, Bytes, TokenList}
 use Rattle.lw_text.proofs.Common.{is_blank, is_name_byte, first_byte_is, IsName, opens_comment, blank, Digits}
 use Rattle.lw_text.proofs.Common.{IsNumber, IsNameOrNumber, is_two_byte_symbol, is_one_byte_symbol, Tokens}
-use Rattle.lw_text.proofs.Common.{blank_all, name_bytes_ascii}
+use Rattle.lw_text.proofs.Common.{is_blank-passes, name_bytes_ascii}
 use Rattle.lw_text.specs.Tokens.{none}
 
 -- ---- what may follow a text: anything, no name byte, a blank, no `*`, or nothing that makes a symbol with `:`
@@ -44,12 +44,12 @@ pub Spells-nothing : (F : Bytes → Type 0) → Spells F 0 [] []
 Spells-nothing F = record { before = λ rest more f t. t; short = omega arith; utf8 = IsUtf8-nil }
 
 -- The concatenation of two texts spells the tokens of both, if the second may follow the first.
-pub Spells-then : {F G : Bytes → Type 0} {m n : ℕ} {a b : Bytes} {ts us : TokenList}
+pub Spells-append : {F G : Bytes → Type 0} {m n : ℕ} {a b : Bytes} {ts us : TokenList}
     → ((rest : Bytes) → G rest → F (b ++ rest))
     → Spells F m a ts
     → Spells G n b us
     → Spells G (m + n) (a ++ b) (ts ++ us)
-Spells-then {F} {G} {m} {n} {a} {b} {ts} {us} joint p q = record {
+Spells-append {F} {G} {m} {n} {a} {b} {ts} {us} joint p q = record {
   before = λ rest more g t.
       rw (append_assoc a b rest, append_assoc ts us more)
       (p.before (b ++ rest) (us ++ more) (joint rest g) (q.before rest more g t));
@@ -58,11 +58,11 @@ Spells-then {F} {G} {m} {n} {a} {b} {ts} {us} joint p q = record {
 }
 
 -- A text that anything may follow, concatenated with another, spells the tokens of both.
-pub Spells-on : {G : Bytes → Type 0} {m n : ℕ} {a b : Bytes} {ts us : TokenList}
+pub Spells-append_anything : {G : Bytes → Type 0} {m n : ℕ} {a b : Bytes} {ts us : TokenList}
     → Spells Anything m a ts
     → Spells G n b us
     → Spells G (m + n) (a ++ b) (ts ++ us)
-Spells-on p q = Spells-then (λ rest g. tt) p q
+Spells-append_anything p q = Spells-append (λ rest g. tt) p q
 
 -- A text that spells tokens before what F allows spells them before what G allows, if G allows no more.
 pub Spells-before : {F : Bytes → Type 0} (G : Bytes → Type 0) {m : ℕ} {a : Bytes} {ts : TokenList}
@@ -72,8 +72,8 @@ pub Spells-before : {F : Bytes → Type 0} (G : Bytes → Type 0) {m : ℕ} {a :
 Spells-before G less p = record { before = λ rest more g t. p.before rest more (less rest g) t; short = p.short; utf8 = p.utf8 }
 
 -- A text of at most m bytes has at most n bytes, if n is greater.
-pub Spells-within : {F : Bytes → Type 0} {m : ℕ} {a : Bytes} {ts : TokenList} (n : ℕ) → m ≤ n → Spells F m a ts → Spells F n a ts
-Spells-within n le p = record { before = p.before; short = omega (arith, p.short, le); utf8 = p.utf8 }
+pub Spells-mono : {F : Bytes → Type 0} {m : ℕ} {a : Bytes} {ts : TokenList} (n : ℕ) → m ≤ n → Spells F m a ts → Spells F n a ts
+Spells-mono n le p = record { before = p.before; short = omega (arith, p.short, le); utf8 = p.utf8 }
 
 -- A text that spells tokens before the end is, as a whole, these tokens.
 pub Spells-whole : {F : Bytes → Type 0} {m : ℕ} {a : Bytes} {ts : TokenList} → F [] → Spells F m a ts → Tokens a ts
@@ -89,16 +89,16 @@ tokens-blank b rest [] h t = blank h t
 tokens-blank b rest (u ∷ us) h t = (t.0, (blank h t.1.0, t.1.1), t.2)
 
 -- One byte below 128 is ASCII.
-ascii_one : (b : ℕ) → b < 128 → IsAscii (b ∷ [])
-ascii_one b h zero = h
-ascii_one b h (suc i) = omega arith
+IsAscii-one : (b : ℕ) → b < 128 → IsAscii (b ∷ [])
+IsAscii-one b h zero = h
+IsAscii-one b h (suc i) = omega arith
 
 -- A blank spells no token.
 pub Spells-blank : (b : ℕ) → is_blank b ≡ true → b < 128 → Spells Anything 1 (b ∷ []) []
 Spells-blank b h low = record {
   before = λ rest more f t. tokens-blank b rest more h t;
   short = omega arith;
-  utf8 = IsUtf8-from_ascii (b ∷ []) (ascii_one b low);
+  utf8 = IsUtf8-from_ascii (b ∷ []) (IsAscii-one b low);
 }
 
 -- A space spells no token.
@@ -112,17 +112,17 @@ Spells-newline = Spells-blank 10 refl (omega arith)
 -- A blank ends a name.
 pub blank_ends_name : (rest : Bytes) → IsBlankNext rest → EndsName rest
 blank_ends_name [] h = refl
-blank_ends_name (b ∷ rest) h = not-true (is_name_byte b) (blank_all (λ c. not (is_name_byte c)) b refl h)
+blank_ends_name (b ∷ rest) h = not-true (is_name_byte b) (is_blank-passes (λ c. not (is_name_byte c)) b refl h)
 
 -- ---- symbols
 
 -- A byte that starts no two-byte symbol makes none with what follows.
-no_pair : (b : ℕ)
+no_two_byte_symbol-first_byte : (b : ℕ)
     → ((c : ℕ) → is_two_byte_symbol b c ≡ false)
     → (rest : Bytes)
     → first_byte_is (is_two_byte_symbol b) rest ≡ false
-no_pair b h [] = refl
-no_pair b h (c ∷ rest) = h c
+no_two_byte_symbol-first_byte b h [] = refl
+no_two_byte_symbol-first_byte b h (c ∷ rest) = h c
 
 -- A one-byte symbol spells itself, if what follows makes it no other symbol.
 pub Spells-symbol : {F : Bytes → Type 0} (b : ℕ)
@@ -134,7 +134,7 @@ pub Spells-symbol : {F : Bytes → Type 0} (b : ℕ)
 Spells-symbol b single alone plain low = record {
   before = λ rest more f t. (rest, (none, inr (single, alone rest f, plain rest f)), t);
   short = omega arith;
-  utf8 = IsUtf8-from_ascii (b ∷ []) (ascii_one b low);
+  utf8 = IsUtf8-from_ascii (b ∷ []) (IsAscii-one b low);
 }
 
 -- A one-byte symbol that starts no two-byte symbol and no comment spells one token.
@@ -144,12 +144,13 @@ pub Spells-mark : (b : ℕ)
     → (b == 40) ≡ false
     → b < 128
     → Spells Anything 1 (b ∷ []) ((b ∷ []) ∷ [])
-Spells-mark b single alone plain low = Spells-symbol b single (λ rest f. no_pair b alone rest) (λ rest f. rw plain refl) low
+Spells-mark b single alone plain low =
+    Spells-symbol b single (λ rest f. no_two_byte_symbol-first_byte b alone rest) (λ rest f. rw plain refl) low
 
 -- Two bytes below 128 are ASCII.
-ascii_two : (b c : ℕ) → b < 128 → c < 128 → IsAscii (b ∷ c ∷ [])
-ascii_two b c h k zero = h
-ascii_two b c h k (suc i) = ascii_one c k i
+IsAscii-two : (b c : ℕ) → b < 128 → c < 128 → IsAscii (b ∷ c ∷ [])
+IsAscii-two b c h k zero = h
+IsAscii-two b c h k (suc i) = IsAscii-one c k i
 
 -- Two bytes that make a symbol spell it, whatever follows.
 pub Spells-pair : (b c : ℕ)
@@ -160,7 +161,7 @@ pub Spells-pair : (b c : ℕ)
 Spells-pair b c pair h k = record {
   before = λ rest more f t. (rest, (none, inr pair), t);
   short = omega arith;
-  utf8 = IsUtf8-from_ascii (b ∷ c ∷ []) (ascii_two b c h k);
+  utf8 = IsUtf8-from_ascii (b ∷ c ∷ []) (IsAscii-two b c h k);
 }
 
 -- ---- words
@@ -183,9 +184,9 @@ is_name_text w =
     (nat_lt 0 (length w) && nat_lt (length w) 33) && (list_all is_name_byte w && not (first_byte_is is_ascii_digit w))
 
 -- What a test says of all items of a list holds of each.
-pub all_pass : {X : Type 0} (p : X → Bool) (w : List X) → list_all p w ≡ true → AllByRecursion (λ b. p b ≡ true) w
-all_pass p [] h = tt
-all_pass p (b ∷ w) h = let both = and_parts (p b) (list_all p w) h in (both.0, all_pass p w both.1)
+pub list_all-AllByRecursion : {X : Type 0} (p : X → Bool) (w : List X) → list_all p w ≡ true → AllByRecursion (λ b. p b ≡ true) w
+list_all-AllByRecursion p [] h = tt
+list_all-AllByRecursion p (b ∷ w) h = let both = and_parts (p b) (list_all p w) h in (both.0, list_all-AllByRecursion p w both.1)
 
 -- A text that passes the test is a name.
 pub name_by_test : (w : Bytes) → is_name_text w ≡ true → IsName w
@@ -196,8 +197,8 @@ name_by_test w h =
     let bytes = and_parts (list_all is_name_byte w) (not (first_byte_is is_ascii_digit w)) halves.1 in
     let most : length w < 33 = ltb-true (length w) 33 long.1 in (
       record {
-        some = ltb-true 0 (length w) long.0;
-        all = all_pass is_name_byte w bytes.0;
+        not_empty = ltb-true 0 (length w) long.0;
+        all = list_all-AllByRecursion is_name_byte w bytes.0;
         front = not-true (first_byte_is is_ascii_digit w) bytes.1;
       },
       omega (arith, most),
@@ -210,15 +211,17 @@ Spells-name w name = Spells-run 32 w name.0.all (inl name) name.1
 -- ---- numbers
 
 -- Decimal digits represent the number that they evaluate to.
-digits_say : (n : ℕ) (ds : Bytes) (v : ℕ) → AllDigits 10 ds → digits_value_after 10 n ds ≡ v → Digits 10 n ds v
-digits_say n [] v all e = e
-digits_say n (d ∷ ds) v all e =
-    (all.0, digits_say (10 * n + digit_value d) ds v all.1 (ap (λ (m : ℕ). digits_value_after 10 m ds) (sym (omega arith)) ∙ e))
+Digits-AllDigits : (n : ℕ) (ds : Bytes) (v : ℕ) → AllDigits 10 ds → digits_value_after 10 n ds ≡ v → Digits 10 n ds v
+Digits-AllDigits n [] v all e = e
+Digits-AllDigits n (d ∷ ds) v all e = (
+  all.0,
+  Digits-AllDigits (10 * n + digit_value d) ds v all.1 (ap (λ (m : ℕ). digits_value_after 10 m ds) (sym (omega arith)) ∙ e),
+)
 
 -- A number's decimal digits are a number.
 pub decimal_is_number : (n : ℕ) → n < 2 ^ 32 → IsNumber (decimal n) n
 decimal_is_number n h =
-    let is = decimal_is_IsNumeral n (omega (arith, h)) in (h, inl (is.0.0, digits_say 0 (decimal n) n is.0.1 is.1))
+    let is = decimal_is_IsNumeral n (omega (arith, h)) in (h, inl (is.0.0, Digits-AllDigits 0 (decimal n) n is.0.1 is.1))
 
 -- A decimal digit is a name byte.
 digit_is_name_byte : (d : ℕ) → (48 ≤ d) × (d ≤ 57) → is_name_byte d ≡ true

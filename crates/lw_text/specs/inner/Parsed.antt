@@ -40,7 +40,7 @@ pub record ParsedCell (before after : Cursor) (cell : List Token) (mark : Token)
 -- A site was parsed, whose thread is allowed; a location's name was inserted into the table.
 pub record ParsedSite (arch : Arch) (threads : Option ℕ) (before after : Cursor) (names table : NameTable) (s : Site) : Type 0 where
   pub is : IsSite arch (remaining_texts before) (site_by_name table s) (remaining_texts after)
-  pub there : ThreadAllowed threads (site_by_name table s)
+  pub threads_exist : ThreadAllowed threads (site_by_name table s)
   pub names_are : table ≡ with_sites names (site_by_name table s ∷ [])
   pub within : IsIn table s
   pub leaves : AdvancesTo before after
@@ -84,7 +84,7 @@ pub record ParsedBlock (arch : Arch) (before after : Cursor) (names table : Name
 -- The list of names was parsed, or none: the threads of its sites exist, and its locations' names were inserted into the table.
 pub record ParsedNameList (arch : Arch) (threads : ℕ) (before after : Cursor) (names table : NameTable) (ss : List Site) : Type 0 where
   pub is : Listed arch (remaining_texts before) (map (site_by_name table) ss) (remaining_texts after)
-  pub there : AllByRecursion (ThreadExists threads) (map (site_by_name table) ss)
+  pub threads_exist : AllByRecursion (ThreadExists threads) (map (site_by_name table) ss)
   pub names_are : table ≡ with_sites names (map (site_by_name table) ss)
   pub within : All (IsIn table) ss
   pub leaves : AdvancesTo before after

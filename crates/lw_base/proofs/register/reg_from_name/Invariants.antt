@@ -1,3 +1,4 @@
+-- At each round none of the first registers has the name.
 use Rattle.lw_base.proofs.Common.{ℕ, ◌<◌, IsRegisterName}
 use Rattle.lw_base.proofs.register.reg_from_name.Given as goal
 

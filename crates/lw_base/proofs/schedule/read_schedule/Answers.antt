@@ -1,10 +1,15 @@
+-- Of `read_schedule`: it returns the events of the text, or fails at the first piece that is no event.
+-- `event_texts-push` adds the piece that was read to those before. At a faulty piece the pieces before it are the
+-- texts of the events read, so the fault is the first one, and the text is no schedule at all
+-- (`not-IsSchedule-if_no_event_text`).
 use Rattle.lw_base.proofs.Common.{◌≤◌, ◌++◌, ◌∙◌, ap, sym, map, length, arith, is_blank, first_byte_is}
 use Rattle.lw_base.proofs.Common.{event_texts, event_text, Memory}
-use Rattle.lw_base.proofs.Shapes.{no_event}
-use Rattle.lw_base.proofs.api.Returns.{turned, out_of_memory}
-use Rattle.lw_base.proofs.EventTexts.{no_schedule, event_texts-first, event_texts-behind, behind_more}
-use Rattle.lw_base.proofs.EventTexts.{more_events, more_pieces, no_longer, drop-back, all_pieces, not_zero}
-use Rattle.lw_base.proofs.EventTexts.{shrinks}
+use Rattle.lw_base.proofs.Shapes.{not-event_text-if_faulty}
+use Rattle.lw_base.proofs.api.Returns.{Err-clause_converted, Err-clause_memory}
+use Rattle.lw_base.proofs.EventTexts.{not-IsSchedule-if_no_event_text, event_texts-first, event_texts-behind}
+use Rattle.lw_base.proofs.EventTexts.{text_eq-append_piece, IsEvent-push, event_texts-push, length_le-suffix}
+use Rattle.lw_base.proofs.EventTexts.{drop-back, event_texts-all_read, positive-if_not_zero}
+use Rattle.lw_base.proofs.EventTexts.{length_lt-after_piece}
 use Rattle.lw_base.proofs.schedule.read_schedule.Goals as goal
 
 pub loop-rest-init : goal.loop-rest-init
@@ -14,21 +19,21 @@ loop-rest-init g c =
       events = rw c.new-events.ensures tt;
       event_texts = rw c.new-events.ensures (event_texts-behind _ _ _ back c.prefix_of_kind.ensures.all);
       others = c.prefix_of_kind.ensures.longest;
-      shorter = no_longer _ _ _ back;
+      shorter = length_le-suffix _ _ _ back;
       back = (c.prefix_of_kind.result.0.now, back);
     }
 
 pub loop-rest-preserved : goal.loop-rest-preserved
 loop-rest-preserved g c =
     let back =
-    behind_more _ _ _ _ c.loop-rest.invariant.back.1 c.prefix_of_kind-in-loop-rest.ensures.parts
+    text_eq-append_piece _ _ _ _ c.loop-rest.invariant.back.1 c.prefix_of_kind-in-loop-rest.ensures.parts
     c.prefix_of_kind-in-loop-rest-2.ensures.parts in
     record {
       events =
-          more_events c.args.names.now c.loop-rest.events c.push.new.self c.in-Ok.event c.in_ok-push-in-Ok.ensures.ok
+          IsEvent-push c.args.names.now c.loop-rest.events c.push.new.self c.in-Ok.event c.in_ok-push-in-Ok.ensures.ok
           c.loop-rest.invariant.events c.in-Ok.ensures.ok.0;
       event_texts =
-          more_pieces c.args.names.now c.args.text.now c.prefix_of_kind-in-loop-rest-2.result.1.now c.loop-rest.events
+          event_texts-push c.args.names.now c.args.text.now c.prefix_of_kind-in-loop-rest-2.result.1.now c.loop-rest.events
           c.push.new.self c.in-Ok.event (record {
             rest = c.loop-rest.rest.now;
             piece = c.prefix_of_kind-in-loop-rest.result.0.now;
@@ -36,7 +41,7 @@ loop-rest-preserved g c =
             before = c.loop-rest.invariant.event_texts;
             first = event_texts-first _ _ _ (record {
               parts = c.prefix_of_kind-in-loop-rest.ensures.parts;
-              some = not_zero (length c.loop-rest.rest.now) c.loop-rest-test.ensures;
+              not_empty = positive-if_not_zero (length c.loop-rest.rest.now) c.loop-rest-test.ensures;
               front = c.loop-rest.invariant.others;
               others = c.prefix_of_kind-in-loop-rest.ensures.all;
               ends = c.prefix_of_kind-in-loop-rest.ensures.longest;
@@ -47,7 +52,7 @@ loop-rest-preserved g c =
             says = c.in-Ok.ensures.ok.1;
           }) c.in_ok-push-in-Ok.ensures.ok;
       others = c.prefix_of_kind-in-loop-rest-2.ensures.longest;
-      shorter = no_longer _ _ _ back;
+      shorter = length_le-suffix _ _ _ back;
       back = (
         c.loop-rest.invariant.back.0 ++ c.prefix_of_kind-in-loop-rest.result.0.now
             ++ c.prefix_of_kind-in-loop-rest-2.result.0.now,
@@ -59,20 +64,20 @@ pub returns-in-Err-clause-fault : goal.returns-in-Err-clause-fault
 returns-in-Err-clause-fault g c known =
     let first = event_texts-first _ _ _ (record {
       parts = c.prefix_of_kind-in-loop-rest.ensures.parts;
-      some = not_zero (length c.loop-rest.rest.now) c.loop-rest-test.ensures;
+      not_empty = positive-if_not_zero (length c.loop-rest.rest.now) c.loop-rest-test.ensures;
       front = c.loop-rest.invariant.others;
       others = c.prefix_of_kind-in-loop-rest.ensures.all;
       ends = c.prefix_of_kind-in-loop-rest.ensures.longest;
     }) in
     let whole = c.loop-rest.invariant.event_texts ∙ ap (λ ws. map (event_text c.args.names.now) c.loop-rest.events ++ ws) first in
-    no_schedule c.args.names.now c.args.text.now c.loop-rest.events _ _ whole
-    (no_event _ c.len-len.ensures.table _ _ c.in-Err.ensures.err)
+    not-IsSchedule-if_no_event_text c.args.names.now c.args.text.now c.loop-rest.events _ _ whole
+    (not-event_text-if_faulty _ c.len-len.ensures.table _ _ c.in-Err.ensures.err)
 
 pub returns-in-Err-clause-first : goal.returns-in-Err-clause-first
 returns-in-Err-clause-first g c known =
     let first = event_texts-first _ _ _ (record {
       parts = c.prefix_of_kind-in-loop-rest.ensures.parts;
-      some = not_zero (length c.loop-rest.rest.now) c.loop-rest-test.ensures;
+      not_empty = positive-if_not_zero (length c.loop-rest.rest.now) c.loop-rest-test.ensures;
       front = c.loop-rest.invariant.others;
       others = c.prefix_of_kind-in-loop-rest.ensures.all;
       ends = c.prefix_of_kind-in-loop-rest.ensures.longest;
@@ -90,23 +95,23 @@ returns-in-Err-clause-first g c known =
     }
 
 pub returns-in_err-push-in-Ok-clause-fault : goal.returns-in_err-push-in-Ok-clause-fault
-returns-in_err-push-in-Ok-clause-fault g c = out_of_memory _ Memory _ _ _ c.from_residual.ensures.1
+returns-in_err-push-in-Ok-clause-fault g c = Err-clause_memory _ Memory _ _ _ c.from_residual.ensures.1
 
 pub returns-in_err-push-in-Ok-clause-first : goal.returns-in_err-push-in-Ok-clause-first
-returns-in_err-push-in-Ok-clause-first g c = out_of_memory _ Memory _ _ _ c.from_residual.ensures.1
+returns-in_err-push-in-Ok-clause-first g c = Err-clause_memory _ Memory _ _ _ c.from_residual.ensures.1
 
 pub returns-in_err-push-in-Ok-clause-place : goal.returns-in_err-push-in-Ok-clause-place
 returns-in_err-push-in-Ok-clause-place g c =
-    turned (λ f. f.at ≤ length c.args.text.now) _ c.from_residual.ensures.1 (λ y q. omega (arith, q.0))
+    Err-clause_converted (λ f. f.at ≤ length c.args.text.now) _ c.from_residual.ensures.1 (λ y q. omega (arith, q.0))
 
 pub returns-in-Err-clause-place : goal.returns-in-Err-clause-place
 returns-in-Err-clause-place g c = omega arith
 
 pub loop-rest-smaller : goal.loop-rest-smaller
 loop-rest-smaller g c =
-    shrinks _ _ _ _ _ (record {
+    length_lt-after_piece _ _ _ _ _ (record {
       parts = c.prefix_of_kind-in-loop-rest.ensures.parts;
-      some = not_zero _ c.loop-rest-test.ensures;
+      not_empty = positive-if_not_zero _ c.loop-rest-test.ensures;
       front = c.loop-rest.invariant.others;
       others = c.prefix_of_kind-in-loop-rest.ensures.all;
       ends = c.prefix_of_kind-in-loop-rest.ensures.longest;
@@ -115,5 +120,5 @@ loop-rest-smaller g c =
 pub returns-clause-found : goal.returns-clause-found
 returns-clause-found g c = (
   c.loop-rest.invariant.events,
-  all_pieces c.args.names.now c.args.text.now _ _ c.loop-rest.invariant.event_texts c.loop-rest-test.ensures,
+  event_texts-all_read c.args.names.now c.args.text.now _ _ c.loop-rest.invariant.event_texts c.loop-rest-test.ensures,
 )

@@ -1,3 +1,5 @@
+-- At each round the pieces of the text are the texts of the events read so far and the pieces of the rest,
+-- which does not begin with a blank. The loop ends since the rest becomes shorter.
 use Rattle.lw_base.proofs.Common.{ℕ, List, ◌≡◌, ◌≤◌, ◌++◌, length, map, false, AllByRecursion, is_blank}
 use Rattle.lw_base.proofs.Common.{first_byte_is, event_texts, event_text, IsEvent}
 use Rattle.lw_base.proofs.schedule.read_schedule.Given as goal

@@ -1,3 +1,4 @@
+-- At each round the threads of the initializers before the index exist.
 use Rattle.lw_text.proofs.Common.{◌≡◌, take, true, list_all, thread_exists}
 use Rattle.lw_text.proofs.block.check_threads.Given as goal
 

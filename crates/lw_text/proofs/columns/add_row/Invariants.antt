@@ -1,3 +1,5 @@
+-- At each round the columns before the iterator's count have their cell of the row, the others are unchanged,
+-- and the iterator has the other cells of the row (`Filling`).
 use Rattle.lw_text.proofs.Common.{◌≡◌, length}
 use Rattle.lw_text.proofs.RowColumns.{Filling}
 use Rattle.lw_text.proofs.columns.add_row.Given as goal

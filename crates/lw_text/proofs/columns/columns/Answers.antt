@@ -1,6 +1,8 @@
+-- `columns` promises the columns of the rows, one for each thread. Each round adds one row to the columns of
+-- the rows before it (`columns-one_more_row`). A row has a cell for each thread, which `add_row` requires.
 use Rattle.lw_text.proofs.Common.{◌∙◌, ◌++◌, ◌∷◌, [], length, map, ap, arith, sym, append_assoc}
 use Rattle.lw_text.proofs.Common.{length-map-range_with_len, column, columns, zip}
-use Rattle.lw_text.proofs.RowColumns.{columns_more, row_length, all_yielded, with_last}
+use Rattle.lw_text.proofs.RowColumns.{columns-one_more_row, row_length, none_left-before_is_all, with_last}
 use Rattle.lw_text.proofs.columns.columns.Goals as goal
 
 pub loop-row-init : goal.loop-row-init
@@ -27,7 +29,7 @@ loop-row-preserved g c =
       made =
           c.in_ok-add_row.ensures
           ∙ ap (λ l. map with_last (zip l row)) inv.made
-          ∙ columns_more c.args.threads c.loop-row.yielded row
+          ∙ columns-one_more_row c.args.threads c.loop-row.yielded row
           (row_length c.args.threads c.args.rows c.loop-row.yielded _ _ row c.requires inv.rest s.0);
       rest = append_assoc c.loop-row.yielded (row ∷ []) _ ∙ ap (λ l. c.loop-row.yielded ++ l) (sym s.0) ∙ inv.rest;
       len = omega (arith, s.1, inv.len, ap length s.0);
@@ -36,5 +38,6 @@ loop-row-preserved g c =
 pub returns : goal.returns
 returns g c =
     let inv = c.loop-row.invariant in
-    let all = all_yielded c.args.rows c.loop-row.yielded _ inv.rest (omega (arith, inv.len, c.in-None.ensures.steps.0)) in
+    let all =
+    none_left-before_is_all c.args.rows c.loop-row.yielded _ inv.rest (omega (arith, inv.len, c.in-None.ensures.steps.0)) in
     c.from.ensures ∙ inv.made ∙ ap (columns c.args.threads) all

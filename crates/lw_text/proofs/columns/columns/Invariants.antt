@@ -1,3 +1,5 @@
+-- At each round `columns` has the columns of the rows taken so far, and these rows with those left in the
+-- iterator are all.
 use Rattle.lw_text.proofs.Common.{◌≡◌, ◌++◌, length, columns}
 use Rattle.lw_text.proofs.columns.columns.Given as goal
 

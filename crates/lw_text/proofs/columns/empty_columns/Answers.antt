@@ -1,3 +1,5 @@
+-- `empty_columns` promises as many empty columns as threads, which are the columns of no rows. Each round
+-- appends one.
 use Rattle.lw_text.proofs.Common.{IfOk-from_err, [], ◌≡◌, arith, sym, zero-add, map-range_with_len_more}
 use Rattle.lw_text.proofs.Common.{column}
 use Rattle.lw_text.proofs.columns.empty_columns.Goals as goal

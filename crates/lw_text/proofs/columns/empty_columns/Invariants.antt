@@ -1,3 +1,4 @@
+-- At each round there are as many empty columns as the index says.
 use Rattle.lw_text.proofs.Common.{◌≡◌, [], columns}
 use Rattle.lw_text.proofs.columns.empty_columns.Given as goal
 

@@ -1,3 +1,5 @@
+-- `initial_registers` promises the initial words of all threads' registers. Each round appends those of one
+-- thread; the item of `Cpu::all()` at an index is that index (`is_index`).
 use Rattle.lw_text.proofs.Common.{◌≡◌, map-range_with_len_more, most_threads, refl, sym, zero-add}
 use Rattle.lw_text.proofs.api.Indices.{is_index}
 use Rattle.lw_text.proofs.initial.initial_registers.Goals as goal

@@ -1,3 +1,4 @@
+-- At each round `rows` has the initial words of the registers of the threads before the index.
 use Rattle.lw_text.proofs.Common.{◌≡◌, map, range_with_len, thread_registers, word_at}
 use Rattle.lw_text.proofs.initial.initial_registers.Given as goal
 

@@ -1,3 +1,4 @@
+-- At each round `words` has the initial words of the locations before the index.
 use Rattle.lw_text.proofs.Common.{◌≡◌, map, locations, word_at}
 use Rattle.lw_text.proofs.initial.initial_words.Given as goal
 

@@ -1,3 +1,6 @@
+-- `digits` promises the value of the digits, or that it is no word. Each round takes one digit
+-- (`Reads-next`). The interesting case is the early `None`: further digits only increase the value, so it
+-- stays too large (`Reads-large`).
 use Rattle.lw_text.proofs.Common.{◌≡◌, ◌<◌, arith, ap, digit_value}
 use Rattle.lw_text.proofs.Numbers.{Reads-large, Reads-next, next_value}
 use Rattle.lw_text.proofs.lexeme.digits.Goals as goal

@@ -1,3 +1,4 @@
+-- At each round `n` is the value of the digits before `rest`, and a word (`Reads`). The rest becomes shorter.
 use Rattle.lw_text.proofs.Common.{◌<◌, ◌^◌, length}
 use Rattle.lw_text.proofs.Numbers.{Reads}
 use Rattle.lw_text.proofs.lexeme.digits.Given as goal

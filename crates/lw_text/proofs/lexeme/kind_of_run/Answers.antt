@@ -1,25 +1,30 @@
+-- `kind_of_run` promises the kind of a run of name bytes, or that it is neither a name nor a number. The
+-- first byte decides: a digit begins numbers only (`digit_starts_no_name`), another byte begins names only, of at
+-- most 32 bytes (`long_run_is_no_name`).
 use Rattle.lw_text.proofs.Common.{sym, ◌∙◌, inl, inr, arith}
-use Rattle.lw_text.proofs.NameRuns.{empty_no_kind, digit_no_kind, short_name, long_no_kind}
+use Rattle.lw_text.proofs.NameRuns.{empty_is_no_name_or_number, digit_starts_no_name, short_run_is_name}
+use Rattle.lw_text.proofs.NameRuns.{long_run_is_no_name}
 use Rattle.lw_text.proofs.lexeme.kind_of_run.Goals as goal
 
 pub returns-in_default : goal.returns-in_default
-returns-in_default c = empty_no_kind (sym c.as_bytes.ensures.value ∙ c.in_default.ensures)
+returns-in_default c = empty_is_no_name_or_number (sym c.as_bytes.ensures.value ∙ c.in_default.ensures)
 
 pub returns-in-Some-number : goal.returns-in-Some-number
 returns-in-Some-number c = (inr (c.in-Some-number.number, c.in-Some-number.ensures), c.in-Some-number.ensures)
 
 pub returns-in-None : goal.returns-in-None
 returns-in-None c =
-    digit_no_kind (sym c.as_bytes.ensures.value ∙ c.in-Some.ensures) (sym c.if-is_ascii_digit.ensures.value) c.in-None.ensures
+    digit_starts_no_name (sym c.as_bytes.ensures.value ∙ c.in-Some.ensures) (sym c.if-is_ascii_digit.ensures.value)
+    c.in-None.ensures
 
 pub returns-then-run-le-MAX_NAME_BYTES : goal.returns-then-run-le-MAX_NAME_BYTES
 returns-then-run-le-MAX_NAME_BYTES c =
     let name =
-    short_name (sym c.as_bytes.ensures.value ∙ c.in-Some.ensures) c.requires (sym c.if-is_ascii_digit.ensures.value)
+    short_run_is_name (sym c.as_bytes.ensures.value ∙ c.in-Some.ensures) c.requires (sym c.if-is_ascii_digit.ensures.value)
     (omega (arith, c.if-run-le-MAX_NAME_BYTES.true)) in
     (inl name, name)
 
 pub returns : goal.returns
 returns c =
-    long_no_kind (sym c.as_bytes.ensures.value ∙ c.in-Some.ensures) (sym c.if-is_ascii_digit.ensures.value)
+    long_run_is_no_name (sym c.as_bytes.ensures.value ∙ c.in-Some.ensures) (sym c.if-is_ascii_digit.ensures.value)
     (λ short. omega (arith, short, c.if-run-le-MAX_NAME_BYTES.false))

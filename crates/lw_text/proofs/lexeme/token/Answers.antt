@@ -1,13 +1,16 @@
+-- `token` promises the first token and its kind, or that there is none, and why. The first byte decides: a
+-- name byte begins the longest run (`no_token-no_kind`), otherwise two bytes are a symbol or one is (`long_symbol`,
+-- `short_symbol`). If neither, no token begins the text (`no_token`).
 use Rattle.lw_text.proofs.Common.{refl, sym, ◌∙◌, ap, subst, length, arith, false≢true, is_name_byte}
 use Rattle.lw_text.proofs.Common.{first_byte_is, IsNameOrNumber, inl, name_bytes_ascii, no_symbol, inr}
-use Rattle.lw_text.proofs.NameRuns.{no_kind, no_token, long_symbol, short_symbol, long_ascii, short_ascii}
-use Rattle.lw_text.proofs.NameRuns.{run_fails}
+use Rattle.lw_text.proofs.NameRuns.{no_token-no_kind, no_token, long_symbol, short_symbol, long_ascii}
+use Rattle.lw_text.proofs.NameRuns.{short_ascii, run_fails}
 use Rattle.lw_text.proofs.lexeme.token.Goals as goal
 
 pub returns-in_default-kind_of_run-clause-none : goal.returns-in_default-kind_of_run-clause-none
 returns-in_default-kind_of_run-clause-none c =
     let run = c.prefix_of_kind.ensures in
-    no_kind (record { parts = run.parts; all = run.all; longest = run.longest })
+    no_token-no_kind (record { parts = run.parts; all = run.all; longest = run.longest })
     (ap (first_byte_is is_name_byte) c.in-Some.ensures ∙ sym c.is_name_byte.ensures ∙ c.if-is_name_byte.true)
     (λ k. c.in_default-kind_of_run.ensures (subst IsNameOrNumber (sym c.ascii_text-text.ensures) k))
 

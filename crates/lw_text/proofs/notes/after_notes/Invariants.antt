@@ -1,3 +1,5 @@
+-- At each round notes have been passed up to `rest`: the notes of the whole text end where those of `rest`
+-- do, and `rest` fails where the whole does. The rest becomes shorter.
 use Rattle.lw_text.proofs.Common.{length, Bytes, FailsInNotes}
 use Rattle.lw_text.proofs.NoteRows.{Passed}
 use Rattle.lw_text.proofs.notes.after_notes.Given as goal

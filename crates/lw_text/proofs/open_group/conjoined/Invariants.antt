@@ -1,3 +1,4 @@
+-- At each round `prop` is the part with as many negations as the index says, and `before` is unchanged.
 use Rattle.lw_text.proofs.Common.{◌≡◌, formula_of, negations}
 use Rattle.lw_text.proofs.open_group.conjoined.Given as goal
 

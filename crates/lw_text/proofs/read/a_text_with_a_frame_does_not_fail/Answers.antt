@@ -1,3 +1,5 @@
+-- Law: a text with a frame does not fail. It is `FailsAt-not`: each part that a frame reads is a part that
+-- does not fail there.
 use Rattle.lw_text.proofs.OneFault.{FailsAt-not}
 use Rattle.lw_text.proofs.read.a_text_with_a_frame_does_not_fail.Goals as goal
 

@@ -1,3 +1,6 @@
+-- `read_frame` promises the text's frame, or a fault that says why and where it has none. The goals by hand
+-- tell the exits apart: a text that is too long or not UTF-8 has no frame for that reason only, and otherwise
+-- the fault is that of `read_text`.
 use Rattle.lw_text.proofs.Common.{NotUtf8, TooLong, arith, subst, sym, ◌∙◌, ◌≢◌, FailsAt}
 use Rattle.lw_text.proofs.read.read_frame.Goals as goal
 

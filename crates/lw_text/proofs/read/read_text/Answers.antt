@@ -1,3 +1,6 @@
+-- `read_text` promises the frame of a short UTF-8 text, or that it has none and where it fails. If the
+-- preamble fails there is no frame; if the tokens end early or are no test, none either (`no_frame-HasNoTest`,
+-- `HasNoTest-no_tokens_or_no_parse`). The head computed in memory is the head that the text says (`resolved_head-head_of_syntax`).
 use Rattle.lw_text.proofs.Common.{◌≡◌, ◌≢◌, ℕ, ◌≤◌, length, sym, ap, ◌∙◌, subst, arith, All, IfSome, Option}
 use Rattle.lw_text.proofs.Common.{None, Some, MatchOption, Result, IsErrAnd, MatchResult, Fault, Memory}
 use Rattle.lw_text.proofs.Common.{MatchOption-at_none, token_texts, PlacedTokens, head_of, columns, Preamble}
@@ -8,11 +11,12 @@ use Rattle.lw_text.proofs.StreamFailures.{body_fails}
 use Rattle.lw_text.proofs.TokenRows.{read_whole}
 use Rattle.lw_text.proofs.CellPlaces.{HasRows-within}
 use Rattle.lw_text.proofs.RowColumns.{columns-map}
-use Rattle.lw_text.proofs.WellFormedHeads.{head_made, body_proposition}
-use Rattle.lw_text.proofs.Whole.{no_frame, no_test}
-use Rattle.lw_text.proofs.Faults.{exits, Err-clause_known}
+use Rattle.lw_text.proofs.WellFormedHeads.{resolved_head-head_of_syntax, body_proposition}
+use Rattle.lw_text.proofs.Whole.{no_frame-HasNoTest, HasNoTest-no_tokens_or_no_parse}
+use Rattle.lw_text.proofs.Faults.{MatchResult-weakened_error, Err-clause_known}
 use Rattle.lw_text.proofs.read.read_text.Goals as goal
 
+-- If a result is `None` for one reason, or a value with Q, and Q implies R, each value has R.
 some_within : {F : Type 0} (P : Type 0) (Q R : F → Type 0) (o : Option F) → MatchOption o P Q → ((f : F) → Q f → R f) → IfSome o R
 some_within P Q R None p h = tt
 some_within P Q R (Some f) q h = h f q
@@ -24,10 +28,12 @@ first_two : {F : Type 0} (P : Type 0) (A B C : F → Type 0) (o : Option F)
 first_two P A B C None p = p
 first_two P A B C (Some f) p = (p.0, p.1)
 
+-- A result that fails for lack of memory, at position 0, promises nothing else.
 no_memory : {T : Type 0} (P : T → Type 0) (X : Type 0) (Y : Fault → Type 0) (len : ℕ) (r : Result T Fault)
     → IsErrAnd r (λ f. (f.at ≡ 0) × (f.cause ≡ Memory))
     → MatchResult r P (λ f. (f.cause ≢ Memory → X) × (f.at ≤ len) × (f.cause ≢ Memory → Y f))
-no_memory P X Y len r h = exits P _ r h (λ f k. (λ other. absurd (other k.1), omega (arith, k.0), λ other. absurd (other k.1)))
+no_memory P X Y len r h =
+    MatchResult-weakened_error P _ r h (λ f k. (λ other. absurd (other k.1), omega (arith, k.0), λ other. absurd (other k.1)))
 
 pub returns-in_err-preamble : goal.returns-in_err-preamble
 returns-in_err-preamble g c = Err-clause_known _ _ _ c.from_residual.ensures.1 (
@@ -60,10 +66,10 @@ returns-in_err-body g c = Err-clause_known _ _ _ c.from_residual-in_err-body.ens
       subst (λ t. Preamble t c.in_ok-preamble.preamble.arch c.in_ok-preamble.preamble.name.now c.parse_preamble.new.self.rest.now)
       c.new-lexer.ensures.rest c.in_ok-preamble.ensures.reads in
       λ ne.
-      no_frame c.args.text.now c.in_ok-preamble.preamble.arch c.in_ok-preamble.preamble.name.now
+      no_frame-HasNoTest c.args.text.now c.in_ok-preamble.preamble.arch c.in_ok-preamble.preamble.name.now
       c.parse_preamble.new.self.rest.now preamble
-      (no_test c.in_ok-preamble.preamble.arch stream.fault _ _ c.parse_preamble.new.self.rest.now stream.tokens
-      (first_two _ _ _ _ stream.fault c.in_ok-stream.ensures.0) (c.in_err-body.ensures.0 ne))),
+      (HasNoTest-no_tokens_or_no_parse c.in_ok-preamble.preamble.arch stream.fault _ _ c.parse_preamble.new.self.rest.now
+      stream.tokens (first_two _ _ _ _ stream.fault c.in_ok-stream.ensures.0) (c.in_err-body.ensures.0 ne))),
   c.in_err-body.ensures.1,
   λ ne.
       let whole = c.in_ok-preamble.ensures.same ∙ c.new-lexer.ensures.text in
@@ -104,7 +110,7 @@ returns g c =
     let says = c.in_ok-body.ensures.1 in
     let preamble = subst (λ t. Preamble t arch name rest) c.new-lexer.ensures.rest c.in_ok-preamble.ensures.reads in
     let head : head_of frame.head ≡ head_of_syntax arch name (syntax_of body says.terminals) (formula_of body.parts.prop) =
-    c.in_ok-finish.ensures.head ∙ head_made arch name _ body says in
+    c.in_ok-finish.ensures.head ∙ resolved_head-head_of_syntax arch name _ body says in
     let cells : all_texts frame.cells ≡ columns body.parts.threads (all_texts body.rows) =
     ap all_texts c.in_ok-finish.ensures.cells ∙ columns-map cell_texts body.parts.threads body.rows in
     let whole = c.in_ok-preamble.ensures.same ∙ c.new-lexer.ensures.text in
@@ -136,7 +142,7 @@ returns g c =
         threads = body.parts.threads;
         rows = placed_cells body.rows;
         has_rows = c.in_ok-body.ensures.2;
-        are = ap placed_cells c.in_ok-finish.ensures.cells ∙ columns-map _ body.parts.threads body.rows;
+        cells_are = ap placed_cells c.in_ok-finish.ensures.cells ∙ columns-map _ body.parts.threads body.rows;
       },
       c.in_ok-finish.ensures.len,
     )

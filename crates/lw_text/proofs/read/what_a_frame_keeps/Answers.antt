@@ -1,3 +1,5 @@
+-- Law: the head of a text's frame is well-formed. It is `frame_well_formed`: the grammar limits threads and
+-- locations, and the condition mentions only what the head names.
 use Rattle.lw_text.proofs.WellFormedHeads.{frame_well_formed}
 use Rattle.lw_text.proofs.read.what_a_frame_keeps.Goals as goal
 

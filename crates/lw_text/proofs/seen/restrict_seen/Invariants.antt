@@ -1,3 +1,4 @@
+-- At each round `seen` has the listed registers of the threads before the index.
 use Rattle.lw_text.proofs.Common.{◌≡◌, filter, all_registers, is_listed}
 use Rattle.lw_text.proofs.seen.restrict_seen.Given as goal
 

@@ -1,3 +1,5 @@
+-- `see` promises that the item is appended if its site is listed, and that nothing changes otherwise. The
+-- loop's end says that no site is the wanted one; the early exit finds it.
 use Rattle.lw_text.proofs.Common.{◌≡◌, ℕ, Bool, true, false, List, length, ◌+◌, ◌<◌, append-nil, get_or}
 use Rattle.lw_text.proofs.Common.{is_listed, list_any, list_any_at, list_any_more, seen_of, sym, take}
 use Rattle.lw_text.proofs.Common.{take_all, ◌∙◌}

@@ -1,3 +1,4 @@
+-- At each round `seen` is unchanged, and no site before the index is the wanted one.
 use Rattle.lw_text.proofs.Common.{◌≡◌, false, take, seen_of, is_listed}
 use Rattle.lw_text.proofs.seen.see.Given as goal
 

@@ -1,3 +1,4 @@
+-- At each round `seen` has, after what it had at the start, the listed locations before the index.
 use Rattle.lw_text.proofs.Common.{◌≡◌, ◌++◌, filter, locations, is_listed}
 use Rattle.lw_text.proofs.seen.see_locations.Given as goal
 

@@ -1,5 +1,7 @@
+-- `enter` promises the index of a location's name, which it inserts if there is room, or why not.
+-- `insert_name-get` says that an inserted name is at its index; without room the table already has eight others.
 use Rattle.lw_text.proofs.Common.{arith, refl, inr}
-use Rattle.lw_text.proofs.NameTables.{appeared_at}
+use Rattle.lw_text.proofs.NameTables.{insert_name-get}
 use Rattle.lw_text.proofs.site.enter.Goals as goal
 
 pub returns-in-None : goal.returns-in-None
@@ -16,7 +18,7 @@ returns-in-Some g c =
     let index = rw c.in-Some.is at c.in_ok-loc.ensures.index in
     let names = rw c.in-Some.is at c.in_ok-loc.ensures.names in (
       c.if-not-is_location.ensures.0 refl,
-      appeared_at c.args.locs.now c.find_or_add.new.self c.in-Some.loc c.args.name.now names index,
+      insert_name-get c.args.locs.now c.find_or_add.new.self c.in-Some.loc c.args.name.now names index,
       names,
       c.in_ok-loc.ensures.table.few,
     )

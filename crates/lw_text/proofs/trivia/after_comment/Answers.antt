@@ -1,3 +1,6 @@
+-- `after_comment` promises the rest after the comment, or that it is not closed. `depth` counts the comments
+-- inside: one case each for a `(*`, a `*)`, and any other byte (`Progress_open`, `Progress_close`,
+-- `Progress_other`); at depth 0 a `*)` is the end (`Progress_done`).
 use Rattle.lw_text.proofs.Comments.{Progress_open, Progress_other, Progress_close, Progress_done}
 use Rattle.lw_text.proofs.trivia.after_comment.Goals as goal
 

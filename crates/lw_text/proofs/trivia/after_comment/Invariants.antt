@@ -1,3 +1,5 @@
+-- At each round the comment is closed where `rest` closes one comment more than `depth` (`Progress`). The
+-- rest becomes shorter.
 use Rattle.lw_text.proofs.Common.{length}
 use Rattle.lw_text.proofs.Comments.{Progress}
 use Rattle.lw_text.proofs.trivia.after_comment.Given as goal

@@ -1,8 +1,11 @@
+-- `after_trivia` promises the rest after blanks and comments, or that a comment is not closed. Each round
+-- skips a comment and the blanks after it (`Skipped-comment`, `Skipped-blanks`). A comment that is not closed
+-- leaves no rest at all (`Skipped-open`).
 use Rattle.lw_text.proofs.Common.{arith, ap, length, length-append}
 use Rattle.lw_text.proofs.Comments.{Comment-shorter}
 use Rattle.lw_text.proofs.TriviaLemmas.{Skipped-none, Skipped-blanks, Skipped-comment, Skipped-open}
 use Rattle.lw_text.proofs.TriviaLemmas.{Skipped-done}
-use Rattle.lw_text.proofs.Numbers.{if_none}
+use Rattle.lw_text.proofs.Numbers.{IfNone-of_fact}
 use Rattle.lw_text.proofs.trivia.after_trivia.Goals as goal
 
 pub loop-inner-init : goal.loop-inner-init
@@ -12,7 +15,7 @@ loop-inner-init c =
 
 pub returns-in_err-after_comment-clause-none : goal.returns-in_err-after_comment-clause-none
 returns-in_err-after_comment-clause-none c =
-    if_none _ _ (Skipped-open c.loop-inner.invariant.skipped c.in-Some.ensures c.in_err-after_comment.ensures.none)
+    IfNone-of_fact _ _ (Skipped-open c.loop-inner.invariant.skipped c.in-Some.ensures c.in_err-after_comment.ensures.none)
 
 pub loop-inner-smaller : goal.loop-inner-smaller
 loop-inner-smaller c = omega (

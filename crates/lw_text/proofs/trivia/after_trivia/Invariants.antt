@@ -1,3 +1,5 @@
+-- At each round trivia has been skipped up to `rest`, which does not start with a blank (`Skipped`). The rest
+-- becomes shorter.
 use Rattle.lw_text.proofs.Common.{◌≡◌, false, length, is_blank, first_byte_is}
 use Rattle.lw_text.proofs.TriviaLemmas.{Skipped}
 use Rattle.lw_text.proofs.trivia.after_trivia.Given as goal

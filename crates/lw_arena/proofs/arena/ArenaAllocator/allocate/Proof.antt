@@ -27,8 +27,8 @@ use Rattle.std.proofs.alloc.Shapes.{after, head, arm_body}
 use Rattle.std.proofs.raw_atomic.Calls.{fm}
 use Rattle.std.proofs.raw_atomic.Walks.{proved_at, leaves}
 use Rattle.lw_arena.specs.Ownership.{block_token}
-use Rattle.lw_arena.proofs.Taken.{Taken, Said, taken, hands_out}
-use Rattle.lw_arena.proofs.Walks.{slot_at, then_runs}
+use Rattle.lw_arena.proofs.Taken.{TakeResult, TakeEnsures, goal-of_take_result, block_token-of_room}
+use Rattle.lw_arena.proofs.Walks.{slot_of_index, then_runs}
 use Rattle.lw_arena.specs.contracts.arena.Arena.take as callee
 use Rattle.lw_arena.specs.contracts.arena.Arena.take.Key as take_key
 use Rattle.lw_arena.proofs.arena.Arena.take.Met.{met as takes}
@@ -40,10 +40,10 @@ use Rattle.lw_arena.proofs.arena.ArenaAllocator.allocate.Code as code
 -- What the function still owns of each parameter when it returns: nothing.
 abbrev stays : Stays ended.signature.params ended.kept
 stays = (
-  stay_dropped (slot_at 0 ended.signature.params) ended.kept.0,
+  stay_dropped (slot_of_index 0 ended.signature.params) ended.kept.0,
   (
-    stay_dropped (slot_at 1 ended.signature.params) ended.kept.1.0,
-    (stay_dropped (slot_at 2 ended.signature.params) ended.kept.1.1.0, tt),
+    stay_dropped (slot_of_index 1 ended.signature.params) ended.kept.1.0,
+    (stay_dropped (slot_of_index 2 ended.signature.params) ended.kept.1.1.0, tt),
   ),
 )
 
@@ -56,10 +56,10 @@ allocate_spec 𝓤 𝓛 𝓜 𝓡 wired =
     let C = (tables 𝓤 H 𝓜 𝓡 𝓡.env).C in
     let Λ = (tables 𝓤 H 𝓜 𝓡 𝓡.env).Λ in
     proved_at 𝓛 ended stays c 𝓜 𝓡 (
-      Goes-dropped 𝓛 1 (slot_at 0 ended.signature.params) ended.kept.0 (λ κs x f. refl),
+      Goes-dropped 𝓛 1 (slot_of_index 0 ended.signature.params) ended.kept.0 (λ κs x f. refl),
       (
-        Goes-dropped 𝓛 1 (slot_at 1 ended.signature.params) ended.kept.1.0 (λ κs x f. refl),
-        (Goes-dropped 𝓛 1 (slot_at 2 ended.signature.params) ended.kept.1.1.0 (λ κs x f. refl), tt),
+        Goes-dropped 𝓛 1 (slot_of_index 1 ended.signature.params) ended.kept.1.0 (λ κs x f. refl),
+        (Goes-dropped 𝓛 1 (slot_of_index 2 ended.signature.params) ended.kept.1.1.0 (λ κs x f. refl), tt),
       ),
     )
     key fn (code.unfolded 𝓤 H 𝓜 𝓡 wired) (λ z are.
@@ -85,13 +85,13 @@ allocate_spec 𝓤 𝓛 𝓜 𝓡 wired =
     (subst (λ (us : List Val). ent 𝓤 (call.pre y) (C take_key.name us (call.post y))) told
     (takes 𝓤 𝓛 𝓜 𝓡 (code.calls-lw_arena::arena::Arena::take 𝓡.env wired) y))
     (and_then ! (get ! refl) (and_then ! (get ! refl) (and_then ! (get ! refl) (no_more !)))) (λ v.
-    use1 𝓛 (later (some (λ (x : Taken.Denot). (raw (alive 𝓛 ended.signature z.0.0 z.0.1) ⊛ ‵ (Taken.own_val x (v ∷ [])))
-    ⊛ some (λ (ls : Lasts callee.ended z.0.0 a). ‵ (lasts callee.ended z.0.0 a ls) ⊛ raw (fact 𝓤 (Said n al x)))))) (id⊢ 𝓤 (call.post y v)) $
-    await ! tt $ pick ! (λ x. split ! $ move ! (1 ∷ []) $ pick ! (λ _. split ! $ drop ! $ heard ! (Said n al x) (λ said. split ! $ move ! (1 ∷ []) $
-    taken ! n al x v said
+    use1 𝓛 (later (some (λ (x : TakeResult.Denot). (raw (alive 𝓛 ended.signature z.0.0 z.0.1) ⊛ ‵ (TakeResult.own_val x (v ∷ [])))
+    ⊛ some (λ (ls : Lasts callee.ended z.0.0 a). ‵ (lasts callee.ended z.0.0 a ls) ⊛ raw (fact 𝓤 (TakeEnsures n al x)))))) (id⊢ 𝓤 (call.post y v)) $
+    await ! tt $ pick ! (λ x. split ! $ move ! (1 ∷ []) $ pick ! (λ _. split ! $ drop ! $ heard ! (TakeEnsures n al x) (λ said. split ! $ move ! (1 ∷ []) $
+    goal-of_take_result ! n al x v said
     (λ b o small is.
     let p : Ptr = block_ptr b o in
-    use1 𝓛 (‵ (froom τ b o) ⊛ ‵ (block_token τ p)) (hands_out 𝓛 τ b o n asked.0 small) $
+    use1 𝓛 (‵ (froom τ b o) ⊛ ‵ (block_token τ p)) (block_token-of_room 𝓛 τ b o n asked.0 small) $
     lands_as ! is refl (tt, (record { fits = lit< tt }, ((tt, tt), tt))) $
     first ! $ switches_on ! (get_tag ! (vrt ! refl (fld ! refl (stop !))) (whole !)) $
     exec ! C Λ E (arm_body 0 (head (after 1 fn.body))) (then_runs 𝓛 C Λ E (after 2 fn.body) (at_ret E Post)) $

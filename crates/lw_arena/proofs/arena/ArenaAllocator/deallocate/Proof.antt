@@ -28,7 +28,7 @@ use Rattle.std.proofs.raw_atomic.Calls.{fm}
 use Rattle.std.proofs.raw_atomic.Walks.{proved_at, leaves}
 use Rattle.lw_arena.specs.Sizes.{block_units}
 use Rattle.lw_arena.specs.Ownership.{memory, block_token}
-use Rattle.lw_arena.proofs.Walks.{slot_at, point_val, point_own, point_made, ptr_typed, point_typed}
+use Rattle.lw_arena.proofs.Walks.{slot_of_index, point_val, point_own, point_own-always, Good-pointer, Good-point_val}
 use Rattle.lw_arena.specs.contracts.arena.Arena.give as callee
 use Rattle.lw_arena.proofs.arena.Arena.give.Met.{met as gives}
 use Rattle.lw_arena.specs.contracts.block.Block as block
@@ -40,12 +40,12 @@ use Rattle.lw_arena.proofs.arena.ArenaAllocator.deallocate.Code as code
 -- What the function still owns of each parameter when it returns: nothing.
 abbrev stays : Stays ended.signature.params ended.kept
 stays = (
-  stay_dropped (slot_at 0 ended.signature.params) ended.kept.0,
+  stay_dropped (slot_of_index 0 ended.signature.params) ended.kept.0,
   (
-    stay_dropped (slot_at 1 ended.signature.params) ended.kept.1.0,
+    stay_dropped (slot_of_index 1 ended.signature.params) ended.kept.1.0,
     (
-      stay_dropped (slot_at 2 ended.signature.params) ended.kept.1.1.0,
-      (stay_dropped (slot_at 3 ended.signature.params) ended.kept.1.1.1.0, tt),
+      stay_dropped (slot_of_index 2 ended.signature.params) ended.kept.1.1.0,
+      (stay_dropped (slot_of_index 3 ended.signature.params) ended.kept.1.1.1.0, tt),
     ),
   ),
 )
@@ -59,12 +59,12 @@ deallocate_spec 𝓤 𝓛 𝓜 𝓡 wired =
     let C = (tables 𝓤 H 𝓜 𝓡 𝓡.env).C in
     let Λ = (tables 𝓤 H 𝓜 𝓡 𝓡.env).Λ in
     proved_at 𝓛 ended stays c 𝓜 𝓡 (
-      Goes-dropped 𝓛 1 (slot_at 0 ended.signature.params) ended.kept.0 (λ κs x f. refl),
+      Goes-dropped 𝓛 1 (slot_of_index 0 ended.signature.params) ended.kept.0 (λ κs x f. refl),
       (
-        Goes-dropped 𝓛 1 (slot_at 1 ended.signature.params) ended.kept.1.0 (λ κs x f. refl),
+        Goes-dropped 𝓛 1 (slot_of_index 1 ended.signature.params) ended.kept.1.0 (λ κs x f. refl),
         (
-          Goes-dropped 𝓛 1 (slot_at 2 ended.signature.params) ended.kept.1.1.0 (λ κs x f. refl),
-          (Goes-dropped 𝓛 1 (slot_at 3 ended.signature.params) ended.kept.1.1.1.0 (λ κs x f. refl), tt),
+          Goes-dropped 𝓛 1 (slot_of_index 2 ended.signature.params) ended.kept.1.1.0 (λ κs x f. refl),
+          (Goes-dropped 𝓛 1 (slot_of_index 3 ended.signature.params) ended.kept.1.1.1.0 (λ κs x f. refl), tt),
         ),
       ),
     )
@@ -90,12 +90,12 @@ deallocate_spec 𝓤 𝓛 𝓜 𝓡 wired =
     regoal ! (λ (us : List Val). prop (WpFn 𝓤 H C Λ fn us Post))
     (λ i. are.0.0 i ++ (are.1.0 i ++ (are.1.1.0.0 i ++ (are.1.1.1.0.0 i ++ [])))) refl $
     enter ! C Λ fn (me ∷ ptr_val p ∷ vint w64 n ∷ vint w64 al ∷ []) Post $
-    alloc_all ! (λ l. pass_all ! refl ((tt, tt), (ptr_typed p, ((tt, record { fits = are.1.1.0.1 }), ((tt, record { fits = are.1.1.1.0.1 }), tt)))) $
-    sets ! (agg ! (and_then ! (get ! refl) (no_more !))) refl (point_typed p) $
+    alloc_all ! (λ l. pass_all ! refl ((tt, tt), (Good-pointer p, ((tt, record { fits = are.1.1.0.1 }), ((tt, record { fits = are.1.1.1.0.1 }), tt)))) $
+    sets ! (agg ! (and_then ! (get ! refl) (no_more !))) refl (Good-point_val p) $
     let x : (block.the_row).Denot = record { at = p; units = k } in
     let Goes : Type 0 = (k ≡ block_units n) × (n < 2 ^ 63) in
     let y : call.Ghost = ((z.0.0, z.0.1, z.0.2, (a.0, (x, (n, tt))), (me ∷ [], (point_val p ∷ [], (vint w64 n ∷ [], tt)))), tt) in
-    use0 𝓛 (‵ (point_own p (point_val p ∷ []))) (point_made 𝓛 p) $ fjoin ! $
+    use0 𝓛 (‵ (point_own p (point_val p ∷ []))) (point_own-always 𝓛 p) $ fjoin ! $
     nothing ! $ flt_i ! n (2 ^ 64) are.1.1.0.1 $ feq_i ! (List Val) (vint w64 n ∷ []) (vint w64 n ∷ []) refl $ fjoin ! $ fjoin ! $
     move ! (1 ∷ 0 ∷ []) $ fjoin ! $ move ! (1 ∷ []) $ feq_i ! (List Val) (me ∷ []) (me ∷ []) refl $ fjoin ! $ fjoin ! $ move ! (1 ∷ 0 ∷ []) $ join ! $
     use0 𝓛 (raw (fact 𝓤 Goes)) (fact_i 𝓤 Goes (emp 𝓤) (ap block_units same, omega arith)) $ move ! (1 ∷ 0 ∷ []) $ join ! $

@@ -22,8 +22,8 @@ use Rattle.std.proofs.alloc.Calls.{Goes-blank}
 use Rattle.std.proofs.alloc.Shapes.{after}
 use Rattle.std.proofs.raw_atomic.Walks.{proved_at, leaves}
 use Rattle.lw_arena.specs.Ownership.{units, memory}
-use Rattle.lw_arena.proofs.Rooms.{cuts, is_memory, in_memory}
-use Rattle.lw_arena.proofs.Walks.{slot_at, point_val, point_own, point_told, point_made, pair_val, pair_of}
+use Rattle.lw_arena.proofs.Rooms.{room-split, memory-of_room, goal-of_memory}
+use Rattle.lw_arena.proofs.Walks.{slot_of_index, point_val, point_own, point_own-only_point_val, point_own-always, pair_val, own_pair}
 use Rattle.lw_arena.specs.contracts.block.Block as block
 use Rattle.lw_arena.specs.contracts.block.Block.cut.{ended, clauses}
 use Rattle.lw_arena.specs.contracts.block.Block.cut.Key.{name as key}
@@ -33,8 +33,8 @@ use Rattle.lw_arena.proofs.block.Block.cut.Code as code
 -- What the function still owns of each parameter when it returns: nothing.
 abbrev stays : Stays ended.signature.params ended.kept
 stays = (
-  stay_dropped (slot_at 0 ended.signature.params) ended.kept.0,
-  (stay_dropped (slot_at 1 ended.signature.params) ended.kept.1.0, tt),
+  stay_dropped (slot_of_index 0 ended.signature.params) ended.kept.0,
+  (stay_dropped (slot_of_index 1 ended.signature.params) ended.kept.1.0, tt),
 )
 
 -- `cut` satisfies its contract.
@@ -46,8 +46,8 @@ cut_spec 𝓤 𝓛 𝓜 𝓡 wired =
     let C = (tables 𝓤 H 𝓜 𝓡 𝓡.env).C in
     let Λ = (tables 𝓤 H 𝓜 𝓡 𝓡.env).Λ in
     proved_at 𝓛 ended stays c 𝓜 𝓡 (
-      Goes-blank 𝓛 0 (slot_at 0 ended.signature.params) ended.kept.0 (λ κs x f. tt),
-      (Goes-dropped 𝓛 0 (slot_at 1 ended.signature.params) ended.kept.1.0 (λ κs x f. refl), tt),
+      Goes-blank 𝓛 0 (slot_of_index 0 ended.signature.params) ended.kept.0 (λ κs x f. tt),
+      (Goes-dropped 𝓛 0 (slot_of_index 1 ended.signature.params) ended.kept.1.0 (λ κs x f. refl), tt),
     )
     key fn (code.unfolded 𝓤 H 𝓜 𝓡 wired) (λ z are.
     let Post : Val → SProp 𝓤 = (walk_of 𝓛 ended stays c).post z in
@@ -60,14 +60,14 @@ cut_spec 𝓤 𝓛 𝓜 𝓡 wired =
     qed 𝓛 ((raw (alive 𝓛 ended.signature z.0.0 z.0.1) ⊛ ‵ (owns (types_at ended.signature.params z.0.0) a vss)) ∷ raw (fact 𝓤 Asked) ∷ []) ∵
     move ! (1 ∷ []) $ heard ! Asked (λ asked. split ! $ move ! (1 ∷ []) $
     fsplit ! $ fsplit ! $ drop ! $ move ! (1 ∷ []) $ drop ! $
-    in_memory ! x.units x.at (omega arith) (λ b o lies.
+    goal-of_memory ! x.units x.at (omega arith) (λ b o lies.
     let front : Ptr = block_ptr b o in
     let behind : Ptr = block_ptr b (o + n * 16) in
     let sum : x.units ≡ n + left = omega arith in
     rewrite ! 0 (λ (k : ℕ). ‵ (froom (units k) b o)) sum refl $
-    use1 𝓛 (‵ (froom (units n) b o) ⊛ ‵ (froom (units left) b (o + n * 16))) (cuts 𝓛 n left b o) $ split ! $
+    use1 𝓛 (‵ (froom (units n) b o) ⊛ ‵ (froom (units left) b (o + n * 16))) (room-split 𝓛 n left b o) $ split ! $
     regoal ! (λ (us : List Val). prop (WpFn 𝓤 H C Λ fn us Post))
-    (λ i. (point_told x.at vss.0 are.0.0 ∙ ap (λ (p : Ptr). point_val p ∷ []) lies) i ++ (are.1.0.0 i ++ [])) refl $
+    (λ i. (point_own-only_point_val x.at vss.0 are.0.0 ∙ ap (λ (p : Ptr). point_val p ∷ []) lies) i ++ (are.1.0.0 i ++ [])) refl $
     enter ! C Λ fn (point_val front ∷ vint w64 n ∷ []) Post $
     alloc_all ! (λ l. pass_all ! refl ((tt, (tt, tt)), ((tt, record { fits = are.1.0.1 }), tt)) $ let E : Env 𝓤 𝓛.H = env fn.locals l in
     -- [the units in front; those after them; the token]
@@ -83,13 +83,13 @@ cut_spec 𝓤 𝓛 𝓜 𝓡 wired =
     returns ! (look_at ! 0 refl) $ free_all ! refl $
     let y : (block.the_row).Denot = record { at = front; units = n } in
     let w : (block.the_row).Denot = record { at = behind; units = left } in
-    use1 𝓛 (‵ (memory n front)) (is_memory 𝓛 n b o) $
-    use0 𝓛 (‵ (point_own front (point_val front ∷ []))) (point_made 𝓛 front) $ fjoin ! $
-    move ! (1 ∷ []) $ use1 𝓛 (‵ (memory left behind)) (is_memory 𝓛 left b (o + n * 16)) $
-    use0 𝓛 (‵ (point_own behind (point_val behind ∷ []))) (point_made 𝓛 behind) $ fjoin ! $
+    use1 𝓛 (‵ (memory n front)) (memory-of_room 𝓛 n b o) $
+    use0 𝓛 (‵ (point_own front (point_val front ∷ []))) (point_own-always 𝓛 front) $ fjoin ! $
+    move ! (1 ∷ []) $ use1 𝓛 (‵ (memory left behind)) (memory-of_room 𝓛 left b (o + n * 16)) $
+    use0 𝓛 (‵ (point_own behind (point_val behind ∷ []))) (point_own-always 𝓛 behind) $ fjoin ! $
     move ! (1 ∷ 0 ∷ []) $
     use2 𝓛 (‵ ((Tuple (block.the_row ∷ block.the_row ∷ [])).own_val (y, w) (pair_val (point_val front) (point_val behind) ∷ [])))
-    (pair_of 𝓛 block.the_row block.the_row y w (point_val front) (point_val behind)) $
+    (own_pair 𝓛 block.the_row block.the_row y w (point_val front) (point_val behind)) $
     use0 𝓛 (raw (fact 𝓤 ((n ≡ n) × (left + n ≡ x.units)))) (fact_i 𝓤 ((n ≡ n) × (left + n ≡ x.units)) (emp 𝓤) (refl, omega arith)) $
     nothing ! $ nothing ! $ fjoin ! $ nothing ! $ fjoin ! $ move ! (3 ∷ 0 ∷ 2 ∷ 1 ∷ []) $
     by ! (leaves 𝓛 ended stays c z (pair_val (point_val front) (point_val behind)) (y, w) (tt, (tt, tt)) (tt, (tt, tt)))))))

@@ -29,8 +29,8 @@ use Rattle.std.proofs.option.Made.{Some-of, none_of}
 use Rattle.std.proofs.raw_atomic.Calls.{fm}
 use Rattle.std.proofs.raw_atomic.Walks.{proved_at, leaves}
 use Rattle.lw_arena.specs.Ownership.{units, memory}
-use Rattle.lw_arena.proofs.Rooms.{is_memory}
-use Rattle.lw_arena.proofs.Walks.{slot_at, then_runs, point_val, point_own, point_made}
+use Rattle.lw_arena.proofs.Rooms.{memory-of_room}
+use Rattle.lw_arena.proofs.Walks.{slot_of_index, then_runs, point_val, point_own, point_own-always}
 use Rattle.lw_arena.specs.contracts.block.Block as block
 use Rattle.lw_arena.specs.contracts.block.Block.kept.{ended, clauses}
 use Rattle.lw_arena.specs.contracts.block.Block.kept.Key.{name as key}
@@ -46,12 +46,12 @@ kept_spec 𝓤 𝓛 𝓜 𝓡 wired A L g d dd met md =
     let args : Args = bounded (a_type ∷ []) (A, tt) (dcons d (dcons dd dnil)) in
     let fn : Fn = inst_fn args code.function in
     let stays : Stays T.signature.params T.kept
-    = (stay_dropped (slot_at 0 T.signature.params) T.kept.0, (stay_dropped (slot_at 1 T.signature.params) T.kept.1.0, tt)) in
+    = (stay_dropped (slot_of_index 0 T.signature.params) T.kept.0, (stay_dropped (slot_of_index 1 T.signature.params) T.kept.1.0, tt)) in
     let C = (tables 𝓤 H 𝓜 𝓡 𝓡.env).C in
     let Λ = (tables 𝓤 H 𝓜 𝓡 𝓡.env).Λ in
     proved_at 𝓛 T stays c 𝓜 𝓡 (
-      Goes-dropped 𝓛 2 (slot_at 0 T.signature.params) T.kept.0 (λ κs x f. refl),
-      (Goes-dropped 𝓛 2 (slot_at 1 T.signature.params) T.kept.1.0 (λ κs x f. refl), tt),
+      Goes-dropped 𝓛 2 (slot_of_index 0 T.signature.params) T.kept.0 (λ κs x f. refl),
+      (Goes-dropped 𝓛 2 (slot_of_index 1 T.signature.params) T.kept.1.0 (λ κs x f. refl), tt),
     )
     (key args) fn (code.unfolded 𝓤 H 𝓜 𝓡 wired (A, tt) d dd) (λ z are.
     let Post : Val → SProp 𝓤 = (walk_of 𝓛 T stays c).post z in
@@ -98,8 +98,8 @@ kept_spec 𝓤 𝓛 𝓜 𝓡 wired A L g d dd met md =
     returns ! (look_at ! 0 refl) $ free_all ! refl $
     let p : Ptr = block_ptr b o in
     let x : (block.the_row).Denot = record { at = p; units = n } in
-    use1 𝓛 (‵ (memory n p)) (is_memory 𝓛 n b o) $
-    use0 𝓛 (‵ (point_own p (point_val p ∷ []))) (point_made 𝓛 p) $ fjoin ! $
+    use1 𝓛 (‵ (memory n p)) (memory-of_room 𝓛 n b o) $
+    use0 𝓛 (‵ (point_own p (point_val p ∷ []))) (point_own-always 𝓛 p) $ fjoin ! $
     use1 𝓛 (‵ (Out.own_val (Some x) (live 1 (vcons (point_val p) vnil) ∷ []))) (Some-of 𝓛 block.the_row x (point_val p)) $
     use0 𝓛 (raw (fact 𝓤 (n ≡ n))) (fact_i 𝓤 (n ≡ n) (emp 𝓤) refl) $
     nothing ! $ nothing ! $ fjoin ! $ nothing ! $ fjoin ! $ keep ! (4 ∷ 0 ∷ 2 ∷ 1 ∷ []) $

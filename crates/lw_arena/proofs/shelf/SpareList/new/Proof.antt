@@ -18,7 +18,7 @@ use denote.Steps.{nothing}
 use denote.Triple.Entry.{alive}
 use denote.Triple.Walked.{Stays, stay_dropped, walk_of, Goes-dropped}
 use Rattle.std.proofs.raw_atomic.Walks.{proved_at, leaves}
-use Rattle.lw_arena.proofs.Walks.{slot_at, point_val, point_own, point_made}
+use Rattle.lw_arena.proofs.Walks.{slot_of_index, point_val, point_own, point_own-always}
 use Rattle.lw_arena.specs.contracts.shelf.SpareList as list
 use Rattle.lw_arena.specs.contracts.shelf.SpareList.new.{ended, clauses}
 use Rattle.lw_arena.specs.contracts.shelf.SpareList.new.Key.{name as key}
@@ -27,7 +27,7 @@ use Rattle.lw_arena.proofs.shelf.SpareList.new.Code as code
 
 -- What the function still owns of each parameter when it returns: nothing.
 abbrev stays : Stays ended.signature.params ended.kept
-stays = (stay_dropped (slot_at 0 ended.signature.params) ended.kept.0, tt)
+stays = (stay_dropped (slot_of_index 0 ended.signature.params) ended.kept.0, tt)
 
 -- `new` satisfies its contract.
 pub new_spec : {M : Type 1} → statement M
@@ -37,7 +37,7 @@ new_spec 𝓤 𝓛 𝓜 𝓡 wired =
     let fn : Fn = code.function in
     let C = (tables 𝓤 H 𝓜 𝓡 𝓡.env).C in
     let Λ = (tables 𝓤 H 𝓜 𝓡 𝓡.env).Λ in
-    proved_at 𝓛 ended stays c 𝓜 𝓡 (Goes-dropped 𝓛 0 (slot_at 0 ended.signature.params) ended.kept.0 (λ κs x f. refl), tt)
+    proved_at 𝓛 ended stays c 𝓜 𝓡 (Goes-dropped 𝓛 0 (slot_of_index 0 ended.signature.params) ended.kept.0 (λ κs x f. refl), tt)
     key fn (code.unfolded 𝓤 H 𝓜 𝓡 wired) (λ z are.
     let Post : Val → SProp 𝓤 = (walk_of 𝓛 ended stays c).post z in
     let a = z.0.3 in
@@ -51,7 +51,7 @@ new_spec 𝓤 𝓛 𝓜 𝓡 wired =
     enter ! C Λ fn (vint w64 n ∷ []) Post $ alloc_all ! (λ l. pass_all ! refl ((tt, record { fits = are.0.1 }), tt) $
     sets ! (agg ! (and_then ! (lit ! tt) (no_more !))) refl (tt, (record { fits = lit< tt }, tt)) $
     returns ! (look_at ! 0 refl) $ free_all ! refl $
-    nothing ! $ use0 𝓛 (‵ (point_own null_ptr (point_val null_ptr ∷ []))) (point_made 𝓛 null_ptr) $ fjoin ! $
+    nothing ! $ use0 𝓛 (‵ (point_own null_ptr (point_val null_ptr ∷ []))) (point_own-always 𝓛 null_ptr) $ fjoin ! $
     use0 𝓛 (raw (fact 𝓤 Said)) (fact_i 𝓤 Said (emp 𝓤) (refl, refl)) $
     nothing ! $ nothing ! $ fjoin ! $ move ! (3 ∷ 0 ∷ 2 ∷ 1 ∷ []) $
     by ! (leaves 𝓛 ended stays c z (point_val null_ptr) y (tt, tt) (tt, tt))))

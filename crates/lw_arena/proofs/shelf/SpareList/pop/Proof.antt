@@ -26,8 +26,8 @@ use Rattle.std.proofs.alloc.Shapes.{after}
 use Rattle.std.proofs.ResultValues.{and_tt}
 use Rattle.std.proofs.raw_atomic.Walks.{proved_at, leaves}
 use Rattle.lw_arena.specs.Ownership.{units, memory, node_type, node_val, link, chain}
-use Rattle.lw_arena.proofs.Rooms.{is_memory}
-use Rattle.lw_arena.proofs.Walks.{slot_at, point_val, point_own, point_told, point_made, ptr_typed, point_typed, pair_val, pair_of}
+use Rattle.lw_arena.proofs.Rooms.{memory-of_room}
+use Rattle.lw_arena.proofs.Walks.{slot_of_index, point_val, point_own, point_own-only_point_val, point_own-always, Good-pointer, Good-point_val, pair_val, own_pair}
 use Rattle.lw_arena.specs.contracts.block.Block as block
 use Rattle.lw_arena.specs.contracts.shelf.SpareList as list
 use Rattle.lw_arena.specs.contracts.shelf.SpareList.pop.{ended, clauses}
@@ -37,7 +37,7 @@ use Rattle.lw_arena.proofs.shelf.SpareList.pop.Code as code
 
 -- What the function still owns of each parameter when it returns: nothing.
 abbrev stays : Stays ended.signature.params ended.kept
-stays = (stay_dropped (slot_at 0 ended.signature.params) ended.kept.0, tt)
+stays = (stay_dropped (slot_of_index 0 ended.signature.params) ended.kept.0, tt)
 
 module _ {M : Type 1} {𝓤 : Ura M} {𝓛 : Logic 𝓤} {K : Type 0} {Γ : List (Item 𝓤)} {G : Goal 𝓤 𝓛.H} (k : ℕ) where
   -- A nonempty list is the node at its front, the rest of that node's block, and the other blocks.
@@ -57,7 +57,7 @@ pop_spec 𝓤 𝓛 𝓜 𝓡 wired =
     let fn : Fn = code.function in
     let C = (tables 𝓤 H 𝓜 𝓡 𝓡.env).C in
     let Λ = (tables 𝓤 H 𝓜 𝓡 𝓡.env).Λ in
-    proved_at 𝓛 ended stays c 𝓜 𝓡 (Goes-blank 𝓛 0 (slot_at 0 ended.signature.params) ended.kept.0 (λ κs x f. tt), tt)
+    proved_at 𝓛 ended stays c 𝓜 𝓡 (Goes-blank 𝓛 0 (slot_of_index 0 ended.signature.params) ended.kept.0 (λ κs x f. tt), tt)
     key fn (code.unfolded 𝓤 H 𝓜 𝓡 wired) (λ z are.
     let Post : Val → SProp 𝓤 = (walk_of 𝓛 ended stays c).post z in
     let a = z.0.3 in
@@ -72,30 +72,30 @@ pop_spec 𝓤 𝓛 𝓜 𝓡 wired =
     let here : Ptr = block_ptr b o in
     let Said : Type 0 = (k ≡ k) × (k ≡ k) × (m + 1 ≡ l.count) in
     regoal ! (λ (us : List Val). prop (WpFn 𝓤 H C Λ fn us Post))
-    (λ i. (point_told l.first vss.0 are.0.0 ∙ ap (λ (p : Ptr). point_val p ∷ []) lies) i ++ []) refl $
+    (λ i. (point_own-only_point_val l.first vss.0 are.0.0 ∙ ap (λ (p : Ptr). point_val p ∷ []) lies) i ++ []) refl $
     enter ! C Λ fn (point_val here ∷ []) Post $
     alloc_all ! (λ d. pass_all ! refl ((tt, (tt, tt)), tt) $ let E : Env 𝓤 𝓛.H = env fn.locals d in
     -- [the node; the rest of its block; the other blocks; the token]
     sets ! (of_opd ! (get_in ! (fld ! refl (stop !)) (sub ! 0 refl (whole !)))) refl (tt, tt) $
     first ! $ blocks ! $
-    sets_last ! (of_opd ! (load ! (through ! refl (fld ! refl (stop !))) (look_in ! 0 (sub ! 0 refl (whole !))))) refl (ptr_typed next) $
+    sets_last ! (of_opd ! (load ! (through ! refl (fld ! refl (stop !))) (look_in ! 0 (sub ! 0 refl (whole !))))) refl (Good-pointer next) $
     exec ! C Λ E (after 2 fn.body) (at_ret E Post) $
-    sets ! (of_opd ! (get ! refl)) refl (ptr_typed next) $
+    sets ! (of_opd ! (get ! refl)) refl (Good-pointer next) $
     sets ! (of_opd ! (get ! refl)) refl (tt, tt) $
     sets ! (agg ! (and_then ! (get ! refl) (no_more !))) refl (tt, (tt, tt)) $
-    sets ! (agg ! (and_then ! (get ! refl) (no_more !))) refl (point_typed next) $
+    sets ! (agg ! (and_then ! (get ! refl) (no_more !))) refl (Good-point_val next) $
     sets ! (agg ! (and_then ! (get ! refl) (and_then ! (get ! refl) (no_more !)))) refl
-    (and_tt _ ((point_typed next).0), ((tt, tt), ((point_typed next).1, tt))) $
+    (and_tt _ ((Good-point_val next).0), ((tt, tt), ((Good-point_val next).1, tt))) $
     returns ! (look_at ! 0 refl) $ free_all ! refl $
     let y : (block.the_row).Denot = record { at = here; units = k } in
     let w : (list.the_row).Denot = record { first = next; units = k; count = m } in
     use1 𝓛 (‵ (froom node_type b o)) (𝓛.laws.at_room node_type b o (node_val next)) $
     use2 𝓛 (‵ (froom (units k) b o)) (apply∗ 𝓤 (H.room node_type b o) (H.room (units k) b o)) $
-    use1 𝓛 (‵ (memory k here)) (is_memory 𝓛 k b o) $
-    use0 𝓛 (‵ (point_own here (point_val here ∷ []))) (point_made 𝓛 here) $ fjoin ! $ move ! (1 ∷ []) $
-    use0 𝓛 (‵ (point_own next (point_val next ∷ []))) (point_made 𝓛 next) $ fjoin ! $ move ! (1 ∷ 0 ∷ []) $
+    use1 𝓛 (‵ (memory k here)) (memory-of_room 𝓛 k b o) $
+    use0 𝓛 (‵ (point_own here (point_val here ∷ []))) (point_own-always 𝓛 here) $ fjoin ! $ move ! (1 ∷ []) $
+    use0 𝓛 (‵ (point_own next (point_val next ∷ []))) (point_own-always 𝓛 next) $ fjoin ! $ move ! (1 ∷ 0 ∷ []) $
     use2 𝓛 (‵ ((Tuple (block.the_row ∷ list.the_row ∷ [])).own_val (y, w) (pair_val (point_val here) (point_val next) ∷ [])))
-    (pair_of 𝓛 block.the_row list.the_row y w (point_val here) (point_val next)) $
+    (own_pair 𝓛 block.the_row list.the_row y w (point_val here) (point_val next)) $
     use0 𝓛 (raw (fact 𝓤 Said)) (fact_i 𝓤 Said (emp 𝓤) (refl, refl, omega arith)) $
     nothing ! $ nothing ! $ fjoin ! $ move ! (3 ∷ 0 ∷ 2 ∷ 1 ∷ []) $
     by ! (leaves 𝓛 ended stays c z (pair_val (point_val here) (point_val next)) (y, w) (tt, tt) (tt, tt))))))

@@ -23,8 +23,8 @@ use Rattle.std.proofs.alloc.Calls.{Goes-blank}
 use Rattle.std.proofs.alloc.Shapes.{after}
 use Rattle.std.proofs.raw_atomic.Walks.{proved_at, leaves}
 use Rattle.lw_arena.specs.Ownership.{units, memory, node_type, node_val, link, chain}
-use Rattle.lw_arena.proofs.Rooms.{holds, in_memory}
-use Rattle.lw_arena.proofs.Walks.{slot_at, point_val, point_own, point_told, point_made, ptr_typed, point_typed}
+use Rattle.lw_arena.proofs.Rooms.{room-of_type, goal-of_memory}
+use Rattle.lw_arena.proofs.Walks.{slot_of_index, point_val, point_own, point_own-only_point_val, point_own-always, Good-pointer, Good-point_val}
 use Rattle.lw_arena.specs.contracts.shelf.Node as header
 use Rattle.lw_arena.specs.contracts.shelf.SpareList as list
 use Rattle.lw_arena.specs.contracts.shelf.SpareList.push.{ended, clauses}
@@ -39,8 +39,8 @@ named_node = lone (header.the_row).mir
 -- What the function still owns of each parameter when it returns: nothing.
 abbrev stays : Stays ended.signature.params ended.kept
 stays = (
-  stay_dropped (slot_at 0 ended.signature.params) ended.kept.0,
-  (stay_dropped (slot_at 1 ended.signature.params) ended.kept.1.0, tt),
+  stay_dropped (slot_of_index 0 ended.signature.params) ended.kept.0,
+  (stay_dropped (slot_of_index 1 ended.signature.params) ended.kept.1.0, tt),
 )
 
 -- `push` satisfies its contract.
@@ -52,8 +52,8 @@ push_spec 𝓤 𝓛 𝓜 𝓡 wired =
     let C = (tables 𝓤 H 𝓜 𝓡 𝓡.env).C in
     let Λ = (tables 𝓤 H 𝓜 𝓡 𝓡.env).Λ in
     proved_at 𝓛 ended stays c 𝓜 𝓡 (
-      Goes-blank 𝓛 0 (slot_at 0 ended.signature.params) ended.kept.0 (λ κs x f. tt),
-      (Goes-blank 𝓛 0 (slot_at 1 ended.signature.params) ended.kept.1.0 (λ κs x f. tt), tt),
+      Goes-blank 𝓛 0 (slot_of_index 0 ended.signature.params) ended.kept.0 (λ κs x f. tt),
+      (Goes-blank 𝓛 0 (slot_of_index 1 ended.signature.params) ended.kept.1.0 (λ κs x f. tt), tt),
     )
     key fn (code.unfolded 𝓤 H 𝓜 𝓡 wired) (λ z are.
     let Post : Val → SProp 𝓤 = (walk_of 𝓛 ended stays c).post z in
@@ -68,22 +68,22 @@ push_spec 𝓤 𝓛 𝓜 𝓡 wired =
     move ! (1 ∷ []) $ heard ! Asked (λ asked. split ! $ move ! (1 ∷ []) $
     fsplit ! $ fsplit ! $ drop ! $ move ! (1 ∷ []) $ fsplit ! $ fsplit ! $ drop ! $ move ! (1 ∷ []) $ drop ! $
     rewrite ! 0 (λ (n : ℕ). ‵ (memory n x.at)) asked.0 refl $
-    in_memory ! k x.at asked.1 (λ b o lies.
+    goal-of_memory ! k x.at asked.1 (λ b o lies.
     let here : Ptr = block_ptr b o in
     -- [the block; the list; the token]
     use1 𝓛 (‵ (froom node_type b o) ⊛ ‵ (fwand (froom node_type b o) (froom (units k) b o)))
-    (holds 𝓛 node_type k b o (omega arith) tt) $ split ! $
+    (room-of_type 𝓛 node_type k b o (omega arith) tt) $ split ! $
     use1 𝓛 (‵ (froom named_node b o)) (𝓛.laws.raw-room named_node b o) $
     regoal ! (λ (us : List Val). prop (WpFn 𝓤 H C Λ fn us Post))
-    (λ i. point_told l.first vss.0 are.0.0 i ++ ((point_told x.at vss.1.0 are.1.0.0 ∙ ap (λ (p : Ptr). point_val p ∷ []) lies) i ++ [])) refl $
+    (λ i. point_own-only_point_val l.first vss.0 are.0.0 i ++ ((point_own-only_point_val x.at vss.1.0 are.1.0.0 ∙ ap (λ (p : Ptr). point_val p ∷ []) lies) i ++ [])) refl $
     enter ! C Λ fn (point_val l.first ∷ point_val here ∷ []) Post $
-    alloc_all ! (λ m. pass_all ! refl (point_typed l.first, ((tt, (tt, tt)), tt)) $ let E : Env 𝓤 𝓛.H = env fn.locals m in
-    sets ! (of_opd ! (get_in ! (fld ! refl (stop !)) (sub ! 0 refl (whole !)))) refl (ptr_typed l.first) $
+    alloc_all ! (λ m. pass_all ! refl (Good-point_val l.first, ((tt, (tt, tt)), tt)) $ let E : Env 𝓤 𝓛.H = env fn.locals m in
+    sets ! (of_opd ! (get_in ! (fld ! refl (stop !)) (sub ! 0 refl (whole !)))) refl (Good-pointer l.first) $
     sets ! (of_opd ! (get_in ! (fld ! refl (stop !)) (sub ! 0 refl (whole !)))) refl (tt, tt) $
     sets ! (of_opd ! (get ! refl)) refl (tt, tt) $
     first ! $ blocks ! $
-    sets ! (agg ! (and_then ! (get ! refl) (no_more !))) refl (point_typed l.first) $
-    assigns_last ! (of_opd ! (get ! refl)) (through ! refl (stop !)) (init ! 0 refl (point_typed l.first)) $
+    sets ! (agg ! (and_then ! (get ! refl) (no_more !))) refl (Good-point_val l.first) $
+    assigns_last ! (of_opd ! (get ! refl)) (through ! refl (stop !)) (init ! 0 refl (Good-point_val l.first)) $
     exec ! C Λ E (after 4 fn.body) (at_ret E Post) $
     sets ! (agg ! (and_then ! (get ! refl) (no_more !))) refl (tt, (tt, tt)) $
     returns ! (look_at ! 0 refl) $ free_all ! refl $
@@ -91,7 +91,7 @@ push_spec 𝓤 𝓛 𝓜 𝓡 wired =
     use1 𝓛 (‵ (fat full_share node_type b o (node_val l.first))) (𝓛.laws.at_raw full_share named_node b o (node_val l.first)) $
     fjoin ! $ fjoin ! $ fpack ! Ptr (λ next. fsep (link k here next) (chain k l.count next)) l.first $
     let y : (list.the_row).Denot = record { first = here; units = k; count = suc l.count } in
-    use0 𝓛 (‵ (point_own here (point_val here ∷ []))) (point_made 𝓛 here) $ fjoin ! $
+    use0 𝓛 (‵ (point_own here (point_val here ∷ []))) (point_own-always 𝓛 here) $ fjoin ! $
     use0 𝓛 (raw (fact 𝓤 Said)) (fact_i 𝓤 Said (emp 𝓤) (refl, omega arith)) $
     nothing ! $ nothing ! $ fjoin ! $ nothing ! $ fjoin ! $ move ! (3 ∷ 0 ∷ 2 ∷ 1 ∷ []) $
     by ! (leaves 𝓛 ended stays c z (point_val here) y (tt, (tt, tt)) (tt, (tt, tt)))))))

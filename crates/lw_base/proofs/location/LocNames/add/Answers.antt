@@ -1,5 +1,9 @@
+-- Of `LocNames::add`, which appends a new valid name and returns its location. `IsNameTable-push`: the result is
+-- still a table of at most eight different valid names, so the number of old names fits as a location
+-- (`index-of_pushed_name`).
 use Rattle.lw_base.proofs.Common.{sym, ◌∙◌, ap, ◌++◌, ◌∷◌, [], arith, length, string_bytes, length-map}
-use Rattle.lw_base.proofs.api.Tables.{names_more, table_more, last_index, has_index}
+use Rattle.lw_base.proofs.api.Tables.{map_names-push, IsNameTable-push, index-of_pushed_name}
+use Rattle.lw_base.proofs.api.Tables.{IsSome-if_below_eight}
 use Rattle.lw_base.proofs.location.LocNames.add.Goals as goal
 
 pub invariant_of-self : goal.invariant_of-self
@@ -7,9 +11,9 @@ invariant_of-self g c = rw c.in_err-push.ensures.items c.self.invariant
 
 pub invariant_of-self-2 : goal.invariant_of-self-2
 invariant_of-self-2 g c =
-    let more = names_more string_bytes _ _ _ _ c.in_ok-push.ensures.items c.in_ok-text.ensures.ok in
+    let more = map_names-push string_bytes _ _ _ _ c.in_ok-push.ensures.items c.in_ok-text.ensures.ok in
     let fresh = rw (← c.self.view_is) at c.requires.fresh in
-    rw more (table_more _ _ (rw (← c.self.view_is) at c.requires.few) c.requires.name fresh c.self.invariant)
+    rw more (IsNameTable-push _ _ (rw (← c.self.view_is) at c.requires.few) c.requires.name fresh c.self.invariant)
 
 pub returns-clause-index : goal.returns-clause-index
 returns-clause-index g c =
@@ -18,11 +22,11 @@ returns-clause-index g c =
     ∙ c.self.inside.names.ok.0
     ∙ sym (length-map c.self.inside.names.items string_bytes)
     ∙ ap length c.self.view_is in
-    last_index c.new.result _ c.unwrap.result _ c.new.ensures count c.requires.few c.unwrap.ensures
+    index-of_pushed_name c.new.result _ c.unwrap.result _ c.new.ensures count c.requires.few c.unwrap.ensures
 
 pub returns-clause-ok : goal.returns-clause-ok
 returns-clause-ok g c =
-    let more = names_more string_bytes _ _ _ _ c.in_ok-push.ensures.items c.in_ok-text.ensures.ok in
+    let more = map_names-push string_bytes _ _ _ _ c.in_ok-push.ensures.items c.in_ok-text.ensures.ok in
     more ∙ ap (λ names. names ++ c.args.name.now ∷ []) c.self.view_is
 
 pub returns-clause-table : goal.returns-clause-table
@@ -35,7 +39,7 @@ unwrap-requires g c =
     ∙ c.self.inside.names.ok.0
     ∙ sym (length-map c.self.inside.names.items string_bytes)
     ∙ ap length c.self.view_is in
-    has_index c.new.result c.len-index.result _ c.new.ensures count c.requires.few
+    IsSome-if_below_eight c.new.result c.len-index.result _ c.new.ensures count c.requires.few
 
 pub overflow_cast-index : goal.overflow_cast-index
 overflow_cast-index g c =

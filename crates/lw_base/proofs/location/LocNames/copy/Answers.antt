@@ -1,13 +1,14 @@
+-- Of `LocNames::copy`, which returns an equal table. Each round copies one name (`copied_names-push`).
 use Rattle.lw_base.proofs.Common.{◌∙◌, map, ap, sym, subst, arith, take_all, string_bytes, IsNameTable}
-use Rattle.lw_base.proofs.api.Tables.{copied_more}
+use Rattle.lw_base.proofs.api.Tables.{copied_names-push}
 use Rattle.lw_base.proofs.location.LocNames.copy.Goals as goal
 
 pub loop-name-preserved : goal.loop-name-preserved
 loop-name-preserved g c =
-    copied_more string_bytes _ _ _ _ (record {
+    copied_names-push string_bytes _ _ _ _ (record {
       entry = c.name-item.result;
-      within = omega arith;
-      is = c.name-item.is;
+      index_in_range = omega arith;
+      entry_is = c.name-item.is;
       named = c.in_ok-from_str.ensures.ok ∙ c.as_str.ensures.value;
     }) c.loop-name.invariant c.in_ok-push.ensures.items
 

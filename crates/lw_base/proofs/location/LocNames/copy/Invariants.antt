@@ -1,3 +1,4 @@
+-- At each round the names copied so far are the first of the table.
 use Rattle.lw_base.proofs.Common.{◌≡◌, map, take, string_bytes}
 use Rattle.lw_base.proofs.location.LocNames.copy.Given as goal
 

@@ -1,3 +1,4 @@
+-- At each round the name is none of the first `index` names.
 use Rattle.lw_base.proofs.Common.{◌≡◌, ℕ, ◌<◌, [], map, get_or, string_bytes}
 use Rattle.lw_base.proofs.location.LocNames.find.Given as goal
 

@@ -1,10 +1,13 @@
+-- Of `LocNames::find_or_add`, which returns the location with a name, after the name was inserted if it was
+-- new. A known name leaves the table unchanged (`insert_name-there`), a new one is appended
+-- (`insert_name-new`); a ninth does not fit.
 use Rattle.lw_base.proofs.Common.{[], ◌∷◌, ◌<◌, length, sym, ◌∙◌, length-append, arith}
 use Rattle.lw_base.proofs.api.Tables.{insert_name-there, insert_name-new, position_of_name-at}
 use Rattle.lw_base.proofs.api.Tables.{position_of_name-new}
 use Rattle.lw_base.proofs.location.LocNames.find_or_add.Goals as goal
 
 pub returns-in-Some-clause-index : goal.returns-in-Some-clause-index
-returns-in-Some-clause-index g c = sym (position_of_name-at _ _ _ c.len-len.ensures.table.once c.in-Some.ensures)
+returns-in-Some-clause-index g c = sym (position_of_name-at _ _ _ c.len-len.ensures.table.without_duplicates c.in-Some.ensures)
 
 pub returns-in-Some-clause-names : goal.returns-in-Some-clause-names
 returns-in-Some-clause-names g c = sym (insert_name-there _ _ _ c.in-Some.ensures)

@@ -1,12 +1,14 @@
+-- Of `LocNames::name`, which returns the name of a location. The location is in the table, so it can be read,
+-- and what is read is the contract's (`slice_get-entry_name`).
 use Rattle.lw_base.proofs.Common.{◌∙◌, ap, length, sym, arith, string_bytes, length-map}
-use Rattle.lw_base.proofs.api.Tables.{name_at}
+use Rattle.lw_base.proofs.api.Tables.{slice_get-entry_name}
 use Rattle.lw_base.proofs.location.LocNames.name.Goals as goal
 
 pub returns : goal.returns
 returns g c =
-    name_at string_bytes _ c.index.result _ (record {
+    slice_get-entry_name string_bytes _ c.index.result _ (record {
       entry = c.index-2.result.now;
-      within =
+      index_in_range =
           omega (
             arith,
             c.index.ensures.value,
@@ -14,7 +16,7 @@ returns g c =
             length-map c.self.inside.names.items string_bytes,
             ap length c.self.view_is,
           );
-      is = c.index-2.ensures;
+      entry_is = c.index-2.ensures;
       named = c.as_str.ensures.value;
     }) c.self.view_is c.index.ensures.value
 

@@ -1,3 +1,5 @@
+-- Of `Sequence::len`. The contract's list is that of the vector inside, whose length is the length of its
+-- list.
 use Rattle.lw_base.proofs.Common.{◌∙◌}
 use Rattle.lw_base.proofs.sequence.Sequence.len.Goals as goal
 

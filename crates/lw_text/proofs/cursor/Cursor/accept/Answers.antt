@@ -1,3 +1,5 @@
+-- `accept` promises to advance past this text if it is next, and to stay otherwise. If the test passes, the
+-- next token is the first of the remaining ones (`word_next`).
 use Rattle.lw_text.proofs.Common.{sym, ◌∙◌}
 use Rattle.lw_text.proofs.Texts.{word_next}
 use Rattle.lw_text.proofs.cursor.Cursor.accept.Goals as goal

@@ -1,15 +1,20 @@
+-- `parse_block` promises the block's initializers, or that the tokens are no block with room for its
+-- locations, and where they fail. It is the reading of a list between `{` and `}` with `;` between: one lemma
+-- of `Readings` for each exit. An element that has no room, no site or no value makes the whole list
+-- impossible (`initializers_fault`).
 use Rattle.lw_text.proofs.Common.{ℕ, ◌≡◌, ◌<◌, ◌≤◌, length, NameTable, ParsesMany, sym, [], None, refl, subst}
 use Rattle.lw_text.proofs.Common.{ap, arith, remaining_texts, remaining, IsSuffix, IsSite, IsInitializer}
 use Rattle.lw_text.proofs.Common.{TokenList, Unexpected, named_initializer, site_by_name, ◌∷◌, codes, map}
 use Rattle.lw_text.proofs.Common.{FailsInAssignment, FailsInInitializers, FailsInBlock, no_brace}
 use Rattle.lw_text.proofs.Common.{in_initializers, in_element, no_mark, in_elements_after, in_site, in_value}
 use Rattle.lw_text.proofs.Common.{TextCause, BeginsInitializer}
-use Rattle.lw_text.proofs.Faults.{Err-clause_known, ran_out, unexpected}
-use Rattle.lw_text.proofs.Lists.{IsSuffix-join, shorter_behind}
-use Rattle.lw_text.proofs.Atoms.{brace, semicolon, IsSite-shorter, Value-shorter, value_missing}
-use Rattle.lw_text.proofs.SiteLists.{initializers, initializers_fault}
+use Rattle.lw_text.proofs.Faults.{Err-clause_known, MatchResult-Memory_error, IsOfReader-Unexpected}
+use Rattle.lw_text.proofs.Lists.{IsSuffix-join, tail-shorter}
+use Rattle.lw_text.proofs.Atoms.{brace, semicolon, IsSite-shorter, Value-shorter, no_initializer-no_value}
+use Rattle.lw_text.proofs.SiteLists.{initializer_kind, initializers_fault}
 use Rattle.lw_text.proofs.Failures.{Fails-later, BeginInitializers-push, Listing-joined}
-use Rattle.lw_text.proofs.Readings.{read_none, read_end, read_more, read_last, read_no_mark, More}
+use Rattle.lw_text.proofs.Readings.{Read-none, Read-at_close, Read-separator, Read-closed}
+use Rattle.lw_text.proofs.Readings.{no_list-no_separator, More}
 use Rattle.lw_text.proofs.cursor.Cursor.parse_block.Given.{Over}
 use Rattle.lw_text.proofs.cursor.Cursor.parse_block.Goals.{After-parse_site, In_ok-word, In_ok-expect_either}
 use Rattle.lw_text.proofs.cursor.Cursor.parse_block.Goals as goal
@@ -22,7 +27,7 @@ returns-in_err-expect g c = Err-clause_known _ _ _ c.from_residual.ensures.1 (λ
 
 pub initializers-init : goal.initializers-init
 initializers-init g c = rw c.new-initializers.ensures (record {
-  read = read_none (initializers c.args.arch) c.args.locs.now (remaining_texts c.args.self.now) _ c.in_ok-expect.ensures.ok;
+  read = Read-none (initializer_kind c.args.arch) c.args.locs.now (remaining_texts c.args.self.now) _ c.in_ok-expect.ensures.ok;
   leaves = c.in_ok-expect.ensures.leaves;
   places = tt;
   few = c.len-known.ensures.table.few;
@@ -31,7 +36,7 @@ initializers-init g c = rw c.new-initializers.ensures (record {
 
 pub returns-then-accept : goal.returns-then-accept
 returns-then-accept g c =
-    let whole = read_end c.initializers.invariant.read _ (c.accept.ensures.taken c.if-accept.true) in
+    let whole = Read-at_close c.initializers.invariant.read _ (c.accept.ensures.taken c.if-accept.true) in
     record {
       is = whole.whole;
       names_are = whole.names_are;
@@ -47,7 +52,7 @@ kept g c = ap remaining_texts (c.accept.ensures.kept c.if-accept.false)
 
 -- An initializer was read.
 entry_read : (g : Over) (c : In_ok-word g)
-    → More (initializers c.args.arch) c.initializers.locs c.parse_site.new.locs (remaining_texts c.initializers.self)
+    → More (initializer_kind c.args.arch) c.initializers.locs c.parse_site.new.locs (remaining_texts c.initializers.self)
     (remaining_texts c.parse_value.new.self)
     (record { at = c.place-at.result; site = c.in_ok-site.site; word = c.in_ok-word.word })
 entry_read g c = record {
@@ -126,10 +131,11 @@ returns-in_err-word g c =
     Err-clause_known _ _ _ c.from_residual-in_err-word.ensures.1 (λ ne. (
       initializers_fault c.args.arch c.initializers.invariant.read (c.accept.ensures.other c.if-accept.false)
           (λ e back initializer some.
-          value_missing c.args.arch _ _ _ (rw same at c.in_ok-site.ensures.is) c.in_err-word.ensures.0 e back initializer),
+          no_initializer-no_value c.args.arch _ _ _ (rw same at c.in_ok-site.ensures.is) c.in_err-word.ensures.0 e back
+          initializer),
       Fails-later (IsSuffix-join (leaves_before g d) c.in_ok-site.ensures.leaves) (λ rest cause w.
           element_fails g d rest cause
-          (in_value _ c.in_ok-site.ensures.is c.in_ok-site.ensures.there
+          (in_value _ c.in_ok-site.ensures.is c.in_ok-site.ensures.threads_exist
           (subst (λ (table : NameTable). length table ≤ 8) c.in_ok-site.ensures.names_are c.in_ok-site.ensures.few) w))
           c.in_err-word.ensures.1,
     ))
@@ -140,7 +146,7 @@ returns-in_err-expect_either g c =
     let initializer = entry_read g d.In_ok-word in
     Err-clause_known _ _ _ c.from_residual-in_err-expect_either.ensures.1 (λ ne. (
       λ es rest block few.
-          read_no_mark c.initializers.invariant.read _ _ initializer.stands c.in_err-expect_either.ensures.1
+          no_list-no_separator c.initializers.invariant.read _ _ initializer.stands c.in_err-expect_either.ensures.1
           c.in_err-expect_either.ensures.0 es rest block,
       Fails-later
           (IsSuffix-join (leaves_before g d.After-parse_site) (IsSuffix-join c.in_ok-site.ensures.leaves c.in_ok-word.ensures.1))
@@ -156,7 +162,7 @@ returns-then-branch g c =
     let d = goal.at.returns-then-branch g c in
     let mark = rw c.if-branch.true at c.in_ok-expect_either.ensures.0 in
     let whole =
-    read_last c.initializers.invariant.read (entry_read g d.In_ok-word) (remaining_texts c.expect_either.new.self) mark in
+    Read-closed c.initializers.invariant.read (entry_read g d.In_ok-word) (remaining_texts c.expect_either.new.self) mark in
     rw c.in_ok-push.ensures.ok (record {
       is = whole.whole;
       names_are = whole.names_are;
@@ -174,7 +180,7 @@ pub initializers-smaller : goal.initializers-smaller
 initializers-smaller g c =
     let mark = rw c.if-branch.false at c.in_ok-expect_either.ensures.0 in
     let same = kept g (goal.at.initializers-smaller g c).After-parse_site in
-    shorter_behind _ _ _ _
+    tail-shorter _ _ _ _
     (rw same at
     (less _ _ _ (Value-shorter _ _ _ c.in_ok-word.ensures.0) (IsSite-shorter c.args.arch _ _ _ c.in_ok-site.ensures.is))) mark
 
@@ -183,7 +189,9 @@ initializers-preserved g c =
     let d = goal.at.initializers-preserved g c in
     let mark = rw c.if-branch.false at c.in_ok-expect_either.ensures.0 in
     rw c.in_ok-push.ensures.ok (record {
-      read = read_more c.initializers.invariant.read (entry_read g d.In_ok-word) (remaining_texts c.expect_either.new.self) mark;
+      read =
+          Read-separator c.initializers.invariant.read (entry_read g d.In_ok-word) (remaining_texts c.expect_either.new.self)
+          mark;
       leaves = leaves g d.In_ok-expect_either;
       places = BeginInitializers-push _ _ [] _ _ c.initializers.invariant.places (begins g d.In_ok-word);
       few = c.in_ok-site.ensures.few;
@@ -200,16 +208,16 @@ initializers-preserved g c =
     })
 
 pub returns-in_err-push : goal.returns-in_err-push
-returns-in_err-push g c = ran_out _ _ _ c.from_residual-in_err-push.ensures.1
+returns-in_err-push g c = MatchResult-Memory_error _ _ _ c.from_residual-in_err-push.ensures.1
 
 pub expect-requires : goal.expect-requires
-expect-requires g c = unexpected
+expect-requires g c = IsOfReader-Unexpected
 
 pub parse_site-requires : goal.parse_site-requires
-parse_site-requires g c = unexpected
+parse_site-requires g c = IsOfReader-Unexpected
 
 pub parse_value-requires : goal.parse_value-requires
-parse_value-requires g c = unexpected
+parse_value-requires g c = IsOfReader-Unexpected
 
 pub expect_either-requires : goal.expect_either-requires
-expect_either-requires g c = unexpected
+expect_either-requires g c = IsOfReader-Unexpected

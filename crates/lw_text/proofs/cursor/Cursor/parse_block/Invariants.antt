@@ -1,12 +1,15 @@
+-- At each round the initializers up to the cursor have been read (`Read`), the offsets are those of their
+-- first tokens, and at most eight locations are named. If the rest fails as the rest of a block, the whole
+-- fails as a block. The remaining tokens decrease.
 use Rattle.lw_text.proofs.Common.{◌≤◌, [], length, IsSuffix, TokenList, remaining, remaining_texts}
 use Rattle.lw_text.proofs.Common.{FailsInInitializers, FailsInBlock, TextCause, BeginInitializers}
-use Rattle.lw_text.proofs.SiteLists.{initializers}
+use Rattle.lw_text.proofs.SiteLists.{initializer_kind}
 use Rattle.lw_text.proofs.Readings.{Read}
 use Rattle.lw_text.proofs.cursor.Cursor.parse_block.Given as goal
 
 abbrev pub invariant-initializers : goal.invariant-initializers
 invariant-initializers g l = record {
-  read : Read (initializers l.arch) l.fn.locs l.locs (remaining_texts l.fn.self) (remaining_texts l.self) l.initializers;
+  read : Read (initializer_kind l.arch) l.fn.locs l.locs (remaining_texts l.fn.self) (remaining_texts l.self) l.initializers;
   leaves : IsSuffix (remaining l.fn.self) (remaining l.self);
   places : BeginInitializers l.arch l.fn.self [] l.initializers;
   few : length l.locs ≤ 8;

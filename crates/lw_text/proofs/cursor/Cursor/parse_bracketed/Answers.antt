@@ -1,9 +1,12 @@
-use Rattle.lw_text.proofs.Common.{cons_head, ◌≤◌, length, NameTable, ◌∷◌, [], ◌∙◌, ap, refl, sym, subst}
+-- `parse_bracketed` promises the location whose name and `]` are next, or that there is none with room, and
+-- where it fails. Each exit is immediate from the callee's contract, with the name as the first of the
+-- remaining tokens.
+use Rattle.lw_text.proofs.Common.{cons-head_eq, ◌≤◌, length, NameTable, ◌∷◌, [], ◌∙◌, ap, refl, sym, subst}
 use Rattle.lw_text.proofs.Common.{IsLocationName, HasRoomForName, remaining, IsNoNewLocation}
 use Rattle.lw_text.proofs.Common.{in_bracketed_name, no_bracket, BeginsAt}
 use Rattle.lw_text.proofs.Lists.{IsSuffix-join}
 use Rattle.lw_text.proofs.Faults.{Err-clause_known}
-use Rattle.lw_text.proofs.Failures.{Fails-here, Fails-later, IfFirst-cons, same_tail}
+use Rattle.lw_text.proofs.Failures.{Fails-here, Fails-later, IfFirst-cons, cons-tail_unique}
 use Rattle.lw_text.proofs.cursor.Cursor.parse_bracketed.Goals as goal
 
 pub returns : goal.returns
@@ -19,7 +22,7 @@ pub returns-in_err-loc : goal.returns-in_err-loc
 returns-in_err-loc g c = Err-clause_known _ _ _ c.from_residual-in_err-loc.ensures.1 (λ ne.
     let lost = c.in_err-loc.ensures ne in (
       λ x rest e loc room.
-          let same = cons_head _ _ _ _ (sym c.in_ok-name.ensures.ok ∙ e) in
+          let same = cons-head_eq _ _ _ _ (sym c.in_ok-name.ensures.ok ∙ e) in
           lost.0 (subst IsLocationName (sym same) loc) (subst (HasRoomForName c.args.locs.now) (sym same) room),
       Fails-here c.args.self.now _ (subst (BeginsAt (remaining c.args.self.now)) (sym lost.1) c.refusal-misfit.ensures.place)
           (in_bracketed_name (
@@ -32,7 +35,7 @@ returns-in_err-loc g c = Err-clause_known _ _ _ c.from_residual-in_err-loc.ensur
 
 pub returns-in_err-expect : goal.returns-in_err-expect
 returns-in_err-expect g c = Err-clause_known _ _ _ c.from_residual-in_err-expect.ensures.1 (λ ne. (
-  λ x rest e loc room. c.in_err-expect.ensures.err rest (same_tail (sym c.in_ok-name.ensures.ok ∙ e)),
+  λ x rest e loc room. c.in_err-expect.ensures.err rest (cons-tail_unique (sym c.in_ok-name.ensures.ok ∙ e)),
   Fails-later (c.in_ok-name.name ∷ [], c.in_ok-name.ensures.token) (λ rest cause w.
       no_bracket c.in_ok-name.ensures.ok c.in_ok-loc.ensures.0
       (subst (λ (table : NameTable). length table ≤ 8) c.in_ok-loc.ensures.2 c.in_ok-loc.ensures.3) w)

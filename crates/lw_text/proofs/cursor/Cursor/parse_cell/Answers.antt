@@ -1,7 +1,9 @@
+-- `parse_cell` promises the tokens up to the mark that ends the cell, or that no token left ends a cell. Each
+-- round moves one token that is no mark from the rest to the cell.
 use Rattle.lw_text.proofs.Common.{ap, length, arith, ◌∙◌, sym, subst, refl, ◌++◌, ◌≡◌, ◌∷◌, [], append_assoc}
 use Rattle.lw_text.proofs.Common.{map_push, map-append, append-nil, ends_cell, token_texts, remaining, Token}
 use Rattle.lw_text.proofs.Common.{AllByRecursion, false}
-use Rattle.lw_text.proofs.Readings.{all_push}
+use Rattle.lw_text.proofs.Readings.{AllByRecursion-snoc}
 use Rattle.lw_text.proofs.Faults.{Err-clause_known}
 use Rattle.lw_text.proofs.cursor.Cursor.parse_cell.Goals as goal
 
@@ -21,7 +23,7 @@ cell-preserved g c =
           ∙ sym (append_assoc c.cell.cell (token ∷ []) (remaining c.take.new.self));
       plain =
           subst (AllByRecursion (λ t. ends_cell t ≡ false)) (sym (map_push (λ (t : Token). t.text.now) c.cell.cell token))
-          (all_push (λ t. ends_cell t ≡ false) (token_texts c.cell.cell) token.text.now c.cell.invariant.plain
+          (AllByRecursion-snoc (λ t. ends_cell t ≡ false) (token_texts c.cell.cell) token.text.now c.cell.invariant.plain
           (sym c.ends_cell.ensures ∙ c.if-ends_cell.false));
     })
 

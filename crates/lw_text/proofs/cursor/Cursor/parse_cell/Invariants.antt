@@ -1,3 +1,5 @@
+-- At each round the remaining tokens of the start are those of the cell and those that remain now, and no
+-- token of the cell is a mark.
 use Rattle.lw_text.proofs.Common.{◌≡◌, ◌++◌, false, length, AllByRecursion, ends_cell, token_texts, remaining}
 use Rattle.lw_text.proofs.cursor.Cursor.parse_cell.Given as goal
 

@@ -1,10 +1,13 @@
+-- `parse_condition` promises list, quantifier and proposition, or that the tokens are no condition, and where
+-- they fail. Success puts the parts together (`ParsedCondition-of_parts`). If a part fails there is no other way to
+-- read what precedes it: a list of names is unique (`Listed-unique`).
 use Rattle.lw_text.proofs.Common.{◌≤◌, length, NameTable, [], map, refl, sym, subst, arith, IsDuplicateFree}
-use Rattle.lw_text.proofs.Common.{once-along, insert_names-longer, site_names, with_sites, sites_in}
-use Rattle.lw_text.proofs.Common.{site_by_name, remaining_texts, FailsInProposition, first_place, in_list}
-use Rattle.lw_text.proofs.Common.{in_quantifier, in_proposition}
-use Rattle.lw_text.proofs.Bodies.{taken_condition}
+use Rattle.lw_text.proofs.Common.{IsDuplicateFree-insert_names, insert_names-longer, site_names, with_sites}
+use Rattle.lw_text.proofs.Common.{sites_in, site_by_name, remaining_texts, FailsInProposition, first_place}
+use Rattle.lw_text.proofs.Common.{in_list, in_quantifier, in_proposition}
+use Rattle.lw_text.proofs.Bodies.{ParsedCondition-of_parts}
 use Rattle.lw_text.proofs.SiteLists.{Listed-unique}
-use Rattle.lw_text.proofs.Whole.{no_terminals}
+use Rattle.lw_text.proofs.Whole.{no_condition-no_proposition}
 use Rattle.lw_text.proofs.Lists.{IsSuffix-join}
 use Rattle.lw_text.proofs.Failures.{Fails-later}
 use Rattle.lw_text.proofs.Faults.{Err-clause_known}
@@ -14,7 +17,7 @@ pub returns-in_err-listed : goal.returns-in_err-listed
 returns-in_err-listed g c = Err-clause_known _ _ _ c.from_residual.ensures.1 (λ ne.
     let lost = c.in_err-listed.ensures ne in (
       λ all q ss p condition fits.
-          lost.0 all condition.behind_list condition.lists condition.there
+          lost.0 all condition.behind_list condition.lists condition.threads_exist
           (omega (arith, fits.room, insert_names-longer (with_sites c.args.locs.now all) (site_names (sites_in ss)))),
       Fails-later ([], refl) (λ rest cause w. in_list w) lost.1,
     ))
@@ -27,7 +30,7 @@ returns-in_err-quant g c = Err-clause_known _ _ _ c.from_residual-in_err-quant.e
       (remaining_texts c.parse_listed.new.self) condition.lists c.in_ok-listed.ensures.is in
       c.in_err-quant.ensures.0 q condition.behind_quant (rw u.1 at condition.quantifies),
   Fails-later c.in_ok-listed.ensures.leaves (λ rest cause w.
-      in_quantifier _ c.in_ok-listed.ensures.is c.in_ok-listed.ensures.there
+      in_quantifier _ c.in_ok-listed.ensures.is c.in_ok-listed.ensures.threads_exist
       (subst (λ (table : NameTable). length table ≤ 8) c.in_ok-listed.ensures.names_are c.in_ok-listed.ensures.few) w)
       c.in_err-quant.ensures.1,
 ))
@@ -35,14 +38,15 @@ returns-in_err-quant g c = Err-clause_known _ _ _ c.from_residual-in_err-quant.e
 pub parse_proposition-requires-clause-once : goal.parse_proposition-requires-clause-once
 parse_proposition-requires-clause-once g c =
     subst IsDuplicateFree (sym c.in_ok-listed.ensures.names_are)
-    (once-along _ (site_names (map (site_by_name c.parse_listed.new.locs) c.in_ok-listed.listed)) c.requires.once)
+    (IsDuplicateFree-insert_names _ (site_names (map (site_by_name c.parse_listed.new.locs) c.in_ok-listed.listed))
+    c.requires.once)
 
 pub returns-in-Err : goal.returns-in-Err
 returns-in-Err g c = λ ne.
     let lost = c.in-Err.ensures ne in (
-      no_terminals c.in_ok-listed.ensures _ _ c.in_ok-quant.ensures.0 lost.0,
+      no_condition-no_proposition c.in_ok-listed.ensures _ _ c.in_ok-quant.ensures.0 lost.0,
       Fails-later (IsSuffix-join c.in_ok-listed.ensures.leaves c.in_ok-quant.ensures.1) (λ rest cause w.
-          in_proposition _ _ c.in_ok-listed.ensures.is c.in_ok-listed.ensures.there
+          in_proposition _ _ c.in_ok-listed.ensures.is c.in_ok-listed.ensures.threads_exist
           (subst (λ (table : NameTable). length table ≤ 8) c.in_ok-listed.ensures.names_are c.in_ok-listed.ensures.few)
           c.in_ok-quant.ensures.0
           (subst (λ names.
@@ -51,4 +55,4 @@ returns-in-Err g c = λ ne.
     )
 
 pub returns-in-Ok : goal.returns-in-Ok
-returns-in-Ok g c = taken_condition c.in_ok-listed.ensures _ _ c.in_ok-quant.ensures.0 c.in-Ok.ensures
+returns-in-Ok g c = ParsedCondition-of_parts c.in_ok-listed.ensures _ _ c.in_ok-quant.ensures.0 c.in-Ok.ensures

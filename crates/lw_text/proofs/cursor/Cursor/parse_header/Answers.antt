@@ -1,10 +1,13 @@
+-- `parse_header` promises the number of threads that the header names, or that there is no header, and where
+-- it fails. Each round reads one name and a `|` (`Names-more`). After four of them a fifth name is a fault of
+-- its own.
 use Rattle.lw_text.proofs.Common.{◌∷◌, ◌∙◌, ap, add-one, arith, codes, inl, inr, rules, subst, sym}
 use Rattle.lw_text.proofs.Common.{thread_name, remaining_texts, [], refl, Unexpected, FailsBefore}
 use Rattle.lw_text.proofs.Common.{FailsInHeader, in_next_thread, no_thread_name, no_thread_mark}
 use Rattle.lw_text.proofs.Common.{too_many_threads}
 use Rattle.lw_text.proofs.Faults.{Err-clause_known}
 use Rattle.lw_text.proofs.Failures.{Fails-here, Fails-later, IfFirst-map, IfFirst-begins, IfFirst-begins_not}
-use Rattle.lw_text.proofs.Headers.{Names-more, NamesTo-start}
+use Rattle.lw_text.proofs.Headers.{Names-more, NamesTo-none_yet}
 use Rattle.lw_text.proofs.Lists.{IsSuffix-join}
 use Rattle.lw_text.proofs.cursor.Cursor.parse_header.Goals as goal
 
@@ -40,7 +43,7 @@ returns-then-branch c = (
 
 pub loop-thread-init : goal.loop-thread-init
 loop-thread-init c =
-    record { names = NamesTo-start (remaining_texts c.args.self.now); leaves = ([], refl); fails = λ rest cause w. w }
+    record { names = NamesTo-none_yet (remaining_texts c.args.self.now); leaves = ([], refl); fails = λ rest cause w. w }
 
 pub returns-in_err-expect : goal.returns-in_err-expect
 returns-in_err-expect c = Err-clause_known _ _ _ c.from_residual.ensures.1 (

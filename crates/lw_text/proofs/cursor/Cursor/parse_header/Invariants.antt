@@ -1,3 +1,5 @@
+-- At each round the names of the threads before the index have been read, each with its `|` (`NamesTo`). If
+-- the rest fails from this thread on, the whole fails as a header.
 use Rattle.lw_text.proofs.Common.{IsSuffix, TokenList, remaining, remaining_texts, FailsInHeader, TextCause}
 use Rattle.lw_text.proofs.Headers.{NamesTo}
 use Rattle.lw_text.proofs.cursor.Cursor.parse_header.Given as goal

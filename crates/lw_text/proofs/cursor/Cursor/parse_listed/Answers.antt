@@ -1,14 +1,17 @@
+-- `parse_listed` promises the listed sites, or that the tokens have no such list, and where they fail.
+-- Without the word `locations` the list is empty. Otherwise it is the reading of a list between brackets: one
+-- lemma of `Readings` for each exit.
 use Rattle.lw_text.proofs.Common.{◌≤◌, length, NameTable, ◌≡◌, ◌∷◌, ◌∙◌, inl, inr, refl, ap, subst, sym}
 use Rattle.lw_text.proofs.Common.{codes, All-nil, IsIn, Some, IsSite, IsSuffix, site_by_name, remaining}
 use Rattle.lw_text.proofs.Common.{remaining_texts, FailsInSite, FailsInSites, no_list_bracket, in_sites}
 use Rattle.lw_text.proofs.Common.{in_element, no_mark, in_elements_after, Condition}
 use Rattle.lw_text.proofs.Failures.{Fails-later}
-use Rattle.lw_text.proofs.Lists.{IsSuffix-join, same_behind, shorter_behind}
+use Rattle.lw_text.proofs.Lists.{IsSuffix-join, tail-unique, tail-shorter}
 use Rattle.lw_text.proofs.Atoms.{IsSite-shorter, bracket}
-use Rattle.lw_text.proofs.Faults.{Err-clause_known, ran_out}
-use Rattle.lw_text.proofs.SiteLists.{sites, list_behind, syntax_same}
-use Rattle.lw_text.proofs.Readings.{read_none, read_end, read_more, read_last, read_none_here, read_no_mark}
-use Rattle.lw_text.proofs.Readings.{More}
+use Rattle.lw_text.proofs.Faults.{Err-clause_known, MatchResult-Memory_error}
+use Rattle.lw_text.proofs.SiteLists.{site_kind, Whole-Listed, HasRoomFor-map_same}
+use Rattle.lw_text.proofs.Readings.{Read-none, Read-at_close, Read-separator, Read-closed, no_list-no_element}
+use Rattle.lw_text.proofs.Readings.{no_list-no_separator, More}
 use Rattle.lw_text.proofs.Texts.{token_not_next}
 use Rattle.lw_text.proofs.cursor.Cursor.parse_listed.Given.{Over}
 use Rattle.lw_text.proofs.cursor.Cursor.parse_listed.Goals.{After-parse_site, In_ok-parse_site}
@@ -22,7 +25,7 @@ returns-then-not-accept g c = rw c.new.ensures (record {
         refl,
         sym (ap remaining_texts (c.accept.ensures.kept c.if-not-accept.true)),
       );
-  there = tt;
+  threads_exist = tt;
   names_are = refl;
   within = All-nil (IsIn c.args.locs.now);
   leaves = c.accept.ensures.leaves;
@@ -34,8 +37,8 @@ returns-in_err-expect g c =
     let word = c.accept.ensures.taken c.if-not-accept.false in
     Err-clause_known _ _ _ c.from_residual.ensures.1 (λ _. (
       λ ss rest listed there few.
-          let whole = list_behind c.args.arch c.args.threads (remaining_texts c.args.self.now) _ word ss rest listed in
-          c.in_err-expect.ensures.err whole.0 (same_behind _ word whole.1),
+          let whole = Whole-Listed c.args.arch c.args.threads (remaining_texts c.args.self.now) _ word ss rest listed in
+          c.in_err-expect.ensures.err whole.0 (tail-unique _ word whole.1),
       Fails-later c.accept.ensures.leaves (λ rest cause w. no_list_bracket word w) c.in_err-expect.ensures.fails,
     ))
 
@@ -43,7 +46,7 @@ pub sites-init : goal.sites-init
 sites-init g c =
     let begins = c.accept.ensures.taken c.if-not-accept.false ∙ ap (λ l. codes "locations" ∷ l) c.in_ok-expect.ensures.ok in
     rw c.new-sites.ensures (record {
-      read = read_none _ c.args.locs.now (remaining_texts c.args.self.now) (remaining_texts c.expect.new.self) begins;
+      read = Read-none _ c.args.locs.now (remaining_texts c.args.self.now) (remaining_texts c.expect.new.self) begins;
       few = c.len-known.ensures.table.few;
       leaves = IsSuffix-join c.accept.ensures.leaves c.in_ok-expect.ensures.leaves;
       fails = λ rest cause w. in_sites begins w;
@@ -51,10 +54,10 @@ sites-init g c =
 
 pub returns-then-accept : goal.returns-then-accept
 returns-then-accept g c =
-    let whole = read_end c.sites.invariant.read _ (c.accept-in-sites.ensures.taken c.if-accept.true) in
+    let whole = Read-at_close c.sites.invariant.read _ (c.accept-in-sites.ensures.taken c.if-accept.true) in
     record {
       is = inl whole.whole;
-      there = whole.there;
+      threads_exist = whole.there;
       names_are = whole.names_are;
       within = whole.within;
       leaves = IsSuffix-join c.sites.invariant.leaves c.accept-in-sites.ensures.leaves;
@@ -67,12 +70,12 @@ kept g c = ap remaining_texts (c.accept-in-sites.ensures.kept c.if-accept.false)
 
 -- A site was read.
 site_read : (g : Over) (c : In_ok-parse_site g)
-    → More (sites c.args.arch c.args.threads) c.sites.locs c.parse_site.new.locs (remaining_texts c.sites.self)
+    → More (site_kind c.args.arch c.args.threads) c.sites.locs c.parse_site.new.locs (remaining_texts c.sites.self)
     (remaining_texts c.parse_site.new.self) c.in_ok-parse_site.field-0
 site_read g c = record {
   grows = c.in_ok-parse_site.ensures.names_are;
   is_in = c.in_ok-parse_site.ensures.within;
-  fits = c.in_ok-parse_site.ensures.there;
+  fits = c.in_ok-parse_site.ensures.threads_exist;
   stands =
       (let same = ap remaining_texts (c.accept-in-sites.ensures.kept c.if-accept.false) in
       rw same at c.in_ok-parse_site.ensures.is);
@@ -89,11 +92,11 @@ returns-in_err-parse_site g c =
     Err-clause_known _ _ _ c.from_residual-in_err-parse_site.ensures.1 (λ ne.
     let lost = c.in_err-parse_site.ensures ne in (
       λ all rest listed there few.
-          read_none_here c.sites.invariant.read
+          no_list-no_element c.sites.invariant.read
           (λ l. token_not_next bracket (remaining_texts c.sites.self) l (c.accept-in-sites.ensures.other c.if-accept.false))
           (rw same at lost.0) all rest
-          (list_behind _ c.args.threads (remaining_texts c.args.self.now) (codes "[" ∷ c.sites.invariant.read.start)
-          c.sites.invariant.read.begun all rest listed) there (syntax_same c.args.locs.now all few),
+          (Whole-Listed _ c.args.threads (remaining_texts c.args.self.now) (codes "[" ∷ c.sites.invariant.read.start)
+          c.sites.invariant.read.begun all rest listed) there (HasRoomFor-map_same c.args.locs.now all few),
       Fails-later (leaves_before g d) (λ rest cause w.
           c.sites.invariant.fails rest cause
           (in_element (c.accept-in-sites.ensures.other c.if-accept.false)
@@ -106,9 +109,9 @@ returns-in_err-expect_either g c =
     let site = site_read g d.In_ok-parse_site in
     Err-clause_known _ _ _ c.from_residual-in_err-expect_either.ensures.1 (λ ne. (
       λ all rest listed there few.
-          read_no_mark c.sites.invariant.read _ _ site.stands c.in_err-expect_either.ensures.1 c.in_err-expect_either.ensures.0
-          all rest
-          (list_behind c.args.arch c.args.threads (remaining_texts c.args.self.now) _ c.sites.invariant.read.begun all rest
+          no_list-no_separator c.sites.invariant.read _ _ site.stands c.in_err-expect_either.ensures.1
+          c.in_err-expect_either.ensures.0 all rest
+          (Whole-Listed c.args.arch c.args.threads (remaining_texts c.args.self.now) _ c.sites.invariant.read.begun all rest
           listed),
       Fails-later (IsSuffix-join (leaves_before g d.After-parse_site) c.in_ok-parse_site.ensures.leaves) (λ rest cause w.
           c.sites.invariant.fails rest cause
@@ -122,10 +125,10 @@ returns-then-branch g c =
     let d = goal.at.returns-then-branch g c in
     let site = site_read g d.In_ok-parse_site in
     let mark = rw c.if-branch.true at c.in_ok-expect_either.ensures.0 in
-    let whole = read_last c.sites.invariant.read site (remaining_texts c.expect_either.new.self) mark in
+    let whole = Read-closed c.sites.invariant.read site (remaining_texts c.expect_either.new.self) mark in
     rw c.in_ok-push.ensures.ok (record {
       is = inl whole.whole;
-      there = whole.there;
+      threads_exist = whole.there;
       names_are = whole.names_are;
       within = whole.within;
       leaves =
@@ -138,7 +141,7 @@ pub sites-smaller : goal.sites-smaller
 sites-smaller g c =
     let same = kept g (goal.at.sites-smaller g c).After-parse_site in
     let mark = rw c.if-branch.false at c.in_ok-expect_either.ensures.0 in
-    shorter_behind _ _ _ _ (rw same at (IsSite-shorter c.args.arch _ _ _ c.in_ok-parse_site.ensures.is)) mark
+    tail-shorter _ _ _ _ (rw same at (IsSite-shorter c.args.arch _ _ _ c.in_ok-parse_site.ensures.is)) mark
 
 pub sites-preserved : goal.sites-preserved
 sites-preserved g c =
@@ -146,7 +149,7 @@ sites-preserved g c =
     let site = site_read g d.In_ok-parse_site in
     let mark = rw c.if-branch.false at c.in_ok-expect_either.ensures.0 in
     rw c.in_ok-push.ensures.ok (record {
-      read = read_more c.sites.invariant.read site (remaining_texts c.expect_either.new.self) mark;
+      read = Read-separator c.sites.invariant.read site (remaining_texts c.expect_either.new.self) mark;
       leaves =
           IsSuffix-join (leaves_before g d.After-parse_site)
           (IsSuffix-join c.in_ok-parse_site.ensures.leaves c.in_ok-expect_either.ensures.1);
@@ -164,4 +167,4 @@ sites-preserved g c =
     })
 
 pub returns-in_err-push : goal.returns-in_err-push
-returns-in_err-push g c = ran_out _ _ _ c.from_residual-in_err-push.ensures.1
+returns-in_err-push g c = MatchResult-Memory_error _ _ _ c.from_residual-in_err-push.ensures.1

@@ -1,12 +1,14 @@
+-- At each round the sites up to the cursor have been read (`Read`), and at most eight locations are named. If
+-- the rest fails as the rest of a list, the whole fails as a list. The remaining tokens decrease.
 use Rattle.lw_text.proofs.Common.{◌≤◌, length, IsSuffix, TokenList, remaining, remaining_texts, FailsInSites}
 use Rattle.lw_text.proofs.Common.{FailsInList, TextCause}
-use Rattle.lw_text.proofs.SiteLists.{sites}
+use Rattle.lw_text.proofs.SiteLists.{site_kind}
 use Rattle.lw_text.proofs.Readings.{Read}
 use Rattle.lw_text.proofs.cursor.Cursor.parse_listed.Given as goal
 
 abbrev pub invariant-sites : goal.invariant-sites
 invariant-sites g l = record {
-  read : Read (sites l.arch l.threads) l.fn.locs l.locs (remaining_texts l.fn.self) (remaining_texts l.self) l.sites;
+  read : Read (site_kind l.arch l.threads) l.fn.locs l.locs (remaining_texts l.fn.self) (remaining_texts l.self) l.sites;
   few : length l.locs ≤ 8;
   leaves : IsSuffix (remaining l.fn.self) (remaining l.self);
   fails :

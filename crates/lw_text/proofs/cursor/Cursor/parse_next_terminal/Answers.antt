@@ -1,9 +1,14 @@
+-- `parse_next_terminal` promises the next terminal and the reader's state after it, or that no terminal fits,
+-- and where it fails. The interesting exits are the two that refuse a terminal that could be read: it would
+-- be one node too many (`no_room_for_node`), or the state does not allow it, which is so only of a `)` that closes
+-- nothing (`closes_nothing`).
 use Rattle.lw_text.proofs.Common.{◌∙◌, [], refl, sym, ap, subst, remaining_texts, state_of, FailsInTerminal}
 use Rattle.lw_text.proofs.Common.{unopened, too_many_nodes, in_terminal}
 use Rattle.lw_text.proofs.Failures.{Fails-here, Fails-later}
-use Rattle.lw_text.proofs.PropositionPlaces.{closes_nothing, wants_part-place, no_room-first, room-first}
-use Rattle.lw_text.proofs.PropositionCases.{terminal_refused, no_room, begins_right}
-use Rattle.lw_text.proofs.Faults.{ran_out, Err-clause_known}
+use Rattle.lw_text.proofs.PropositionPlaces.{closes_nothing, wants_part-place}
+use Rattle.lw_text.proofs.PropositionPlaces.{node_limit_reached-no_parenthesis, HasRoomForNode-by_test}
+use Rattle.lw_text.proofs.PropositionCases.{terminal_refused, no_room_for_node, begins_right}
+use Rattle.lw_text.proofs.Faults.{MatchResult-Memory_error, Err-clause_known}
 use Rattle.lw_text.proofs.cursor.Cursor.parse_next_terminal.Goals as goal
 
 pub returns-then-not-branch : goal.returns-then-not-branch
@@ -22,9 +27,9 @@ returns-then-not-branch g c =
 pub returns-then-not-has_room : goal.returns-then-not-has_room
 returns-then-not-has_room g c =
     let full = sym c.has_room.ensures ∙ c.if-not-has_room.true in
-    let room = no_room-first c.args.nodes _ full in
+    let room = node_limit_reached-no_parenthesis c.args.nodes _ full in
     λ ne. (
-      λ s rest is left few fits. no_room c.args.arch c.args.threads c.args.nodes _ rest s full is fits,
+      λ s rest is left few fits. no_room_for_node c.args.arch c.args.threads c.args.nodes _ rest s full is fits,
       Fails-here c.args.self.now _ c.refusal-misfit.ensures.place
           (too_many_nodes c.requires.some room.0 refl room.1 c.refusal-misfit.ensures.cause),
     )
@@ -34,14 +39,14 @@ returns-in_err-terminal g c = Err-clause_known _ _ _ c.from_residual.ensures.1 (
     let lost = c.in_err-terminal.ensures ne in (
       λ s rest is left few fits. lost.0 s rest is (begins_right c.args.reader.now _ c.wants_part.ensures _ s left) few,
       Fails-later ([], refl) (λ rest cause w.
-          in_terminal c.requires.some (room-first _ _ (sym c.has_room.ensures ∙ c.if-not-has_room.false))
+          in_terminal c.requires.some (HasRoomForNode-by_test _ _ (sym c.has_room.ensures ∙ c.if-not-has_room.false))
           (subst
           (λ part. FailsInTerminal c.args.arch c.args.threads part c.args.locs.now (remaining_texts c.args.self.now) rest cause)
           (sym (wants_part-place c.args.reader.now _ c.wants_part.ensures)) w)) lost.1,
     ))
 
 pub returns-in_err-take : goal.returns-in_err-take
-returns-in_err-take g c = ran_out _ _ _ c.from_residual-in_err-take.ensures.1
+returns-in_err-take g c = MatchResult-Memory_error _ _ _ c.from_residual-in_err-take.ensures.1
 
 pub returns : goal.returns
 returns g c = (

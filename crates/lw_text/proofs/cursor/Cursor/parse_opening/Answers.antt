@@ -1,9 +1,12 @@
+-- `parse_opening` promises a terminal that begins a part, or that there is none with room, and where it
+-- fails. Without a keyword it can only be an atom: a site and a value. A site without a value begins no
+-- terminal (`no_terminal-site_without_value`).
 use Rattle.lw_text.proofs.Common.{◌≤◌, length, NameTable, ◌≡◌, ◌∷◌, [], Some, refl, sym, ap, subst}
 use Rattle.lw_text.proofs.Common.{with_sites, Atom, IsAtom, sites_in, IsSuffix, remaining, remaining_texts}
 use Rattle.lw_text.proofs.Common.{FailsInSite, in_site, in_value, Condition}
 use Rattle.lw_text.proofs.Lists.{IsSuffix-join}
 use Rattle.lw_text.proofs.Failures.{Fails-later}
-use Rattle.lw_text.proofs.TerminalLists.{site_alone}
+use Rattle.lw_text.proofs.TerminalLists.{no_terminal-site_without_value}
 use Rattle.lw_text.proofs.Faults.{Err-clause_known}
 use Rattle.lw_text.proofs.cursor.Cursor.parse_opening.Goals as goal
 
@@ -32,11 +35,11 @@ returns-in_err-word g c =
     let leaves = subst (λ x. IsSuffix (remaining x) (remaining c.parse_site.new.self)) same c.in_ok-site.ensures.leaves in
     Err-clause_known _ _ _ c.from_residual-in_err-word.ensures.1 (λ ne. (
       λ s rest terminal begins few.
-          site_alone c.args.arch c.args.threads _ (remaining_texts c.parse_site.new.self) _ stands c.in_err-word.ensures.0 s rest
-          terminal,
+          no_terminal-site_without_value c.args.arch c.args.threads _ (remaining_texts c.parse_site.new.self) _ stands
+          c.in_err-word.ensures.0 s rest terminal,
       Fails-later leaves (λ rest cause w. (
         c.in_default.ensures.words,
-        in_value _ stands c.in_ok-site.ensures.there
+        in_value _ stands c.in_ok-site.ensures.threads_exist
             (subst (λ (table : NameTable). length table ≤ 8) c.in_ok-site.ensures.names_are c.in_ok-site.ensures.few) w,
       )) c.in_err-word.ensures.1,
     ))
@@ -52,7 +55,7 @@ returns g c =
         is =
             subst (λ claim.
             IsAtom c.args.arch c.args.threads (remaining_texts c.args.self.now) claim (remaining_texts c.parse_value.new.self))
-            syntax (remaining_texts c.parse_site.new.self, rw kept at taken.is, taken.there, c.in_ok-word.ensures.0);
+            syntax (remaining_texts c.parse_site.new.self, rw kept at taken.is, taken.threads_exist, c.in_ok-word.ensures.0);
         names_are = subst (λ claim. table ≡ with_sites c.args.locs.now (sites_in (Atom claim ∷ []))) syntax taken.names_are;
         within = c.atom_at.ensures.within table taken.within;
         leaves =

@@ -1,5 +1,8 @@
+-- `parse_opening_keyword` promises the keyword or sign that is next and begins a part. The one goal by hand
+-- is `None`: if none of the five words is next, a terminal that begins a part is an atom of a site
+-- (`terminal_is_claim`).
 use Rattle.lw_text.proofs.Common.{refl}
-use Rattle.lw_text.proofs.TerminalLists.{only_claim}
+use Rattle.lw_text.proofs.TerminalLists.{terminal_is_claim}
 use Rattle.lw_text.proofs.cursor.Cursor.parse_opening_keyword.Goals as goal
 
 pub returns-clause-none : goal.returns-clause-none
@@ -12,4 +15,5 @@ returns-clause-none c =
     let word_not = rw (two, one) at (c.accept-3.ensures.other c.if-accept-3.false) in
     let word_true = rw (three, two, one) at (c.accept-4.ensures.other c.if-accept-4.false) in
     let word_false = rw (four, three, two, one) at (c.accept-5.ensures.other c.if-accept-5.false) in
-    λ arch threads. only_claim arch threads _ (c.accept.ensures.other c.if-accept.false) tilde word_not word_true word_false
+    λ arch threads.
+    terminal_is_claim arch threads _ (c.accept.ensures.other c.if-accept.false) tilde word_not word_true word_false

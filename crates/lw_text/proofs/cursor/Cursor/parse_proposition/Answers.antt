@@ -1,13 +1,18 @@
+-- `parse_proposition` promises the proposition that all remaining tokens are, or that they are none, and
+-- where they fail. Each round adds a terminal (`TerminalsRead-one_more`). At the end the state has a result or is
+-- incomplete (`ParsedProposition-at_end`, `NoProposition-open`). If no terminal fits, the tokens are no proposition,
+-- whatever follows (`NoProposition-no_terminal`).
 use Rattle.lw_text.proofs.Common.{ℕ, ◌+◌, ◌≤◌, ◌∙◌, [], append-nil, drop_all, refl, sym, ap, subst, arith}
 use Rattle.lw_text.proofs.Common.{MatchResult-weaker, IsOfReader, remaining, remaining_texts, state_of}
 use Rattle.lw_text.proofs.Common.{FailsInProposition, incomplete, BeginsAt, place_of, Unterminated}
 use Rattle.lw_text.proofs.Lists.{IsSuffix-join}
 use Rattle.lw_text.proofs.Failures.{Fails-later}
-use Rattle.lw_text.proofs.PropositionPlaces.{incomplete_place, room-first}
-use Rattle.lw_text.proofs.Texts.{nothing_left, some_left}
+use Rattle.lw_text.proofs.PropositionPlaces.{incomplete_place, HasRoomForNode-by_test}
+use Rattle.lw_text.proofs.Texts.{no_tokens-past_last, tokens_remain-before_last}
 use Rattle.lw_text.proofs.TerminalLists.{IsTerminal-shorter}
-use Rattle.lw_text.proofs.PropositionCases.{terminals_none, terminals_end, terminals_open, terminals_fault}
-use Rattle.lw_text.proofs.PropositionCases.{terminals_more, once_here, room_left, Fails-after_terminal}
+use Rattle.lw_text.proofs.PropositionCases.{TerminalsRead-none, ParsedProposition-at_end, NoProposition-open}
+use Rattle.lw_text.proofs.PropositionCases.{NoProposition-no_terminal, TerminalsRead-one_more}
+use Rattle.lw_text.proofs.PropositionCases.{IsDuplicateFree-names, node_count_at_most, Fails-after_terminal}
 use Rattle.lw_text.proofs.cursor.Cursor.parse_proposition.Goals as goal
 
 -- A reader of tokens may report that they end too early.
@@ -20,11 +25,12 @@ refusal-requires g c = of_reader
 pub returns-then-self : goal.returns-then-self
 returns-then-self g c =
     let read = c.terminals.invariant.read in
-    let gone = nothing_left c.terminals.self.tokens.now c.terminals.self.next (omega (arith, c.if-self.true)) in
-    MatchResult-weaker c.finish-prop.result c.finish-prop.ensures (λ prop is. terminals_end read gone prop is) (λ f lost ne.
+    let gone = no_tokens-past_last c.terminals.self.tokens.now c.terminals.self.next (omega (arith, c.if-self.true)) in
+    MatchResult-weaker c.finish-prop.result c.finish-prop.ensures (λ prop is. ParsedProposition-at_end read gone prop is)
+    (λ f lost ne.
     let none = lost ne in
     let nothing = drop_all c.terminals.self.next c.terminals.self.tokens.now (omega (arith, c.if-self.true)) in (
-      terminals_open read gone none.0,
+      NoProposition-open read gone none.0,
       record {
         rest = [];
         suffix =
@@ -36,19 +42,20 @@ returns-then-self g c =
     ))
 
 pub parse_next_terminal-requires-clause-once : goal.parse_next_terminal-requires-clause-once
-parse_next_terminal-requires-clause-once g c = once_here c.terminals.invariant.read c.requires.once
+parse_next_terminal-requires-clause-once g c = IsDuplicateFree-names c.terminals.invariant.read c.requires.once
 
 pub returns-in-Err : goal.returns-in-Err
 returns-in-Err g c = λ ne.
     let lost = c.in-Err.ensures ne in (
-      terminals_fault c.terminals.invariant.read
-          (some_left c.terminals.self.tokens.now c.terminals.self.next c.terminals.self.within c.if-self.false) lost.0,
+      NoProposition-no_terminal c.terminals.invariant.read
+          (tokens_remain-before_last c.terminals.self.tokens.now c.terminals.self.next c.terminals.self.within c.if-self.false)
+          lost.0,
       Fails-later c.terminals.invariant.leaves (λ rest cause w. c.terminals.invariant.fails rest cause w) lost.1,
     )
 
 pub terminals-init : goal.terminals-init
 terminals-init g c = record {
-  read = terminals_none c.args.arch c.args.threads c.args.locs.now _ c.new-reader.result c.new-reader.ensures;
+  read = TerminalsRead-none c.args.arch c.args.threads c.args.locs.now _ c.new-reader.result c.new-reader.ensures;
   leaves = ([], refl);
   fails = λ rest cause w.
       subst (λ state.
@@ -59,21 +66,22 @@ terminals-init g c = record {
 pub terminals-preserved : goal.terminals-preserved
 terminals-preserved g c =
     let counts = ap (λ (n : ℕ). c.terminals.nodes + n) c.nodes-nodes.ensures in
-    let room = room_left c.in-Ok.ensures.0 c.terminals.nodes c.terminals.invariant.read.few c.in-Ok.ensures.3 in
+    let room =
+    node_count_at_most c.in-Ok.ensures.0 c.terminals.nodes c.terminals.invariant.read.within_node_limit c.in-Ok.ensures.3 in
     record {
       read =
-          terminals_more c.in-Ok.ensures.0 c.terminals.invariant.read c.requires.once c.in-Ok.ensures.1 _ counts
+          TerminalsRead-one_more c.in-Ok.ensures.0 c.terminals.invariant.read c.requires.once c.in-Ok.ensures.1 _ counts
           (subst (λ (n : ℕ). n ≤ 256) (sym counts) room);
       leaves = IsSuffix-join c.terminals.invariant.leaves c.in-Ok.ensures.0.leaves;
       fails = λ rest cause w.
           c.terminals.invariant.fails rest cause
           (Fails-after_terminal c.in-Ok.ensures.0 c.terminals.reader c.parse_next_terminal.new.reader
-          (room-first _ _ c.in-Ok.ensures.3) c.in-Ok.ensures.1 counts c.in-Ok.ensures.2 w);
+          (HasRoomForNode-by_test _ _ c.in-Ok.ensures.3) c.in-Ok.ensures.1 counts c.in-Ok.ensures.2 w);
     }
 
 pub overflow_add-nodes : goal.overflow_add-nodes
 overflow_add-nodes g c =
-    let room = room_left c.in-Ok.ensures.0 _ c.terminals.invariant.read.few c.in-Ok.ensures.3 in
+    let room = node_count_at_most c.in-Ok.ensures.0 _ c.terminals.invariant.read.within_node_limit c.in-Ok.ensures.3 in
     omega (arith, (ap (λ (n : ℕ). c.terminals.nodes + n) c.nodes-nodes.ensures), room)
 
 pub terminals-smaller : goal.terminals-smaller
@@ -81,4 +89,4 @@ terminals-smaller g c = IsTerminal-shorter c.args.arch c.args.threads _ _ _ c.in
 
 pub parse_next_terminal-requires-clause-some : goal.parse_next_terminal-requires-clause-some
 parse_next_terminal-requires-clause-some g c =
-    some_left c.terminals.self.tokens.now c.terminals.self.next c.terminals.self.within c.if-self.false
+    tokens_remain-before_last c.terminals.self.tokens.now c.terminals.self.next c.terminals.self.within c.if-self.false

@@ -1,3 +1,6 @@
+-- At each round the terminals up to the cursor have been read, and `reader` is in the state after them
+-- (`TerminalsRead`). If the rest fails from this state on, the whole fails as a proposition. The remaining
+-- tokens decrease.
 use Rattle.lw_text.proofs.Common.{length, IsSuffix, TokenList, remaining, remaining_texts, state_of}
 use Rattle.lw_text.proofs.Common.{FailsInProposition, first_place, TextCause, place_of}
 use Rattle.lw_text.proofs.PropositionCases.{TerminalsRead}

@@ -1,3 +1,5 @@
+-- `parse_register` promises a `:` and a register's name, or that they are not next. Only success is answered
+-- by hand: the two tokens are the first of the remaining ones.
 use Rattle.lw_text.proofs.Common.{codes, ◌∷◌, [], ◌∙◌, refl, ap}
 use Rattle.lw_text.proofs.Lists.{IsSuffix-join}
 use Rattle.lw_text.proofs.cursor.Cursor.parse_register.Goals as goal

@@ -1,18 +1,21 @@
+-- `parse_row` promises the cells of a row, or that there is no row of this many cells, and where it fails.
+-- Each round reads a cell and its mark (`CellsRead-one_more`); a `;` closes the row (`row_complete-CellsRead`). A row with
+-- another number of cells is none (`no_row-wrong_count`).
 use Rattle.lw_text.proofs.Common.{◌≡◌, [], ◌∷◌, ◌∙◌, append-nil, refl, ap, sym, length, arith, length-append}
 use Rattle.lw_text.proofs.Common.{length-map, RowCells, cell_texts, cells_texts, remaining, remaining_texts}
 use Rattle.lw_text.proofs.Common.{no_end, ragged}
 use Rattle.lw_text.proofs.Lists.{IsSuffix-join}
 use Rattle.lw_text.proofs.Texts.{is_text}
-use Rattle.lw_text.proofs.Faults.{Err-clause_known, ran_out}
-use Rattle.lw_text.proofs.Cells.{Cells-open, Row-ragged}
-use Rattle.lw_text.proofs.CellPlaces.{cells_more, cells_closed}
+use Rattle.lw_text.proofs.Faults.{Err-clause_known, MatchResult-Memory_error}
+use Rattle.lw_text.proofs.Cells.{no_cells-no_mark, no_row-wrong_count}
+use Rattle.lw_text.proofs.CellPlaces.{CellsRead-one_more, row_complete-CellsRead}
 use Rattle.lw_text.proofs.cursor.Cursor.parse_row.Goals as goal
 
 pub returns-in_err-mark : goal.returns-in_err-mark
 returns-in_err-mark g c = Err-clause_known _ _ _ c.from_residual.ensures.1 (λ ne.
     let lost = c.in_err-mark.ensures ne in
     let none =
-    Cells-open (remaining_texts c.args.self.now) (remaining_texts c.cells.self) (cells_texts c.cells.cells)
+    no_cells-no_mark (remaining_texts c.args.self.now) (remaining_texts c.cells.self) (cells_texts c.cells.cells)
     c.cells.invariant.read.before lost.0 in (
       λ all rest line. none all rest line.0,
       record {
@@ -25,13 +28,13 @@ returns-in_err-mark g c = Err-clause_known _ _ _ c.from_residual.ensures.1 (λ n
 
 pub returns-then-eq : goal.returns-then-eq
 returns-then-eq g c =
-    let closed = cells_closed c.cells.invariant.read c.in_ok-mark.ensures (sym c.eq.ensures ∙ c.if-eq.true) in
+    let closed = row_complete-CellsRead c.cells.invariant.read c.in_ok-mark.ensures (sym c.eq.ensures ∙ c.if-eq.true) in
     let line : RowCells (remaining_texts c.args.self.now) (cells_texts c.push.new.self) (remaining_texts c.parse_cell.new.self) =
     rw c.in_ok-push.ensures.ok closed.0 in
     let other : length (cells_texts c.push.new.self) ≡ c.args.threads → ⊥ =
     λ e. c.if-len-threads.false (omega (arith, c.len.ensures, length-map c.push.new.self cell_texts, e)) in
     λ _. (
-      Row-ragged (remaining_texts c.args.self.now) (remaining_texts c.parse_cell.new.self) _ line c.args.threads other,
+      no_row-wrong_count (remaining_texts c.args.self.now) (remaining_texts c.parse_cell.new.self) _ line c.args.threads other,
       record {
         rest = c.in_ok-mark.mark ∷ remaining c.parse_cell.new.self;
         suffix = IsSuffix-join c.cells.invariant.leaves (c.parse_cell.new.cell, c.in_ok-mark.ensures.parts);
@@ -44,7 +47,7 @@ returns-then-eq g c =
 
 pub returns-then-len-threads : goal.returns-then-len-threads
 returns-then-len-threads g c =
-    let closed = cells_closed c.cells.invariant.read c.in_ok-mark.ensures (sym c.eq.ensures ∙ c.if-eq.true) in (
+    let closed = row_complete-CellsRead c.cells.invariant.read c.in_ok-mark.ensures (sym c.eq.ensures ∙ c.if-eq.true) in (
       (
         rw c.in_ok-push.ensures.ok closed.0,
         omega (arith, c.if-len-threads.true, c.len.ensures, length-map c.push.new.self cell_texts),
@@ -63,7 +66,7 @@ cells-smaller g c = omega (
 
 pub cells-preserved : goal.cells-preserved
 cells-preserved g c = rw c.in_ok-push.ensures.ok (record {
-  read = cells_more c.cells.invariant.read c.in_ok-mark.ensures (sym c.eq.ensures ∙ c.if-eq.false);
+  read = CellsRead-one_more c.cells.invariant.read c.in_ok-mark.ensures (sym c.eq.ensures ∙ c.if-eq.false);
   leaves =
       IsSuffix-join c.cells.invariant.leaves
       (IsSuffix-join (c.parse_cell.new.cell, c.in_ok-mark.ensures.parts) (c.in_ok-mark.mark ∷ [], refl));
@@ -73,4 +76,4 @@ pub parse_cell-requires : goal.parse_cell-requires
 parse_cell-requires g c = c.new-tokens.ensures
 
 pub returns-in_err-push : goal.returns-in_err-push
-returns-in_err-push g c = ran_out _ _ _ c.from_residual-in_err-push.ensures.1
+returns-in_err-push g c = MatchResult-Memory_error _ _ _ c.from_residual-in_err-push.ensures.1

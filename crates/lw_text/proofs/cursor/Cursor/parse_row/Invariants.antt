@@ -1,3 +1,4 @@
+-- At each round the cells up to the cursor have been read, each closed by a `|` (`CellsRead`).
 use Rattle.lw_text.proofs.Common.{length, IsSuffix, remaining}
 use Rattle.lw_text.proofs.CellPlaces.{CellsRead}
 use Rattle.lw_text.proofs.cursor.Cursor.parse_row.Given as goal

@@ -1,3 +1,5 @@
+-- At each round the rows up to the cursor have been read, at most 64, and none begins with a token that ends
+-- rows (`Passed`). If the rest fails after these rows, the whole fails as rows.
 use Rattle.lw_text.proofs.Common.{◌≤◌, length, Row, begins_stop, all_texts, with_spans, placed_cells}
 use Rattle.lw_text.proofs.Common.{RowsFrom, IsSuffix, TokenList, remaining, remaining_texts, FailsInRows}
 use Rattle.lw_text.proofs.Common.{TextCause}

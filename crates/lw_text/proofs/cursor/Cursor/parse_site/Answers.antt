@@ -1,11 +1,15 @@
+-- `parse_site` promises a site whose thread is allowed and whose location has room, or that none is next, and
+-- where it fails. The first token decides: `[`, a number or a name (`no_site-no_location_in_brackets`, `no_site-no_register`,
+-- `no_site-no_location` say that the other rules do not apply).
 use Rattle.lw_text.proofs.Common.{◌∷◌, [], ◌∙◌, inl, inr, refl, sym, ap, subst, arith, codes}
 use Rattle.lw_text.proofs.Common.{MatchResult-weaker, remaining, remaining_texts, ParsedSite, in_name}
 use Rattle.lw_text.proofs.Common.{in_brackets, no_thread, in_register, BeginsAt}
-use Rattle.lw_text.proofs.Atoms.{site_none}
+use Rattle.lw_text.proofs.Atoms.{no_site-empty}
 use Rattle.lw_text.proofs.Lists.{IsSuffix-join}
 use Rattle.lw_text.proofs.Texts.{is_text, is_no_text}
-use Rattle.lw_text.proofs.Sites.{entered, allowed_thread, refused_thread, brackets_none, thread_refused}
-use Rattle.lw_text.proofs.Sites.{register_none, location_none}
+use Rattle.lw_text.proofs.Sites.{location_site_parsed, allowed_thread, thread_not_allowed}
+use Rattle.lw_text.proofs.Sites.{no_site-no_location_in_brackets, thread_refused, no_site-no_register}
+use Rattle.lw_text.proofs.Sites.{no_site-no_location}
 use Rattle.lw_text.proofs.Faults.{Err-clause_known}
 use Rattle.lw_text.proofs.Failures.{Fails-here, Fails-later, IfFirst-cons, IfFirst-nil, BeginsAt-cons}
 use Rattle.lw_text.proofs.Failures.{BeginsAt-nil}
@@ -16,7 +20,7 @@ returns-in-Err g c = λ ne.
     let lost = c.in-Err.ensures ne in
     let plain = is_no_text _ _ (sym c.eq.ensures ∙ c.if-eq.false) in (
       λ s rest site there few.
-          location_none c.args.arch _ c.in_ok-first.ensures.ok plain c.in_default.ensures lost.0 s rest site few,
+          no_site-no_location c.args.arch _ c.in_ok-first.ensures.ok plain c.in_default.ensures lost.0 s rest site few,
       Fails-here c.args.self.now _
           (subst (BeginsAt (remaining c.args.self.now)) (sym lost.1) (BeginsAt-cons _ _ _ c.in_ok-first.ensures.token))
           (in_name (IfFirst-cons _ _ _ _ c.in_ok-first.ensures.ok (plain, c.in_default.ensures))
@@ -27,7 +31,7 @@ pub returns-in_err-first : goal.returns-in_err-first
 returns-in_err-first g c =
     let none = c.in_err-first.ensures.err in
     Err-clause_known _ _ _ c.from_residual.ensures.1 (λ ne. (
-      λ s rest p there few. site_none c.args.arch (remaining_texts c.args.self.now) rest s none p,
+      λ s rest p there few. no_site-empty c.args.arch (remaining_texts c.args.self.now) rest s none p,
       Fails-here c.args.self.now _ (BeginsAt-nil _ _ c.in_err-first.ensures.fails.0 c.in_err-first.ensures.fails.1)
           (in_name (IfFirst-nil _ _ none) (refl, IfFirst-nil _ _ none)),
     ))
@@ -36,7 +40,8 @@ pub returns-in_err-inside : goal.returns-in_err-inside
 returns-in_err-inside g c = Err-clause_known _ _ _ c.from_residual-in_err-inside.ensures.1 (λ ne.
     let lost = c.in_err-inside.ensures ne in
     let bracket = is_text _ _ (sym c.eq.ensures ∙ c.if-eq.true) in (
-      λ s rest p there few. brackets_none c.args.arch c.args.locs.now c.in_ok-first.ensures.ok bracket lost.0 s rest p few,
+      λ s rest p there few.
+          no_site-no_location_in_brackets c.args.arch c.args.locs.now c.in_ok-first.ensures.ok bracket lost.0 s rest p few,
       Fails-later (c.in_ok-first.first ∷ [], c.in_ok-first.ensures.token)
           (λ rest cause w. in_brackets (c.in_ok-first.ensures.ok ∙ ap (λ y. y ∷ remaining_texts c.take.new.self) bracket) w)
           lost.1,
@@ -45,7 +50,7 @@ returns-in_err-inside g c = Err-clause_known _ _ _ c.from_residual-in_err-inside
 pub returns-then-eq : goal.returns-then-eq
 returns-then-eq g c =
     let inside = c.in_ok-inside.ensures in
-    entered inside.2 (IsSuffix-join (c.in_ok-first.first ∷ [], c.in_ok-first.ensures.token) inside.3)
+    location_site_parsed inside.2 (IsSuffix-join (c.in_ok-first.first ∷ [], c.in_ok-first.ensures.token) inside.3)
     (inr (c.in_ok-first.ensures.ok
     ∙ ap (λ y. y ∷ remaining_texts c.take.new.self) (is_text _ _ (sym c.eq.ensures ∙ c.if-eq.true))
     ∙ ap (λ l. codes "[" ∷ l) inside.1))
@@ -57,7 +62,8 @@ returns-then-not-is_allowed g c = λ ne.
           thread_refused c.args.arch c.args.locs.now c.in_ok-first.ensures.ok _ c.in-Some.ensures c.args.threads refused s rest p
           there,
       Fails-here c.args.self.now _ (BeginsAt-cons _ _ _ c.in_ok-first.ensures.token)
-          (no_thread _ _ c.in_ok-first.ensures.ok refl c.in-Some.ensures (λ r. refused_thread c.args.threads _ r refused) refl),
+          (no_thread _ _ c.in_ok-first.ensures.ok refl c.in-Some.ensures (λ r. thread_not_allowed c.args.threads _ r refused)
+          refl),
     )
 
 pub returns-in-Some : goal.returns-in-Some
@@ -72,18 +78,20 @@ returns-in-Some g c =
         c.in-Some.ensures,
         reg.3,
       );
-      there = allowed_thread c.args.threads _ _ (sym c.is_allowed.ensures ∙ c.if-not-is_allowed.false);
+      threads_exist = allowed_thread c.args.threads _ _ (sym c.is_allowed.ensures ∙ c.if-not-is_allowed.false);
       names_are = refl;
       within = omega arith;
       leaves = IsSuffix-join (c.in_ok-first.first ∷ [], c.in_ok-first.ensures.token) reg.5;
       few = c.len-known.ensures.table.few;
     })) (λ f lost ne. (
       λ s rest p there few.
-          register_none c.args.arch c.args.locs.now c.in_ok-first.ensures.ok c.in-Some.thread c.in-Some.ensures lost.0 s rest p,
+          no_site-no_register c.args.arch c.args.locs.now c.in_ok-first.ensures.ok c.in-Some.thread c.in-Some.ensures lost.0 s
+          rest p,
       Fails-later (c.in_ok-first.first ∷ [], c.in_ok-first.ensures.token) (λ rest cause w.
           in_register _ _ c.in_ok-first.ensures.ok c.in-Some.ensures
           (λ r. allowed_thread c.args.threads _ r (sym c.is_allowed.ensures ∙ c.if-not-is_allowed.false)) w) lost.1,
     ))
 
 pub returns-in-Ok : goal.returns-in-Ok
-returns-in-Ok g c = entered c.in-Ok.ensures (c.in_ok-first.first ∷ [], c.in_ok-first.ensures.token) (inl c.in_ok-first.ensures.ok)
+returns-in-Ok g c =
+    location_site_parsed c.in-Ok.ensures (c.in_ok-first.first ∷ [], c.in_ok-first.ensures.token) (inl c.in_ok-first.ensures.ok)

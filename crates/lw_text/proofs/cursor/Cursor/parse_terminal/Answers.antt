@@ -1,3 +1,5 @@
+-- `parse_terminal` promises the next terminal of the wanted kind, or that there is none. Each arm passes on
+-- what its callee ensures.
 use Rattle.lw_text.proofs.Common.{MatchResult-weaker}
 use Rattle.lw_text.proofs.cursor.Cursor.parse_terminal.Goals as goal
 

@@ -1,3 +1,5 @@
+-- `cells` promises the column of a thread's cells. The thread is below the head's number of threads, which is
+-- the number of columns by the frame's invariant.
 use Rattle.lw_text.proofs.Common.{length, refl, ap, arith, slice_get_read}
 use Rattle.lw_text.proofs.frame.Frame.cells.Goals as goal
 

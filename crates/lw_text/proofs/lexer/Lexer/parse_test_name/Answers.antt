@@ -1,7 +1,10 @@
+-- `parse_test_name` promises the test's name and the rest, or that none follows, and where it fails. Blanks
+-- and name are the longest runs, so each text is split in one way (`ParsesTestName-parts`). An empty name is
+-- the text's end (`all_blank-no_name`).
 use Rattle.lw_text.proofs.Common.{◌≡◌, arith, ap, subst, length, length-append, false≢true, nat_tests}
 use Rattle.lw_text.proofs.Common.{IsTestName, ◌∙◌, sym, ◌++◌, name_ascii, refl, [], ◌<◌, All-mono, not-true}
 use Rattle.lw_text.proofs.Common.{first_byte_is, is_blank, no_name, no_blank, bad_name}
-use Rattle.lw_text.proofs.Preambles.{ParsesTestName-parts, all_blank, no_front}
+use Rattle.lw_text.proofs.Preambles.{ParsesTestName-parts, all_blank-no_name, append-empty_front}
 use Rattle.lw_text.proofs.lexer.Lexer.parse_test_name.Goals as goal
 
 pub returns-then-is_empty-clause-reads : goal.returns-then-is_empty-clause-reads
@@ -11,12 +14,12 @@ returns-then-is_empty-clause-reads c =
     let none : length c.prefix_of_kind-2.result.0.now ≡ 0 = grind (arith, nat_tests) in (
       λ n r p.
           let k = ParsesTestName-parts c.args.self.now.rest.now _ _ _ _ b.parts b.all b.longest u.parts u.all u.longest n r p in
-          omega (arith, none, p.is_name.some, ap length k.1),
+          omega (arith, none, p.is_name.not_empty, ap length k.1),
       omega arith,
       record {
         rest = [];
         place = omega arith;
-        way = no_name (all_blank _ _ _ _ _ b.parts b.all b.longest u.parts u.longest none) refl refl;
+        way = no_name (all_blank-no_name _ _ _ _ _ b.parts b.all b.longest u.parts u.longest none) refl refl;
       },
     )
 
@@ -39,7 +42,7 @@ returns-then-is_empty-2-clause-reads c =
           length-append c.prefix_of_kind.result.0.now c.prefix_of_kind.result.1.now,
         );
         way =
-            (let same = no_front _ _ _ b.parts none in
+            (let same = append-empty_front _ _ _ b.parts none in
             let some : 0 < length c.prefix_of_kind-2.result.0.now = grind (arith, nat_tests) in
             no_blank (omega (
               arith,

@@ -1,3 +1,5 @@
+-- `skip_notes` promises to skip the notes, or to fail where they do. The one goal by hand is the lexer's
+-- invariant: what follows the notes is a suffix of the text (`Notes-suffix`).
 use Rattle.lw_text.proofs.Common.{arith, ap, length, length-append}
 use Rattle.lw_text.proofs.NoteRows.{Notes-suffix}
 use Rattle.lw_text.proofs.lexer.Lexer.skip_notes.Goals as goal

@@ -1,3 +1,6 @@
+-- `finish` promises a frame with the head and the columns of the parsed body. The goal is the frame's
+-- invariant: a well-formed head (`resolved_well_formed`), and as many columns as threads, all of one length
+-- and within the text.
 use Rattle.lw_text.proofs.Common.{◌≡◌, ◌∙◌, sym, ap, subst, arith, IsWellFormedHead, EndsBefore}
 use Rattle.lw_text.proofs.WellFormedHeads.{resolved_well_formed}
 use Rattle.lw_text.proofs.RowColumns.{columns-length, columns-height, columns-even, columns-each}

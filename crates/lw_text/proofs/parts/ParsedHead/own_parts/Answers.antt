@@ -1,3 +1,5 @@
+-- `own_parts` promises the name, the initial words and the listed sites of a head. Only the premises of the
+-- calls are answered by hand: a test has at most four threads and eight locations.
 use Rattle.lw_text.proofs.Common.{ℕ, ◌≤◌, subst, sym}
 use Rattle.lw_text.proofs.parts.ParsedHead.own_parts.Goals as goal
 

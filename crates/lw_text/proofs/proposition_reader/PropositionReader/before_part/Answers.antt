@@ -1,3 +1,5 @@
+-- `before_part` promises the state after a terminal where a part must begin, or that this terminal is
+-- impossible there. One goal for each arm: what is pushed or put is what `next_state` gives.
 use Rattle.lw_text.proofs.Common.{reverse-append, inl, inr, map-append, refl}
 use Rattle.lw_text.proofs.proposition_reader.PropositionReader.before_part.Goals as goal
 

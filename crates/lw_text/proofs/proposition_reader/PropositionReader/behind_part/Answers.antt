@@ -1,3 +1,5 @@
+-- `behind_part` promises the state after a terminal that follows a part, or that this terminal is impossible
+-- there. One goal for each arm; a `)` is impossible if no group is open outside this one.
 use Rattle.lw_text.proofs.Common.{reverse-append, ◌≡◌, [], inl, inr, map-append, nil_from_length, refl, sym}
 use Rattle.lw_text.proofs.Common.{◌∙◌}
 use Rattle.lw_text.proofs.proposition_reader.PropositionReader.behind_part.Goals as goal

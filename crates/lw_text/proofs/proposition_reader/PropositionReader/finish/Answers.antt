@@ -1,9 +1,12 @@
+-- `finish` promises the proposition that the terminals are, or that they are none yet. They are one if no
+-- group is open and a part has been read; then the group is closed with it.
 use Rattle.lw_text.proofs.Common.{◌≡◌, ◌≢◌, List, [], ◌∷◌, Option, Some, None, length, map, reverse, refl, ap}
 use Rattle.lw_text.proofs.Common.{sym, ◌∙◌, arith, eqb-true, eqb-false, nil_from_length, length-reverse}
 use Rattle.lw_text.proofs.Common.{length-map, Formula, formula_of, Pending, group_of, ors_of, reader_state_in}
 use Rattle.lw_text.proofs.Common.{state_result}
 use Rattle.lw_text.proofs.proposition_reader.PropositionReader.finish.Goals as goal
 
+-- While a group is open, the terminals are no whole proposition.
 said_inside : (o : Option Formula) (l : Pending) (os : List Pending) → os ≢ [] → state_result (reader_state_in o l os) ≡ None
 said_inside None l os ne = refl
 said_inside (Some p) l [] ne = absurd (ne refl)

@@ -1,7 +1,10 @@
+-- `body` promises the parsed body if no lexical fault ends the tokens, or where the stream fails. A refusal
+-- has the offset of a token (`place_within`); if the tokens end too early, the place is that of the lexical
+-- fault or the text's end (`stream_fails`).
 use Rattle.lw_text.proofs.Common.{◌≡◌, ◌≢◌, ◌∙◌, IsSuffix, Memory, Unexpected, formula_of, inr, refl}
 use Rattle.lw_text.proofs.Common.{syntax_of, ap, rules, subst, sym, ParsesTest, ParsesNoTest, token_texts}
 use Rattle.lw_text.proofs.Common.{FailsInTest, at_stream_fault}
-use Rattle.lw_text.proofs.Numbers.{if_none}
+use Rattle.lw_text.proofs.Numbers.{IfNone-of_fact}
 use Rattle.lw_text.proofs.StreamFailures.{place_within, stream_fails}
 use Rattle.lw_text.proofs.api.Places.{texts_placed}
 use Rattle.lw_text.proofs.token_stream.TokenStream.body.Goals as goal
@@ -16,7 +19,8 @@ fault_of-requires-clause-place g c = λ ne.
 pub returns-in-Err : goal.returns-in-Err
 returns-in-Err g c =
     let read = c.new-cursor.ensures ∙ c.as_slice.ensures in (
-      λ ne. if_none c.args.self.now.fault (ParsesNoTest c.args.arch (token_texts c.args.self.now.tokens)) (λ s f parts whole.
+      λ ne.
+          IfNone-of_fact c.args.self.now.fault (ParsesNoTest c.args.arch (token_texts c.args.self.now.tokens)) (λ s f parts whole.
           (c.in-Err.ensures (λ memory. ne (c.fault_of.ensures.memory memory))).0 s f
           (subst (λ ts. ParsesTest c.args.arch ts s) (sym (ap token_texts read)) parts) whole),
       c.fault_of.ensures.place,

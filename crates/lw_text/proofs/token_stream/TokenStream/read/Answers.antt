@@ -1,7 +1,9 @@
+-- `read` promises all tokens of a text with their offsets, up to the first lexical fault. Each round reads
+-- one token; the end of the text (`Read-done`) or a fault (`Read-fault`) ends the list.
 use Rattle.lw_text.proofs.Common.{◌≤◌, ◌∙◌, ap, length, arith, map_push, All-from_recursion, Token, with_span}
 use Rattle.lw_text.proofs.Common.{with_spans, IsPlacedToken}
 use Rattle.lw_text.proofs.Lists.{ParsesMany-push}
-use Rattle.lw_text.proofs.Readings.{all_push}
+use Rattle.lw_text.proofs.Readings.{AllByRecursion-snoc}
 use Rattle.lw_text.proofs.TokenRows.{Read-done, Read-fault, Tokens-none, IsFirstToken-shorter}
 use Rattle.lw_text.proofs.Failures.{FailsFrom-later}
 use Rattle.lw_text.proofs.token_stream.TokenStream.read.Goals as goal
@@ -22,7 +24,8 @@ tokens-preserved g c =
           (f.0, omega (arith, f.1, ap length same)));
       within =
           rw c.in_ok-push-in-Ok-Some.ensures.ok
-          (all_push (λ (t : Token). t.at ≤ len) before t c.tokens.invariant.within (omega (arith, f.1, ap length same)));
+          (AllByRecursion-snoc (λ (t : Token). t.at ≤ len) before t c.tokens.invariant.within
+          (omega (arith, f.1, ap length same)));
     }
 
 pub returns-in-Ok-None : goal.returns-in-Ok-None

@@ -1,3 +1,5 @@
+-- At each round the tokens up to the lexer's rest have been read, with their offsets (`Read`), which are
+-- within the text. The rest becomes shorter.
 use Rattle.lw_text.proofs.Common.{◌≡◌, ◌≤◌, length, AllByRecursion, with_spans}
 use Rattle.lw_text.proofs.TokenRows.{Read}
 use Rattle.lw_text.proofs.token_stream.TokenStream.read.Given as goal
