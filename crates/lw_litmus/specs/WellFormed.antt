@@ -20,7 +20,7 @@ module _ {Stmt : Type 0} (language : Language Stmt) where
   -- The code is well-formed: not too long for the language, its statements on `locs` locations, and its jumps forward, at most to the end.
   pub record IsWellFormedThread (locs : ℕ) (code : List Stmt) : Type 0 where
     pub short : length code ≤ language.most
-    pub there : All (IsWellFormedStatement locs) code
+    pub statements_formed : All (IsWellFormedStatement locs) code
     pub forward :
         (k : ℕ) (s : Stmt) → slice_get code k ≡ Some s
         → ForSome (branch_target (language.operation_of s)) (λ to. (k < to) × (to ≤ length code))

@@ -13,13 +13,13 @@ use Rattle.lw_litmus.specs.WellFormed.{IsWellFormedStatement}
 -- A head has initial words: six for each thread, one for each of its registers, and one for each location.
 pub record HasInitialWords (head : TestHead) : Type 0 where
   pub regs : length head.init_regs ≡ head.threads
-  pub six : AllByRecursion (λ row. length row ≡ registers) head.init_regs
+  pub register_counts : AllByRecursion (λ row. length row ≡ registers) head.init_regs
   pub words : length head.init_words ≡ length head.locs
 
 module _ {Stmt : Type 0} (language : Language Stmt) where
   -- A code is well-scoped, on so many locations: its statements are well-formed, and its jumps lead forward, at most to the end.
   pub record IsWellScopedThread (locs : ℕ) (code : List Stmt) : Type 0 where
-    pub there : All (IsWellFormedStatement language locs) code
+    pub statements_formed : All (IsWellFormedStatement language locs) code
     pub forward :
         (k : ℕ) (s : Stmt) → slice_get code k ≡ Some s
         → ForSome (branch_target (language.operation_of s)) (λ to. (k < to) × (to ≤ length code))

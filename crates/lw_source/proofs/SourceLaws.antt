@@ -1,4 +1,4 @@
--- The spelling of the source language satisfies the rule of cells.
+-- The spelling of the source language satisfies the rule of cells. So the laws of lw_statements hold of source tests.
 use Rattle.std.proofs.Common.{ℕ, refl, arith}
 use Rattle.lw_base.specs.declared.operand.Operand.TheVariants.{Register, Number}
 use Rattle.lw_statements.specs.Grammars.{IsGrammar}
@@ -14,26 +14,42 @@ use Rattle.lw_source.specs.inner.Operands.{statement_of_operands}
 
 -- `statement_of_operands` makes each form's statement from the operands that its tokens give: x is the index of its location, and `to` its
 -- target.
-making : (x to : ℕ) (form : SourceForm) (f : Filling (source_slots form))
+IsMade-each_form : (x to : ℕ) (form : SourceForm) (f : Filling (source_slots form))
     → IsMade source_spelling statement_of_operands x to form f
-making x to Store (n, (_, (Register r, _))) = record { is = refl; located = refl; led = refl; given = λ p q. (p, q) }
-making x to Store (n, (_, (Number m, _))) = record { is = refl; located = refl; led = refl; given = λ p q. (p, q) }
-making x to Load (d, (_, (n, _))) = record { is = refl; located = refl; led = refl; given = λ p q. (p, q) }
-making x to Swap (d, (_, (_, (n, (a, _))))) = record { is = refl; located = refl; led = refl; given = λ p q. (p, q) }
-making x to FetchAdd (d, (_, (_, (n, (a, _))))) = record { is = refl; located = refl; led = refl; given = λ p q. (p, q) }
-making x to Set (d, (_, (Register r, _))) = record { is = refl; located = refl; led = refl; given = λ p q. (p, q) }
-making x to Set (d, (_, (Number m, _))) = record { is = refl; located = refl; led = refl; given = λ p q. (p, q) }
-making x to Sum (d, (_, (a, (_, (Register r, _))))) = record { is = refl; located = refl; led = refl; given = λ p q. (p, q) }
-making x to Sum (d, (_, (a, (_, (Number m, _))))) = record { is = refl; located = refl; led = refl; given = λ p q. (p, q) }
-making x to IfEqual (_, (a, (_, (n, (_, (l, _)))))) = record { is = refl; located = refl; led = refl; given = λ p q. (p, q) }
-making x to IfNotEqual (_, (a, (_, (n, (_, (l, _)))))) = record { is = refl; located = refl; led = refl; given = λ p q. (p, q) }
-making x to Goto (_, (l, _)) = record { is = refl; located = refl; led = refl; given = λ p q. (p, q) }
+IsMade-each_form x to Store (n, (_, (Register r, _))) =
+    record { is = refl; located = refl; target_is = refl; given = λ p q. (p, q) }
+IsMade-each_form x to Store (n, (_, (Number m, _))) =
+    record { is = refl; located = refl; target_is = refl; given = λ p q. (p, q) }
+IsMade-each_form x to Load (d, (_, (n, _))) = record { is = refl; located = refl; target_is = refl; given = λ p q. (p, q) }
+IsMade-each_form x to Swap (d, (_, (_, (n, (a, _))))) =
+    record { is = refl; located = refl; target_is = refl; given = λ p q. (p, q) }
+IsMade-each_form x to FetchAdd (d, (_, (_, (n, (a, _))))) =
+    record { is = refl; located = refl; target_is = refl; given = λ p q. (p, q) }
+IsMade-each_form x to Set (d, (_, (Register r, _))) =
+    record { is = refl; located = refl; target_is = refl; given = λ p q. (p, q) }
+IsMade-each_form x to Set (d, (_, (Number m, _))) = record { is = refl; located = refl; target_is = refl; given = λ p q. (p, q) }
+IsMade-each_form x to Sum (d, (_, (a, (_, (Register r, _))))) =
+    record { is = refl; located = refl; target_is = refl; given = λ p q. (p, q) }
+IsMade-each_form x to Sum (d, (_, (a, (_, (Number m, _))))) =
+    record { is = refl; located = refl; target_is = refl; given = λ p q. (p, q) }
+IsMade-each_form x to IfEqual (_, (a, (_, (n, (_, (l, _)))))) =
+    record { is = refl; located = refl; target_is = refl; given = λ p q. (p, q) }
+IsMade-each_form x to IfNotEqual (_, (a, (_, (n, (_, (l, _)))))) =
+    record { is = refl; located = refl; target_is = refl; given = λ p q. (p, q) }
+IsMade-each_form x to Goto (_, (l, _)) = record { is = refl; located = refl; target_is = refl; given = λ p q. (p, q) }
 
 -- The spelling of the source language is lawful: its forms are distinguishable, and its statements made from their operands.
-pub source_spelled : IsSpelling source_spelling statement_of_operands
-source_spelled =
-    record { countable = omega arith; apart = refl; statements = refl; names = refl; clear = refl; words = refl; making = making }
+pub source_forms_are_spelled : IsSpelling source_spelling statement_of_operands
+source_forms_are_spelled = record {
+  countable = omega arith;
+  apart = refl;
+  statements = refl;
+  names = refl;
+  clear = refl;
+  words = refl;
+  making = IsMade-each_form;
+}
 
 -- The grammar of the source language satisfies the rule of cells.
-pub source_lawful : IsGrammar source_grammar
-source_lawful = is_grammar source_spelling statement_of_operands source_spelled
+pub source_grammar_is_lawful : IsGrammar source_grammar
+source_grammar_is_lawful = is_grammar source_spelling statement_of_operands source_forms_are_spelled

@@ -8,7 +8,8 @@ mod language;
 mod read;
 
 pub use lw_interleaving::{
-    SourceRun, Thread, a_step_follows_the_flow, a_step_moves_one_thread, steps_can_be_exchanged,
+    SourceRun, Thread, a_step_changes_one_thread, a_step_follows_the_flow,
+    independent_steps_commute,
 };
 pub use lw_litmus::{Source, Stmt};
 pub use read::{a_frame_has_one_source, read_source, source_cells_have_one_fault};

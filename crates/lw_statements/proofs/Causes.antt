@@ -1,21 +1,22 @@
--- What a fault's cause claims of its position, by the table `FaultClaim`: which fact for which cause, and what follows from it.
+-- What a fault's cause claims of its position, by the table `FaultClaim`: which fact for which cause, and
+-- what follows from it. Each function that refuses a cell claims its fault's cause by one of these lemmas.
 use Rattle.lw_statements.proofs.Common.{◌≡◌, ℕ, sym, subst, arith, CellCause, Form, LabelTwice, TooMany}
 use Rattle.lw_statements.proofs.Common.{Memory, CellFault, IsMisfitCause, FaultClaim, Refused}
 use Rattle.lw_base.specs.declared.fault.CellCause.TheVariants.{Register}
 
 -- A misfit's cause is the same for equivalent readings of what is meant as a register.
-pub misfit_same : {A B : Type 0} (cause : CellCause) → (A → B) → (B → A) → IsMisfitCause A cause → IsMisfitCause B cause
-misfit_same Form f g h = λ b. h (g b)
-misfit_same Register f g h = f h
-misfit_same cause f g h = absurd h
+pub IsMisfitCause-iff : {A B : Type 0} (cause : CellCause) → (A → B) → (B → A) → IsMisfitCause A cause → IsMisfitCause B cause
+IsMisfitCause-iff Form f g h = λ b. h (g b)
+IsMisfitCause-iff Register f g h = f h
+IsMisfitCause-iff cause f g h = absurd h
 
 -- A misfit is Form or Register, of which it claims what it is.
-pub wrong_tells : {wrong : CellCause → Type 0} {no_label second_label backward one_more : Type 0} (IsMeant : Type 0)
+pub FaultClaim-wrong : {wrong : CellCause → Type 0} {no_label second_label backward one_more : Type 0} (IsMeant : Type 0)
     (cause : CellCause)
     → IsMisfitCause IsMeant cause
     → wrong cause
     → FaultClaim wrong no_label second_label backward one_more cause
-wrong_tells IsMeant Form m here = record {
+FaultClaim-wrong IsMeant Form m here = record {
   form = λ e. here;
   register = λ e. absurd cc;
   missing = λ e. absurd cc;
@@ -23,7 +24,7 @@ wrong_tells IsMeant Form m here = record {
   back = λ e. absurd cc;
   many = λ e. absurd cc;
 }
-wrong_tells IsMeant Register m here = record {
+FaultClaim-wrong IsMeant Register m here = record {
   form = λ e. absurd cc;
   register = λ e. here;
   missing = λ e. absurd cc;
@@ -31,12 +32,12 @@ wrong_tells IsMeant Register m here = record {
   back = λ e. absurd cc;
   many = λ e. absurd cc;
 }
-wrong_tells IsMeant cause m here = absurd m
+FaultClaim-wrong IsMeant cause m here = absurd m
 
 -- The cause that memory ran out claims nothing of a position.
-pub memory_tells : {wrong : CellCause → Type 0} {no_label second_label backward one_more : Type 0}
+pub FaultClaim-Memory : {wrong : CellCause → Type 0} {no_label second_label backward one_more : Type 0}
     → FaultClaim wrong no_label second_label backward one_more Memory
-memory_tells = record {
+FaultClaim-Memory = record {
   form = λ e. absurd cc;
   register = λ e. absurd cc;
   missing = λ e. absurd cc;
@@ -46,10 +47,10 @@ memory_tells = record {
 }
 
 -- The cause `Form` claims that something is wrong, and nothing else.
-pub form_tells : {wrong : CellCause → Type 0} {no_label second_label backward one_more : Type 0}
+pub FaultClaim-Form : {wrong : CellCause → Type 0} {no_label second_label backward one_more : Type 0}
     → wrong Form
     → FaultClaim wrong no_label second_label backward one_more Form
-form_tells here = record {
+FaultClaim-Form here = record {
   form = λ e. here;
   register = λ e. absurd cc;
   missing = λ e. absurd cc;
@@ -59,10 +60,10 @@ form_tells here = record {
 }
 
 -- The cause `LabelTwice` claims a second label, and nothing else.
-pub twice_tells : {wrong : CellCause → Type 0} {no_label second_label backward one_more : Type 0}
+pub FaultClaim-Twice : {wrong : CellCause → Type 0} {no_label second_label backward one_more : Type 0}
     → second_label
     → FaultClaim wrong no_label second_label backward one_more LabelTwice
-twice_tells here = record {
+FaultClaim-Twice here = record {
   form = λ e. absurd cc;
   register = λ e. absurd cc;
   missing = λ e. absurd cc;
@@ -72,10 +73,10 @@ twice_tells here = record {
 }
 
 -- The cause `TooMany` claims one item too many, and nothing else.
-pub many_tells : {wrong : CellCause → Type 0} {no_label second_label backward one_more : Type 0}
+pub FaultClaim-TooMany : {wrong : CellCause → Type 0} {no_label second_label backward one_more : Type 0}
     → one_more
     → FaultClaim wrong no_label second_label backward one_more TooMany
-many_tells here = record {
+FaultClaim-TooMany here = record {
   form = λ e. absurd cc;
   register = λ e. absurd cc;
   missing = λ e. absurd cc;
@@ -85,14 +86,14 @@ many_tells here = record {
 }
 
 -- A cause that can only claim that something is wrong, a second label or one item too many also claims what follows from these.
-pub further : {wrong wrong_there : CellCause → Type 0} {second second_there one_more one_more_there no_label backward : Type 0}
-    {cause : CellCause}
+pub FaultClaim-weakened : {wrong wrong_there : CellCause → Type 0}
+    {second second_there one_more one_more_there no_label backward : Type 0} {cause : CellCause}
     → ((c : CellCause) → wrong c → wrong_there c)
     → (second → second_there)
     → (one_more → one_more_there)
     → FaultClaim wrong ⊥ second ⊥ one_more cause
     → FaultClaim wrong_there no_label second_there backward one_more_there cause
-further f g h t = record {
+FaultClaim-weakened f g h t = record {
   form = λ e. f Form (t.form e);
   register = λ e. f Register (t.register e);
   missing = λ e. absurd (t.missing e);
@@ -102,12 +103,12 @@ further f g h t = record {
 }
 
 -- A fault because memory ran out rejects whatever was to be read, since its cause claims nothing of a position.
-pub refused_memory : {unfit : Type 0} {told : ℕ → CellCause → Type 0} {lies : ℕ → Type 0} (f : CellFault)
+pub refusal-Memory : {unfit : Type 0} {told : ℕ → CellCause → Type 0} {lies : ℕ → Type 0} (f : CellFault)
     → ((at : ℕ) → told at Memory)
     → f.cause ≡ Memory
     → f.at ≡ 0
     → Refused unfit told lies f
-refused_memory {unfit} {told} {lies} f tells memory first = record {
+refusal-Memory {unfit} {told} {lies} f tells memory first = record {
   none = λ known. absurd (known memory);
   cause = subst (told f.at) (sym memory) (tells f.at);
   place = λ len within. omega (arith, first);

@@ -1,5 +1,6 @@
--- Two faults of one cell are the same, if the same precedes it. The tokens before a fault's place can be continued to a statement, and with the
--- token there they cannot.
+-- Two faults of one cell are the same, if the same precedes it. The tokens before a fault's place can be
+-- continued to a statement, and with the token there they cannot. A step of the law that at most one fault is
+-- true (OneFault).
 use Rattle.lw_statements.proofs.Common.{◌≡◌, ℕ, ◌<◌, ◌≤◌, ◌+◌, ◌*◌, inl, inr, ◌⊎◌, Option, Some, None, List}
 use Rattle.lw_statements.proofs.Common.{[], ◌∷◌, ◌++◌, length, length-append, refl, sym, ap, ◌∙◌, subst}
 use Rattle.lw_statements.proofs.Common.{arith, slice_get, codes, Contains, append_assoc, append-nil}
@@ -8,8 +9,8 @@ use Rattle.lw_statements.proofs.Common.{IsLocationName, insert_name, Bytes, Name
 use Rattle.lw_statements.proofs.Common.{IsGrammar, BeginsStatement, CanBegin, IsLocationAfter, MaybeStatement}
 use Rattle.lw_statements.proofs.Common.{Labels, BeginsFitting, BeginsWithLabel, IsMeantAsRegister}
 use Rattle.lw_statements.proofs.Common.{IsMisfitCause, IsUnknownRegister, insert_name-new}
-use Rattle.lw_statements.proofs.FrontLabels.{Labels-unique, once_apart}
-use Rattle.lw_statements.proofs.OneReading.{no_label as no_label_begins}
+use Rattle.lw_statements.proofs.FrontLabels.{Labels-unique, IsDuplicateFree-not_in_both}
+use Rattle.lw_statements.proofs.OneReading.{no_label-MaybeStatement as no_label_begins}
 use Rattle.lw_base.specs.declared.fault.CellCause.TheVariants as cause
 
 -- ---- lists
@@ -101,13 +102,14 @@ module _ {Syntax Stmt : Type 0} (grammar : Grammar Syntax Stmt) where
 
   -- The number of statements above a cell, the labels above it, the table there, and its tokens.
   module _ (count : ℕ) (known : List Bytes) (table : NameTable) (ts : TokenList) where
+    -- The thread has room for one more statement.
     abbrev pub HasFree : Type 0
     HasFree = count ≡ grammar.language.most → ⊥
 
     -- What is read of the cell: labels and `mid`, which can be continued; `rest` follows.
     pub record IsFront (labels : List Bytes) (mid rest : TokenList) : Type 0 where
       pub says : Labels ts labels (mid ++ rest)
-      pub once : IsDuplicateFree (known ++ labels)
+      pub without_duplicates : IsDuplicateFree (known ++ labels)
       pub begun : (mid ≡ [] → ⊥) → HasFree × BeginsFitting grammar table mid
       pub phase : (BeginsWithLabel (mid ++ rest) → ⊥) ⊎ (mid ≡ [])
 
@@ -151,8 +153,8 @@ module _ {Syntax Stmt : Type 0} (grammar : Grammar Syntax Stmt) where
         → ⊥
     bad_label labels t c (inl (none, m)) ks loc once = none loc
     bad_label labels t c (inr (e, there)) ks loc once =
-        once_apart (known ++ labels) (t ∷ ks) t (subst IsDuplicateFree (sym (append_assoc known labels (t ∷ ks))) once) there
-        (0, omega arith, refl)
+        IsDuplicateFree-not_in_both (known ++ labels) (t ∷ ks) t
+        (subst IsDuplicateFree (sym (append_assoc known labels (t ∷ ks))) once) there (0, omega arith, refl)
 
     -- With a bad token no statement that fits begins.
     bad_token : (mid : TokenList) (t : Bytes) (c : CellCause)
@@ -169,9 +171,11 @@ module _ {Syntax Stmt : Type 0} (grammar : Grammar Syntax Stmt) where
         let room : length (insert_name table t) ≤ most_locations = rw named at b.room in
         omega (arith, full, room, ap length (insert_name-new table t new), length-append table (t ∷ []))
 
-    label_there : (rest more : TokenList) (t : Bytes) → rest ≡ t ∷ codes ":" ∷ more → BeginsWithLabel rest
-    label_there rest more t is = ap (λ (us : TokenList). slice_get us 1) is
+    -- A token with a `:` after it is a label.
+    begins_with_label : (rest more : TokenList) (t : Bytes) → rest ≡ t ∷ codes ":" ∷ more → BeginsWithLabel rest
+    begins_with_label rest more t is = ap (λ (us : TokenList). slice_get us 1) is
 
+    -- No front goes on past a bad label.
     label_past : (labels : List Bytes) (rest more : TokenList) (t : Bytes) (c : CellCause)
         → Labels ts labels rest
         → rest ≡ t ∷ codes ":" ∷ more
@@ -183,28 +187,30 @@ module _ {Syntax Stmt : Type 0} (grammar : Grammar Syntax Stmt) where
     label_past labels rest more t c says is bad ks mid after f less =
         go (labels_meet ts rest (mid ++ after) labels ks says f.says)
       where
-        at_end : length labels ≡ length ks → rest ≡ mid ++ after → ⊥
-        at_end long same = elim f.phase [
-          | inl stops ↦ stops (subst BeginsWithLabel same (label_there rest more t is))
+        -- Fronts that end at different places do not have the same labels.
+        label_counts_differ : length labels ≡ length ks → rest ≡ mid ++ after → ⊥
+        label_counts_differ long same = elim f.phase [
+          | inl stops ↦ stops (subst BeginsWithLabel same (begins_with_label rest more t is))
           | inr none ↦ omega (arith, less, long, ap length none)
         ]
 
         go : ((ms : List Bytes) × (ks ≡ labels ++ ms) × Labels rest ms (mid ++ after))
             ⊎ ((ms : List Bytes) × (labels ≡ ks ++ ms) × Labels (mid ++ after) ms rest)
             → ⊥
-        go (inl ([], same, h)) = at_end (omega (arith, ap length same, length-append labels [])) h
+        go (inl ([], same, h)) = label_counts_differ (omega (arith, ap length same, length-append labels [])) h
         go (inl (m ∷ ms, same, h)) =
             let e : t ∷ codes ":" ∷ more ≡ m ∷ codes ":" ∷ h.0 = sym is ∙ h.1 in
             let one : m ≡ t = cc in
             bad_label labels t c bad ms (subst IsLocationName one h.2)
             (subst (λ (l : Bytes). IsDuplicateFree (known ++ (labels ++ l ∷ ms))) one
-            (subst (λ (ls : List Bytes). IsDuplicateFree (known ++ ls)) same f.once))
-        go (inr ([], same, h)) = at_end (omega (arith, ap length same, length-append ks [])) (sym h)
+            (subst (λ (ls : List Bytes). IsDuplicateFree (known ++ ls)) same f.without_duplicates))
+        go (inr ([], same, h)) = label_counts_differ (omega (arith, ap length same, length-append ks [])) (sym h)
         go (inr (m ∷ ms, same, h)) = elim f.phase [
-          | inl stops ↦ stops (label_there (mid ++ after) h.0 m h.1)
+          | inl stops ↦ stops (begins_with_label (mid ++ after) h.0 m h.1)
           | inr none ↦ omega (arith, less, ap length none, ap length same, length-append ks (m ∷ ms))
         ]
 
+    -- No front goes on past a bad token.
     token_past : (labels : List Bytes) (mid rest back : TokenList) (t : Bytes) (c : CellCause)
         → Labels ts labels (mid ++ rest)
         → (BeginsWithLabel (mid ++ rest) → ⊥)
@@ -217,8 +223,8 @@ module _ {Syntax Stmt : Type 0} (grammar : Grammar Syntax Stmt) where
     token_past labels mid rest back t c says stops is bad ks far after f less =
         go (labels_meet ts (mid ++ rest) (far ++ after) labels ks says f.says)
       where
-        at_end : length labels ≡ length ks → mid ++ rest ≡ far ++ after → ⊥
-        at_end long same =
+        label_counts_differ : length labels ≡ length ks → mid ++ rest ≡ far ++ after → ⊥
+        label_counts_differ long same =
             let m =
             longer_front mid far t back after (ap (λ (us : TokenList). mid ++ us) (sym is) ∙ same) (omega (arith, less, long)) in
             let b = f.begun (λ none. omega (arith, ap length none, ap length m.1, length-append mid (t ∷ m.0))) in
@@ -227,11 +233,11 @@ module _ {Syntax Stmt : Type 0} (grammar : Grammar Syntax Stmt) where
         go : ((ms : List Bytes) × (ks ≡ labels ++ ms) × Labels (mid ++ rest) ms (far ++ after))
             ⊎ ((ms : List Bytes) × (labels ≡ ks ++ ms) × Labels (far ++ after) ms (mid ++ rest))
             → ⊥
-        go (inl ([], same, h)) = at_end (omega (arith, ap length same, length-append labels [])) h
-        go (inl (m ∷ ms, same, h)) = stops (label_there (mid ++ rest) h.0 m h.1)
-        go (inr ([], same, h)) = at_end (omega (arith, ap length same, length-append ks [])) (sym h)
+        go (inl ([], same, h)) = label_counts_differ (omega (arith, ap length same, length-append labels [])) h
+        go (inl (m ∷ ms, same, h)) = stops (begins_with_label (mid ++ rest) h.0 m h.1)
+        go (inr ([], same, h)) = label_counts_differ (omega (arith, ap length same, length-append ks [])) (sym h)
         go (inr (m ∷ ms, same, h)) = elim f.phase [
-          | inl halts ↦ halts (label_there (far ++ after) h.0 m h.1)
+          | inl halts ↦ halts (begins_with_label (far ++ after) h.0 m h.1)
           | inr none ↦ omega (arith, less, ap length none, ap length same, length-append ks (m ∷ ms))
         ]
 
@@ -240,19 +246,19 @@ module _ {Syntax Stmt : Type 0} (grammar : Grammar Syntax Stmt) where
     index_within ks far after f = omega (arith, labels_length ts ks (far ++ after) f.says, length-append far after)
 
     -- No front is longer than one that is stuck.
-    pub stuck_past : (labels : List Bytes) (mid rest : TokenList) (c : CellCause)
+    pub not_longer-IsStuck : (labels : List Bytes) (mid rest : TokenList) (c : CellCause)
         → IsFront labels mid rest
         → IsStuck labels mid rest c
         → (ks : List Bytes) (far after : TokenList)
         → IsFront ks far after
         → index_of labels mid < index_of ks far
         → ⊥
-    stuck_past labels mid rest c g (inl (none, t, more, is, bad)) ks far after f less =
+    not_longer-IsStuck labels mid rest c g (inl (none, t, more, is, bad)) ks far after f less =
         label_past labels rest more t c (subst (λ (us : TokenList). Labels ts labels (us ++ rest)) none g.says) is bad ks far
         after f (omega (arith, less, ap length none))
-    stuck_past labels mid rest c g (inr (stops, inl (t, back, is, bad))) ks far after f less =
+    not_longer-IsStuck labels mid rest c g (inr (stops, inl (t, back, is, bad))) ks far after f less =
         token_past labels mid rest back t c g.says stops is bad ks far after f less
-    stuck_past labels mid rest c g (inr (stops, inr (is, some, e, none))) ks far after f less = omega (
+    not_longer-IsStuck labels mid rest c g (inr (stops, inr (is, some, e, none))) ks far after f less = omega (
       arith,
       less,
       index_within ks far after f,
@@ -264,7 +270,7 @@ module _ {Syntax Stmt : Type 0} (grammar : Grammar Syntax Stmt) where
     -- ---- at one place there is one cause
 
     -- Where a label is due and where none is are different places.
-    phases_apart : (labels : List Bytes) (rest more : TokenList) (t : Bytes)
+    label_index_ne_rest_index : (labels : List Bytes) (rest more : TokenList) (t : Bytes)
         → Labels ts labels rest
         → rest ≡ t ∷ codes ":" ∷ more
         → (ks : List Bytes) (far after : TokenList)
@@ -272,22 +278,24 @@ module _ {Syntax Stmt : Type 0} (grammar : Grammar Syntax Stmt) where
         → (BeginsWithLabel (far ++ after) → ⊥)
         → 2 * length labels ≡ index_of ks far
         → ⊥
-    phases_apart labels rest more t says is ks far after h stops same = go (labels_meet ts rest (far ++ after) labels ks says h)
+    label_index_ne_rest_index labels rest more t says is ks far after h stops same =
+        go (labels_meet ts rest (far ++ after) labels ks says h)
       where
         go : ((ms : List Bytes) × (ks ≡ labels ++ ms) × Labels rest ms (far ++ after))
             ⊎ ((ms : List Bytes) × (labels ≡ ks ++ ms) × Labels (far ++ after) ms rest)
             → ⊥
-        go (inl ([], e, k)) = stops (subst BeginsWithLabel k (label_there rest more t is))
+        go (inl ([], e, k)) = stops (subst BeginsWithLabel k (begins_with_label rest more t is))
         go (inl (m ∷ ms, e, k)) = omega (arith, same, ap length e, length-append labels (m ∷ ms))
-        go (inr ([], e, k)) = stops (subst BeginsWithLabel (sym k) (label_there rest more t is))
-        go (inr (m ∷ ms, e, k)) = stops (label_there (far ++ after) k.0 m k.1)
+        go (inr ([], e, k)) = stops (subst BeginsWithLabel (sym k) (begins_with_label rest more t is))
+        go (inr (m ∷ ms, e, k)) = stops (begins_with_label (far ++ after) k.0 m k.1)
 
-    labels_same : (labels ks : List Bytes) (rest after : TokenList)
+    -- Readings with the same number of labels have the same labels, and leave the same tokens.
+    Labels-unique_length : (labels ks : List Bytes) (rest after : TokenList)
         → Labels ts labels rest
         → Labels ts ks after
         → length labels ≡ length ks
         → (labels ≡ ks) × (rest ≡ after)
-    labels_same labels ks rest after h k same = go (labels_meet ts rest after labels ks h k)
+    Labels-unique_length labels ks rest after h k same = go (labels_meet ts rest after labels ks h k)
       where
         go : ((ms : List Bytes) × (ks ≡ labels ++ ms) × Labels rest ms after)
             ⊎ ((ms : List Bytes) × (labels ≡ ks ++ ms) × Labels after ms rest)
@@ -297,47 +305,52 @@ module _ {Syntax Stmt : Type 0} (grammar : Grammar Syntax Stmt) where
         go (inr ([], e, k)) = (e ∙ append-nil ks, sym k)
         go (inr (m ∷ ms, e, k)) = absurd (omega (arith, same, ap length e, length-append ks (m ∷ ms)))
 
-    misfit_one : (IsMeant : Type 0) (c d : CellCause) → IsMisfitCause IsMeant c → IsMisfitCause IsMeant d → c ≡ d
-    misfit_one IsMeant cause.Form cause.Form m n = refl
-    misfit_one IsMeant cause.Form cause.Register m n = absurd (m n)
-    misfit_one IsMeant cause.Register cause.Form m n = absurd (n m)
-    misfit_one IsMeant cause.Register cause.Register m n = refl
-    misfit_one IsMeant cause.Form d m n = absurd n
-    misfit_one IsMeant cause.Register d m n = absurd n
-    misfit_one IsMeant c d m n = absurd m
+    -- A misfit has one cause.
+    IsMisfitCause-unique_cause : (IsMeant : Type 0) (c d : CellCause) → IsMisfitCause IsMeant c → IsMisfitCause IsMeant d → c ≡ d
+    IsMisfitCause-unique_cause IsMeant cause.Form cause.Form m n = refl
+    IsMisfitCause-unique_cause IsMeant cause.Form cause.Register m n = absurd (m n)
+    IsMisfitCause-unique_cause IsMeant cause.Register cause.Form m n = absurd (n m)
+    IsMisfitCause-unique_cause IsMeant cause.Register cause.Register m n = refl
+    IsMisfitCause-unique_cause IsMeant cause.Form d m n = absurd n
+    IsMisfitCause-unique_cause IsMeant cause.Register d m n = absurd n
+    IsMisfitCause-unique_cause IsMeant c d m n = absurd m
 
-    tokens_one : (mid : TokenList) (t : Bytes) (c d : CellCause) → IsBadToken mid t c → IsBadToken mid t d → c ≡ d
-    tokens_one mid t c d (inl (none, m)) (inl (never, n)) = misfit_one _ c d m n
-    tokens_one mid t c d (inl (none, m)) (inr (e, inl (first, can, full))) =
+    -- A bad token has one cause.
+    IsBadToken-unique : (mid : TokenList) (t : Bytes) (c d : CellCause) → IsBadToken mid t c → IsBadToken mid t d → c ≡ d
+    IsBadToken-unique mid t c d (inl (none, m)) (inl (never, n)) = IsMisfitCause-unique_cause _ c d m n
+    IsBadToken-unique mid t c d (inl (none, m)) (inr (e, inl (first, can, full))) =
         absurd (none (subst (λ (us : TokenList). BeginsStatement grammar (us ++ t ∷ [])) (sym first) can))
-    tokens_one mid t c d (inl (none, m)) (inr (e, inr (loc, full, new))) = absurd (none loc.begins)
-    tokens_one mid t c d (inr (e, inl (first, can, full))) (inl (none, m)) =
+    IsBadToken-unique mid t c d (inl (none, m)) (inr (e, inr (loc, full, new))) = absurd (none loc.begins)
+    IsBadToken-unique mid t c d (inr (e, inl (first, can, full))) (inl (none, m)) =
         absurd (none (subst (λ (us : TokenList). BeginsStatement grammar (us ++ t ∷ [])) (sym first) can))
-    tokens_one mid t c d (inr (e, inr (loc, full, new))) (inl (none, m)) = absurd (none loc.begins)
-    tokens_one mid t c d (inr (e, g)) (inr (f, h)) = e ∙ sym f
+    IsBadToken-unique mid t c d (inr (e, inr (loc, full, new))) (inl (none, m)) = absurd (none loc.begins)
+    IsBadToken-unique mid t c d (inr (e, g)) (inr (f, h)) = e ∙ sym f
 
-    rests_one : (mid rest : TokenList) (c d : CellCause) → IsBadRest mid rest c → IsBadRest mid rest d → c ≡ d
-    rests_one mid rest c d (inl (t, back, is, bad)) (inl (u, others, be, worse)) =
+    -- A bad rest has one cause.
+    IsBadRest-unique : (mid rest : TokenList) (c d : CellCause) → IsBadRest mid rest c → IsBadRest mid rest d → c ≡ d
+    IsBadRest-unique mid rest c d (inl (t, back, is, bad)) (inl (u, others, be, worse)) =
         let e : t ∷ back ≡ u ∷ others = sym is ∙ be in
         let same : u ≡ t = cc in
-        tokens_one mid t c d bad (subst (λ (w : Bytes). IsBadToken mid w d) same worse)
-    rests_one mid rest c d (inl (t, back, is, bad)) (inr (none, some, e, never)) =
+        IsBadToken-unique mid t c d bad (subst (λ (w : Bytes). IsBadToken mid w d) same worse)
+    IsBadRest-unique mid rest c d (inl (t, back, is, bad)) (inr (none, some, e, never)) =
         absurd (let no : t ∷ back ≡ [] = sym is ∙ none in cc)
-    rests_one mid rest c d (inr (none, some, e, never)) (inl (t, back, is, bad)) =
+    IsBadRest-unique mid rest c d (inr (none, some, e, never)) (inl (t, back, is, bad)) =
         absurd (let no : t ∷ back ≡ [] = sym is ∙ none in cc)
-    rests_one mid rest c d (inr (none, some, e, never)) (inr (nothing, other, f, always)) = e ∙ sym f
+    IsBadRest-unique mid rest c d (inr (none, some, e, never)) (inr (nothing, other, f, always)) = e ∙ sym f
 
-    bad_labels_one : (labels : List Bytes) (t : Bytes) (c d : CellCause)
+    -- A bad label has one cause: it is no name, or a label already.
+    IsBadLabel-unique : (labels : List Bytes) (t : Bytes) (c d : CellCause)
         → ((n : Bytes) → Contains (known ++ labels) n → IsLocationName n)
         → IsBadLabel labels t c
         → IsBadLabel labels t d
         → c ≡ d
-    bad_labels_one labels t c d named (inl (none, m)) (inl (never, n)) = misfit_one _ c d m n
-    bad_labels_one labels t c d named (inl (none, m)) (inr (e, there)) = absurd (none (named t there))
-    bad_labels_one labels t c d named (inr (e, there)) (inl (none, m)) = absurd (none (named t there))
-    bad_labels_one labels t c d named (inr (e, there)) (inr (f, again)) = e ∙ sym f
+    IsBadLabel-unique labels t c d named (inl (none, m)) (inl (never, n)) = IsMisfitCause-unique_cause _ c d m n
+    IsBadLabel-unique labels t c d named (inl (none, m)) (inr (e, there)) = absurd (none (named t there))
+    IsBadLabel-unique labels t c d named (inr (e, there)) (inl (none, m)) = absurd (none (named t there))
+    IsBadLabel-unique labels t c d named (inr (e, there)) (inr (f, again)) = e ∙ sym f
 
-    pub stuck_one : (labels ks : List Bytes) (mid far rest after : TokenList) (c d : CellCause)
+    -- A front that is stuck has one cause.
+    pub IsStuck-unique : (labels ks : List Bytes) (mid far rest after : TokenList) (c d : CellCause)
         → ((n : Bytes) → Contains (known ++ labels) n → IsLocationName n)
         → IsFront labels mid rest
         → IsFront ks far after
@@ -345,31 +358,33 @@ module _ {Syntax Stmt : Type 0} (grammar : Grammar Syntax Stmt) where
         → IsStuck ks far after d
         → index_of labels mid ≡ index_of ks far
         → c ≡ d
-    stuck_one labels ks mid far rest after c d named g f (inl (none, t, more, is, bad)) (inl (nothing, u, others, be, worse)) same =
+    IsStuck-unique labels ks mid far rest after c d named g f (inl (none, t, more, is, bad)) (inl (nothing, u, others, be, worse)) same =
         let here = subst (λ (us : TokenList). Labels ts labels (us ++ rest)) none g.says in
         let there = subst (λ (us : TokenList). Labels ts ks (us ++ after)) nothing f.says in
-        let one = labels_same labels ks rest after here there (omega (arith, same, ap length none, ap length nothing)) in
+        let one = Labels-unique_length labels ks rest after here there (omega (arith, same, ap length none, ap length nothing)) in
         let e : t ∷ codes ":" ∷ more ≡ u ∷ codes ":" ∷ others = sym is ∙ one.1 ∙ be in
         let token : u ≡ t = cc in
-        bad_labels_one labels t c d named bad
+        IsBadLabel-unique labels t c d named bad
         (subst (λ (w : Bytes). IsBadLabel labels w d) token (subst (λ (ls : List Bytes). IsBadLabel ls u d) (sym one.0) worse))
-    stuck_one labels ks mid far rest after c d named g f (inl (none, t, more, is, bad)) (inr (stops, worse)) same =
+    IsStuck-unique labels ks mid far rest after c d named g f (inl (none, t, more, is, bad)) (inr (stops, worse)) same =
         let here = subst (λ (us : TokenList). Labels ts labels (us ++ rest)) none g.says in
-        absurd (phases_apart labels rest more t here is ks far after f.says stops (omega (arith, same, ap length none)))
-    stuck_one labels ks mid far rest after c d named g f (inr (stops, worse)) (inl (none, t, more, is, bad)) same =
+        absurd (label_index_ne_rest_index labels rest more t here is ks far after f.says stops
+        (omega (arith, same, ap length none)))
+    IsStuck-unique labels ks mid far rest after c d named g f (inr (stops, worse)) (inl (none, t, more, is, bad)) same =
         let here = subst (λ (us : TokenList). Labels ts ks (us ++ after)) none f.says in
-        absurd (phases_apart ks after more t here is labels mid rest g.says stops (omega (arith, same, ap length none)))
-    stuck_one labels ks mid far rest after c d named g f (inr (stops, bad)) (inr (halts, worse)) same =
+        absurd (label_index_ne_rest_index ks after more t here is labels mid rest g.says stops
+        (omega (arith, same, ap length none)))
+    IsStuck-unique labels ks mid far rest after c d named g f (inr (stops, bad)) (inr (halts, worse)) same =
         let one = Labels-unique ts (mid ++ rest) (far ++ after) labels ks g.says f.says stops halts in
         let two = same_front mid far rest after one.1 (omega (arith, same, ap length one.0)) in
-        rests_one mid rest c d bad
+        IsBadRest-unique mid rest c d bad
         (subst (λ (us : TokenList). IsBadRest mid us d) (sym two.1)
         (subst (λ (us : TokenList). IsBadRest us after d) (sym two.0) worse))
 
     -- ---- a cell with a fault has no content that fits
 
     -- No content of the cell goes on from a front that is stuck.
-    pub stuck_whole : IsGrammar grammar
+    pub not_IsStuck-whole_cell : IsGrammar grammar
         → (labels : List Bytes) (mid rest : TokenList) (c : CellCause)
         → IsFront labels mid rest
         → IsStuck labels mid rest c
@@ -377,8 +392,8 @@ module _ {Syntax Stmt : Type 0} (grammar : Grammar Syntax Stmt) where
         → IsFront ks far []
         → MaybeStatement grammar far o
         → ⊥
-    stuck_whole lawful labels mid rest c g (inl (none, t, more, is, bad)) ks far o f says =
-        stuck_past labels mid rest c g (inl (none, t, more, is, bad)) ks far [] f (omega (
+    not_IsStuck-whole_cell lawful labels mid rest c g (inl (none, t, more, is, bad)) ks far o f says =
+        not_longer-IsStuck labels mid rest c g (inl (none, t, more, is, bad)) ks far [] f (omega (
           arith,
           labels_length ts labels (mid ++ rest) g.says,
           length-append mid rest,
@@ -386,8 +401,8 @@ module _ {Syntax Stmt : Type 0} (grammar : Grammar Syntax Stmt) where
           labels_length ts ks (far ++ []) f.says,
           length-append far [],
         ))
-    stuck_whole lawful labels mid rest c g (inr (stops, inl (t, back, is, bad))) ks far o f says =
-        stuck_past labels mid rest c g (inr (stops, inl (t, back, is, bad))) ks far [] f (omega (
+    not_IsStuck-whole_cell lawful labels mid rest c g (inr (stops, inl (t, back, is, bad))) ks far o f says =
+        not_longer-IsStuck labels mid rest c g (inr (stops, inl (t, back, is, bad))) ks far [] f (omega (
           arith,
           labels_length ts labels (mid ++ rest) g.says,
           length-append mid rest,
@@ -395,7 +410,7 @@ module _ {Syntax Stmt : Type 0} (grammar : Grammar Syntax Stmt) where
           labels_length ts ks (far ++ []) f.says,
           length-append far [],
         ))
-    stuck_whole lawful labels mid rest c g (inr (stops, inr (is, some, e, none))) ks far o f says =
+    not_IsStuck-whole_cell lawful labels mid rest c g (inr (stops, inr (is, some, e, none))) ks far o f says =
         let halts = no_label_begins grammar lawful far o says in
         let one =
         Labels-unique ts (mid ++ rest) (far ++ []) labels ks g.says f.says stops

@@ -1,4 +1,5 @@
--- If a cell of a thread is rejected, so is the thread.
+-- If a cell of a thread is rejected, so is the thread: no reading of the thread exists, and the fault is true
+-- at its place. `read_cell` fails by these lemmas.
 use Rattle.lw_statements.proofs.Common.{◌≡◌, ℕ, ◌≤◌, ◌+◌, List, [], ◌∷◌, ◌++◌, drop, length, sym, ap, ◌∙◌}
 use Rattle.lw_statements.proofs.Common.{append_assoc, subst, arith, map-append, Contains-append_left}
 use Rattle.lw_statements.proofs.Common.{most_locations, IsDuplicateFree, insert_names, NameTable, Memory}
@@ -7,21 +8,21 @@ use Rattle.lw_statements.proofs.Common.{DraftColumn, Phrase, Grammar, IsGrammar,
 use Rattle.lw_statements.proofs.Common.{ParsesCell, statements, labels_of, names_in, AllEndBefore, LabelMap}
 use Rattle.lw_statements.proofs.Common.{draft_cell, ColumnDrafted, LabelsTaken, LabelsRefused, MaybeRefused}
 use Rattle.lw_statements.proofs.Common.{ColumnFits, ColumnRefused, bare}
-use Rattle.lw_statements.proofs.Causes.{refused_memory}
-use Rattle.lw_statements.proofs.Drafts.{draft_stays, drafted_knows}
-use Rattle.lw_statements.proofs.Elements.{all_amid}
-use Rattle.lw_statements.proofs.FaultPlaces.{labels_told, statement_told}
+use Rattle.lw_statements.proofs.Causes.{refusal-Memory}
+use Rattle.lw_statements.proofs.Drafts.{draft_cell-insert_names, HasExactlyLabels-drafted}
+use Rattle.lw_statements.proofs.Elements.{All-middle}
+use Rattle.lw_statements.proofs.FaultPlaces.{ColumnFaultIsTrue-labels, ColumnFaultIsTrue-statement}
 use Rattle.lw_statements.proofs.FrontLabels.{Labels-whole, Labels-unique}
 use Rattle.lw_statements.proofs.Leads.{labels_of-append, count-append}
-use Rattle.lw_statements.proofs.OneReading.{cell_unique, no_label}
+use Rattle.lw_statements.proofs.OneReading.{cell_unique, no_label-MaybeStatement}
 use Rattle.lw_statements.proofs.ResolvedNames.{names_in-append}
-use Rattle.lw_statements.proofs.TablesRead.{read_same, read_room}
-use Rattle.lw_statements.proofs.api.Zips.{Cut, zip_cut}
+use Rattle.lw_statements.proofs.TablesRead.{syntaxes_above_read, room_for_read_names}
+use Rattle.lw_statements.proofs.api.Zips.{Cut, AllZip-split}
 
 -- A prefix of a list without duplicates has none.
-pub once_front : (xs ys : List (List ℕ)) → IsDuplicateFree (xs ++ ys) → IsDuplicateFree xs
-once_front [] ys h = tt
-once_front (x ∷ xs) ys h = ((λ there. h.0 (Contains-append_left xs ys x there)), once_front xs ys h.1)
+pub IsDuplicateFree-front : (xs ys : List (List ℕ)) → IsDuplicateFree (xs ++ ys) → IsDuplicateFree xs
+IsDuplicateFree-front [] ys h = tt
+IsDuplicateFree-front (x ∷ xs) ys h = ((λ there. h.0 (Contains-append_left xs ys x there)), IsDuplicateFree-front xs ys h.1)
 
 module _ {Syntax Stmt : Type 0} (grammar : Grammar Syntax Stmt) where
   -- A fault because memory ran out rejects the cells of a thread.
@@ -29,7 +30,7 @@ module _ {Syntax Stmt : Type 0} (grammar : Grammar Syntax Stmt) where
       → f.cause ≡ Memory
       → f.at ≡ 0
       → ColumnRefused grammar names cells f
-  column_out_of_memory names cells f = refused_memory f (λ at table front rest threads says grown. tt)
+  column_out_of_memory names cells f = refusal-Memory f (λ at table front rest threads says grown. tt)
 
   module _ (lawful : IsGrammar grammar) {D : Type 0} (draft_of : ℕ → Syntax → D) where
     -- A cell, after those that were read and before the others.
@@ -37,22 +38,26 @@ module _ {Syntax Stmt : Type 0} (grammar : Grammar Syntax Stmt) where
         (drafted : ColumnDrafted grammar draft_of front before column mid) (cell : Cell A) (rest : List (Cell A)) where
       -- A parse of all cells starts with what was read.
       module _ (t : List (CellSyntax Syntax)) (fits : ColumnFits grammar before (cells_texts (front ++ cell ∷ rest)) t) where
+        -- The syntaxes of the thread, split at this cell.
         cut : Cut (ParsesCell grammar) (cells_texts front) (cell_texts cell) (cells_texts rest) t
-        cut = zip_cut _ _ _ _ t (rw (map-append cell_texts front (cell ∷ rest)) at fits.0.says)
+        cut = AllZip-split _ _ _ _ t (rw (map-append cell_texts front (cell ∷ rest)) at fits.0.says)
 
-        same : cut.above ≡ drafted.read.syntax
-        same =
-            read_same (names_in grammar) (draft_cell grammar draft_of) (names_in-append grammar) (draft_stays grammar draft_of)
-            (ParsesCell grammar) (cells_texts front) before mid column.cells drafted.read (cell_texts cell)
-            (cell_unique grammar lawful) (cells_texts rest) t cut
+        -- In a parse of all cells, the syntaxes above this cell are those that were read.
+        syntaxes_above_equal : cut.above ≡ drafted.read.syntax
+        syntaxes_above_equal =
+            syntaxes_above_read (names_in grammar) (draft_cell grammar draft_of) (names_in-append grammar)
+            (draft_cell-insert_names grammar draft_of) (ParsesCell grammar) (cells_texts front) before mid column.cells
+            drafted.read (cell_texts cell) (cell_unique grammar lawful) (cells_texts rest) t cut
 
+        -- The names of the cell have room in the table.
         names_fit : length (insert_names mid (names_in grammar (cut.here ∷ []))) ≤ most_locations
         names_fit =
             let room =
-            read_room _ _ (names_in-append grammar) (draft_stays grammar draft_of) _ _ before mid column.cells drafted.read
-            (cell_texts cell) (cell_unique grammar lawful) _ t cut in
+            room_for_read_names _ _ (names_in-append grammar) (draft_cell-insert_names grammar draft_of) _ _ before mid
+            column.cells drafted.read (cell_texts cell) (cell_unique grammar lawful) _ t cut in
             omega (arith, room, fits.1)
 
+        -- The cell's statement has room in the thread.
         count_fits : column.count + length (statements (bare cut.here.stmt ∷ [])) ≤ grammar.language.most
         count_fits = omega (
           arith,
@@ -60,18 +65,19 @@ module _ {Syntax Stmt : Type 0} (grammar : Grammar Syntax Stmt) where
           ap (λ (ss : List (CellSyntax Syntax)). length (statements ss)) cut.whole,
           count-append cut.above (cut.here ∷ cut.below),
           count-append (cut.here ∷ []) cut.below,
-          ap (λ (ss : List (CellSyntax Syntax)). length (statements ss)) same,
+          ap (λ (ss : List (CellSyntax Syntax)). length (statements ss)) syntaxes_above_equal,
           drafted.counted,
         )
 
-        once_fits : IsDuplicateFree (labels_of drafted.read.syntax ++ cut.here.labels)
-        once_fits =
+        -- The cell's labels are no labels of the cells above.
+        labels_duplicate_free-with_cell : IsDuplicateFree (labels_of drafted.read.syntax ++ cut.here.labels)
+        labels_duplicate_free-with_cell =
             let whole : labels_of t ≡ (labels_of drafted.read.syntax ++ cut.here.labels) ++ labels_of cut.below =
             ap labels_of cut.whole
             ∙ labels_of-append cut.above (cut.here ∷ cut.below)
-            ∙ ap (λ ss. labels_of ss ++ (cut.here.labels ++ labels_of cut.below)) same
+            ∙ ap (λ ss. labels_of ss ++ (cut.here.labels ++ labels_of cut.below)) syntaxes_above_equal
             ∙ sym (append_assoc (labels_of drafted.read.syntax) cut.here.labels (labels_of cut.below)) in
-            once_front _ (labels_of cut.below) (subst IsDuplicateFree whole fits.0.once)
+            IsDuplicateFree-front _ (labels_of cut.below) (subst IsDuplicateFree whole fits.0.without_duplicates)
 
       -- If this cell's labels are rejected, so are the thread's cells.
       pub labels_refused : (f : CellFault)
@@ -82,17 +88,17 @@ module _ {Syntax Stmt : Type 0} (grammar : Grammar Syntax Stmt) where
             let y = cut t fits in
             r.none known y.here.labels (record {
               known = labels_of drafted.read.syntax;
-              knows = drafted_knows grammar draft_of front before mid column drafted;
+              knows = HasExactlyLabels-drafted grammar draft_of front before mid column drafted;
               rest = y.says.0;
               says = y.says.1;
-              stops = no_label grammar lawful y.says.0 y.here.stmt y.says.2;
-              once = once_fits t fits;
+              stops = no_label-MaybeStatement grammar lawful y.says.0 y.here.stmt y.says.2;
+              without_duplicates = labels_duplicate_free-with_cell t fits;
             });
         cause =
-            labels_told grammar front rest cell drafted.read.syntax drafted.read.says drafted.few before mid drafted.read.names
-            drafted.room f.at f.cause drafted.once column.labels (drafted_knows grammar draft_of front before mid column drafted)
-            r.cause;
-        place = λ len within. r.place len (all_amid (EndsBefore len) front rest cell within).0;
+            ColumnFaultIsTrue-labels grammar front rest cell drafted.read.syntax drafted.read.says drafted.few before mid
+            drafted.read.names drafted.room f.at f.cause drafted.without_duplicates column.labels
+            (HasExactlyLabels-drafted grammar draft_of front before mid column drafted) r.cause;
+        place = λ len within. r.place len (All-middle (EndsBefore len) front rest cell within).0;
       }
 
       -- If what follows this cell's labels is rejected, so are the thread's cells.
@@ -107,7 +113,7 @@ module _ {Syntax Stmt : Type 0} (grammar : Grammar Syntax Stmt) where
       statement_refused f next after taken phrase behind ends lies r = record {
         none = λ known t fits.
             let y = cut t fits in
-            let stops = no_label grammar lawful y.says.0 y.here.stmt y.says.2 in
+            let stops = no_label-MaybeStatement grammar lawful y.says.0 y.here.stmt y.says.2 in
             let one =
             Labels-unique (cell_texts cell) y.says.0 _ y.here.labels taken.read.names y.says.1
             (Labels-whole cell.tokens next taken.read.names taken.read.says) stops taken.stops in
@@ -118,8 +124,9 @@ module _ {Syntax Stmt : Type 0} (grammar : Grammar Syntax Stmt) where
               room = names_fit t fits;
             });
         cause =
-            statement_told grammar front rest cell _ drafted.read.says drafted.few before mid drafted.read.names drafted.room f.at
-            f.cause drafted.once column.labels (drafted_knows grammar draft_of front before mid column drafted) after next
-            (rw drafted.counted at taken) (rw (drafted.counted, behind, ends) at r.cause);
-        place = λ len within. r.place len (lies len (all_amid (EndsBefore len) front rest cell within));
+            ColumnFaultIsTrue-statement grammar front rest cell _ drafted.read.says drafted.few before mid drafted.read.names
+            drafted.room f.at f.cause drafted.without_duplicates column.labels
+            (HasExactlyLabels-drafted grammar draft_of front before mid column drafted) after next (rw drafted.counted at taken)
+            (rw (drafted.counted, behind, ends) at r.cause);
+        place = λ len within. r.place len (lies len (All-middle (EndsBefore len) front rest cell within));
       }

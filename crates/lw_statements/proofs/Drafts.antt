@@ -1,4 +1,5 @@
--- Reading the cells of a thread, from top to bottom: the invariant when one more is read.
+-- Reading the cells of a thread, from top to bottom: the invariant when one more is read. The loop of
+-- `read_cells` goes by `ColumnDrafted`.
 use Rattle.lw_statements.proofs.Common.{◌≡◌, ℕ, ◌≤◌, ◌+◌, ◌*◌, Option, Some, None, ◌⊎◌, inl, inr, List, []}
 use Rattle.lw_statements.proofs.Common.{◌∷◌, ◌++◌, length, drop, sym, ap, ◌∙◌, arith, refl, is_some}
 use Rattle.lw_statements.proofs.Common.{slice_get, option_map, append-nil, option_len, ForSome, map-append}
@@ -10,12 +11,13 @@ use Rattle.lw_statements.proofs.Common.{draft_cell, IsFresh, ColumnDrafted, Fits
 use Rattle.lw_statements.proofs.Common.{OptionalStatementFaultIsTrue, HasExactlyLabels, LabelsTaken}
 use Rattle.lw_statements.proofs.Common.{StatementRead, MaybeRead, bare, StatementRefused, MaybeRefused}
 use Rattle.lw_statements.proofs.Common.{HasMisfitIn, EndsEarlyIn, WrongIn, Form}
-use Rattle.lw_statements.proofs.Causes.{further, many_tells, wrong_tells}
-use Rattle.lw_statements.proofs.Elements.{all_at}
+use Rattle.lw_statements.proofs.Causes.{FaultClaim-weakened, FaultClaim-TooMany, FaultClaim-wrong}
+use Rattle.lw_statements.proofs.Elements.{All-get}
 use Rattle.lw_statements.proofs.FrontLabels.{get_text, Labels-whole}
-use Rattle.lw_statements.proofs.Leads.{count-append, labels_of-append, leads_known, leads_more}
-use Rattle.lw_statements.proofs.ResolvedNames.{number_stays, names_in-append}
-use Rattle.lw_statements.proofs.TablesRead.{AreIn, read_more}
+use Rattle.lw_statements.proofs.Leads.{count-append, labels_of-append, is_some-label_target}
+use Rattle.lw_statements.proofs.Leads.{label_target-one_more_cell}
+use Rattle.lw_statements.proofs.ResolvedNames.{location_index-insert_names, names_in-append}
+use Rattle.lw_statements.proofs.TablesRead.{AreIn, columns_read-one_more}
 
 -- A count stays within its bound if an item is added only while the count is below it.
 pub at_most_room : {X : Type 0} (count most : ℕ) (o : Option X)
@@ -29,44 +31,51 @@ module _ {Syntax Stmt D : Type 0} (grammar : Grammar Syntax Stmt) (draft_of : �
   -- ---- what follows the labels of a cell, by its first token
 
   -- If the tokens after the labels were read as a statement, and the thread has room for it, then this is the cell's statement.
-  pub maybe_some : (above : ℕ) (ts : TokenList) (before : NameTable) (stmt : D) (after : NameTable)
+  pub MaybeRead-some : (above : ℕ) (ts : TokenList) (before : NameTable) (stmt : D) (after : NameTable)
       → (above ≡ grammar.language.most → ⊥)
       → StatementRead grammar draft_of ts before stmt after
       → MaybeRead grammar draft_of above ts before (Some stmt) after
-  maybe_some above ts before stmt after free r = record {
+  MaybeRead-some above ts before stmt after free r = record {
     room = λ d is. free;
     read = record { syntax = Some r.syntax; says = r.says; names = r.names; made = ap Some r.made };
   }
 
   -- If no tokens follow the labels, the cell has no statement.
-  pub maybe_none : (above : ℕ) (tokens : List Token) (names : NameTable)
+  pub MaybeRead-none : (above : ℕ) (tokens : List Token) (names : NameTable)
       → None ≡ slice_get tokens 0
       → MaybeRead grammar draft_of above (token_texts tokens) names None names
-  maybe_none above [] names e =
+  MaybeRead-none above [] names e =
       record { room = λ d is. absurd cc; read = record { syntax = None; says = refl; names = refl; made = refl } }
-  maybe_none above (t ∷ tokens) names e = absurd cc
+  MaybeRead-none above (t ∷ tokens) names e = absurd cc
 
   module _ (phrase : Phrase) (t : Token) (first : Some t ≡ slice_get phrase.tokens.now 0) (names : NameTable) (above : ℕ)
       (f : CellFault) where
+    -- The tokens after the labels.
     abbrev tokens : List Token
     tokens = phrase.tokens.now
 
-    not_empty : token_texts tokens ≡ [] → ⊥
-    not_empty e =
+    -- At least one token follows the labels.
+    tokens_not_empty : token_texts tokens ≡ [] → ⊥
+    tokens_not_empty e =
         let none : slice_get (token_texts tokens) 0 ≡ None = ap (λ (ts : TokenList). slice_get ts 0) e in
         let some = get_text tokens 0 t (sym first) in
         absurd cc
 
-    no_room : above ≡ grammar.language.most → (s : Option Syntax) → FitsBelow grammar above names (token_texts tokens) s → ⊥
-    no_room full None h = not_empty h.says
-    no_room full (Some s) h = omega (arith, full, h.few)
-
-    only_some : ((s : Syntax) → Fits grammar names (token_texts tokens) s → ⊥)
+    -- A thread that is full has no room for a statement.
+    no_statement_fits : above ≡ grammar.language.most
         → (s : Option Syntax)
         → FitsBelow grammar above names (token_texts tokens) s
         → ⊥
-    only_some none None h = not_empty h.says
-    only_some none (Some s) h = none s (h.says, h.room)
+    no_statement_fits full None h = tokens_not_empty h.says
+    no_statement_fits full (Some s) h = omega (arith, full, h.few)
+
+    -- What follows the labels is not nothing, so if it is no statement with room it does not fit.
+    no_FitsBelow-no_Fits : ((s : Syntax) → Fits grammar names (token_texts tokens) s → ⊥)
+        → (s : Option Syntax)
+        → FitsBelow grammar above names (token_texts tokens) s
+        → ⊥
+    no_FitsBelow-no_Fits none None h = tokens_not_empty h.says
+    no_FitsBelow-no_Fits none (Some s) h = none s (h.says, h.room)
 
     -- The first token begins a statement beyond the limit, or is wrong.
     abbrev pub IsSurplusFault : CellFault → Type 0
@@ -80,49 +89,51 @@ module _ {Syntax Stmt D : Type 0} (grammar : Grammar Syntax Stmt) (draft_of : �
         → f.at ≡ t.at
         → MaybeRefused grammar above names phrase f
     surplus_refused full told place = record {
-      none = λ known. no_room full;
+      none = λ known. no_statement_fits full;
       cause = go told;
-      place = λ len lies. omega (arith, place, all_at (λ (u : Token). u.at ≤ len) tokens 0 t (sym first) lies.0);
+      place = λ len lies. omega (arith, place, All-get (λ (u : Token). u.at ≤ len) tokens 0 t (sym first) lies.0);
     }
       where
         go : IsSurplusFault f → OptionalStatementFaultIsTrue grammar above tokens phrase.end names f.at f.cause
-        go (inl (e, here, begins)) = rw e (many_tells (inl (full, (t, sym first, sym here, begins))))
-        go (inr (m, at_first)) = wrong_tells _ f.cause m.meant (inl (m, inl at_first))
+        go (inl (e, here, begins)) = rw e (FaultClaim-TooMany (inl (full, (t, sym first, sym here, begins))))
+        go (inr (m, at_first)) = FaultClaim-wrong _ f.cause m.meant (inl (m, inl at_first))
 
     -- If the tokens after the labels are rejected as a statement, so is what follows the labels.
-    pub maybe_refused : (above ≡ grammar.language.most → ⊥)
+    pub MaybeRefused-StatementRefused : (above ≡ grammar.language.most → ⊥)
         → StatementRefused grammar names phrase f
         → MaybeRefused grammar above names phrase f
-    maybe_refused free r = record {
-      none = λ known. only_some (r.none known);
-      cause = further wrong (λ none. none) (λ over. inr (free, over)) r.cause;
+    MaybeRefused-StatementRefused free r = record {
+      none = λ known. no_FitsBelow-no_Fits (r.none known);
+      cause = FaultClaim-weakened WrongIn-cases (λ none. none) (λ over. inr (free, over)) r.cause;
       place = r.place;
     }
       where
-        wrong : (e : CellCause)
+        -- Either the first token is wrong, or the thread has room and a later one is, or the cell ends too
+        -- early.
+        WrongIn-cases : (e : CellCause)
             → WrongIn grammar tokens phrase.end names f.at e
             → ((m : HasMisfitIn grammar tokens names f.at e) × ((m.place ≡ 0) ⊎ (above ≡ grammar.language.most → ⊥)))
             ⊎ ((e ≡ Form)
             × (above ≡ grammar.language.most → ⊥)
             × (token_texts tokens ≡ [] → ⊥)
             × EndsEarlyIn grammar tokens phrase.end names f.at)
-        wrong e (inl m) = inl (m, inr free)
-        wrong e (inr (is, early)) = inr (is, free, not_empty, early)
+        WrongIn-cases e (inl m) = inl (m, inr free)
+        WrongIn-cases e (inr (is, early)) = inr (is, free, tokens_not_empty, early)
 
   -- ---- cells
 
   -- The draft of what follows the labels has as many statements as the syntax: one or none.
-  pub held_by : (o : Option Syntax) (stmt : Option D) (f : Syntax → D)
+  pub statement_count-of_draft : (o : Option Syntax) (stmt : Option D) (f : Syntax → D)
       → stmt ≡ option_map f o
       → option_len stmt ≡ length (statements (bare o ∷ []))
-  held_by None stmt f e = ap option_len e
-  held_by (Some s) stmt f e = ap option_len e
+  statement_count-of_draft None stmt f e = ap option_len e
+  statement_count-of_draft (Some s) stmt f e = ap option_len e
 
   -- Inserting names into the table preserves the draft of a cell whose names are in it.
-  pub draft_stays : (names ns : NameTable) (syntax : CellSyntax Syntax)
+  pub draft_cell-insert_names : (names ns : NameTable) (syntax : CellSyntax Syntax)
       → AreIn names (names_in grammar (syntax ∷ []))
       → draft_cell grammar draft_of (insert_names names ns) syntax ≡ draft_cell grammar draft_of names syntax
-  draft_stays names ns syntax all =
+  draft_cell-insert_names names ns syntax all =
       ap (λ (o : Option D). (let c : DraftCell D = record { start = 2 * length syntax.labels; stmt = o } in c))
       (go syntax.stmt all)
     where
@@ -130,17 +141,17 @@ module _ {Syntax Stmt D : Type 0} (grammar : Grammar Syntax Stmt) (draft_of : �
           → AreIn names (names_in grammar (bare o ∷ []))
           → option_map (draft_in grammar draft_of (insert_names names ns)) o ≡ option_map (draft_in grammar draft_of names) o
       go None all = refl
-      go (Some s) all = ap (λ (x : ℕ). Some (draft_of x s)) (number_stays names ns (grammar.name_of s) all)
+      go (Some s) all = ap (λ (x : ℕ). Some (draft_of x s)) (location_index-insert_names names ns (grammar.name_of s) all)
 
   -- A fresh column is the result of reading no cells.
-  pub draft_none : {A : Type 0} (names : NameTable) (column : DraftColumn D A)
+  pub ColumnDrafted-none : {A : Type 0} (names : NameTable) (column : DraftColumn D A)
       → IsFresh column
       → length names ≤ most_locations
       → ColumnDrafted grammar draft_of [] names column names
-  draft_none names column fresh few = record {
+  ColumnDrafted-none names column fresh few = record {
     read = record { syntax = []; says = tt; names = refl; made = fresh.cells };
     few = omega arith;
-    once = tt;
+    without_duplicates = tt;
     leads = fresh.labels;
     counted = fresh.count;
     room = few;
@@ -149,36 +160,36 @@ module _ {Syntax Stmt D : Type 0} (grammar : Grammar Syntax Stmt) (draft_of : �
   module _ {A : Type 0} (front : List (Cell A)) (before mid : NameTable) (column : DraftColumn D A)
       (drafted : ColumnDrafted grammar draft_of front before column mid) where
     -- The column has at most as many statements as the language allows.
-    pub few_drafted : column.count ≤ grammar.language.most
-    few_drafted = omega (arith, drafted.counted, drafted.few)
+    pub column_count_at_most : column.count ≤ grammar.language.most
+    column_count_at_most = omega (arith, drafted.counted, drafted.few)
 
     -- The column's map has exactly the labels of these cells.
-    pub drafted_knows : HasExactlyLabels column.labels (labels_of drafted.read.syntax)
-    drafted_knows n = ap is_some (drafted.leads n) ∙ leads_known drafted.read.syntax 0 n
+    pub HasExactlyLabels-drafted : HasExactlyLabels column.labels (labels_of drafted.read.syntax)
+    HasExactlyLabels-drafted n = ap is_some (drafted.leads n) ∙ is_some-label_target drafted.read.syntax 0 n
 
     -- If the labels of the next cell and what follows them are read, then the column with its draft is the result of reading the cells up
     -- to it.
-    pub cell_read : (now : DraftColumn D A) (cell : Cell A) (next : ℕ) (after : NameTable) (stmt : Option D)
+    pub ColumnDrafted-one_more : (now : DraftColumn D A) (cell : Cell A) (next : ℕ) (after : NameTable) (stmt : Option D)
         → LabelsTaken cell.tokens column.count column.labels next now.labels
         → MaybeRead grammar draft_of column.count (token_texts (drop next cell.tokens)) mid stmt after
         → now.cells ≡ column.cells ++ record { start = next; stmt = stmt } ∷ []
         → now.count ≡ column.count + option_len stmt
         → length after ≤ most_locations
         → ColumnDrafted grammar draft_of (front ++ cell ∷ []) before now after
-    cell_read now cell next after stmt taken maybe pushed counted room =
+    ColumnDrafted-one_more now cell next after stmt taken maybe pushed counted room =
         let ls = taken.read in
         let old = drafted.read.syntax in
         let syntax : CellSyntax Syntax = record { labels = ls.names; stmt = maybe.read.syntax } in
         let draft : DraftCell D = record { start = next; stmt = stmt } in
         let same : draft ≡ draft_cell grammar draft_of after syntax = rw (ls.two_each, maybe.read.made) refl in
         let more =
-        read_more (names_in grammar) (draft_cell grammar draft_of) (names_in-append grammar) draft_stays (ParsesCell grammar)
-        (cells_texts front) before mid column.cells drafted.read (cell_texts cell) syntax draft after
+        columns_read-one_more (names_in grammar) (draft_cell grammar draft_of) (names_in-append grammar) draft_cell-insert_names
+        (ParsesCell grammar) (cells_texts front) before mid column.cells drafted.read (cell_texts cell) syntax draft after
         (token_texts (drop next cell.tokens), Labels-whole cell.tokens next ls.names ls.says, maybe.read.says) maybe.read.names
         same in
-        let each = ls.once (labels_of old) drafted_knows drafted.once in
+        let each = ls.without_duplicates (labels_of old) HasExactlyLabels-drafted drafted.without_duplicates in
         let count = count-append old (syntax ∷ []) in
-        let held = held_by maybe.read.syntax stmt (draft_in grammar draft_of after) maybe.read.made in
+        let held = statement_count-of_draft maybe.read.syntax stmt (draft_in grammar draft_of after) maybe.read.made in
         record {
           read = record {
             syntax = old ++ syntax ∷ [];
@@ -186,16 +197,15 @@ module _ {Syntax Stmt D : Type 0} (grammar : Grammar Syntax Stmt) (draft_of : �
             names = more.1;
             made = pushed ∙ more.2;
           };
-          few =
-              omega (
-                arith,
-                count,
-                held,
-                drafted.counted,
-                at_most_room column.count grammar.language.most stmt few_drafted maybe.room,
-              );
-          once = rw (labels_of-append old (syntax ∷ []), append-nil ls.names) each;
-          leads = λ n. rw (ls.made n, leads_more syntax n old each, drafted.counted, drafted.leads n) refl;
+          few = omega (
+            arith,
+            count,
+            held,
+            drafted.counted,
+            at_most_room column.count grammar.language.most stmt column_count_at_most maybe.room,
+          );
+          without_duplicates = rw (labels_of-append old (syntax ∷ []), append-nil ls.names) each;
+          leads = λ n. rw (ls.made n, label_target-one_more_cell syntax n old each, drafted.counted, drafted.leads n) refl;
           counted = omega (arith, counted, count, held, drafted.counted);
           room = room;
         }

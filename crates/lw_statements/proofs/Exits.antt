@@ -11,13 +11,13 @@ out_of_memory P Q (Ok x) h refused = absurd h
 out_of_memory P Q (Err f) h refused = refused f h.1 h.0
 
 -- If `next` is `first` with a further fact R, or fails because memory ran out, then `next` satisfies the clause of `first`, with that fact.
-pub kept_on : {T : Type 0} (P : T → Type 0) (Q : CellFault → Type 0) (R : Type 0) (first next : Result T CellFault)
+pub MatchResult-propagated : {T : Type 0} (P : T → Type 0) (Q : CellFault → Type 0) (R : Type 0) (first next : Result T CellFault)
     → MatchResult first P Q
     → MatchResult next (λ t. R × (first ≡ Ok t)) (λ f. (first ≡ Err f) ⊎ ((f.at ≡ 0) × (f.cause ≡ Memory)))
     → ((f : CellFault) → f.cause ≡ Memory → f.at ≡ 0 → Q f)
     → MatchResult next (λ t. R × P t) Q
-kept_on P Q R first (Ok t) h made refused = (made.0, MatchResult-at_ok P Q t made.1 h)
-kept_on P Q R first (Err f) h made refused = go made
+MatchResult-propagated P Q R first (Ok t) h made refused = (made.0, MatchResult-at_ok P Q t made.1 h)
+MatchResult-propagated P Q R first (Err f) h made refused = go made
   where
     go : (first ≡ Err f) ⊎ ((f.at ≡ 0) × (f.cause ≡ Memory)) → Q f
     go (inl same) = MatchResult-at_err P Q f same h
@@ -25,10 +25,10 @@ kept_on P Q R first (Err f) h made refused = go made
 
 -- If the value of `whole` is a part of the value of `last`, and their faults are the same, then `last` satisfies the clause of `whole` for
 -- that part.
-pub part_of : {T U : Type 0} (P : T → Type 0) (Q : CellFault → Type 0) (S : U → Type 0) (part : U → T)
+pub MatchResult-part : {T U : Type 0} (P : T → Type 0) (Q : CellFault → Type 0) (S : U → Type 0) (part : U → T)
     (whole : Result T CellFault) (last : Result U CellFault)
     → MatchResult whole P Q
     → MatchResult last (λ u. S u × (whole ≡ Ok (part u))) (λ f. whole ≡ Err f)
     → MatchResult last (λ u. S u × P (part u)) Q
-part_of P Q S part whole (Ok u) h put = (put.0, MatchResult-at_ok P Q (part u) put.1 h)
-part_of P Q S part whole (Err f) h put = MatchResult-at_err P Q f put h
+MatchResult-part P Q S part whole (Ok u) h put = (put.0, MatchResult-at_ok P Q (part u) put.1 h)
+MatchResult-part P Q S part whole (Err f) h put = MatchResult-at_err P Q f put h

@@ -1,4 +1,5 @@
--- Reading the labels at the start of a cell: the invariant when one more is read.
+-- Reading the labels at the start of a cell: the invariant when one more is read. The loop of `read_labels`
+-- goes by `LabelsRead`.
 use Rattle.lw_statements.proofs.Common.{◌≡◌, ℕ, zero, suc, ◌<◌, ◌≤◌, ◌+◌, ◌*◌, Bool, true, false, true≢false}
 use Rattle.lw_statements.proofs.Common.{◌||◌, Option, Some, None, List, [], ◌∷◌, ◌++◌, length, length-append}
 use Rattle.lw_statements.proofs.Common.{take, drop, refl, sym, ap, ◌∙◌, subst, arith, ◌↔◌, IsTrue, slice_get}
@@ -7,8 +8,8 @@ use Rattle.lw_statements.proofs.Common.{append-nil, append_assoc, take-append-dr
 use Rattle.lw_statements.proofs.Common.{slice_get_within, take-map, drop-map, length-map, map-append}
 use Rattle.lw_statements.proofs.Common.{list_any-append, Contains-append_right, unsigned_Decides}
 use Rattle.lw_statements.proofs.Common.{pointwise_decides, update, IsDuplicateFree, IsLocationName}
-use Rattle.lw_statements.proofs.Common.{contains_name, Bytes, TokenList, take_one, contains_name-Contains}
-use Rattle.lw_statements.proofs.Common.{once_more, Token, token_texts, Labels, LabelMap, target_by}
+use Rattle.lw_statements.proofs.Common.{contains_name, Bytes, TokenList, take-suc, contains_name-Contains}
+use Rattle.lw_statements.proofs.Common.{IsDuplicateFree-push, Token, token_texts, Labels, LabelMap, target_by}
 use Rattle.lw_statements.proofs.Common.{BeginsWithLabel, HasExactlyLabels, IsAtLabel, LabelsRead, LabelsFit}
 use Rattle.lw_statements.proofs.Common.{HasDuplicateLabelAt}
 
@@ -28,9 +29,9 @@ get_drop (x ∷ ts) zero j = let e : j ≡ zero + j = omega arith in ap (slice_g
 get_drop (x ∷ ts) (suc k) j = let e : suc (k + j) ≡ suc k + j = omega arith in get_drop ts k j ∙ ap (slice_get (x ∷ ts)) e
 
 -- The text at index j of the tokens after the first k is the text at index `k + j` of all.
-pub get_behind : (tokens : List Token) (k j : ℕ)
+pub get-of_drop : (tokens : List Token) (k j : ℕ)
     → slice_get (token_texts (drop k tokens)) j ≡ slice_get (token_texts tokens) (k + j)
-get_behind tokens k j =
+get-of_drop tokens k j =
     ap (λ (ts : TokenList). slice_get ts j) (sym (drop-map (λ t. t.text.now) k tokens)) ∙ get_drop (token_texts tokens) k j
 
 -- If there is a token at the index `next + 1`, there are at least `next + 2` tokens.
@@ -41,11 +42,11 @@ next_within tokens next w colon =
     omega (arith, slice_get_within (token_texts tokens) (next + 1) w colon, length-map tokens (λ t. t.text.now))
 
 -- The comparison of the token at an index with a sign says whether the sign is there.
-pub sign_or_not : (ts : TokenList) (k : ℕ) (w sign : Bytes) (b : Bool)
+pub sign_equal-iff_get : (ts : TokenList) (k : ℕ) (w sign : Bytes) (b : Bool)
     → slice_get ts k ≡ Some w
     → b ≡ bytes_eq w sign
     → IsTrue b ↔ (slice_get ts k ≡ Some sign)
-sign_or_not ts k w sign b at is = (
+sign_equal-iff_get ts k w sign b at is = (
   λ yes. at ∙ ap Some ((pointwise_decides unsigned_Decides w sign).0 (sym is ∙ yes)),
   λ e. is ∙ (pointwise_decides unsigned_Decides w sign).1 (let f : Some w ≡ Some sign = sym at ∙ e in cc),
 )
@@ -62,10 +63,15 @@ name_contained (m ∷ ns) n e = go (bytes_eq m n) refl (name_contained ns n)
     go false f further = Contains-append_right (m ∷ []) ns n (further (rw f at e))
 
 -- No name is in both parts of a list without duplicates.
-pub once_apart : (ns ms : List Bytes) (n : Bytes) → IsDuplicateFree (ns ++ ms) → Contains ns n → Contains ms n → ⊥
-once_apart [] ms n once h there = let k : h.0 < 0 = h.1 in omega arith
-once_apart (m ∷ ns) ms n once h there = at h.0 h.1 h.2 (once_apart ns ms n once.1)
+pub IsDuplicateFree-not_in_both : (ns ms : List Bytes) (n : Bytes)
+    → IsDuplicateFree (ns ++ ms)
+    → Contains ns n
+    → Contains ms n
+    → ⊥
+IsDuplicateFree-not_in_both [] ms n once h there = let k : h.0 < 0 = h.1 in omega arith
+IsDuplicateFree-not_in_both (m ∷ ns) ms n once h there = at h.0 h.1 h.2 (IsDuplicateFree-not_in_both ns ms n once.1)
   where
+    -- By the index at which the name is in the first list.
     at : (k : ℕ) → k < length (m ∷ ns) → slice_index_or (m ∷ ns) k n ≡ n → (Contains ns n → Contains ms n → ⊥) → ⊥
     at zero lt e further = once.0 (subst (λ (x : Bytes). Contains (ns ++ ms) x) (sym e) (Contains-append_right ns ms n there))
     at (suc k) lt e further = further (k, omega (arith, lt), e) there
@@ -156,15 +162,15 @@ labels_start tokens to labels = record {
   two_each = refl;
   says = refl;
   made = λ n. refl;
-  once = λ known knows each. subst IsDuplicateFree (sym (append-nil known)) each;
+  without_duplicates = λ known knows each. subst IsDuplicateFree (sym (append-nil known)) each;
 }
 
 -- What was read of a cell's labels, when another label follows.
 module _ (tokens : List Token) (to : ℕ) (labels : LabelMap) (next : ℕ) (now : LabelMap)
     (read : LabelsRead tokens to labels next now) where
   -- The map has the labels that the thread had before, and those that were read of the cell.
-  knows_more : (known : List Bytes) → HasExactlyLabels labels known → HasExactlyLabels now (known ++ read.names)
-  knows_more known knows n =
+  HasExactlyLabels-with_read : (known : List Bytes) → HasExactlyLabels labels known → HasExactlyLabels now (known ++ read.names)
+  HasExactlyLabels-with_read known knows n =
       rw (read.made n, list_any-append (λ m. bytes_eq m n) known read.names, ← knows n)
       (go (contains_name read.names n) (target_by labels n))
     where
@@ -177,12 +183,12 @@ module _ (tokens : List Token) (to : ℕ) (labels : LabelMap) (next : ℕ) (now 
   module _ (token : Token) (is : slice_get tokens next ≡ Some token)
       (colon : slice_get (token_texts tokens) (next + 1) ≡ Some (codes ":")) where
     -- If that token is a location's name that is not in the map, it is one more label.
-    pub labels_more : (after : LabelMap)
+    pub LabelsRead-one_more : (after : LabelMap)
         → IsLocationName token.text.now
         → is_some (target_by now token.text.now) ≡ false
         → ((m : Bytes) → target_by after m ≡ update bytes_eq (target_by now) token.text.now (Some to) m)
         → LabelsRead tokens to labels (next + 2) after
-    labels_more after loc fresh updated =
+    LabelsRead-one_more after loc fresh updated =
         let n : List ℕ = token.text.now in
         let within = next_within tokens next (codes ":") colon in
         record {
@@ -190,82 +196,88 @@ module _ (tokens : List Token) (to : ℕ) (labels : LabelMap) (next : ℕ) (now 
           within = within;
           two_each = omega (arith, read.two_each, length-append read.names (n ∷ []));
           says =
-              subst (λ (t : TokenList). Labels t (read.names ++ n ∷ []) []) (sym front)
+              subst (λ (t : TokenList). Labels t (read.names ++ n ∷ []) []) (sym front_with_label)
               (Labels-more (token_texts (take next tokens)) read.names n read.says loc);
           made = λ m.
               rw (updated m, read.made m, list_any-append (λ l. bytes_eq l m) read.names (n ∷ []))
-              (either (bytes_eq n m) (contains_name read.names m) (target_by labels m));
-          once =
+              (target-if_cases (bytes_eq n m) (contains_name read.names m) (target_by labels m));
+          without_duplicates =
               λ known knows each.
               subst IsDuplicateFree (append_assoc known read.names (n ∷ []))
-              (once_more (known ++ read.names) n (read.once known knows each) (λ there.
-              true≢false (sym (contains_name-Contains (known ++ read.names) n there) ∙ sym (knows_more known knows n) ∙ fresh)));
+              (IsDuplicateFree-push (known ++ read.names) n (read.without_duplicates known knows each) (λ there.
+              true≢false (sym (contains_name-Contains (known ++ read.names) n there)
+              ∙ sym (HasExactlyLabels-with_read known knows n)
+              ∙ fresh)));
         }
       where
-        front : token_texts (take (next + 2) tokens) ≡ token_texts (take next tokens) ++ token.text.now ∷ codes ":" ∷ []
-        front =
+        -- The tokens up to the next label's `:` are those before it, the name and the `:`.
+        front_with_label : token_texts (take (next + 2) tokens)
+            ≡ token_texts (take next tokens) ++ token.text.now ∷ codes ":" ∷ []
+        front_with_label =
             let ts = token_texts tokens in
             let one : next + 1 ≡ suc next = omega arith in
             let two : next + 2 ≡ suc (suc next) = omega arith in
             rw (
               two,
               ← take-map (λ t. t.text.now) (suc (suc next)) tokens,
-              take_one ts (suc next) (codes ":") (ap (slice_get ts) (sym one) ∙ colon),
-              take_one ts next token.text.now (get_text tokens next token is),
+              take-suc ts (suc next) (codes ":") (ap (slice_get ts) (sym one) ∙ colon),
+              take-suc ts next token.text.now (get_text tokens next token is),
               append_assoc (take next ts) (token.text.now ∷ []) (codes ":" ∷ []),
               take-map (λ t. t.text.now) next tokens,
             ) refl
 
-        either : (a b : Bool) (o : Option ℕ)
+        -- By whether a name is the new label, an older one, or neither.
+        target-if_cases : (a b : Bool) (o : Option ℕ)
             → (if a then Some to else (if b then Some to else o)) ≡ (if b || (a || false) then Some to else o)
-        either true true o = refl
-        either true false o = refl
-        either false true o = refl
-        either false false o = refl
+        target-if_cases true true o = refl
+        target-if_cases true false o = refl
+        target-if_cases false true o = refl
+        target-if_cases false false o = refl
 
     -- The labels of the cell continue with this one.
-    pub labels_on : (ks : List Bytes) (mid : TokenList)
+    pub Labels-continue : (ks : List Bytes) (mid : TokenList)
         → Labels (token_texts tokens) ks mid
         → (BeginsWithLabel mid → ⊥)
         → (more : List Bytes) × (ks ≡ read.names ++ token.text.now ∷ more) × IsLocationName token.text.now
-    labels_on ks mid h none =
+    Labels-continue ks mid h none =
         let rest = token_texts (drop next tokens) in
         let cut = Labels-cut (token_texts tokens) rest mid read.names ks (Labels-whole tokens next read.names read.says) h none in
         let here : next ≡ next + 0 = omega arith in
         let go =
         Labels-next rest mid cut.0 token.text.now
-        (get_behind tokens next 0 ∙ ap (slice_get (token_texts tokens)) (sym here) ∙ get_text tokens next token is)
-        (get_behind tokens next 1 ∙ colon) cut.2 none in
+        (get-of_drop tokens next 0 ∙ ap (slice_get (token_texts tokens)) (sym here) ∙ get_text tokens next token is)
+        (get-of_drop tokens next 1 ∙ colon) cut.2 none in
         (go.0, cut.1 ∙ ap (λ (ns : List Bytes). read.names ++ ns) go.1, go.2)
 
     -- The token is in the place of a label.
-    abbrev pub at_label : IsAtLabel tokens labels token.at
-    at_label = record {
+    abbrev pub IsAtLabel-of_token : IsAtLabel tokens labels token.at
+    IsAtLabel-of_token = record {
       names = read.names;
       place = next;
       token = token;
-      is = is;
+      token_at = is;
       begins = refl;
       says = read.says;
       colon = colon;
-      once = read.once;
+      without_duplicates = read.without_duplicates;
     }
 
     -- A label that the thread has already.
     module _ (led : is_some (target_by now token.text.now) ≡ true) where
+      -- A label that the map has is one of the thread's.
       label_known : (known : List Bytes) → HasExactlyLabels labels known → Contains (known ++ read.names) token.text.now
       label_known known knows =
-          name_contained (known ++ read.names) token.text.now (sym (knows_more known knows token.text.now) ∙ led)
+          name_contained (known ++ read.names) token.text.now (sym (HasExactlyLabels-with_read known knows token.text.now) ∙ led)
 
-      -- No labels of the cell fit, then.
+      -- If the next label is one that the thread has already, no labels of the cell fit.
       pub labels_twice : (ks : List Bytes) → LabelsFit labels (token_texts tokens) ks → ⊥
       labels_twice ks fit =
-          let on = labels_on ks fit.rest fit.says fit.stops in
+          let on = Labels-continue ks fit.rest fit.says fit.stops in
           let row : fit.known ++ ks ≡ (fit.known ++ read.names) ++ token.text.now ∷ on.0 =
           ap (λ (ns : List Bytes). fit.known ++ ns) on.1 ∙ sym (append_assoc fit.known read.names (token.text.now ∷ on.0)) in
-          once_apart (fit.known ++ read.names) (token.text.now ∷ on.0) token.text.now (subst IsDuplicateFree row fit.once)
-          (label_known fit.known fit.knows) (0, omega arith, refl)
+          IsDuplicateFree-not_in_both (fit.known ++ read.names) (token.text.now ∷ on.0) token.text.now
+          (subst IsDuplicateFree row fit.without_duplicates) (label_known fit.known fit.knows) (0, omega arith, refl)
 
-      -- A duplicate label is at that position, then.
-      pub twice_in : HasDuplicateLabelAt tokens labels token.at
-      twice_in = (at_label, label_known)
+      -- If the next label is one that the thread has already, its token is a duplicate label.
+      pub HasDuplicateLabelAt-of_token : HasDuplicateLabelAt tokens labels token.at
+      HasDuplicateLabelAt-of_token = (IsAtLabel-of_token, label_known)

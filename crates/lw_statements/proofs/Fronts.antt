@@ -1,8 +1,10 @@
--- How far tokens match the forms, and which slot follows those that they match.
+-- How far tokens match the forms, and which slot follows those that they match. So the first token after
+-- which no statement is possible can be found, and what is wrong with it: the functions that search for a
+-- fault cite these lemmas.
 use Rattle.lw_statements.proofs.Common.{◌≡◌, ℕ, zero, suc, ◌<◌, ◌≤◌, ◌+◌, ◌⊎◌, inl, inr, Bool, true, false}
 use Rattle.lw_statements.proofs.Common.{Option, Some, None, List, [], ◌∷◌, ◌++◌, length, take, drop, refl}
 use Rattle.lw_statements.proofs.Common.{sym, ap, ◌∙◌, subst, arith, IsTrue, ◌↔◌, slice_get, Contains}
-use Rattle.lw_statements.proofs.Common.{MatchOption, length-take, length-append, cut_at, take-map}
+use Rattle.lw_statements.proofs.Common.{MatchOption, length-take, length-append, take_drop-at, take-map}
 use Rattle.lw_statements.proofs.Common.{slice_get_within, insert_name, insert_names, insert_name-there}
 use Rattle.lw_statements.proofs.Common.{contains_name, contains_name-Contains, cons_option, most_locations}
 use Rattle.lw_statements.proofs.Common.{codes, IsLocationName, IsNameTable, name_by_test, Bytes, NameTable}
@@ -14,35 +16,36 @@ use Rattle.lw_statements.proofs.Common.{true≢false, slice_get-map, cases_Bool,
 use Rattle.lw_statements.proofs.Common.{ltb-false, max, All, take_all, CellFault, IsMisfitCause}
 use Rattle.lw_statements.proofs.Common.{IsMeantAsRegister, IsFirstRejected, StatementFaultIsTrue, HasMisfitIn}
 use Rattle.lw_statements.proofs.Common.{CanBegin, eqb, eqb-true, append_assoc, names_one, eqb-false}
-use Rattle.lw_statements.proofs.Beginnings.{after_beginning, begins_after, filled_after, named_there, stands}
-use Rattle.lw_statements.proofs.Causes.{form_tells, wrong_tells}
-use Rattle.lw_statements.proofs.Elements.{all_at, mapped_some}
+use Rattle.lw_statements.proofs.Beginnings.{after_beginning, BeginsStatement-after, CanStand-after}
+use Rattle.lw_statements.proofs.Beginnings.{location_name-in_slot, slot_accepts_some}
+use Rattle.lw_statements.proofs.Causes.{FaultClaim-Form, FaultClaim-wrong}
+use Rattle.lw_statements.proofs.Elements.{All-get, option_map-Some_inv}
 use Rattle.lw_statements.proofs.FrontLabels.{get_text}
-use Rattle.lw_statements.proofs.SlotTokens.{at_most}
+use Rattle.lw_statements.proofs.SlotTokens.{IsReach-at_most}
 use Rattle.lw_base.specs.declared.fault.CellCause.TheVariants as cause
 
 -- If there is no token at an index, all tokens are before it.
-none_past : (tokens : List Token) (k : ℕ) → slice_get tokens k ≡ None → length tokens ≤ k
-none_past [] k e = omega arith
-none_past (t ∷ tokens) zero e = absurd cc
-none_past (t ∷ tokens) (suc k) e = let less = none_past tokens k e in omega (arith, less)
+length_at_most-no_item : (tokens : List Token) (k : ℕ) → slice_get tokens k ≡ None → length tokens ≤ k
+length_at_most-no_item [] k e = omega arith
+length_at_most-no_item (t ∷ tokens) zero e = absurd cc
+length_at_most-no_item (t ∷ tokens) (suc k) e = let less = length_at_most-no_item tokens k e in omega (arith, less)
 
 -- No tokens have no texts.
-no_texts : (tokens : List Token) → length tokens ≡ 0 → token_texts tokens ≡ []
-no_texts [] e = refl
-no_texts (t ∷ tokens) e = absurd (omega (arith, e))
+token_texts-empty : (tokens : List Token) → length tokens ≡ 0 → token_texts tokens ≡ []
+token_texts-empty [] e = refl
+token_texts-empty (t ∷ tokens) e = absurd (omega (arith, e))
 
 module _ {W Form Stmt : Type 0} (spelling : Spelling W Form Stmt) where
   -- ---- the slot after those that accept tokens
 
   -- If there are no slots, none follows.
-  pub no_slot : (slots : List (Slot W)) (ts : TokenList)
+  pub no_slot-empty : (slots : List (Slot W)) (ts : TokenList)
       → length slots ≡ 0
       → (next : Slot W)
       → IsSlotAfter spelling ts slots next
       → ⊥
-  no_slot [] ts a next h = h
-  no_slot (slot ∷ slots) ts a next h = absurd (omega (arith, a))
+  no_slot-empty [] ts a next h = h
+  no_slot-empty (slot ∷ slots) ts a next h = absurd (omega (arith, a))
 
   -- After no tokens, the first slot follows.
   pub slot_next : (rest : List (Slot W)) (slot : Slot W) (tokens : List Token)
@@ -70,11 +73,11 @@ module _ {W Form Stmt : Type 0} (spelling : Spelling W Form Stmt) where
   slot_unique (slot ∷ slots) (t ∷ ts) a b h k = slot_unique slots ts a b h.1 k.1
 
   -- If the slot that follows is of a kind, such a slot follows, and otherwise none.
-  pub next_or_not : (IsSo : Slot W → Type 0) (slots : List (Slot W)) (ts : TokenList) (slot : Slot W) (b : Bool)
+  pub HasNext-of_kind : (IsSo : Slot W → Type 0) (slots : List (Slot W)) (ts : TokenList) (slot : Slot W) (b : Bool)
       → IsSlotAfter spelling ts slots slot
       → IsTrue b ↔ IsSo slot
       → IsTrue b ↔ HasNext spelling IsSo ts slots
-  next_or_not IsSo slots ts slot b after is =
+  HasNext-of_kind IsSo slots ts slot b after is =
       (λ yes. (slot, after, is.0 yes), λ (other, there, so). is.1 (subst IsSo (slot_unique slots ts other slot there after) so))
 
   -- In the form no such slot follows those that accept the tokens.
@@ -98,38 +101,38 @@ module _ {W Form Stmt : Type 0} (spelling : Spelling W Form Stmt) where
       let r = reach_past slots ts back t slot n after.1 here h.1 in omega (arith, r)
 
   -- After the most tokens that any form accepts, no statement goes on with the next one.
-  pub stuck : (ts : TokenList) (k : ℕ) (t : Bytes)
+  pub no_statement_continues : (ts : TokenList) (k : ℕ) (t : Bytes)
       → AreFront spelling ts k
       → slice_get ts k ≡ Some t
       → BeginsStatement (grammar_of spelling) (take k ts ++ t ∷ [])
       → ⊥
-  stuck ts k t front is b =
+  no_statement_continues ts k t front is b =
       let h = after_beginning spelling (take k ts) t b in
       let n = front h.0 h.1 in
       let past =
       reach_past (spelling.slots_of h.0) (take k ts) (drop (suc k) ts) t h.2.0 n.0 h.2.1 h.2.2
-      (subst (λ (us : TokenList). IsReach spelling us (spelling.slots_of h.0) n.0) (cut_at ts k t is) n.1) in
+      (subst (λ (us : TokenList). IsReach spelling us (spelling.slots_of h.0) n.0) (take_drop-at ts k t is) n.1) in
       omega (arith, past, n.2, length-take k ts, slice_get_within ts k t is)
 
   -- The slot at the end of those that tokens match, if it is one, follows them.
-  pub slot_at : (slots : List (Slot W)) (ts : TokenList) (n k : ℕ) (slot : Slot W)
+  pub IsSlotAfter-get : (slots : List (Slot W)) (ts : TokenList) (n k : ℕ) (slot : Slot W)
       → IsReach spelling ts slots n
       → k < n
       → slice_get slots k ≡ Some slot
       → IsSlotAfter spelling (take k ts) slots slot
       × ((t : Bytes) → slice_get ts k ≡ Some t → CanStand spelling (t ∷ []) (slot ∷ []))
-  slot_at [] ts n k slot h less e = absurd cc
-  slot_at (s ∷ slots) [] n k slot h less e = absurd (omega (arith, h, less))
-  slot_at (s ∷ slots) (u ∷ ts) zero k slot h less e = absurd (omega (arith, less))
-  slot_at (s ∷ slots) (u ∷ ts) (suc n) zero slot h less e =
+  IsSlotAfter-get [] ts n k slot h less e = absurd cc
+  IsSlotAfter-get (s ∷ slots) [] n k slot h less e = absurd (omega (arith, h, less))
+  IsSlotAfter-get (s ∷ slots) (u ∷ ts) zero k slot h less e = absurd (omega (arith, less))
+  IsSlotAfter-get (s ∷ slots) (u ∷ ts) (suc n) zero slot h less e =
       let same : s ≡ slot = cc in (
         same,
         λ t is.
             subst (λ (b : Slot W). CanStand spelling (t ∷ []) (b ∷ [])) same
             (subst (λ (a : Bytes). CanStand spelling (a ∷ []) (s ∷ [])) (let one : u ≡ t = cc in one) h.0),
       )
-  slot_at (s ∷ slots) (u ∷ ts) (suc n) (suc k) slot h less e =
-      let r = slot_at slots ts n k slot h.1 (omega (arith, less)) e in ((h.0, r.0), r.1)
+  IsSlotAfter-get (s ∷ slots) (u ∷ ts) (suc n) (suc k) slot h less e =
+      let r = IsSlotAfter-get slots ts n k slot h.1 (omega (arith, less)) e in ((h.0, r.0), r.1)
 
   -- After tokens that the slots before a location's accept, that slot follows.
   pub after_cut : (front back slots : List (Slot W)) (ts : TokenList)
@@ -170,23 +173,23 @@ module _ {W Form Stmt : Type 0} (spelling : Spelling W Form Stmt) where
         let r = fitting_rest slots in
         (x.0 ∷ r.0, (x.0, r.1), ((refl, x.1), r.2), x.2)
     fitting_rest (Keyword w ∷ slots) =
-        let s = stands spelling (Keyword w) in
+        let s = slot_accepts_some spelling (Keyword w) in
         let r = fitting_rest slots in
         (s.0 ∷ r.0, (s.1, r.1), (s.2, r.2), r.3)
     fitting_rest (Register ∷ slots) =
-        let s = stands spelling Register in
+        let s = slot_accepts_some spelling Register in
         let r = fitting_rest slots in
         (s.0 ∷ r.0, (s.1, r.1), (s.2, r.2), r.3)
     fitting_rest (Value ∷ slots) =
-        let s = stands spelling Value in
+        let s = slot_accepts_some spelling Value in
         let r = fitting_rest slots in
         (s.0 ∷ r.0, (s.1, r.1), (s.2, r.2), r.3)
     fitting_rest (Number ∷ slots) =
-        let s = stands spelling Number in
+        let s = slot_accepts_some spelling Number in
         let r = fitting_rest slots in
         (s.0 ∷ r.0, (s.1, r.1), (s.2, r.2), r.3)
     fitting_rest (Label ∷ slots) =
-        let s = stands spelling Label in
+        let s = slot_accepts_some spelling Label in
         let r = fitting_rest slots in
         (s.0 ∷ r.0, (s.1, r.1), (s.2, r.2), r.3)
 
@@ -199,11 +202,13 @@ module _ {W Form Stmt : Type 0} (spelling : Spelling W Form Stmt) where
         → slice_get ts k ≡ Some x
         → length (insert_name names x) ≤ most_locations
 
-    further : (t : Bytes) (ts : TokenList) (slot : Slot W) (slots : List (Slot W)) (n : ℕ)
+    -- What holds from the second token on.
+    AllFit-tail : (t : Bytes) (ts : TokenList) (slot : Slot W) (slots : List (Slot W)) (n : ℕ)
         → AllFit (t ∷ ts) (slot ∷ slots) (suc n)
         → AllFit ts slots n
-    further t ts slot slots n fit k x less at is = fit (suc k) x (omega (arith, less)) at is
+    AllFit-tail t ts slot slots n fit k x less at is = fit (suc k) x (omega (arith, less)) at is
 
+    -- The first n tokens begin tokens that fill the slots, and the location among them fits the table.
     abbrev Fitting : List (Slot W) → TokenList → ℕ → Type 0
     Fitting slots ts n =
         (rest : TokenList) × (f : Filling slots) × Fills spelling (take n ts ++ rest) slots f × IsFitting names (name_in slots f)
@@ -217,24 +222,25 @@ module _ {W Form Stmt : Type 0} (spelling : Spelling W Form Stmt) where
     fitting_front (slot ∷ slots) [] n h fit = subst (Fitting (slot ∷ slots) []) (sym h) (fitting_rest (slot ∷ slots))
     fitting_front (slot ∷ slots) (t ∷ ts) zero h fit = fitting_rest (slot ∷ slots)
     fitting_front (Location ∷ slots) (t ∷ ts) (suc n) h fit =
-        let r = fitting_front slots ts n h.1 (further t ts Location slots n fit) in (
+        let r = fitting_front slots ts n h.1 (AllFit-tail t ts Location slots n fit) in (
           r.0,
           (h.0.0.0, r.1),
           (h.0.1.0, r.2),
           subst (λ (x : Bytes). IsFitting names (Some x)) h.0.1.0.0 (fit 0 t (omega arith) refl refl),
         )
     fitting_front (Keyword w ∷ slots) (t ∷ ts) (suc n) h fit =
-        let r = fitting_front slots ts n h.1 (further t ts (Keyword w) slots n fit) in (r.0, (h.0.0.0, r.1), (h.0.1.0, r.2), r.3)
+        let r = fitting_front slots ts n h.1 (AllFit-tail t ts (Keyword w) slots n fit) in
+        (r.0, (h.0.0.0, r.1), (h.0.1.0, r.2), r.3)
     fitting_front (Register ∷ slots) (t ∷ ts) (suc n) h fit =
-        let r = fitting_front slots ts n h.1 (further t ts Register slots n fit) in (r.0, (h.0.0.0, r.1), (h.0.1.0, r.2), r.3)
+        let r = fitting_front slots ts n h.1 (AllFit-tail t ts Register slots n fit) in (r.0, (h.0.0.0, r.1), (h.0.1.0, r.2), r.3)
     fitting_front (Value ∷ slots) (t ∷ ts) (suc n) h fit =
-        let r = fitting_front slots ts n h.1 (further t ts Value slots n fit) in (r.0, (h.0.0.0, r.1), (h.0.1.0, r.2), r.3)
+        let r = fitting_front slots ts n h.1 (AllFit-tail t ts Value slots n fit) in (r.0, (h.0.0.0, r.1), (h.0.1.0, r.2), r.3)
     fitting_front (Number ∷ slots) (t ∷ ts) (suc n) h fit =
-        let r = fitting_front slots ts n h.1 (further t ts Number slots n fit) in (r.0, (h.0.0.0, r.1), (h.0.1.0, r.2), r.3)
+        let r = fitting_front slots ts n h.1 (AllFit-tail t ts Number slots n fit) in (r.0, (h.0.0.0, r.1), (h.0.1.0, r.2), r.3)
     fitting_front (Label ∷ slots) (t ∷ ts) (suc n) h fit =
-        let r = fitting_front slots ts n h.1 (further t ts Label slots n fit) in (r.0, (h.0.0.0, r.1), (h.0.1.0, r.2), r.3)
+        let r = fitting_front slots ts n h.1 (AllFit-tail t ts Label slots n fit) in (r.0, (h.0.0.0, r.1), (h.0.1.0, r.2), r.3)
 
-    -- So they begin a statement that fits the table.
+    -- The longest front of the tokens in a form, if each token in it fits the table, begins a statement that fits.
     pub begins_fitting : (form : Form) (ts : TokenList) (n : ℕ)
         → Contains spelling.forms form
         → IsReach spelling ts (spelling.slots_of form) n
@@ -252,32 +258,32 @@ module _ {W Form Stmt : Type 0} (spelling : Spelling W Form Stmt) where
         → BeginsFitting (grammar_of spelling) names ts
     fitting_before form ts there one after =
         let x = fitting_name names table in
-        let r = filled_after spelling (spelling.slots_of form) Location ts x.0 after ((x.0, tt), ((refl, x.1), tt)) in
+        let r = CanStand-after spelling (spelling.slots_of form) Location ts x.0 after ((x.0, tt), ((refl, x.1), tt)) in
         let fills : Fills spelling (ts ++ x.0 ∷ r.0) (spelling.slots_of form) r.1.0 =
         subst (λ (us : TokenList). Fills spelling us (spelling.slots_of form) r.1.0) (append_assoc ts (x.0 ∷ []) r.0) r.1.1 in
-        let named = named_there spelling ts r.0 x.0 (spelling.slots_of form) r.1.0 one after fills in
+        let named = location_name-in_slot spelling ts r.0 x.0 (spelling.slots_of form) r.1.0 one after fills in
         record { rest = x.0 ∷ r.0; syntax = record { form = form; filling = r.1.0 }; says = (there, fills); room = rw named x.2 }
 
     -- If no slot among those that the tokens match has a ninth location, each location among them fits the table.
-    pub all_fit : (tokens : List Token) (slots : List (Slot W)) (n : ℕ)
+    pub AllFit-no_overflow : (tokens : List Token) (slots : List (Slot W)) (n : ℕ)
         → ((k : ℕ) → IsOverflowSlot slots tokens n names k → ⊥)
         → AllFit (token_texts tokens) slots n
-    all_fit tokens slots n none k x less at is = go (contains_name names x) refl
+    AllFit-no_overflow tokens slots n none k x less at is = go (contains_name names x) refl
       where
         go : (b : Bool) → contains_name names x ≡ b → length (insert_name names x) ≤ most_locations
         go true e = rw e table.few
         go false e =
-            let there : (t : Token) × (slice_get tokens k ≡ Some t) × (x ≡ t.text.now) =
-            mapped_some (λ (t : Token). t.text.now) (slice_get tokens k) x
+            let held : (t : Token) × (slice_get tokens k ≡ Some t) × (x ≡ t.text.now) =
+            option_map-Some_inv (λ (t : Token). t.text.now) (slice_get tokens k) x
             (sym is ∙ slice_get-map (λ (t : Token). t.text.now) tokens k) in
             let free : length names ≡ most_locations → ⊥ = λ full. none k (record {
               before = less;
               slot = at;
-              token = there.0;
-              is = there.1;
+              token = held.0;
+              token_at = held.1;
               full = full;
               new = λ h.
-                  true≢false (sym (contains_name-Contains names x (subst (λ (y : Bytes). Contains names y) (sym there.2) h)) ∙ e);
+                  true≢false (sym (contains_name-Contains names x (subst (λ (y : Bytes). Contains names y) (sym held.2) h)) ∙ e);
             }) in
             rw e (omega (arith, table.few, free, length-append names (x ∷ [])))
 
@@ -334,11 +340,11 @@ module _ {W Form Stmt : Type 0} (spelling : Spelling W Form Stmt) where
       → IsFirstRejected spelling tokens end f
       → (m : HasMisfitIn (grammar_of spelling) tokens names f.at f.cause) × (m.place ≡ 0) × (f.at ≡ t.at)
   misfit_first tokens end names t first cannot f r =
-      let is = rw (at_start r.longest.reached, ← first) at r.is in (
+      let is = rw (front_is_zero r.longest.reached, ← first) at r.is in (
         record {
           place = 0;
           token = t;
-          is = sym first;
+          token_at = sym first;
           begins = sym is.0;
           begun = λ some. absurd (some refl);
           none = cannot;
@@ -348,15 +354,16 @@ module _ {W Form Stmt : Type 0} (spelling : Spelling W Form Stmt) where
         is.0,
       )
     where
-      at_start : IsReached (token_texts tokens) r.front → r.front ≡ 0
-      at_start (inl none) = none
-      at_start (inr (form, there, reach)) = elim (cases_Bool (eqb r.front 0)) [
+      -- If not even the first token can begin a statement, no token is matched.
+      front_is_zero : IsReached (token_texts tokens) r.front → r.front ≡ 0
+      front_is_zero (inl none) = none
+      front_is_zero (inr (form, there, reach)) = elim (cases_Bool (eqb r.front 0)) [
         | inl e ↦ eqb-true r.front 0 e
         | inr e ↦
             let s =
             reach_first (spelling.slots_of form) (token_texts tokens) r.front t.text.now reach (get_text tokens 0 t (sym first))
             (eqb-false r.front 0 e) in
-            absurd (cannot (begins_after spelling form s.0 [] t.text.now there s.1 s.2))
+            absurd (cannot (BeginsStatement-after spelling form s.0 [] t.text.now there s.1 s.2))
       ]
 
   -- The place of the first token after which no statement is possible, or the end, is within what was read.
@@ -375,30 +382,31 @@ module _ {W Form Stmt : Type 0} (spelling : Spelling W Form Stmt) where
           × IsMisfitCause (IsMeantAsRegister (grammar_of spelling) (token_texts (take r.front tokens)) t.text.now) f.cause)
           → f.at ≤ len
       go None e is = omega (arith, is.0, within)
-      go (Some t) e is = omega (arith, is.0, all_at (λ (u : Token). u.at ≤ len) tokens r.front t e all)
+      go (Some t) e is = omega (arith, is.0, All-get (λ (u : Token). u.at ≤ len) tokens r.front t e all)
 
   module _ (tokens : List Token) (end : ℕ) (names : NameTable) (table : IsNameTable names)
       (room : (form : Form) → Contains spelling.forms form → HasRoom tokens names form) where
-    begun_at : (k : ℕ)
+    -- The longest prefix that matches a form begins a statement with room.
+    BeginsFitting-longest_front : (k : ℕ)
         → IsLongestFront spelling (token_texts tokens) k
         → (k ≡ 0 → ⊥)
         → BeginsFitting (grammar_of spelling) names (token_texts (take k tokens))
-    begun_at k longest some = go longest.reached
+    BeginsFitting-longest_front k longest some = go longest.reached
       where
         go : IsReached (token_texts tokens) k → BeginsFitting (grammar_of spelling) names (token_texts (take k tokens))
         go (inl none) = absurd (some none)
         go (inr (form, there, reach)) =
             let (n, also, none) = room form there in
             let same : n ≡ k =
-            (let less = at_most spelling _ _ n k also reach in
-            let more = at_most spelling _ _ k n reach also in
+            (let less = IsReach-at_most spelling _ _ n k also reach in
+            let more = IsReach-at_most spelling _ _ k n reach also in
             omega (arith, less, more)) in
             let free = subst (λ (m : ℕ). (j : ℕ) → IsOverflowSlot (spelling.slots_of form) tokens m names j → ⊥) same none in
             subst (BeginsFitting (grammar_of spelling) names) (take-map (λ (t : Token). t.text.now) k tokens)
             (begins_fitting names table form (token_texts tokens) k there reach
-            (all_fit names table tokens (spelling.slots_of form) k free))
+            (AllFit-no_overflow names table tokens (spelling.slots_of form) k free))
 
-    -- So the fault at the first token that fits no statement, or at the end, is a true one.
+    -- A fault at the first token that fits no statement, or at the end of the tokens, is a true one.
     pub statement_wrong : ((s : ParsesStatement spelling) → (grammar_of spelling).says (token_texts tokens) s → ⊥)
         → (f : CellFault)
         → IsFirstRejected spelling tokens end f
@@ -411,33 +419,34 @@ module _ {W Form Stmt : Type 0} (spelling : Spelling W Form Stmt) where
             (f.at ≡ t.at)
             × IsMisfitCause (IsMeantAsRegister (grammar_of spelling) (token_texts (take r.front tokens)) t.text.now) f.cause)
             → StatementFaultIsTrue (grammar_of spelling) tokens end names f.at f.cause
-        go None e is = subst (StatementFaultIsTrue (grammar_of spelling) tokens end names f.at) (sym is.1) (form_tells (inr (
+        go None e is = subst (StatementFaultIsTrue (grammar_of spelling) tokens end names f.at) (sym is.1) (FaultClaim-Form (inr (
           refl,
           record {
             ends = sym is.0;
             begun = λ some.
-                let past : length tokens ≤ r.front = none_past tokens r.front e in
+                let past : length tokens ≤ r.front = length_at_most-no_item tokens r.front e in
                 let whole : take r.front tokens ≡ tokens = take_all r.front tokens past in
                 subst (λ (ts : List Token). BeginsFitting (grammar_of spelling) names (token_texts ts)) whole
-                (begun_at r.front r.longest (λ none_yet. some (no_texts tokens (omega (arith, past, none_yet)))));
+                (BeginsFitting-longest_front r.front r.longest
+                (λ none_yet. some (token_texts-empty tokens (omega (arith, past, none_yet)))));
             none = none;
           },
         )))
-        go (Some t) e is = wrong_tells _ f.cause is.1 (inl (record {
+        go (Some t) e is = FaultClaim-wrong _ f.cause is.1 (inl (record {
           place = r.front;
           token = t;
-          is = e;
+          token_at = e;
           begins = sym is.0;
-          begun = begun_at r.front r.longest;
+          begun = BeginsFitting-longest_front r.front r.longest;
           none = λ b.
-              stuck (token_texts tokens) r.front t.text.now r.longest.front (get_text tokens r.front t e)
+              no_statement_continues (token_texts tokens) r.front t.text.now r.longest.front (get_text tokens r.front t e)
               (subst (λ (ts : TokenList). BeginsStatement (grammar_of spelling) (ts ++ t.text.now ∷ []))
               (sym (take-map (λ (u : Token). u.text.now) r.front tokens)) b);
           meant = is.1;
         }))
 
 -- A slot and its token, of which it is not so that the slot is a location's and the token a ninth: then there is no such slot up to there.
-pub none_so_far : {W : Type 0} (slots : List (Slot W)) (tokens : List Token) (front : ℕ) (names : NameTable) (index : ℕ)
+pub no_match_before : {W : Type 0} (slots : List (Slot W)) (tokens : List Token) (front : ℕ) (names : NameTable) (index : ℕ)
     (slot : Slot W) (token : Token)
     → slice_get slots index ≡ Some slot
     → slice_get tokens index ≡ Some token
@@ -447,31 +456,33 @@ pub none_so_far : {W : Type 0} (slots : List (Slot W)) (tokens : List Token) (fr
     → k < index + 1
     → IsOverflowSlot slots tokens front names k
     → ⊥
-none_so_far slots tokens front names index slot token at is none before k less over = elim (cases_Bool (ltb k index)) [
+no_match_before slots tokens front names index slot token at is none before k less over = elim (cases_Bool (ltb k index)) [
   | inl e ↦ before k (ltb-true k index e) over
   | inr e ↦
       let most = ltb-false k index e in
       let same : k ≡ index = omega (arith, less, most) in
       let one : slot ≡ Location = same_Some slot Location (sym at ∙ ap (slice_get slots) (sym same) ∙ over.slot) in
-      let two : over.token ≡ token = same_Some over.token token (sym over.is ∙ ap (slice_get tokens) same ∙ is) in
+      let two : over.token ≡ token = same_Some over.token token (sym over.token_at ∙ ap (slice_get tokens) same ∙ is) in
       none (one, over.full, subst (λ (t : Token). Contains names t.text.now → ⊥) two over.new)
 ]
 
--- If a fact is known, a name with that fact is a name.
-pub known_before : {IsSo IsBefore IsOther : Type 0}
+-- Where `IsBefore` holds, the two alternatives with it and without it are equivalent.
+pub name_iff-fact_known : {IsSo IsBefore IsOther : Type 0}
     → IsBefore
     → (IsSo ⊎ IsOther → (IsSo × IsBefore) ⊎ IsOther) × ((IsSo × IsBefore) ⊎ IsOther → IsSo ⊎ IsOther)
-known_before {IsSo} {IsBefore} {IsOther} b = (there, back)
+name_iff-fact_known {IsSo} {IsBefore} {IsOther} b = (with_IsBefore, without_IsBefore)
   where
-    there : IsSo ⊎ IsOther → (IsSo × IsBefore) ⊎ IsOther
-    there (inl so) = inl (so, b)
-    there (inr other) = inr other
+    -- `IsBefore` may be added to the first alternative, since it holds.
+    with_IsBefore : IsSo ⊎ IsOther → (IsSo × IsBefore) ⊎ IsOther
+    with_IsBefore (inl so) = inl (so, b)
+    with_IsBefore (inr other) = inr other
 
-    back : (IsSo × IsBefore) ⊎ IsOther → IsSo ⊎ IsOther
-    back (inl so) = inl so.0
-    back (inr other) = inr other
+    -- `IsBefore` may be left out of the first alternative.
+    without_IsBefore : (IsSo × IsBefore) ⊎ IsOther → IsSo ⊎ IsOther
+    without_IsBefore (inl so) = inl so.0
+    without_IsBefore (inr other) = inr other
 
--- If a fact is known not to hold, a name with that fact is none.
-pub known_not_before : {IsSo IsBefore IsOther : Type 0} → (IsBefore → ⊥) → (IsSo × IsBefore) ⊎ IsOther → IsOther
-known_not_before none (inl so) = absurd (none so.1)
-known_not_before none (inr other) = other
+-- Where `IsBefore` does not hold, only the second alternative is possible.
+pub other-fact_not_known : {IsSo IsBefore IsOther : Type 0} → (IsBefore → ⊥) → (IsSo × IsBefore) ⊎ IsOther → IsOther
+other-fact_not_known none (inl so) = absurd (none so.1)
+other-fact_not_known none (inr other) = other

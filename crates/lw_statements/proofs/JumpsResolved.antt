@@ -1,4 +1,4 @@
--- Resolving one statement: the target of a jump is where its label is.
+-- Resolving one statement: the target of a jump is where its label is, and later. A step of Resolved.
 use Rattle.lw_statements.proofs.Common.{◌≡◌, ℕ, suc, ◌<◌, ◌+◌, true, Option, Some, None, refl, List, [], ◌∷◌}
 use Rattle.lw_statements.proofs.Common.{◌++◌, length, take, drop, sym, ap, ◌∙◌, subst, arith, Contains}
 use Rattle.lw_statements.proofs.Common.{slice_get, IfSome, option_map, ForSome, length-map, same_Some, Bytes}
@@ -8,9 +8,9 @@ use Rattle.lw_statements.proofs.Common.{label_in, bindings_of, draft_of, with_ta
 use Rattle.lw_statements.proofs.Common.{IsSpelling, CellSyntax, labels_of, target_in, location_index}
 use Rattle.lw_statements.proofs.Common.{resolved_target, resolved_statement, LabelsLeadForward, LabelMap}
 use Rattle.lw_statements.proofs.Common.{MapsLabelsAs, draft_in, target_by, LedForward, IsResolvable}
-use Rattle.lw_statements.proofs.Common.{IsResolved, cut_at, drop_all}
+use Rattle.lw_statements.proofs.Common.{IsResolved, take_drop-at, drop-past_end}
 use Rattle.lw_statements.proofs.FrontLabels.{get_text}
-use Rattle.lw_statements.proofs.Leads.{leads_there}
+use Rattle.lw_statements.proofs.Leads.{label_target-is_label}
 use Rattle.lw_statements.proofs.api.Forms.{well_spelled}
 
 module _ {W Form Stmt : Type 0} (spelling : Spelling W Form Stmt) where
@@ -19,7 +19,8 @@ module _ {W Form Stmt : Type 0} (spelling : Spelling W Form Stmt) where
   Labelled i k ts slots f =
       (l : Bytes) × (j : ℕ) × (label_in slots f ≡ Some l) × (k ≡ i + j) × (slice_get ts j ≡ Some l) × (length ts ≡ suc j)
 
-  one_further : (i k : ℕ) (t : Bytes) (ts : TokenList) (slots : List (Slot W)) (f : Filling slots)
+  -- A label after the first token is one among the others.
+  Labelled-suc : (i k : ℕ) (t : Bytes) (ts : TokenList) (slots : List (Slot W)) (f : Filling slots)
       → Labelled (i + 1) k ts slots f
       → (l : Bytes)
       × (j : ℕ)
@@ -27,8 +28,9 @@ module _ {W Form Stmt : Type 0} (spelling : Spelling W Form Stmt) where
       × (k ≡ i + j)
       × (slice_get (t ∷ ts) j ≡ Some l)
       × (length (t ∷ ts) ≡ suc j)
-  one_further i k t ts slots f (l, j, is, at, stands, last) = (l, suc j, is, omega (arith, at), stands, ap suc last)
+  Labelled-suc i k t ts slots f (l, j, is, at, stands, last) = (l, suc j, is, omega (arith, at), stands, ap suc last)
 
+  -- The index that is bound to a label is that of the last token, where the form has its label.
   label_index : (i k : ℕ) (ts : TokenList) (slots : List (Slot W)) (f : Filling slots)
       → is_label_last spelling slots ≡ true
       → Fills spelling ts slots f
@@ -41,7 +43,7 @@ module _ {W Form Stmt : Type 0} (spelling : Spelling W Form Stmt) where
   label_index i k (t ∷ u ∷ ts) (Label ∷ []) (l, f) last h e = absurd h.1
   label_index i k (t ∷ ts) (Label ∷ slot ∷ slots) f last h e = absurd cc
   label_index i k (t ∷ ts) (slot ∷ slots) (g, f) last h e =
-      one_further i k t ts slots f (label_index (i + 1) k ts slots f last h.1 e)
+      Labelled-suc i k t ts slots f (label_index (i + 1) k ts slots f last h.1 e)
 
   -- A form without a label's slot has no label.
   no_label_in : (i : ℕ) (slots : List (Slot W)) (f : Filling slots)
@@ -54,6 +56,7 @@ module _ {W Form Stmt : Type 0} (spelling : Spelling W Form Stmt) where
   -- The draft of a statement that tokens say.
   module _ (made : Form → Operands → Option Stmt) (lawful : IsSpelling spelling made) (names : NameTable) (tokens : List Token)
       (s : ParsesStatement spelling) (says : (grammar_of spelling).says (token_texts tokens) s) where
+    -- The draft of the statement.
     abbrev draft : Draft Form
     draft = draft_in (grammar_of spelling) (draft_of spelling) names s
 
@@ -70,16 +73,18 @@ module _ {W Form Stmt : Type 0} (spelling : Spelling W Form Stmt) where
         let same : token.text.now ≡ l.0 =
         same_Some _ _ (sym (get_text tokens k token stands) ∙ ap (slice_get (token_texts tokens)) (sym index) ∙ l.4) in
         let none : drop (suc k) tokens ≡ [] =
-        drop_all tokens (suc k) (omega (arith, index, l.5, length-map tokens (λ (t : Token). t.text.now))) in
-        (l.2 ∙ ap Some (sym same), cut_at tokens k token stands ∙ ap (λ (ts : List Token). take k tokens ++ token ∷ ts) none)
+        drop-past_end tokens (suc k) (omega (arith, index, l.5, length-map tokens (λ (t : Token). t.text.now))) in (
+          l.2 ∙ ap Some (sym same),
+          take_drop-at tokens k token stands ∙ ap (λ (ts : List Token). take k tokens ++ token ∷ ts) none,
+        )
 
     -- The target of the label, if there is one.
-    target : (labels : LabelMap) (number : ℕ) (to : Option ℕ)
+    target_is_forward : (labels : LabelMap) (number : ℕ) (to : Option ℕ)
         → LedForward labels number tokens draft.label to
         → (at : ℕ)
         × (to ≡ option_map (λ l. at) ((grammar_of spelling).label_of s))
         × ForSome ((grammar_of spelling).label_of s) (λ l. (target_by labels l ≡ Some at) × (number < at))
-    target labels number to = go draft.label refl
+    target_is_forward labels number to = go draft.label refl
       where
         go : (o : Option ℕ)
             → draft.label ≡ o
@@ -100,48 +105,52 @@ module _ {W Form Stmt : Type 0} (spelling : Spelling W Form Stmt) where
             )
 
     -- The statement made from the draft with such a target.
-    made_at : (at : ℕ) (to : Option ℕ)
+    made-with_target : (at : ℕ) (to : Option ℕ)
         → to ≡ option_map (λ l. at) ((grammar_of spelling).label_of s)
         → made draft.form (with_target to draft.operands)
         ≡ Some (spelling.statement (location_index names ((grammar_of spelling).name_of s)) at s.form s.filling)
-    made_at at to is =
+    made-with_target at to is =
         ap (λ (t : Option ℕ). made draft.form (with_target t draft.operands)) is
         ∙ (lawful.making (location_index names ((grammar_of spelling).name_of s)) at s.form s.filling).is
 
+    -- The statement can be made of the draft, whatever its target is.
     pub is_resolvable : IsResolvable made tokens draft
     is_resolvable = record {
-      labelled = within draft.label refl;
-      makes = λ labels number to led. (let t = target labels number to led in rw (made_at t.0 to t.1) refl);
+      labelled = label_index_in_range draft.label refl;
+      makes = λ labels number to led. (let t = target_is_forward labels number to led in rw (made-with_target t.0 to t.1) refl);
     }
       where
-        within : (o : Option ℕ) → draft.label ≡ o → IfSome o (λ k. k < length tokens)
-        within None is = tt
-        within (Some k) is =
+        -- The label's index is one of a token.
+        label_index_in_range : (o : Option ℕ) → draft.label ≡ o → IfSome o (λ k. k < length tokens)
+        label_index_in_range None is = tt
+        label_index_in_range (Some k) is =
             let l =
             label_index 0 k (token_texts tokens) (spelling.slots_of s.form) s.filling
             (well_spelled spelling made lawful s.form says.0).1 says.1 is in
             omega (arith, l.3, l.5, length-map tokens (λ (t : Token). t.text.now))
 
     -- The statement made is the resolved one.
-    pub is_resolved : (syntaxes : List (CellSyntax (ParsesStatement spelling))) (labels : LabelMap) (number : ℕ) (stmt : Stmt)
+    pub IsResolved-of_draft : (syntaxes : List (CellSyntax (ParsesStatement spelling))) (labels : LabelMap) (number : ℕ)
+        (stmt : Stmt)
         → MapsLabelsAs labels syntaxes
         → IsResolved made labels number tokens draft stmt
         → (stmt ≡ resolved_statement (grammar_of spelling) names syntaxes s)
         × LabelsLeadForward (grammar_of spelling) syntaxes number s
-    is_resolved syntaxes labels number stmt leads r =
-        let t = target labels number r.to r.led in
+    IsResolved-of_draft syntaxes labels number stmt leads r =
+        let t = target_is_forward labels number r.to r.leads_forward in
         let there : ForSome ((grammar_of spelling).label_of s)
         (λ l. Contains (labels_of syntaxes) l × (t.0 ≡ target_in syntaxes l)) =
-        λ l e. leads_there syntaxes l t.0 (sym (leads l) ∙ (t.2 l e).0) in (
+        λ l e. label_target-is_label syntaxes l t.0 (sym (leads l) ∙ (t.2 l e).0) in (
           same_Some _ _
               (sym r.made
-              ∙ made_at (resolved_target syntaxes ((grammar_of spelling).label_of s)) r.to
-              (t.1 ∙ alike ((grammar_of spelling).label_of s) (λ l e. (there l e).1))),
+              ∙ made-with_target (resolved_target syntaxes ((grammar_of spelling).label_of s)) r.to
+              (t.1 ∙ option_map-same_target ((grammar_of spelling).label_of s) (λ l e. (there l e).1))),
           λ l e. ((there l e).0, omega (arith, (there l e).1, (t.2 l e).1)),
         )
       where
-        alike : {at : ℕ} (o : Option Bytes)
+        -- Both say the target of the label, if there is one.
+        option_map-same_target : {at : ℕ} (o : Option Bytes)
             → ForSome o (λ l. at ≡ target_in syntaxes l)
             → option_map (λ (l : Bytes). at) o ≡ option_map (λ (l : Bytes). resolved_target syntaxes o) o
-        alike None h = refl
-        alike (Some l) h = ap Some (h l refl)
+        option_map-same_target None h = refl
+        option_map-same_target (Some l) h = ap Some (h l refl)

@@ -4,35 +4,35 @@ use Rattle.lw_statements.proofs.Common.{◌≡◌, ℕ, ◌≤◌, ◌+◌, ◌*
 use Rattle.lw_statements.proofs.Common.{◌∷◌, ◌++◌, length, length-append, refl, sym, ap, ◌∙◌, subst, arith}
 use Rattle.lw_statements.proofs.Common.{slice_get, codes, Contains, MatchOption, append_assoc, append-nil}
 use Rattle.lw_statements.proofs.Common.{AllZip, AllByRecursion, map-append, length-map, flat_map-append}
-use Rattle.lw_statements.proofs.Common.{get-append_middle, All-from_recursion, All-contains, all_append}
-use Rattle.lw_statements.proofs.Common.{cons_option, cases_Bool, ltb, ltb-true, ltb-false, CellCause}
-use Rattle.lw_statements.proofs.Common.{LabelMissing, LabelTwice, Backward, TooMany, Memory, most_locations}
-use Rattle.lw_statements.proofs.Common.{IsDuplicateFree, IsLocationName, insert_names, insert_names-append}
-use Rattle.lw_statements.proofs.Common.{insert_names-longer, Bytes, NameTable, TokenList, CellGrid, Cells}
-use Rattle.lw_statements.proofs.Common.{PlacedCell, texts_of_tokens, Grammar, IsGrammar, CellSyntax}
-use Rattle.lw_statements.proofs.Common.{MaybeStatement, ParsesCell, Column, Labels, statements, labels_of}
-use Rattle.lw_statements.proofs.Common.{target_in, names_in, names_of, LabelsLeadForward, bare, CellPosition}
-use Rattle.lw_statements.proofs.Common.{TokenPosition, IsReadTo, IsBegun, IsWrong, EndsEarly, IsSecondLabel}
-use Rattle.lw_statements.proofs.Common.{IsSurplus, IsNinth, IsJumpLabel, CellCauseIsTrue, BeginsFitting}
-use Rattle.lw_statements.proofs.Common.{BeginsWithLabel, table_after, all_syntaxes, texts_of_cells}
-use Rattle.lw_statements.proofs.Common.{texts_of_grid, PlacedToken}
-use Rattle.lw_statements.proofs.CellFaults.{IsFront, IsStuck, split_order, labels_length, stuck_past}
-use Rattle.lw_statements.proofs.CellFaults.{stuck_one, stuck_whole}
-use Rattle.lw_statements.proofs.CellsRefused.{once_front}
+use Rattle.lw_statements.proofs.Common.{get-append_middle, All-from_recursion, All-contains}
+use Rattle.lw_statements.proofs.Common.{AllByRecursion-append, cons_option, cases_Bool, ltb, ltb-true}
+use Rattle.lw_statements.proofs.Common.{ltb-false, CellCause, LabelMissing, LabelTwice, Backward, TooMany}
+use Rattle.lw_statements.proofs.Common.{Memory, most_locations, IsDuplicateFree, IsLocationName, insert_names}
+use Rattle.lw_statements.proofs.Common.{insert_names-append, insert_names-longer, Bytes, NameTable, TokenList}
+use Rattle.lw_statements.proofs.Common.{CellGrid, Cells, PlacedCell, texts_of_tokens, Grammar, IsGrammar}
+use Rattle.lw_statements.proofs.Common.{CellSyntax, MaybeStatement, ParsesCell, Column, Labels, statements}
+use Rattle.lw_statements.proofs.Common.{labels_of, target_in, names_in, names_of, LabelsLeadForward, bare}
+use Rattle.lw_statements.proofs.Common.{CellPosition, TokenPosition, IsReadTo, IsBegun, IsWrong, EndsEarly}
+use Rattle.lw_statements.proofs.Common.{IsSecondLabel, IsSurplus, IsNinth, IsJumpLabel, CellCauseIsTrue}
+use Rattle.lw_statements.proofs.Common.{BeginsFitting, BeginsWithLabel, table_after, all_syntaxes}
+use Rattle.lw_statements.proofs.Common.{texts_of_cells, texts_of_grid, PlacedToken}
+use Rattle.lw_statements.proofs.CellFaults.{IsFront, IsStuck, split_order, labels_length, not_longer-IsStuck}
+use Rattle.lw_statements.proofs.CellFaults.{IsStuck-unique, not_IsStuck-whole_cell}
+use Rattle.lw_statements.proofs.CellsRefused.{IsDuplicateFree-front}
 use Rattle.lw_statements.proofs.Leads.{statements-append, count-append, labels_of-append}
-use Rattle.lw_statements.proofs.OneReading.{cell_unique, column_unique, no_label}
+use Rattle.lw_statements.proofs.OneReading.{cell_unique, column_unique, no_label-MaybeStatement}
 use Rattle.lw_statements.proofs.ResolvedNames.{names_in-append}
-use Rattle.lw_statements.proofs.api.Zips.{zip_cut, zip_unique}
+use Rattle.lw_statements.proofs.api.Zips.{AllZip-split, AllZip-unique}
 use Rattle.lw_base.specs.declared.fault.CellCause.TheVariants as cause
 
 -- The first item of a list.
-first_item : (ts : TokenList) (a : Bytes) → slice_get ts 0 ≡ Some a → (more : TokenList) × (ts ≡ a ∷ more)
-first_item [] a e = absurd cc
-first_item (t ∷ ts) a e = (ts, (let same : t ≡ a = cc in ap (λ (u : Bytes). u ∷ ts) same))
+cons-get_zero : (ts : TokenList) (a : Bytes) → slice_get ts 0 ≡ Some a → (more : TokenList) × (ts ≡ a ∷ more)
+cons-get_zero [] a e = absurd cc
+cons-get_zero (t ∷ ts) a e = (ts, (let same : t ≡ a = cc in ap (λ (u : Bytes). u ∷ ts) same))
 
 -- The last item of a list is unique.
-last_one : {X : Type 0} (xs zs : List X) (x z : X) → xs ++ x ∷ [] ≡ zs ++ z ∷ [] → x ≡ z
-last_one xs zs x z e =
+snoc-injective : {X : Type 0} (xs zs : List X) (x z : X) → xs ++ x ∷ [] ≡ zs ++ z ∷ [] → x ≡ z
+snoc-injective xs zs x z e =
     let long : length (xs ++ x ∷ []) ≡ length (zs ++ z ∷ []) = ap length e in
     elim (split_order xs zs x z [] [] e) [
       | inl (a, b, k) ↦ b
@@ -57,9 +57,9 @@ last_one xs zs x z e =
     ]
 
 -- There is no item at the length of a list.
-none_at : {X : Type 0} (xs : List X) → slice_get xs (length xs) ≡ None
-none_at [] = refl
-none_at (x ∷ xs) = none_at xs
+get-length : {X : Type 0} (xs : List X) → slice_get xs (length xs) ≡ None
+get-length [] = refl
+get-length (x ∷ xs) = get-length xs
 
 -- All labels of a cell are names of locations.
 labels_named : (ts rest : TokenList) (ls : List Bytes) → Labels ts ls rest → AllByRecursion IsLocationName ls
@@ -73,7 +73,7 @@ module _ {Syntax Stmt : Type 0} (grammar : Grammar Syntax Stmt) (lawful : IsGram
       → AllByRecursion IsLocationName (labels_of syntaxes)
   cells_named [] [] h = tt
   cells_named (cell ∷ cells) (syntax ∷ syntaxes) h =
-      all_append IsLocationName syntax.labels (labels_of syntaxes) (labels_named cell h.0.0 syntax.labels h.0.1)
+      AllByRecursion-append IsLocationName syntax.labels (labels_of syntaxes) (labels_named cell h.0.0 syntax.labels h.0.1)
       (cells_named cells syntaxes h.1)
   cells_named cells syntaxes h = absurd h
 
@@ -99,7 +99,7 @@ module _ {Syntax Stmt : Type 0} (grammar : Grammar Syntax Stmt) (lawful : IsGram
     before_says : AllZip (Column grammar) (texts_of_grid place.before) threads
     says : AllZip (ParsesCell grammar) (texts_of_cells place.above) syntaxes
     few : length (statements syntaxes) ≤ grammar.language.most
-    once : IsDuplicateFree (labels_of syntaxes)
+    without_duplicates : IsDuplicateFree (labels_of syntaxes)
     room : length (table_after grammar names threads syntaxes) ≤ most_locations
     faulty : Faulty names threads syntaxes place.cell at c
 
@@ -112,6 +112,7 @@ module _ {Syntax Stmt : Type 0} (grammar : Grammar Syntax Stmt) (lawful : IsGram
       (h.0 ++ rest, ap (λ (ts : TokenList). ts ++ rest) h.1, h.2, labels_before h.0 rest ls mid h.3)
 
   module _ (names : NameTable) (columns : List (List PlacedCell)) (at : ℕ) (c : CellCause) where
+    -- A token at which the reading is stuck is a fault of its cell.
     token_faulty : (p : TokenPosition columns at) (mid : TokenList)
         (r : IsReadTo grammar names p.place (texts_of_tokens p.front) mid)
         → ((mid ≡ [] → ⊥) → IsBegun grammar r)
@@ -126,7 +127,7 @@ module _ {Syntax Stmt : Type 0} (grammar : Grammar Syntax Stmt) (lawful : IsGram
       before_says = r.read.before_says;
       says = r.read.says;
       few = r.read.few;
-      once = once_front (labels_of r.syntaxes) r.labels r.read.once;
+      without_duplicates = IsDuplicateFree-front (labels_of r.syntaxes) r.labels r.read.without_duplicates;
       room = r.read.room;
       faulty = record {
         labels = r.labels;
@@ -137,7 +138,7 @@ module _ {Syntax Stmt : Type 0} (grammar : Grammar Syntax Stmt) (lawful : IsGram
               subst (λ (ts : TokenList). Labels ts r.labels (mid ++ p.token.text ∷ texts_of_tokens p.back))
               (sym (ap texts_of_tokens p.in_cell ∙ map-append (λ (t : PlacedToken). t.text) p.front (p.token ∷ p.back)))
               (labels_before (texts_of_tokens p.front) (p.token.text ∷ texts_of_tokens p.back) r.labels mid r.in_front);
-          once = r.read.once;
+          without_duplicates = r.read.without_duplicates;
           begun = λ some. ((begun some).few, (begun some).begins);
           phase = phase;
         };
@@ -155,24 +156,27 @@ module _ {Syntax Stmt : Type 0} (grammar : Grammar Syntax Stmt) (lawful : IsGram
       };
     }
 
+    -- The cell of a token that fits no statement is faulty at this token.
     wrong_faulty : (p : TokenPosition columns at) → IsWrong grammar names p c → CellFaulty names columns at c
     wrong_faulty p (inl (n, m)) =
-        let b = first_item (texts_of_tokens p.back) (codes ":") n.colon in
+        let b = cons-get_zero (texts_of_tokens p.back) (codes ":") n.colon in
         token_faulty p [] n.read (λ some. absurd (some refl)) (inr refl)
         (inl (refl, p.token.text, b.0, ap (λ (ts : TokenList). p.token.text ∷ ts) b.1, inl (n.none, m)))
     wrong_faulty p (inr (n, m)) =
         token_faulty p n.mid n.read n.begun (inl n.no_label)
         (inr (n.no_label, inl (p.token.text, texts_of_tokens p.back, refl, inl (n.none, m))))
 
+    -- The cell of a label that the thread has already is faulty at this label.
     second_faulty : c ≡ LabelTwice
         → (p : TokenPosition columns at)
         → IsSecondLabel grammar names p
         → CellFaulty names columns at c
     second_faulty e p n =
-        let b = first_item (texts_of_tokens p.back) (codes ":") n.colon in
+        let b = cons-get_zero (texts_of_tokens p.back) (codes ":") n.colon in
         token_faulty p [] n.read (λ some. absurd (some refl)) (inr refl)
-        (inl (refl, p.token.text, b.0, ap (λ (ts : TokenList). p.token.text ∷ ts) b.1, inr (e, n.there)))
+        (inl (refl, p.token.text, b.0, ap (λ (ts : TokenList). p.token.text ∷ ts) b.1, inr (e, n.label_is_taken)))
 
+    -- The cell of a statement or a location that is one too many is faulty at its token.
     many_faulty : c ≡ TooMany
         → (p : TokenPosition columns at)
         → IsSurplus grammar names p ⊎ IsNinth grammar names p
@@ -184,6 +188,7 @@ module _ {Syntax Stmt : Type 0} (grammar : Grammar Syntax Stmt) (lawful : IsGram
         token_faulty p n.mid n.read n.begun (inl n.no_label)
         (inr (n.no_label, inl (p.token.text, texts_of_tokens p.back, refl, inr (e, inr (n.is_location, n.full, n.new)))))
 
+    -- A cell whose statement is not complete is faulty at its end.
     early_faulty : c ≡ cause.Form → (q : CellPosition columns) → EndsEarly grammar names q at → CellFaulty names columns at c
     early_faulty e q n = record {
       place = q;
@@ -192,7 +197,7 @@ module _ {Syntax Stmt : Type 0} (grammar : Grammar Syntax Stmt) (lawful : IsGram
       before_says = n.read.read.before_says;
       says = n.read.read.says;
       few = n.read.read.few;
-      once = once_front (labels_of n.read.syntaxes) n.read.labels n.read.read.once;
+      without_duplicates = IsDuplicateFree-front (labels_of n.read.syntaxes) n.read.labels n.read.read.without_duplicates;
       room = n.read.read.room;
       faulty = record {
         labels = n.read.labels;
@@ -202,11 +207,11 @@ module _ {Syntax Stmt : Type 0} (grammar : Grammar Syntax Stmt) (lawful : IsGram
           says =
               subst (λ (ts : TokenList). Labels (texts_of_tokens q.cell.tokens) n.read.labels ts) (sym (append-nil n.mid))
               n.read.in_front;
-          once = n.read.read.once;
+          without_duplicates = n.read.read.without_duplicates;
           begun = λ some. (n.begun.few, n.begun.begins);
-          phase = inl stops;
+          phase = inl no_label_follows;
         };
-        stuck = inr (stops, inr (refl, n.some, e, n.none));
+        stuck = inr (no_label_follows, inr (refl, n.not_empty, e, n.none));
         offset =
             let long : 2 * length n.read.labels + length n.mid ≡ length q.cell.tokens = omega (
               arith,
@@ -214,62 +219,67 @@ module _ {Syntax Stmt : Type 0} (grammar : Grammar Syntax Stmt) (lawful : IsGram
               length-map q.cell.tokens (λ (t : PlacedToken). t.text),
             ) in
             let is : slice_get q.cell.tokens (2 * length n.read.labels + length n.mid) ≡ None =
-            ap (slice_get q.cell.tokens) long ∙ none_at q.cell.tokens in
+            ap (slice_get q.cell.tokens) long ∙ get-length q.cell.tokens in
             rw is n.ends;
       };
     }
       where
-        stops : BeginsWithLabel (n.mid ++ []) → ⊥
-        stops at = n.no_label (subst BeginsWithLabel (append-nil n.mid) at)
+        -- What follows the labels begins with no label.
+        no_label_follows : BeginsWithLabel (n.mid ++ []) → ⊥
+        no_label_follows at = n.no_label (subst BeginsWithLabel (append-nil n.mid) at)
 
   -- ---- the cell
 
   module _ (names : NameTable) (threads : List (List (CellSyntax Syntax))) (syntaxes : List (CellSyntax Syntax))
       (cell : PlacedCell) where
     -- Two faults in a cell, of which the same precedes it, are the same.
-    faulty_one : (at other : ℕ) (c d : CellCause) (above : Cells)
+    Faulty-unique : (at other : ℕ) (c d : CellCause) (above : Cells)
         → AllZip (ParsesCell grammar) above syntaxes
         → Faulty names threads syntaxes cell at c
         → Faulty names threads syntaxes cell other d
         → (at ≡ other) × (c ≡ d)
-    faulty_one at other c d above says f g = elim (cases_Bool (ltb here there)) [
+    Faulty-unique at other c d above says f g = elim (cases_Bool (ltb first_index second_index)) [
       | inl e ↦
-          absurd (stuck_past grammar _ _ _ _ f.labels f.mid f.rest c f.front f.stuck g.labels g.mid g.rest g.front
-          (ltb-true here there e))
-      | inr e ↦ elim (cases_Bool (ltb there here)) [
+          absurd (not_longer-IsStuck grammar _ _ _ _ f.labels f.mid f.rest c f.front f.stuck g.labels g.mid g.rest g.front
+          (ltb-true first_index second_index e))
+      | inr e ↦ elim (cases_Bool (ltb second_index first_index)) [
         | inl h ↦
-            absurd (stuck_past grammar _ _ _ _ g.labels g.mid g.rest d g.front g.stuck f.labels f.mid f.rest f.front
-            (ltb-true there here h))
+            absurd (not_longer-IsStuck grammar _ _ _ _ g.labels g.mid g.rest d g.front g.stuck f.labels f.mid f.rest f.front
+            (ltb-true second_index first_index h))
         | inr h ↦
-            let low = ltb-false here there e in
-            let high = ltb-false there here h in
-            let same : here ≡ there = omega (arith, low, high) in (
-              place (slice_get cell.tokens there) (rw same at f.offset) g.offset,
-              stuck_one grammar _ _ _ _ f.labels g.labels f.mid g.mid f.rest g.rest c d named f.front g.front f.stuck g.stuck
-                  same,
+            let low = ltb-false first_index second_index e in
+            let high = ltb-false second_index first_index h in
+            let same : first_index ≡ second_index = omega (arith, low, high) in (
+              place-unique (slice_get cell.tokens second_index) (rw same at f.offset) g.offset,
+              IsStuck-unique grammar _ _ _ _ f.labels g.labels f.mid g.mid f.rest g.rest c d labels_are_location_names f.front
+                  g.front f.stuck g.stuck same,
             )
       ]
     ]
       where
-        here : ℕ
-        here = 2 * length f.labels + length f.mid
+        -- The index of the first fault's token.
+        first_index : ℕ
+        first_index = 2 * length f.labels + length f.mid
 
-        there : ℕ
-        there = 2 * length g.labels + length g.mid
+        -- The index of the second fault's token.
+        second_index : ℕ
+        second_index = 2 * length g.labels + length g.mid
 
-        named : (n : Bytes) → Contains (labels_of syntaxes ++ f.labels) n → IsLocationName n
-        named n is =
+        -- All labels are names of locations.
+        labels_are_location_names : (n : Bytes) → Contains (labels_of syntaxes ++ f.labels) n → IsLocationName n
+        labels_are_location_names n is =
             All-contains IsLocationName _ n
             (All-from_recursion IsLocationName _
-            (all_append IsLocationName (labels_of syntaxes) f.labels (cells_named above syntaxes says)
+            (AllByRecursion-append IsLocationName (labels_of syntaxes) f.labels (cells_named above syntaxes says)
             (labels_named _ _ f.labels f.front.says))) is
 
-        place : (o : Option PlacedToken)
+        -- Tokens at one index are at one place.
+        place-unique : (o : Option PlacedToken)
             → MatchOption o (cell.end ≡ at) (λ t. t.at ≡ at)
             → MatchOption o (cell.end ≡ other) (λ t. t.at ≡ other)
             → at ≡ other
-        place None a b = sym a ∙ b
-        place (Some t) a b = sym a ∙ b
+        place-unique None a b = sym a ∙ b
+        place-unique (Some t) a b = sym a ∙ b
 
     -- The cell has no content for which the thread and the table have room.
     faulty_whole : (at : ℕ) (c : CellCause)
@@ -281,24 +291,27 @@ module _ {Syntax Stmt : Type 0} (grammar : Grammar Syntax Stmt) (lawful : IsGram
         → length (insert_names (table_after grammar names threads syntaxes) (names_in grammar (syntax ∷ []))) ≤ most_locations
         → ⊥
     faulty_whole at c f syntax parse few once room =
-        stuck_whole grammar _ _ _ _ lawful f.labels f.mid f.rest c f.front f.stuck syntax.labels parse.0 syntax.stmt (record {
+        not_IsStuck-whole_cell grammar _ _ _ _ lawful f.labels f.mid f.rest c f.front f.stuck syntax.labels parse.0 syntax.stmt
+        (record {
           says =
               subst (λ (ts : TokenList). Labels (texts_of_tokens cell.tokens) syntax.labels ts) (sym (append-nil parse.0))
               parse.1;
-          once = once;
-          begun = λ some. begun syntax.stmt parse.2 few room some;
-          phase = inl (λ at. no_label grammar lawful parse.0 syntax.stmt parse.2 (subst BeginsWithLabel (append-nil parse.0) at));
+          without_duplicates = once;
+          begun = λ some. begins_statement-MaybeStatement syntax.stmt parse.2 few room some;
+          phase = inl (λ at.
+              no_label-MaybeStatement grammar lawful parse.0 syntax.stmt parse.2 (subst BeginsWithLabel (append-nil parse.0) at));
         }) parse.2
       where
-        begun : (o : Option Syntax)
+        -- What was begun with room goes on, if the whole has room.
+        begins_statement-MaybeStatement : (o : Option Syntax)
             → MaybeStatement grammar parse.0 o
             → length (statements (syntaxes ++ record { labels = syntax.labels; stmt = o } ∷ [])) ≤ grammar.language.most
             → length (insert_names (table_after grammar names threads syntaxes) (names_in grammar (bare o ∷ []))) ≤ most_locations
             → (parse.0 ≡ [] → ⊥)
             → (length (statements syntaxes) ≡ grammar.language.most → ⊥)
             × BeginsFitting grammar (table_after grammar names threads syntaxes) parse.0
-        begun None h less space some = absurd (some h)
-        begun (Some s) h less space some = (
+        begins_statement-MaybeStatement None h less space some = absurd (some h)
+        begins_statement-MaybeStatement (Some s) h less space some = (
           λ full. omega (arith, full, less, count-append syntaxes (record { labels = syntax.labels; stmt = Some s } ∷ [])),
           record {
             rest = [];
@@ -310,18 +323,19 @@ module _ {Syntax Stmt : Type 0} (grammar : Grammar Syntax Stmt) (lawful : IsGram
 
   -- ---- what precedes a fault excludes faults before it
 
-  -- The threads before a cell have one content, and so have the cells above.
-  threads_same : (columns : CellGrid) (s t : List (List (CellSyntax Syntax)))
+  -- The threads before a cell have at most one syntax.
+  threads_content-unique : (columns : CellGrid) (s t : List (List (CellSyntax Syntax)))
       → AllZip (Column grammar) columns s
       → AllZip (Column grammar) columns t
       → s ≡ t
-  threads_same columns s t = zip_unique (Column grammar) (column_unique grammar lawful) columns s t
+  threads_content-unique columns s t = AllZip-unique (Column grammar) (column_unique grammar lawful) columns s t
 
-  cells_same : (cells : Cells) (s t : List (CellSyntax Syntax))
+  -- Cells have at most one syntax.
+  cells_content-unique : (cells : Cells) (s t : List (CellSyntax Syntax))
       → AllZip (ParsesCell grammar) cells s
       → AllZip (ParsesCell grammar) cells t
       → s ≡ t
-  cells_same cells s t = zip_unique (ParsesCell grammar) (cell_unique grammar lawful) cells s t
+  cells_content-unique cells s t = AllZip-unique (ParsesCell grammar) (cell_unique grammar lawful) cells s t
 
   module _ (names : NameTable) (columns : List (List PlacedCell)) where
     -- The cells down to that of a fault, and those below, are not read.
@@ -336,11 +350,11 @@ module _ {Syntax Stmt : Type 0} (grammar : Grammar Syntax Stmt) (lawful : IsGram
     cell_unread at c v more threads syntaxes before says few once room =
         let texts = λ (cell : PlacedCell). texts_of_tokens cell.tokens in
         let cut =
-        zip_cut (ParsesCell grammar) (texts_of_cells v.place.above) (texts v.place.cell) (texts_of_cells more) syntaxes
+        AllZip-split (ParsesCell grammar) (texts_of_cells v.place.above) (texts v.place.cell) (texts_of_cells more) syntaxes
         (subst (λ (cs : Cells). AllZip (ParsesCell grammar) cs syntaxes) (map-append texts v.place.above (v.place.cell ∷ more))
         says) in
-        let above = cells_same (texts_of_cells v.place.above) cut.above v.syntaxes cut.above_says v.says in
-        let others = threads_same (texts_of_grid v.place.before) threads v.threads before v.before_says in
+        let above = cells_content-unique (texts_of_cells v.place.above) cut.above v.syntaxes cut.above_says v.says in
+        let others = threads_content-unique (texts_of_grid v.place.before) threads v.threads before v.before_says in
         let whole : syntaxes ≡ v.syntaxes ++ cut.here ∷ cut.below =
         cut.whole ∙ ap (λ (ss : List (CellSyntax Syntax)). ss ++ cut.here ∷ cut.below) above in
         faulty_whole names v.threads v.syntaxes v.place.cell at c v.faulty cut.here cut.says (omega (
@@ -351,20 +365,21 @@ module _ {Syntax Stmt : Type 0} (grammar : Grammar Syntax Stmt) (lawful : IsGram
           count-append (cut.here ∷ []) cut.below,
           count-append v.syntaxes (cut.here ∷ []),
         ))
-        (once_front (labels_of v.syntaxes ++ cut.here.labels) (labels_of cut.below)
+        (IsDuplicateFree-front (labels_of v.syntaxes ++ cut.here.labels) (labels_of cut.below)
         (subst IsDuplicateFree
         (ap labels_of whole
         ∙ labels_of-append v.syntaxes (cut.here ∷ cut.below)
         ∙ sym (append_assoc (labels_of v.syntaxes) cut.here.labels (labels_of cut.below))) once))
-        (fits v.threads v.syntaxes cut.here cut.below threads syntaxes others whole room)
+        (within_limits v.threads v.syntaxes cut.here cut.below threads syntaxes others whole room)
       where
-        fits : (ts : List (List (CellSyntax Syntax))) (ss : List (CellSyntax Syntax)) (s : CellSyntax Syntax)
+        -- The table after some of the threads and cells has room, since that after all has.
+        within_limits : (ts : List (List (CellSyntax Syntax))) (ss : List (CellSyntax Syntax)) (s : CellSyntax Syntax)
             (below : List (CellSyntax Syntax)) (us : List (List (CellSyntax Syntax))) (all : List (CellSyntax Syntax))
             → us ≡ ts
             → all ≡ ss ++ s ∷ below
             → length (table_after grammar names us all) ≤ most_locations
             → length (insert_names (table_after grammar names ts ss) (names_in grammar (s ∷ []))) ≤ most_locations
-        fits ts ss s below us all same whole space =
+        within_limits ts ss s below us all same whole space =
             let parts : names_of grammar us ++ names_in grammar all
             ≡ (names_of grammar ts ++ names_in grammar ss) ++ (names_in grammar (s ∷ []) ++ names_in grammar below) =
             ap (λ (x : List (List (CellSyntax Syntax))). names_of grammar x ++ names_in grammar all) same
@@ -403,10 +418,10 @@ module _ {Syntax Stmt : Type 0} (grammar : Grammar Syntax Stmt) (lawful : IsGram
         × (target_in (all_syntaxes above syntax below) token.token.text ≤ length (statements above)))
 
   -- The statements of cells, where one of them is this.
-  statements_there : (above below : List (CellSyntax Syntax)) (syntax : CellSyntax Syntax) (s : Syntax)
+  statements-middle : (above below : List (CellSyntax Syntax)) (syntax : CellSyntax Syntax) (s : Syntax)
       → syntax.stmt ≡ Some s
       → statements (above ++ syntax ∷ below) ≡ statements above ++ s ∷ statements below
-  statements_there above below syntax s is =
+  statements-middle above below syntax s is =
       statements-append above (syntax ∷ below)
       ∙ ap (λ (o : Option Syntax). statements above ++ cons_option o (statements below)) is
 
@@ -433,8 +448,9 @@ module _ {Syntax Stmt : Type 0} (grammar : Grammar Syntax Stmt) (lawful : IsGram
         → length (table_after grammar names threads t) ≤ most_locations
         → ⊥
     cell_thread at c v threads t before column room =
-        cell_unread names columns at c v v.place.below threads t before column.says column.few column.once room
+        cell_unread names columns at c v v.place.below threads t before column.says column.few column.without_duplicates room
 
+    -- Cells in which a jump is at fault are those of no thread of a test.
     jump_thread : (at : ℕ) (c : CellCause) (j : JumpFaulty names columns at c) (threads : List (List (CellSyntax Syntax)))
         (t : List (CellSyntax Syntax))
         → AllZip (Column grammar) (texts_of_grid j.token.place.before) threads
@@ -442,8 +458,8 @@ module _ {Syntax Stmt : Type 0} (grammar : Grammar Syntax Stmt) (lawful : IsGram
         → length (table_after grammar names threads t) ≤ most_locations
         → ⊥
     jump_thread at c j threads t before column room =
-        let same = cells_same _ t (all_syntaxes j.above j.syntax j.below) column.says j.label.read.says in
-        let all = statements_there j.above j.below j.syntax j.label.jump.0 j.label.jump.1 in
+        let same = cells_content-unique _ t (all_syntaxes j.above j.syntax j.below) column.says j.label.read.says in
+        let all = statements-middle j.above j.below j.syntax j.label.jump.0 j.label.jump.1 in
         jump_bad at c j
         (subst (λ (ss : List (CellSyntax Syntax)). LabelsLeadForward grammar ss (length (statements j.above)) j.label.jump.0) same
         (column.forward (length (statements j.above)) j.label.jump.0
@@ -464,17 +480,17 @@ module _ {Syntax Stmt : Type 0} (grammar : Grammar Syntax Stmt) (lawful : IsGram
         → ⊥
     thread_unread place unread more threads syntaxes says room =
         let cut =
-        zip_cut (Column grammar) (texts_of_grid place.before) (texts_of_cells (place.above ++ place.cell ∷ place.below))
+        AllZip-split (Column grammar) (texts_of_grid place.before) (texts_of_cells (place.above ++ place.cell ∷ place.below))
         (texts_of_grid more) threads
         (subst (λ (cs : CellGrid). AllZip (Column grammar) cs threads)
         (map-append texts_of_cells place.before ((place.above ++ place.cell ∷ place.below) ∷ more)) says) in
-        unread cut.above cut.here cut.above_says cut.says (fits cut.above cut.here cut.below cut.whole)
+        unread cut.above cut.here cut.above_says cut.says (within_limits cut.above cut.here cut.below cut.whole)
       where
-        fits : (above : List (List (CellSyntax Syntax))) (here : List (CellSyntax Syntax))
+        within_limits : (above : List (List (CellSyntax Syntax))) (here : List (CellSyntax Syntax))
             (below : List (List (CellSyntax Syntax)))
             → threads ≡ above ++ here ∷ below
             → length (table_after grammar names above here) ≤ most_locations
-        fits above here below whole =
+        within_limits above here below whole =
             let rest = names_of grammar below ++ names_in grammar syntaxes in
             let parts : names_of grammar threads ++ names_in grammar syntaxes
             ≡ (names_of grammar above ++ names_in grammar here) ++ rest =
@@ -490,21 +506,24 @@ module _ {Syntax Stmt : Type 0} (grammar : Grammar Syntax Stmt) (lawful : IsGram
 
     -- ---- two faults of one thread
 
-    -- Two faults in cells of one thread.
-    cells_one : (at other : ℕ) (c d : CellCause) (v : CellFaulty names columns at c) (w : CellFaulty names columns other d)
+    -- Two faults in cells of one thread are the same, at one place and for one cause.
+    CellFaulty-unique : (at other : ℕ) (c d : CellCause) (v : CellFaulty names columns at c)
+        (w : CellFaulty names columns other d)
         → v.place.before ≡ w.place.before
         → v.place.above ++ v.place.cell ∷ v.place.below ≡ w.place.above ++ w.place.cell ∷ w.place.below
         → (at ≡ other) × (c ≡ d)
-    cells_one at other c d v w before thread =
+    CellFaulty-unique at other c d v w before thread =
         go (split_order v.place.above w.place.above v.place.cell w.place.cell v.place.below w.place.below thread)
       where
-        ahead : AllZip (Column grammar) (texts_of_grid v.place.before) w.threads
-        ahead =
+        -- The threads before the second fault's are read as threads of the first.
+        columns_before_second : AllZip (Column grammar) (texts_of_grid v.place.before) w.threads
+        columns_before_second =
             subst (λ (cs : List (List PlacedCell)). AllZip (Column grammar) (texts_of_grid cs) w.threads) (sym before)
             w.before_says
 
-        behind : AllZip (Column grammar) (texts_of_grid w.place.before) v.threads
-        behind =
+        -- The threads before the first fault's are read as threads of the second.
+        columns_before_first : AllZip (Column grammar) (texts_of_grid w.place.before) v.threads
+        columns_before_first =
             subst (λ (cs : List (List PlacedCell)). AllZip (Column grammar) (texts_of_grid cs) v.threads) before v.before_says
 
         go : ((v.place.above ≡ w.place.above) × (v.place.cell ≡ w.place.cell) × (v.place.below ≡ w.place.below))
@@ -512,23 +531,24 @@ module _ {Syntax Stmt : Type 0} (grammar : Grammar Syntax Stmt) (lawful : IsGram
             ⊎ ((more : List PlacedCell) × (v.place.above ≡ w.place.above ++ w.place.cell ∷ more)))
             → (at ≡ other) × (c ≡ d)
         go (inl (above, cell, below)) =
-            let threads = threads_same (texts_of_grid v.place.before) w.threads v.threads ahead v.before_says in
+            let threads =
+            threads_content-unique (texts_of_grid v.place.before) w.threads v.threads columns_before_second v.before_says in
             let syntaxes =
-            cells_same (texts_of_cells v.place.above) w.syntaxes v.syntaxes
+            cells_content-unique (texts_of_cells v.place.above) w.syntaxes v.syntaxes
             (subst (λ (cs : List PlacedCell). AllZip (ParsesCell grammar) (texts_of_cells cs) w.syntaxes) (sym above) w.says)
             v.says in
-            faulty_one names v.threads v.syntaxes v.place.cell at other c d (texts_of_cells v.place.above) v.says v.faulty
+            Faulty-unique names v.threads v.syntaxes v.place.cell at other c d (texts_of_cells v.place.above) v.says v.faulty
             (subst (λ (k : PlacedCell). Faulty names v.threads v.syntaxes k other d) (sym cell)
             (subst (λ (ss : List (CellSyntax Syntax)). Faulty names v.threads ss w.place.cell other d) syntaxes
             (subst (λ (ts : List (List (CellSyntax Syntax))). Faulty names ts w.syntaxes w.place.cell other d) threads w.faulty)))
         go (inr (inl (more, above))) =
-            absurd (cell_unread names columns at c v more w.threads w.syntaxes ahead
+            absurd (cell_unread names columns at c v more w.threads w.syntaxes columns_before_second
             (subst (λ (cs : List PlacedCell). AllZip (ParsesCell grammar) (texts_of_cells cs) w.syntaxes) above w.says) w.few
-            w.once w.room)
+            w.without_duplicates w.room)
         go (inr (inr (more, above))) =
-            absurd (cell_unread names columns other d w more v.threads v.syntaxes behind
+            absurd (cell_unread names columns other d w more v.threads v.syntaxes columns_before_first
             (subst (λ (cs : List PlacedCell). AllZip (ParsesCell grammar) (texts_of_cells cs) v.syntaxes) above v.says) v.few
-            v.once v.room)
+            v.without_duplicates v.room)
 
     -- A fault in a cell excludes faults in jumps of its thread.
     cell_or_jump : (at other : ℕ) (c d : CellCause) (v : CellFaulty names columns at c) (j : JumpFaulty names columns other d)
@@ -541,8 +561,8 @@ module _ {Syntax Stmt : Type 0} (grammar : Grammar Syntax Stmt) (lawful : IsGram
         (subst (λ (cs : List (List PlacedCell)). AllZip (Column grammar) (texts_of_grid cs) j.label.threads) (sym before)
         r.before_says)
         (subst (λ (cs : List PlacedCell). AllZip (ParsesCell grammar) (texts_of_cells cs) (all_syntaxes j.above j.syntax j.below))
-        (sym thread) r.says) r.few (subst IsDuplicateFree (append-nil (labels_of (all_syntaxes j.above j.syntax j.below))) r.once)
-        r.room
+        (sym thread) r.says) r.few
+        (subst IsDuplicateFree (append-nil (labels_of (all_syntaxes j.above j.syntax j.below))) r.without_duplicates) r.room
 
     -- The jumps above one at fault lead forward.
     jump_above : (at other : ℕ) (c d : CellCause) (i : JumpFaulty names columns at c) (j : JumpFaulty names columns other d)
@@ -553,22 +573,24 @@ module _ {Syntax Stmt : Type 0} (grammar : Grammar Syntax Stmt) (lawful : IsGram
     jump_above at other c d i j same more above =
         let texts = λ (cell : PlacedCell). texts_of_tokens cell.tokens in
         let cut =
-        zip_cut (ParsesCell grammar) (texts_of_cells i.token.place.above) (texts i.token.place.cell) (texts_of_cells more) j.above
+        AllZip-split (ParsesCell grammar) (texts_of_cells i.token.place.above) (texts i.token.place.cell) (texts_of_cells more)
+        j.above
         (subst (λ (cs : Cells). AllZip (ParsesCell grammar) cs j.above)
         (ap texts_of_cells above ∙ map-append texts i.token.place.above (i.token.place.cell ∷ more)) j.label.above_says) in
-        let first = cells_same (texts_of_cells i.token.place.above) cut.above i.above cut.above_says i.label.above_says in
+        let first =
+        cells_content-unique (texts_of_cells i.token.place.above) cut.above i.above cut.above_says i.label.above_says in
         let whole : j.above ≡ i.above ++ cut.here ∷ cut.below =
         cut.whole ∙ ap (λ (ss : List (CellSyntax Syntax)). ss ++ cut.here ∷ cut.below) first in
         let mine =
-        zip_cut (ParsesCell grammar) (texts_of_cells i.token.place.above) (texts i.token.place.cell)
+        AllZip-split (ParsesCell grammar) (texts_of_cells i.token.place.above) (texts i.token.place.cell)
         (texts_of_cells i.token.place.below) (all_syntaxes i.above i.syntax i.below)
         (subst (λ (cs : Cells). AllZip (ParsesCell grammar) cs (all_syntaxes i.above i.syntax i.below))
         (map-append texts i.token.place.above (i.token.place.cell ∷ i.token.place.below)) i.label.read.says) in
         let here : cut.here ≡ i.syntax =
         cell_unique grammar lawful (texts i.token.place.cell) cut.here i.syntax cut.says
-        (own i.above mine.above i.syntax mine.here i.below mine.below
-        (cells_same (texts_of_cells i.token.place.above) i.above mine.above i.label.above_says mine.above_says) mine.whole
-        (texts i.token.place.cell) mine.says) in
+        (ParsesCell-same_syntaxes i.above mine.above i.syntax mine.here i.below mine.below
+        (cells_content-unique (texts_of_cells i.token.place.above) i.above mine.above i.label.above_says mine.above_says)
+        mine.whole (texts i.token.place.cell) mine.says) in
         let is : cut.here.stmt ≡ Some i.label.jump.0 = ap (λ (s : CellSyntax Syntax). s.stmt) here ∙ i.label.jump.1 in
         jump_bad at c i
         (subst (λ (ss : List (CellSyntax Syntax)). LabelsLeadForward grammar ss (length (statements i.above)) i.label.jump.0)
@@ -576,60 +598,67 @@ module _ {Syntax Stmt : Type 0} (grammar : Grammar Syntax Stmt) (lawful : IsGram
         (j.label.ahead (length (statements i.above)) i.label.jump.0
         (ap (λ (ss : List (CellSyntax Syntax)). slice_get (statements ss) (length (statements i.above))) whole
         ∙ ap (λ (ss : List Syntax). slice_get ss (length (statements i.above)))
-        (statements_there i.above cut.below cut.here i.label.jump.0 is)
+        (statements-middle i.above cut.below cut.here i.label.jump.0 is)
         ∙ get-append_middle (statements i.above) i.label.jump.0 (statements cut.below) (length (statements i.above)) refl)))
       where
-        own : (xs ys : List (CellSyntax Syntax)) (x y : CellSyntax Syntax) (us ws : List (CellSyntax Syntax))
+        -- The cell is read as the cell at the same index.
+        ParsesCell-same_syntaxes : (xs ys : List (CellSyntax Syntax)) (x y : CellSyntax Syntax) (us ws : List (CellSyntax Syntax))
             → xs ≡ ys
             → xs ++ x ∷ us ≡ ys ++ y ∷ ws
             → (ts : TokenList)
             → ParsesCell grammar ts y
             → ParsesCell grammar ts x
-        own xs ys x y us ws same e ts h = elim (split_order xs ys x y us ws e) [
+        ParsesCell-same_syntaxes xs ys x y us ws same e ts h = elim (split_order xs ys x y us ws e) [
           | inl (a, b, k) ↦ subst (ParsesCell grammar ts) (sym b) h
           | inr (inl (more, a)) ↦ absurd (omega (arith, ap length same, ap length a, length-append xs (x ∷ more)))
           | inr (inr (more, a)) ↦ absurd (omega (arith, ap length same, ap length a, length-append ys (y ∷ more)))
         ]
 
-    -- Two faults in jumps of one thread.
-    jumps_one : (at other : ℕ) (c d : CellCause) (i : JumpFaulty names columns at c) (j : JumpFaulty names columns other d)
+    -- Two faults in jumps of one thread are the same, at one place and for one cause.
+    JumpFaulty-unique : (at other : ℕ) (c d : CellCause) (i : JumpFaulty names columns at c)
+        (j : JumpFaulty names columns other d)
         → i.token.place.above ++ i.token.place.cell ∷ i.token.place.below
         ≡ j.token.place.above ++ j.token.place.cell ∷ j.token.place.below
         → (at ≡ other) × (c ≡ d)
-    jumps_one at other c d i j thread =
+    JumpFaulty-unique at other c d i j thread =
         go (split_order i.token.place.above j.token.place.above i.token.place.cell j.token.place.cell i.token.place.below
         j.token.place.below thread)
       where
-        same : all_syntaxes i.above i.syntax i.below ≡ all_syntaxes j.above j.syntax j.below
-        same =
-            cells_same _ (all_syntaxes i.above i.syntax i.below) (all_syntaxes j.above j.syntax j.below)
+        -- Both jumps are in one thread, so its cells have one content.
+        syntaxes_of_thread_equal : all_syntaxes i.above i.syntax i.below ≡ all_syntaxes j.above j.syntax j.below
+        syntaxes_of_thread_equal =
+            cells_content-unique _ (all_syntaxes i.above i.syntax i.below) (all_syntaxes j.above j.syntax j.below)
             (subst
             (λ (cs : List PlacedCell). AllZip (ParsesCell grammar) (texts_of_cells cs) (all_syntaxes i.above i.syntax i.below))
             thread i.label.read.says) j.label.read.says
 
-        token_one : i.token.place.cell ≡ j.token.place.cell → i.token.token ≡ j.token.token
-        token_one cell =
-            last_one i.token.front j.token.front i.token.token j.token.token
+        -- Labels at the end of one cell are one token.
+        token_of_jump-unique : i.token.place.cell ≡ j.token.place.cell → i.token.token ≡ j.token.token
+        token_of_jump-unique cell =
+            snoc-injective i.token.front j.token.front i.token.token j.token.token
             (ap (λ (ts : List PlacedToken). i.token.front ++ i.token.token ∷ ts) (sym i.label.last)
             ∙ sym i.token.in_cell
             ∙ ap (λ (k : PlacedCell). k.tokens) cell
             ∙ j.token.in_cell
             ∙ ap (λ (ts : List PlacedToken). j.token.front ++ j.token.token ∷ ts) j.label.last)
 
-        causes : i.token.token ≡ j.token.token → c ≡ d
-        causes token = elim i.because [
+        -- Jumps with one label have one cause.
+        cause_of_jump-unique : i.token.token ≡ j.token.token → c ≡ d
+        cause_of_jump-unique token = elim i.because [
           | inl (e, none) ↦ elim j.because [
             | inl (f, never) ↦ e ∙ sym f
             | inr (f, there, less) ↦
                 absurd (none (subst (λ (w : Bytes). Contains (labels_of (all_syntaxes i.above i.syntax i.below)) w)
                 (sym (ap (λ (t : PlacedToken). t.text) token))
-                (subst (λ (ss : List (CellSyntax Syntax)). Contains (labels_of ss) j.token.token.text) (sym same) there)))
+                (subst (λ (ss : List (CellSyntax Syntax)). Contains (labels_of ss) j.token.token.text)
+                (sym syntaxes_of_thread_equal) there)))
           ]
           | inr (e, there, less) ↦ elim j.because [
             | inl (f, none) ↦
                 absurd (none (subst (λ (w : Bytes). Contains (labels_of (all_syntaxes j.above j.syntax j.below)) w)
                 (ap (λ (t : PlacedToken). t.text) token)
-                (subst (λ (ss : List (CellSyntax Syntax)). Contains (labels_of ss) i.token.token.text) same there)))
+                (subst (λ (ss : List (CellSyntax Syntax)). Contains (labels_of ss) i.token.token.text) syntaxes_of_thread_equal
+                there)))
             | inr (f, again, more) ↦ e ∙ sym f
           ]
         ]
@@ -641,10 +670,10 @@ module _ {Syntax Stmt : Type 0} (grammar : Grammar Syntax Stmt) (lawful : IsGram
             ⊎ ((more : List PlacedCell) × (i.token.place.above ≡ j.token.place.above ++ j.token.place.cell ∷ more)))
             → (at ≡ other) × (c ≡ d)
         go (inl (above, cell, below)) =
-            let token = token_one cell in
-            (sym i.token.begins ∙ ap (λ (t : PlacedToken). t.at) token ∙ j.token.begins, causes token)
-        go (inr (inl (more, above))) = absurd (jump_above at other c d i j same more above)
-        go (inr (inr (more, above))) = absurd (jump_above other at d c j i (sym same) more above)
+            let token = token_of_jump-unique cell in
+            (sym i.token.begins ∙ ap (λ (t : PlacedToken). t.at) token ∙ j.token.begins, cause_of_jump-unique token)
+        go (inr (inl (more, above))) = absurd (jump_above at other c d i j syntaxes_of_thread_equal more above)
+        go (inr (inr (more, above))) = absurd (jump_above other at d c j i (sym syntaxes_of_thread_equal) more above)
 
     -- ---- any two faults
 
@@ -652,6 +681,7 @@ module _ {Syntax Stmt : Type 0} (grammar : Grammar Syntax Stmt) (lawful : IsGram
     abbrev Fault : ℕ → CellCause → Type 0
     Fault at c = CellFaulty names columns at c ⊎ JumpFaulty names columns at c
 
+    -- The position of the cell of a fault.
     abbrev place_of : (at : ℕ) (c : CellCause) → Fault at c → CellPosition columns
     place_of at c (inl v) = v.place
     place_of at c (inr j) = j.token.place
@@ -706,23 +736,24 @@ module _ {Syntax Stmt : Type 0} (grammar : Grammar Syntax Stmt) (lawful : IsGram
         (subst (λ (cs : List (List PlacedCell)). AllZip (Column grammar) (texts_of_grid cs) b.0) e b.2) b.3
 
     -- At most one cause and place of a fault is true of the columns.
-    pub one_fault : (at other : ℕ) (c d : CellCause)
+    pub true_fault-unique : (at other : ℕ) (c d : CellCause)
         → (c ≡ Memory → ⊥)
         → (d ≡ Memory → ⊥)
         → CellCauseIsTrue grammar names columns at c
         → CellCauseIsTrue grammar names columns other d
         → (at ≡ other) × (c ≡ d)
-    one_fault at other c d known also h k = go (fault_of at c known h) (fault_of other d also k)
+    true_fault-unique at other c d known also h k = go (fault_of at c known h) (fault_of other d also k)
       where
-        one_thread : (v : Fault at c) (w : Fault other d)
+        -- Two faults of one thread are the same.
+        fault_in_thread-unique : (v : Fault at c) (w : Fault other d)
             → (place_of at c v).before ≡ (place_of other d w).before
             → (place_of at c v).above ++ (place_of at c v).cell ∷ (place_of at c v).below
             ≡ (place_of other d w).above ++ (place_of other d w).cell ∷ (place_of other d w).below
             → (at ≡ other) × (c ≡ d)
-        one_thread (inl v) (inl w) before thread = cells_one at other c d v w before thread
-        one_thread (inl v) (inr j) before thread = absurd (cell_or_jump at other c d v j before thread)
-        one_thread (inr i) (inl w) before thread = absurd (cell_or_jump other at d c w i (sym before) (sym thread))
-        one_thread (inr i) (inr j) before thread = jumps_one at other c d i j thread
+        fault_in_thread-unique (inl v) (inl w) before thread = CellFaulty-unique at other c d v w before thread
+        fault_in_thread-unique (inl v) (inr j) before thread = absurd (cell_or_jump at other c d v j before thread)
+        fault_in_thread-unique (inr i) (inl w) before thread = absurd (cell_or_jump other at d c w i (sym before) (sym thread))
+        fault_in_thread-unique (inr i) (inr j) before thread = JumpFaulty-unique at other c d i j thread
 
         go : Fault at c → Fault other d → (at ≡ other) × (c ≡ d)
         go v w =
@@ -730,19 +761,19 @@ module _ {Syntax Stmt : Type 0} (grammar : Grammar Syntax Stmt) (lawful : IsGram
             ((place_of at c v).above ++ (place_of at c v).cell ∷ (place_of at c v).below)
             ((place_of other d w).above ++ (place_of other d w).cell ∷ (place_of other d w).below) (place_of at c v).behind
             (place_of other d w).behind (sym (place_of at c v).in_columns ∙ (place_of other d w).in_columns)) [
-              | inl (before, thread, behind) ↦ one_thread v w before thread
+              | inl (before, thread, behind) ↦ fault_in_thread-unique v w before thread
               | inr (inl (more, e)) ↦ absurd (thread_before at other c d v w more e)
               | inr (inr (more, e)) ↦ absurd (thread_before other at d c w v more e)
             ]
 
     -- No fault is true of columns that are the threads of a test.
-    pub no_fault : (at : ℕ) (c : CellCause) (threads : List (List (CellSyntax Syntax)))
+    pub no_true_fault-of_test : (at : ℕ) (c : CellCause) (threads : List (List (CellSyntax Syntax)))
         → AllZip (Column grammar) (texts_of_grid columns) threads
         → length (insert_names names (names_of grammar threads)) ≤ most_locations
         → (c ≡ Memory → ⊥)
         → CellCauseIsTrue grammar names columns at c
         → ⊥
-    no_fault at c threads says few known h =
+    no_true_fault-of_test at c threads says few known h =
         let v = fault_of at c known h in
         thread_unread (place_of at c v) (unread_of at c v) (place_of at c v).behind threads []
         (subst (λ (cs : List (List PlacedCell)). AllZip (Column grammar) (texts_of_grid cs) threads) (place_of at c v).in_columns

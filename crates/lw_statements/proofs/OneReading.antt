@@ -1,16 +1,18 @@
--- A cell has at most one parse, and so have the cells of a thread.
+-- A cell has at most one parse, and so have the cells of a thread. So a fault cannot be avoided by reading
+-- the same tokens otherwise.
 use Rattle.lw_statements.proofs.Common.{◌≡◌, Option, Some, None, List, refl, sym, ap, subst, slice_get}
 use Rattle.lw_statements.proofs.Common.{TokenList, Cells, Grammar, IsGrammar, CellSyntax, MaybeStatement}
 use Rattle.lw_statements.proofs.Common.{ParsesCell, Column, BeginsWithLabel}
 use Rattle.lw_statements.proofs.FrontLabels.{Labels-unique}
-use Rattle.lw_statements.proofs.api.Zips.{zip_unique}
+use Rattle.lw_statements.proofs.api.Zips.{AllZip-unique}
 
 module _ {Syntax Stmt : Type 0} (grammar : Grammar Syntax Stmt) (lawful : IsGrammar grammar) where
   -- What follows a cell's labels, a statement or nothing, has no `:` after its first token.
-  pub no_label : (ts : TokenList) (o : Option Syntax) → MaybeStatement grammar ts o → BeginsWithLabel ts → ⊥
-  no_label ts None h at = let e : slice_get ts 1 ≡ None = ap (λ (t : TokenList). slice_get t 1) h in absurd cc
-  no_label ts (Some s) h at = lawful.no_label ts s h at
+  pub no_label-MaybeStatement : (ts : TokenList) (o : Option Syntax) → MaybeStatement grammar ts o → BeginsWithLabel ts → ⊥
+  no_label-MaybeStatement ts None h at = let e : slice_get ts 1 ≡ None = ap (λ (t : TokenList). slice_get t 1) h in absurd cc
+  no_label-MaybeStatement ts (Some s) h at = lawful.no_label ts s h at
 
+  -- What follows a cell's labels is read in one way.
   maybe_unique : (ts : TokenList) (o p : Option Syntax) → MaybeStatement grammar ts o → MaybeStatement grammar ts p → o ≡ p
   maybe_unique ts None None h k = refl
   maybe_unique ts None (Some s) h k = absurd (lawful.some ts s k h)
@@ -20,16 +22,19 @@ module _ {Syntax Stmt : Type 0} (grammar : Grammar Syntax Stmt) (lawful : IsGram
   -- A cell has at most one parse.
   pub cell_unique : (cell : TokenList) (x y : CellSyntax Syntax) → ParsesCell grammar cell x → ParsesCell grammar cell y → x ≡ y
   cell_unique cell x y h k =
-      let ls = Labels-unique cell h.0 k.0 x.labels y.labels h.1 k.1 (no_label h.0 x.stmt h.2) (no_label k.0 y.stmt k.2) in
+      let ls =
+      Labels-unique cell h.0 k.0 x.labels y.labels h.1 k.1 (no_label-MaybeStatement h.0 x.stmt h.2)
+      (no_label-MaybeStatement k.0 y.stmt k.2) in
       let s = maybe_unique h.0 x.stmt y.stmt h.2 (subst (λ (t : TokenList). MaybeStatement grammar t y.stmt) (sym ls.1) k.2) in
-      same x.labels y.labels x.stmt y.stmt ls.0 s
+      cell_syntax_equal x.labels y.labels x.stmt y.stmt ls.0 s
     where
-      same : (a b : TokenList) (o p : Option Syntax)
+      -- Cells with the same labels and the same statement are the same.
+      cell_syntax_equal : (a b : TokenList) (o p : Option Syntax)
           → a ≡ b
           → o ≡ p
           → (let l : CellSyntax Syntax = record { labels = a; stmt = o } in l) ≡ record { labels = b; stmt = p }
-      same a b o p e f = rw (e, f) refl
+      cell_syntax_equal a b o p e f = rw (e, f) refl
 
   -- The cells of a thread have at most one parse.
   pub column_unique : (cells : Cells) (s t : List (CellSyntax Syntax)) → Column grammar cells s → Column grammar cells t → s ≡ t
-  column_unique cells s t h k = zip_unique (ParsesCell grammar) cell_unique cells s t h.says k.says
+  column_unique cells s t h k = AllZip-unique (ParsesCell grammar) cell_unique cells s t h.says k.says

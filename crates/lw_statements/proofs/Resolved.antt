@@ -1,12 +1,13 @@
--- Resolving the jumps of a thread, from top to bottom: the invariant when one more cell is resolved.
+-- Resolving the jumps of a thread, from top to bottom: the invariant when one more cell is resolved. The loop
+-- of `resolve` goes by `Resolved`.
 use Rattle.lw_statements.proofs.Common.{◌≡◌, ℕ, suc, ◌<◌, ◌≤◌, ◌+◌, ◌*◌, Option, Some, None, List, [], ◌∷◌}
 use Rattle.lw_statements.proofs.Common.{◌++◌, length, length-take, get_or, map, take, drop, refl, sym, ap}
 use Rattle.lw_statements.proofs.Common.{◌∙◌, subst, arith, ◌⊎◌, inl, inr, slice_get, All, Contains, IfSome}
 use Rattle.lw_statements.proofs.Common.{MatchOption, option_map, append-nil, append_assoc, take-append-drop}
 use Rattle.lw_statements.proofs.Common.{AllZip, cons_option, slice_get-map, same_Some, map-append, length-map}
 use Rattle.lw_statements.proofs.Common.{drop-map, CellCause, LabelMissing, Backward, CellFault, Bytes}
-use Rattle.lw_statements.proofs.Common.{NameTable, TokenList, get_append, get-append_middle, Cell, Token}
-use Rattle.lw_statements.proofs.Common.{token_texts, cell_texts, cells_texts, placed_row, EndsBefore}
+use Rattle.lw_statements.proofs.Common.{NameTable, TokenList, slice_get-append_cases, get-append_middle, Cell}
+use Rattle.lw_statements.proofs.Common.{Token, token_texts, cell_texts, cells_texts, placed_row, EndsBefore}
 use Rattle.lw_statements.proofs.Common.{cells_placed, DraftColumn, Draft, DraftCell, Operands, Grammar}
 use Rattle.lw_statements.proofs.Common.{CellSyntax, MaybeStatement, ParsesCell, statements, labels_of}
 use Rattle.lw_statements.proofs.Common.{target_in, resolved_statement, LabelsLeadForward, TokenPosition}
@@ -17,25 +18,30 @@ use Rattle.lw_statements.proofs.Common.{draft_of, IsSpelling, Spelling, ParsesSt
 use Rattle.lw_statements.proofs.Common.{table_after, names_in, names_of, insert_names, insert_names-append}
 use Rattle.lw_statements.proofs.Common.{placed_cell, all_syntaxes}
 use Rattle.lw_statements.proofs.CellsRefused.{column_out_of_memory}
-use Rattle.lw_statements.proofs.Elements.{all_amid, cut_there, item_at, mapped_some, take_further}
-use Rattle.lw_statements.proofs.FaultPlaces.{standing, tells_by}
+use Rattle.lw_statements.proofs.Elements.{All-middle, take-item-drop, get-in_range, option_map-Some_inv}
+use Rattle.lw_statements.proofs.Elements.{take_further}
+use Rattle.lw_statements.proofs.FaultPlaces.{TokenPosition-in_cell, FaultClaim-by_cause}
 use Rattle.lw_statements.proofs.FrontLabels.{labels_rest}
-use Rattle.lw_statements.proofs.JumpsResolved.{label_last, is_resolvable, is_resolved}
-use Rattle.lw_statements.proofs.Leads.{statements-append, leads_there, leads_nowhere}
+use Rattle.lw_statements.proofs.JumpsResolved.{label_last, is_resolvable, IsResolved-of_draft}
+use Rattle.lw_statements.proofs.Leads.{statements-append, label_target-is_label, label_target-no_label}
 use Rattle.lw_statements.proofs.OneReading.{cell_unique}
 use Rattle.lw_statements.proofs.api.Forms.{is_grammar}
-use Rattle.lw_statements.proofs.api.Zips.{Cut, zip_unique, zip_more, zip_length, zip_cut}
+use Rattle.lw_statements.proofs.api.Zips.{Cut, AllZip-unique, AllZip-snoc, AllZip-length, AllZip-split}
 
 module _ {W Form Stmt : Type 0} (spelling : Spelling W Form Stmt) where
+  -- The language's grammar.
   abbrev grammar : Grammar (ParsesStatement spelling) Stmt
   grammar = grammar_of spelling
 
+  -- The draft of a statement whose location has this index.
   abbrev drafting : ℕ → ParsesStatement spelling → Draft Form
   drafting = draft_of spelling
 
+  -- The syntax of a cell.
   abbrev CellSaid : Type 0
   CellSaid = CellSyntax (ParsesStatement spelling)
 
+  -- The tokens of a cell say its syntax.
   abbrev Says : TokenList → CellSaid → Type 0
   Says = ParsesCell grammar
 
@@ -51,27 +57,30 @@ module _ {W Form Stmt : Type 0} (spelling : Spelling W Form Stmt) where
         → LabelsLeadForward grammar syntaxes k s
 
   -- No cells have no statements, which are resolved.
-  pub resolved_none : {A : Type 0} (names : NameTable) (syntaxes : List CellSaid) → Resolved {A = A} names syntaxes [] []
-  resolved_none names syntaxes = record { above = []; says = tt; made = refl; ahead = λ k s e. absurd cc }
+  pub Resolved-none : {A : Type 0} (names : NameTable) (syntaxes : List CellSaid) → Resolved {A = A} names syntaxes [] []
+  Resolved-none names syntaxes = record { above = []; says = tt; made = refl; ahead = λ k s e. absurd cc }
 
   module _ (made : Form → Operands → Option Stmt) (lawful : IsSpelling spelling made) {A : Type 0} (cells : List (Cell A))
       (before after : NameTable) (column : DraftColumn (Draft Form) A)
       (drafted : ColumnDrafted grammar drafting cells before column after) where
+    -- The syntaxes of the thread's cells.
     abbrev syntaxes : List CellSaid
     syntaxes = drafted.read.syntax
 
+    -- The statement with its jump resolved by them.
     abbrev resolve : ParsesStatement spelling → Stmt
     resolve = resolved_statement grammar after syntaxes
 
-    one : (cell : TokenList) (x y : CellSaid) → Says cell x → Says cell y → x ≡ y
-    one = cell_unique grammar (is_grammar spelling made lawful)
+    -- A cell says one syntax.
+    Says-unique : (cell : TokenList) (x y : CellSaid) → Says cell x → Says cell y → x ≡ y
+    Says-unique = cell_unique grammar (is_grammar spelling made lawful)
 
     -- The column has a draft for each cell.
     pub as_many_rows : length column.cells ≡ length cells
     as_many_rows =
         ap length drafted.read.made
         ∙ length-map syntaxes (draft_cell grammar drafting after)
-        ∙ sym (zip_length Says (cells_texts cells) syntaxes drafted.read.says)
+        ∙ sym (AllZip-length Says (cells_texts cells) syntaxes drafted.read.says)
         ∙ length-map cells cell_texts
 
     -- If the statements of all cells are resolved, the thread's cells are read.
@@ -79,13 +88,13 @@ module _ {W Form Stmt : Type 0} (spelling : Spelling W Form Stmt) where
         → Resolved after syntaxes cells code
         → ColumnRead grammar (cells_texts cells) before code after
     column_found code r =
-        let same = zip_unique Says one (cells_texts cells) r.above syntaxes r.says drafted.read.says in
+        let same = AllZip-unique Says Says-unique (cells_texts cells) r.above syntaxes r.says drafted.read.says in
         record {
           syntax = syntaxes;
           says = record {
             says = drafted.read.says;
             few = drafted.few;
-            once = drafted.once;
+            without_duplicates = drafted.without_duplicates;
             forward =
                 subst (λ (ys : List CellSaid).
                 (k : ℕ) (s : ParsesStatement spelling)
@@ -99,64 +108,72 @@ module _ {W Form Stmt : Type 0} (spelling : Spelling W Form Stmt) where
     -- A cell and its draft, after those whose statements are resolved.
     module _ (row : ℕ) (cell : Cell A) (within : row < length cells) (at_row : cell ≡ get_or cells row cell)
         (d : DraftCell (Draft Form)) (drafted_at : d ≡ get_or column.cells row d) where
+      -- The cells above this one.
       abbrev front : List (Cell A)
       front = take row cells
 
+      -- The cells below it.
       abbrev rest : List (Cell A)
       rest = drop (suc row) cells
 
-      whole : cells ≡ front ++ cell ∷ rest
-      whole = cut_there cells row cell within at_row
+      -- The thread is these three.
+      cells_split : cells ≡ front ++ cell ∷ rest
+      cells_split = take-item-drop cells row cell within at_row
 
-      cut : Cut Says (cells_texts front) (cell_texts cell) (cells_texts rest) syntaxes
-      cut =
-          zip_cut Says (cells_texts front) (cell_texts cell) (cells_texts rest) syntaxes
-          (subst (λ cs. AllZip Says cs syntaxes) (ap cells_texts whole ∙ map-append cell_texts front (cell ∷ rest))
+      -- The syntaxes of the thread, split at this cell.
+      cut_at_cell : Cut Says (cells_texts front) (cell_texts cell) (cells_texts rest) syntaxes
+      cut_at_cell =
+          AllZip-split Says (cells_texts front) (cell_texts cell) (cells_texts rest) syntaxes
+          (subst (λ cs. AllZip Says cs syntaxes) (ap cells_texts cells_split ∙ map-append cell_texts front (cell ∷ rest))
           drafted.read.says)
 
-      is_draft : d ≡ draft_cell grammar drafting after cut.here
+      -- The cell's draft is that of its syntax.
+      is_draft : d ≡ draft_cell grammar drafting after cut_at_cell.here
       is_draft =
-          let long : row ≡ length cut.above = omega (
+          let long : row ≡ length cut_at_cell.above = omega (
             arith,
             length-take row cells,
             length-map front cell_texts,
-            zip_length Says (cells_texts front) cut.above cut.above_says,
+            AllZip-length Says (cells_texts front) cut_at_cell.above cut_at_cell.above_says,
           ) in
           let is : slice_get column.cells row ≡ Some d =
-          item_at column.cells row d (omega (arith, within, as_many_rows)) drafted_at in
+          get-in_range column.cells row d (omega (arith, within, as_many_rows)) drafted_at in
           let draft = draft_cell grammar drafting after in
           same_Some _ _
           (sym is
           ∙ ap (λ (ds : List (DraftCell (Draft Form))). slice_get ds row) drafted.read.made
           ∙ slice_get-map draft syntaxes row
           ∙ ap (option_map draft)
-          (ap (λ (ys : List CellSaid). slice_get ys row) cut.whole ∙ get-append_middle cut.above cut.here cut.below row long))
+          (ap (λ (ys : List CellSaid). slice_get ys row) cut_at_cell.whole
+          ∙ get-append_middle cut_at_cell.above cut_at_cell.here cut_at_cell.below row long))
 
       -- The tokens of the statement, after the labels.
       abbrev tail : List Token
       tail = drop d.start cell.tokens
 
-      behind : (d.start ≤ length cell.tokens) × MaybeStatement grammar (token_texts tail) cut.here.stmt
-      behind =
-          let start : d.start ≡ 2 * length cut.here.labels = ap (λ (c : DraftCell (Draft Form)). c.start) is_draft in
-          let r = labels_rest (token_texts cell.tokens) cut.here.labels cut.says.0 cut.says.1 in (
+      -- The cell's labels take as many tokens as the draft says, and the tokens after them are its statement.
+      MaybeStatement-tail : (d.start ≤ length cell.tokens) × MaybeStatement grammar (token_texts tail) cut_at_cell.here.stmt
+      MaybeStatement-tail =
+          let start : d.start ≡ 2 * length cut_at_cell.here.labels = ap (λ (c : DraftCell (Draft Form)). c.start) is_draft in
+          let r = labels_rest (token_texts cell.tokens) cut_at_cell.here.labels cut_at_cell.says.0 cut_at_cell.says.1 in (
             omega (arith, start, r.0, length-map cell.tokens (λ (t : Token). t.text.now)),
-            subst (λ (ts : TokenList). MaybeStatement grammar ts cut.here.stmt)
+            subst (λ (ts : TokenList). MaybeStatement grammar ts cut_at_cell.here.stmt)
                 (sym r.1
                 ∙ ap (λ (n : ℕ). drop n (token_texts cell.tokens)) (sym start)
-                ∙ drop-map (λ (t : Token). t.text.now) d.start cell.tokens) cut.says.2,
+                ∙ drop-map (λ (t : Token). t.text.now) d.start cell.tokens) cut_at_cell.says.2,
           )
 
       -- A draft's statement starts within the cell's tokens.
       pub start_within : d.start ≤ length cell.tokens
-      start_within = behind.0
+      start_within = MaybeStatement-tail.0
 
-      drafted_as : d.stmt ≡ option_map (draft_in grammar drafting after) cut.here.stmt
-      drafted_as = ap (λ (c : DraftCell (Draft Form)). c.stmt) is_draft
+      -- The draft's statement is that of its syntax.
+      draft_is-draft_in : d.stmt ≡ option_map (draft_in grammar drafting after) cut_at_cell.here.stmt
+      draft_is-draft_in = ap (λ (c : DraftCell (Draft Form)). c.stmt) is_draft
 
       -- The draft of the cell's statement can be resolved.
-      pub resolvable : IfSome d.stmt (IsResolvable made tail)
-      resolvable = rw drafted_as (go cut.here.stmt behind.1)
+      pub IsResolvable-of_draft : IfSome d.stmt (IsResolvable made tail)
+      IsResolvable-of_draft = rw draft_is-draft_in (go cut_at_cell.here.stmt MaybeStatement-tail.1)
         where
           go : (o : Option (ParsesStatement spelling))
               → MaybeStatement grammar (token_texts tail) o
@@ -165,24 +182,27 @@ module _ {W Form Stmt : Type 0} (spelling : Spelling W Form Stmt) where
           go (Some s) says = is_resolvable spelling made lawful after tail s says
 
       module _ (code : List Stmt) (r : Resolved after syntaxes front code) where
-        same : cut.above ≡ r.above
-        same = zip_unique Says one (cells_texts front) cut.above r.above cut.above_says r.says
+        -- The syntaxes above are those that are resolved.
+        syntaxes_above_equal : cut_at_cell.above ≡ r.above
+        syntaxes_above_equal =
+            AllZip-unique Says Says-unique (cells_texts front) cut_at_cell.above r.above cut_at_cell.above_says r.says
 
-        as_many : length code ≡ length (statements r.above)
-        as_many = ap length r.made ∙ length-map (statements r.above) resolve
+        -- The resolved code has as many statements as the cells above.
+        code_length : length code ≡ length (statements r.above)
+        code_length = ap length r.made ∙ length-map (statements r.above) resolve
 
         -- If this cell is resolved, the statements of the cells up to it are resolved.
         pub resolved_further : (more : List Stmt)
             → IsCellResolved made column.labels cell d code more
             → Resolved after syntaxes (take (row + 1) cells) more
         resolved_further more here =
-            let done = go cut.here.stmt behind.1 (rw drafted_as at here) in
-            let both = statements-append r.above (cut.here ∷ []) in
+            let done = go cut_at_cell.here.stmt MaybeStatement-tail.1 (rw draft_is-draft_in at here) in
+            let both = statements-append r.above (cut_at_cell.here ∷ []) in
             record {
-              above = r.above ++ cut.here ∷ [];
+              above = r.above ++ cut_at_cell.here ∷ [];
               says =
                   rw (take_further cells row cell within at_row, map-append cell_texts front (cell ∷ []))
-                  (zip_more Says (cells_texts front) r.above (cell_texts cell) cut.here r.says cut.says);
+                  (AllZip-snoc Says (cells_texts front) r.above (cell_texts cell) cut_at_cell.here r.says cut_at_cell.says);
               made = rw both done.0;
               ahead = rw both done.1;
             }
@@ -198,146 +218,180 @@ module _ {W Form Stmt : Type 0} (spelling : Spelling W Form Stmt) where
             go None says e = rw append-nil (e ∙ r.made, r.ahead)
             go (Some s) says (stmt, resolved, e) =
                 let q =
-                is_resolved spelling made lawful after tail s says syntaxes column.labels (length code) stmt drafted.leads
+                IsResolved-of_draft spelling made lawful after tail s says syntaxes column.labels (length code) stmt drafted.leads
                 resolved in (
                   e
                       ∙ ap (λ (ss : List Stmt). ss ++ stmt ∷ []) r.made
                       ∙ ap (λ (x : Stmt). map resolve (statements r.above) ++ x ∷ []) q.0
                       ∙ sym (map-append resolve (statements r.above) (s ∷ [])),
-                  λ k t at. ahead k t q.1 (get_append (statements r.above) s t k at),
+                  λ k t at. LabelsLeadForward-of_index k t q.1 (slice_get-append_cases (statements r.above) s t k at),
                 )
               where
-                ahead : (k : ℕ) (t : ParsesStatement spelling)
+                -- The jumps up to this statement lead forward, if its own does.
+                LabelsLeadForward-of_index : (k : ℕ) (t : ParsesStatement spelling)
                     → LabelsLeadForward grammar syntaxes (length code) s
                     → (slice_get (statements r.above) k ≡ Some t) ⊎ ((k ≡ length (statements r.above)) × (s ≡ t))
                     → LabelsLeadForward grammar syntaxes k t
-                ahead k t forward (inl old) = r.ahead k t old
-                ahead k t forward (inr (last, one)) = rw (last, ← as_many, ← one) forward
+                LabelsLeadForward-of_index k t forward (inl old) = r.ahead k t old
+                LabelsLeadForward-of_index k t forward (inr (last, one)) = rw (last, ← code_length, ← one) forward
 
         -- The token is the label of a jump that is rejected.
-        module _ (s : ParsesStatement spelling) (jump : cut.here.stmt ≡ Some s) (token : Token)
+        module _ (s : ParsesStatement spelling) (jump : cut_at_cell.here.stmt ≡ Some s) (token : Token)
             (label : grammar.label_of s ≡ Some token.text.now) (before_label : List Token)
             (last : cell.tokens ≡ before_label ++ token ∷ []) (f : CellFault) (begins : token.at ≡ f.at)
             (because : JumpCause column.labels (length code) token.text.now f.cause) where
+          -- The text of the label.
           abbrev word : Bytes
           word = token.text.now
 
-          missing : target_by column.labels word ≡ None → Contains (labels_of syntaxes) word → ⊥
-          missing none = leads_nowhere syntaxes word (sym (drafted.leads word) ∙ none)
+          -- If the map does not have the label, no cell has.
+          not_label-no_target : target_by column.labels word ≡ None → Contains (labels_of syntaxes) word → ⊥
+          not_label-no_target none = label_target-no_label syntaxes word (sym (drafted.leads word) ∙ none)
 
-          found : (to : ℕ)
+          -- If it has, its target is that of the rule of cells.
+          label-target_by : (to : ℕ)
               → target_by column.labels word ≡ Some to
               → Contains (labels_of syntaxes) word × (to ≡ target_in syntaxes word)
-          found to by = leads_there syntaxes word to (sym (drafted.leads word) ∙ by)
+          label-target_by to by = label_target-is_label syntaxes word to (sym (drafted.leads word) ∙ by)
 
-          not_forward : (cause : CellCause)
+          -- A jump whose label is missing, or is not after the jump, does not lead forward.
+          not_LabelsLeadForward-JumpCause : (cause : CellCause)
               → JumpCause column.labels (length code) word cause
               → LabelsLeadForward grammar syntaxes (length code) s
               → ⊥
-          not_forward LabelMissing none ahead = missing none (ahead word label).0
-          not_forward Backward (to, by, less) ahead = omega (arith, less, (found to by).1, (ahead word label).1)
-          not_forward cause none ahead = none
+          not_LabelsLeadForward-JumpCause LabelMissing none ahead = not_label-no_target none (ahead word label).0
+          not_LabelsLeadForward-JumpCause Backward (to, by, less) ahead =
+              omega (arith, less, (label-target_by to by).1, (ahead word label).1)
+          not_LabelsLeadForward-JumpCause cause none ahead = none
 
-          -- Not all jumps go forward, then.
-          not_all : AllForward grammar syntaxes → ⊥
-          not_all all =
-              let parts : statements syntaxes ≡ statements r.above ++ s ∷ statements cut.below =
-              ap statements cut.whole
-              ∙ statements-append cut.above (cut.here ∷ cut.below)
-              ∙ ap (λ (o : Option (ParsesStatement spelling)). statements cut.above ++ cons_option o (statements cut.below)) jump
-              ∙ ap (λ (ys : List CellSaid). statements ys ++ s ∷ statements cut.below) same in
-              not_forward f.cause because
+          -- Not all jumps of the thread lead forward, since this one does not.
+          not_AllForward : AllForward grammar syntaxes → ⊥
+          not_AllForward all =
+              let parts : statements syntaxes ≡ statements r.above ++ s ∷ statements cut_at_cell.below =
+              ap statements cut_at_cell.whole
+              ∙ statements-append cut_at_cell.above (cut_at_cell.here ∷ cut_at_cell.below)
+              ∙ ap (λ (o : Option (ParsesStatement spelling)).
+              statements cut_at_cell.above ++ cons_option o (statements cut_at_cell.below)) jump
+              ∙ ap (λ (ys : List CellSaid). statements ys ++ s ∷ statements cut_at_cell.below) syntaxes_above_equal in
+              not_LabelsLeadForward-JumpCause f.cause because
               (all (length code) s
               (ap (λ (ss : List (ParsesStatement spelling)). slice_get ss (length code)) parts
-              ∙ get-append_middle (statements r.above) s (statements cut.below) (length code) as_many))
+              ∙ get-append_middle (statements r.above) s (statements cut_at_cell.below) (length code) code_length))
 
-          told : ColumnFaultIsTrue grammar (placed_row cells) before f.at f.cause
-          told names others others_behind threads others_say grown =
-              tells_by grammar names (others ++ placed_row cells ∷ others_behind) f.at f.cause (record {
+          -- The fault reported of the jump is true.
+          ColumnFaultIsTrue-jump : ColumnFaultIsTrue grammar (placed_row cells) before f.at f.cause
+          ColumnFaultIsTrue-jump names others others_behind threads others_say grown =
+              FaultClaim-by_cause grammar names (others ++ placed_row cells ∷ others_behind) f.at f.cause (record {
                 form = λ e. absurd (rw e at because);
                 register = λ e. absurd (rw e at because);
                 missing = λ e. (
-                  place,
-                  (cut.above, cut.here, cut.below, is_jump, λ there. missing (rw e at because) (rw (← cut.whole) at there)),
+                  jump_token_position,
+                  (
+                    cut_at_cell.above,
+                    cut_at_cell.here,
+                    cut_at_cell.below,
+                    IsJumpLabel-of_token,
+                    λ there. not_label-no_target (rw e at because) (rw (← cut_at_cell.whole) at there),
+                  ),
                 );
                 twice = λ e. absurd (rw e at because);
-                back = λ e. backward (rw e at because);
+                back = λ e. IsBackward-of_jump (rw e at because);
                 many = λ e. absurd (rw e at because);
               })
             where
-              place : TokenPosition (others ++ placed_row cells ∷ others_behind) f.at
-              place = standing others others_behind cells front rest cell whole f.at before_label [] token last begins
+              -- The position of the label's token.
+              jump_token_position : TokenPosition (others ++ placed_row cells ∷ others_behind) f.at
+              jump_token_position =
+                  TokenPosition-in_cell others others_behind cells front rest cell cells_split f.at before_label [] token last
+                  begins
 
-              all_here : all_syntaxes cut.above cut.here cut.below ≡ syntaxes
-              all_here = sym cut.whole
+              -- The syntaxes above, here and below are all.
+              syntaxes_joined : all_syntaxes cut_at_cell.above cut_at_cell.here cut_at_cell.below ≡ syntaxes
+              syntaxes_joined = sym cut_at_cell.whole
 
-              table : table_after grammar names threads syntaxes ≡ after
-              table =
+              -- The table after the thread is the one that was read.
+              table_after_is_after : table_after grammar names threads syntaxes ≡ after
+              table_after_is_after =
                   insert_names-append names (names_of grammar threads) (names_in grammar syntaxes)
                   ∙ ap (λ (ns : NameTable). insert_names ns (names_in grammar syntaxes)) (sym grown)
                   ∙ sym drafted.read.names
 
-              read : AreRead grammar names others (placed_row front ++ placed_cell cell ∷ placed_row rest) threads syntaxes []
-              read = record {
+              -- All cells of the thread are read, so jumps can be judged.
+              AreRead-all_cells :
+                  AreRead grammar names others (placed_row front ++ placed_cell cell ∷ placed_row rest) threads syntaxes []
+              AreRead-all_cells = record {
                 before_says = others_say;
                 says =
-                    rw (← map-append placed_cell front (cell ∷ rest), ← ap placed_row whole, cells_placed cells)
+                    rw (← map-append placed_cell front (cell ∷ rest), ← ap placed_row cells_split, cells_placed cells)
                     drafted.read.says;
                 few = drafted.few;
-                once = rw append-nil drafted.once;
-                room = rw table drafted.room;
+                without_duplicates = rw append-nil drafted.without_duplicates;
+                room = rw table_after_is_after drafted.room;
               }
 
-              is_jump : IsJumpLabel grammar names place cut.above cut.here cut.below
-              is_jump = record {
+              -- The token is the label of the cell's jump.
+              IsJumpLabel-of_token :
+                  IsJumpLabel grammar names jump_token_position cut_at_cell.above cut_at_cell.here cut_at_cell.below
+              IsJumpLabel-of_token = record {
                 threads = threads;
                 read =
                     subst (λ (ys : List CellSaid).
                     AreRead grammar names others (placed_row front ++ placed_cell cell ∷ placed_row rest) threads ys [])
-                    (sym all_here) read;
-                above_says = rw (cells_placed front) cut.above_says;
+                    (sym syntaxes_joined) AreRead-all_cells;
+                above_says = rw (cells_placed front) cut_at_cell.above_says;
                 ahead =
                     subst (λ (ys : List CellSaid).
                     (k : ℕ) (t : ParsesStatement spelling)
-                    → slice_get (statements cut.above) k ≡ Some t
-                    → LabelsLeadForward grammar ys k t) (sym all_here)
+                    → slice_get (statements cut_at_cell.above) k ≡ Some t
+                    → LabelsLeadForward grammar ys k t) (sym syntaxes_joined)
                     (subst (λ (ys : List CellSaid).
                     (k : ℕ) (t : ParsesStatement spelling)
                     → slice_get (statements ys) k ≡ Some t
-                    → LabelsLeadForward grammar syntaxes k t) (sym same) r.ahead);
+                    → LabelsLeadForward grammar syntaxes k t) (sym syntaxes_above_equal) r.ahead);
                 last = refl;
                 jump = (s, jump, label);
               }
 
-              backward : (to : ℕ) × (target_by column.labels word ≡ Some to) × (to ≤ length code)
+              -- A label that leads back or to the jump itself is a backward jump.
+              IsBackward-of_jump : (to : ℕ) × (target_by column.labels word ≡ Some to) × (to ≤ length code)
                   → (p : TokenPosition (others ++ placed_row cells ∷ others_behind) f.at) × IsBackward grammar names p
-              backward (to, by, less) =
-                  let l = found to by in
-                  let at : target_in syntaxes word ≤ length (statements cut.above) =
-                  omega (arith, l.1, less, as_many, ap (λ (ys : List CellSaid). length (statements ys)) same) in (
-                    place,
+              IsBackward-of_jump (to, by, less) =
+                  let l = label-target_by to by in
+                  let at : target_in syntaxes word ≤ length (statements cut_at_cell.above) =
+                  omega (
+                    arith,
+                    l.1,
+                    less,
+                    code_length,
+                    ap (λ (ys : List CellSaid). length (statements ys)) syntaxes_above_equal,
+                  ) in (
+                    jump_token_position,
                     (
-                      cut.above,
-                      cut.here,
-                      cut.below,
-                      is_jump,
-                      rw cut.whole at l.0,
-                      subst (λ (ys : List CellSaid). target_in ys word ≤ length (statements cut.above)) cut.whole at,
+                      cut_at_cell.above,
+                      cut_at_cell.here,
+                      cut_at_cell.below,
+                      IsJumpLabel-of_token,
+                      rw cut_at_cell.whole at l.0,
+                      subst (λ (ys : List CellSaid). target_in ys word ≤ length (statements cut_at_cell.above)) cut_at_cell.whole
+                          at,
                     ),
                   )
 
+          -- A thread with such a jump has no code, and the fault reported of it is true and lies in the text.
           jump_refused : ColumnRefused grammar before cells f
           jump_refused = record {
             none = λ known t (column_says, few).
-                not_all (subst (AllForward grammar)
-                (zip_unique Says one (cells_texts cells) t syntaxes column_says.says drafted.read.says) column_says.forward);
-            cause = told;
+                not_AllForward (subst (AllForward grammar)
+                (AllZip-unique Says Says-unique (cells_texts cells) t syntaxes column_says.says drafted.read.says)
+                column_says.forward);
+            cause = ColumnFaultIsTrue-jump;
             place = λ len all.
-                let here = (all_amid (EndsBefore len) front rest cell (subst (All (EndsBefore len)) whole all)).0 in
+                let here = (All-middle (EndsBefore len) front rest cell (subst (All (EndsBefore len)) cells_split all)).0 in
                 omega (
                   arith,
                   begins,
-                  all_amid (λ (t : Token). t.at ≤ len) before_label [] token (subst (All (λ (t : Token). t.at ≤ len)) last here),
+                  All-middle (λ (t : Token). t.at ≤ len) before_label [] token
+                      (subst (All (λ (t : Token). t.at ≤ len)) last here),
                 );
           }
 
@@ -347,10 +401,11 @@ module _ {W Form Stmt : Type 0} (spelling : Spelling W Form Stmt) where
             → ColumnRefused grammar before cells f
         row_refused f (inl (memory, first)) = column_out_of_memory grammar before cells f memory first
         row_refused f (inr (draft, there, lost)) =
-            let m = mapped_some (draft_in grammar drafting after) cut.here.stmt draft (sym there ∙ drafted_as) in
+            let m =
+            option_map-Some_inv (draft_in grammar drafting after) cut_at_cell.here.stmt draft (sym there ∙ draft_is-draft_in) in
             let label =
-            label_last spelling made lawful after tail m.0 (rw m.1 at behind.1) lost.index lost.token
-            (ap (λ (x : Draft Form). x.label) (sym m.2) ∙ lost.labelled) lost.is in
+            label_last spelling made lawful after tail m.0 (rw m.1 at MaybeStatement-tail.1) lost.index lost.token
+            (ap (λ (x : Draft Form). x.label) (sym m.2) ∙ lost.labelled) lost.token_at in
             let front_part = take d.start cell.tokens ++ take lost.index tail in
             jump_refused m.0 m.1 lost.token label.0 front_part
             (sym (take-append-drop d.start cell.tokens)

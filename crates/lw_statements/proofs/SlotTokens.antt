@@ -1,4 +1,5 @@
--- What tokens give at slots, as the reader computes it.
+-- What tokens give at slots, as the reader computes it. The functions that bind tokens to slots, and that
+-- search the forms, go by these lemmas.
 use Rattle.lw_statements.proofs.Common.{◌≡◌, ℕ, zero, suc, ◌+◌, ◌<◌, ◌≤◌, Bool, true, false, true≢false, eqb}
 use Rattle.lw_statements.proofs.Common.{Option, Some, None, List, [], ◌∷◌, length, take, get_or, refl, sym}
 use Rattle.lw_statements.proofs.Common.{ap, ◌∙◌, subst, arith, MatchBool, MatchOption, IsTrue, ◌↔◌, Contains}
@@ -11,14 +12,14 @@ use Rattle.lw_statements.proofs.Common.{bind_slot, bindings_of, IsReach}
 use Rattle.lw_base.specs.declared.operand.Operand.TheVariants as operand
 
 -- A token that is neither a register nor a number is no operand.
-pub no_operand : (arch : Arch) (w : Bytes)
+pub no_operand-no_register_or_number : (arch : Arch) (w : Bytes)
     → ((r : ℕ) → IsRegisterName arch w r → ⊥)
     → ((n : ℕ) → IsNumber w n → ⊥)
     → (v : Operand)
     → IsOperand arch w v
     → ⊥
-no_operand arch w reg num (operand.Register r) h = reg r h
-no_operand arch w reg num (operand.Number n) h = num n h
+no_operand-no_register_or_number arch w reg num (operand.Register r) h = reg r h
+no_operand-no_register_or_number arch w reg num (operand.Number n) h = num n h
 
 -- The result for a token, whether it is an allowed name or not, is what it gives at the slot of a location or label.
 pub taken_name : (t : Bytes) (made : SlotBindings) (result : Option SlotBindings)
@@ -51,61 +52,62 @@ module _ {W Form Stmt : Type 0} (spelling : Spelling W Form Stmt) where
       ((f : Filling slots) → Fills spelling ts slots f → ⊥)
 
   -- If what follows a token was found at the other slots, and the token is added, then the tokens are taken together.
-  pub taken_more : (rest : List (Slot W)) (slot : Slot W) (ts : TokenList) (t : Bytes) (k : ℕ) (found all : SlotBindings)
+  pub AreTaken-one_more : (rest : List (Slot W)) (slot : Slot W) (ts : TokenList) (t : Bytes) (k : ℕ) (found all : SlotBindings)
       (b : Bool)
       → (f : Filling rest) × Fills spelling ts rest f × (found ≡ bindings_of (k + 1) rest f)
       → IsAdded slot t k found b all
       → AreTaken (t ∷ ts) k (slot ∷ rest) b all
-  taken_more rest slot ts t k found all false behind h = λ g s. h g.0 s.0
-  taken_more rest slot ts t k found all true (f, fills, is) (g, gives, made) =
+  AreTaken-one_more rest slot ts t k found all false behind h = λ g s. h g.0 s.0
+  AreTaken-one_more rest slot ts t k found all true (f, fills, is) (g, gives, made) =
       ((g, f), (gives, fills), made ∙ ap (bind_slot k slot g) is)
 
   -- The comparison of a token with a keyword says whether the keyword's slot accepts it.
-  pub keyword_or_not : (w : W) (t : Bytes) (b : Bool)
+  pub keyword_equal-iff_Gives : (w : W) (t : Bytes) (b : Bool)
       → b ≡ bytes_eq (lowercase_if_x86 spelling.language.arch (spelling.text_of w)) (lowercase_if_x86 spelling.language.arch t)
       → IsTrue b ↔ Gives spelling t (Keyword w) tt
-  keyword_or_not w t b is =
+  keyword_equal-iff_Gives w t b is =
       let d = bytes_eq-Decides _ (lowercase_if_x86 spelling.language.arch t) in (λ yes. d.0 (sym is ∙ yes), λ same. is ∙ d.1 same)
 
   -- A keyword before the tokens, at its slot, does not change what is found, since a keyword gives nothing.
-  pub taken_behind : (rest : List (Slot W)) (w : W) (ts : TokenList) (t : Bytes) (k : ℕ) (b : Bool) (all : SlotBindings)
+  pub AreTaken-after_keyword : (rest : List (Slot W)) (w : W) (ts : TokenList) (t : Bytes) (k : ℕ) (b : Bool) (all : SlotBindings)
       → Gives spelling t (Keyword w) tt
       → AreTaken ts (k + 1) rest b all
       → AreTaken (t ∷ ts) k (Keyword w ∷ rest) b all
-  taken_behind rest w ts t k false all here h = λ f s. h f.1 s.1
-  taken_behind rest w ts t k true all here (f, fills, is) = ((tt, f), (here, fills), is)
+  AreTaken-after_keyword rest w ts t k false all here h = λ f s. h f.1 s.1
+  AreTaken-after_keyword rest w ts t k true all here (f, fills, is) = ((tt, f), (here, fills), is)
 
   -- No tokens do not fill a list of slots that is not empty.
-  pub none_filled : (rest : List (Slot W)) (slot : Slot W) (tokens : List Token)
+  pub not_Fills-no_tokens : (rest : List (Slot W)) (slot : Slot W) (tokens : List Token)
       → length tokens ≡ 0
       → (f : Filling (slot ∷ rest))
       → Fills spelling (token_texts tokens) (slot ∷ rest) f
       → ⊥
-  none_filled rest slot [] b = λ f h. h
-  none_filled rest slot (t ∷ tokens) b = absurd (omega (arith, b))
+  not_Fills-no_tokens rest slot [] b = λ f h. h
+  not_Fills-no_tokens rest slot (t ∷ tokens) b = absurd (omega (arith, b))
 
   -- If there are no slots, nothing is found, and the result is whether there are no tokens either.
-  pub taken_none : (slots : List (Slot W)) (tokens : List Token) (k : ℕ) (b : Bool) (all : SlotBindings)
+  pub AreTaken-no_slots : (slots : List (Slot W)) (tokens : List Token) (k : ℕ) (b : Bool) (all : SlotBindings)
       → length slots ≡ 0
       → b ≡ eqb (length tokens) 0
       → all ≡ no_bindings
       → AreTaken (token_texts tokens) k slots b all
-  taken_none [] [] k true all a e is = (tt, tt, is)
-  taken_none [] (t ∷ tokens) k false all a e is = λ f s. s
-  taken_none [] [] k false all a e is = absurd (true≢false (sym e))
-  taken_none [] (t ∷ tokens) k true all a e is = absurd (omega (arith, eqb-true (length (t ∷ tokens)) 0 (sym e)))
-  taken_none (slot ∷ slots) tokens k b all a e is = absurd (omega (arith, a))
+  AreTaken-no_slots [] [] k true all a e is = (tt, tt, is)
+  AreTaken-no_slots [] (t ∷ tokens) k false all a e is = λ f s. s
+  AreTaken-no_slots [] [] k false all a e is = absurd (true≢false (sym e))
+  AreTaken-no_slots [] (t ∷ tokens) k true all a e is = absurd (omega (arith, eqb-true (length (t ∷ tokens)) 0 (sym e)))
+  AreTaken-no_slots (slot ∷ slots) tokens k b all a e is = absurd (omega (arith, a))
 
   -- Tokens do not fill a different number of slots.
-  pub not_filled : (slots : List (Slot W)) (tokens : List Token)
+  pub not_Fills-other_count : (slots : List (Slot W)) (tokens : List Token)
       → (length slots ≡ length tokens → ⊥)
       → (f : Filling slots)
       → Fills spelling (token_texts tokens) slots f
       → ⊥
-  not_filled [] [] differ f h = differ refl
-  not_filled [] (t ∷ tokens) differ f h = h
-  not_filled (slot ∷ slots) [] differ f h = h
-  not_filled (slot ∷ slots) (t ∷ tokens) differ f h = not_filled slots tokens (λ e. differ (ap suc e)) f.1 h.1
+  not_Fills-other_count [] [] differ f h = differ refl
+  not_Fills-other_count [] (t ∷ tokens) differ f h = h
+  not_Fills-other_count (slot ∷ slots) [] differ f h = h
+  not_Fills-other_count (slot ∷ slots) (t ∷ tokens) differ f h =
+      not_Fills-other_count slots tokens (λ e. differ (ap suc e)) f.1 h.1
 
   -- A slot accepts a token if and only if something is found of it there.
   pub can_stand_alone : (t : Bytes) (slot : Slot W) (k : ℕ) (found : SlotBindings) (result : Option SlotBindings)
@@ -117,44 +119,46 @@ module _ {W Form Stmt : Type 0} (spelling : Spelling W Form Stmt) where
   -- ---- how far tokens match a statement
 
   -- If there are no slots, none is reached.
-  pub reach_none : (slots : List (Slot W)) (ts : TokenList) → length slots ≡ 0 → IsReach spelling ts slots 0
-  reach_none [] ts a = refl
-  reach_none (slot ∷ slots) ts a = absurd (omega (arith, a))
+  pub IsReach-no_slots : (slots : List (Slot W)) (ts : TokenList) → length slots ≡ 0 → IsReach spelling ts slots 0
+  IsReach-no_slots [] ts a = refl
+  IsReach-no_slots (slot ∷ slots) ts a = absurd (omega (arith, a))
 
   -- If there are no tokens, no slot is reached.
-  pub reach_end : (slots : List (Slot W)) (tokens : List Token)
+  pub IsReach-no_tokens : (slots : List (Slot W)) (tokens : List Token)
       → length tokens ≡ 0
       → IsReach spelling (token_texts tokens) slots 0
-  reach_end [] tokens b = refl
-  reach_end (slot ∷ slots) [] b = refl
-  reach_end (slot ∷ slots) (t ∷ tokens) b = absurd (omega (arith, b))
+  IsReach-no_tokens [] tokens b = refl
+  IsReach-no_tokens (slot ∷ slots) [] b = refl
+  IsReach-no_tokens (slot ∷ slots) (t ∷ tokens) b = absurd (omega (arith, b))
 
   -- With a token before them that the first slot accepts, tokens reach one slot further.
-  pub reach_more : (rest : List (Slot W)) (slot : Slot W) (ts : TokenList) (t : Bytes) (k : ℕ)
+  pub IsReach-one_more : (rest : List (Slot W)) (slot : Slot W) (ts : TokenList) (t : Bytes) (k : ℕ)
       → CanStand spelling (t ∷ []) (slot ∷ [])
       → IsReach spelling ts rest k
       → IsReach spelling (t ∷ ts) (slot ∷ rest) (1 + k)
-  reach_more rest slot ts t k stands h = let e : 1 + k ≡ suc k = omega arith in rw e (stands, h)
+  IsReach-one_more rest slot ts t k stands h = let e : 1 + k ≡ suc k = omega arith in rw e (stands, h)
 
   -- Tokens reach at most as many slots as there are slots and tokens.
-  pub reach_within : (slots : List (Slot W)) (ts : TokenList) (n : ℕ)
+  pub IsReach-in_range : (slots : List (Slot W)) (ts : TokenList) (n : ℕ)
       → IsReach spelling ts slots n
       → (n ≤ length slots) × (n ≤ length ts)
-  reach_within [] ts n h = (omega (arith, h), omega (arith, h))
-  reach_within (slot ∷ slots) [] n h = (omega (arith, h), omega (arith, h))
-  reach_within (slot ∷ slots) (t ∷ ts) zero h = (omega arith, omega arith)
-  reach_within (slot ∷ slots) (t ∷ ts) (suc n) h = let r = reach_within slots ts n h.1 in (omega (arith, r.0), omega (arith, r.1))
+  IsReach-in_range [] ts n h = (omega (arith, h), omega (arith, h))
+  IsReach-in_range (slot ∷ slots) [] n h = (omega (arith, h), omega (arith, h))
+  IsReach-in_range (slot ∷ slots) (t ∷ ts) zero h = (omega arith, omega arith)
+  IsReach-in_range (slot ∷ slots) (t ∷ ts) (suc n) h =
+      let r = IsReach-in_range slots ts n h.1 in (omega (arith, r.0), omega (arith, r.1))
 
   -- The number of slots that tokens reach is unique: of two such numbers neither is greater.
-  pub at_most : (ts : TokenList) (slots : List (Slot W)) (m n : ℕ)
+  pub IsReach-at_most : (ts : TokenList) (slots : List (Slot W)) (m n : ℕ)
       → IsReach spelling ts slots m
       → IsReach spelling ts slots n
       → m ≤ n
-  at_most ts [] m n h k = omega (arith, h)
-  at_most [] (slot ∷ slots) m n h k = omega (arith, h)
-  at_most (t ∷ ts) (slot ∷ slots) zero n h k = omega arith
-  at_most (t ∷ ts) (slot ∷ slots) (suc m) zero h k = absurd (k h.0)
-  at_most (t ∷ ts) (slot ∷ slots) (suc m) (suc n) h k = let less = at_most ts slots m n h.1 k.1 in omega (arith, less)
+  IsReach-at_most ts [] m n h k = omega (arith, h)
+  IsReach-at_most [] (slot ∷ slots) m n h k = omega (arith, h)
+  IsReach-at_most (t ∷ ts) (slot ∷ slots) zero n h k = omega arith
+  IsReach-at_most (t ∷ ts) (slot ∷ slots) (suc m) zero h k = absurd (k h.0)
+  IsReach-at_most (t ∷ ts) (slot ∷ slots) (suc m) (suc n) h k =
+      let less = IsReach-at_most ts slots m n h.1 k.1 in omega (arith, less)
 
   -- ---- what a loop over the forms has found of each
 
@@ -171,19 +175,19 @@ module _ {W Form Stmt : Type 0} (spelling : Spelling W Form Stmt) where
   ReachesTo ts k form = (n : ℕ) × IsReach spelling ts (spelling.slots_of form) n × (n ≤ k)
 
 -- What holds of the first i forms, and of the next one, holds of the first `i + 1`.
-pub form_more : {X : Type 0} (P : X → Type 0) (forms : List X) (i : ℕ) (form : X)
+pub All-take_suc : {X : Type 0} (P : X → Type 0) (forms : List X) (i : ℕ) (form : X)
     → i < length forms
     → form ≡ get_or forms i form
     → All P (take i forms)
     → P form
     → All P (take (i + 1) forms)
-form_more P forms i form within is before here = All-more P forms i form within before (subst P is here)
+All-take_suc P forms i form within is before here = All-more P forms i form within before (subst P is here)
 
 -- What holds of the first i forms holds of each form, if there are at most i.
-pub forms_all : {X : Type 0} (P : X → Type 0) (forms : List X) (i : ℕ)
+pub All-take_all : {X : Type 0} (P : X → Type 0) (forms : List X) (i : ℕ)
     → length forms ≤ i
     → All P (take i forms)
     → (form : X)
     → Contains forms form
     → P form
-forms_all P forms i end all form there = All-contains P _ _ (subst (All P) (take_all i forms end) all) there
+All-take_all P forms i end all form there = All-contains P _ _ (subst (All P) (take_all i forms end) all) there

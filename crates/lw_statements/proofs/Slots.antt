@@ -1,4 +1,5 @@
--- What tokens give at slots is unique, and forms whose slots differ exclude each other.
+-- What tokens give at slots is unique, and forms whose slots differ exclude each other. So tokens say at most
+-- one statement, if the language's forms are distinguishable, which is checked by computing.
 use Rattle.lw_statements.proofs.Common.{not-false, ◌≡◌, ℕ, ◌<◌, Bool, true, false, true≢false, List, [], ◌∷◌}
 use Rattle.lw_statements.proofs.Common.{map, get_or, refl, sym, ap, ◌∙◌, subst, arith, inl, inr, not, ◌||◌}
 use Rattle.lw_statements.proofs.Common.{codes, bytes_eq, eqb, eqb-true, list_any, agree_below_at, cases_Bool}
@@ -6,18 +7,18 @@ use Rattle.lw_statements.proofs.Common.{or_right, list_any_at, bytes_eq-Decides,
 use Rattle.lw_statements.proofs.Common.{first_byte_is, is_ascii_digit, to_ascii_lowercase, Arch, Source, X86}
 use Rattle.lw_statements.proofs.Common.{Operand, IsLocationName, is_reserved, is_numbered_register, keywords}
 use Rattle.lw_statements.proofs.Common.{x86_registers, IsRegisterName, register_name, lowercase_if_x86}
-use Rattle.lw_statements.proofs.Common.{register_unique, IsNumber, number-unique, number_first, Slot, Keyword}
-use Rattle.lw_statements.proofs.Common.{Register, Location, Value, Number, Label, IsOperand, Spelling}
-use Rattle.lw_statements.proofs.Common.{SlotValue, Filling, Gives, Fills, names_register, tokens_differ}
-use Rattle.lw_statements.proofs.Common.{are_disjoint_forms, is_no_colon, is_no_location, is_word_slot, ltb}
-use Rattle.lw_statements.proofs.Common.{ltb-true, ltb-false, is_name_byte, lowercase_is}
+use Rattle.lw_statements.proofs.Common.{register_of_name-unique, IsNumber, number-unique, number_first, Slot}
+use Rattle.lw_statements.proofs.Common.{Keyword, Register, Location, Value, Number, Label, IsOperand}
+use Rattle.lw_statements.proofs.Common.{Spelling, SlotValue, Filling, Gives, Fills, names_register}
+use Rattle.lw_statements.proofs.Common.{tokens_differ, are_disjoint_forms, is_no_colon, is_no_location}
+use Rattle.lw_statements.proofs.Common.{is_word_slot, ltb, ltb-true, ltb-false, is_name_byte, lowercase_is}
 use Rattle.lw_base.specs.declared.operand.Operand.TheVariants as operand
 
 -- ---- registers, numbers and names of locations
 
 -- The name of a register of the source language, `r` and a digit, is reserved.
-numbered : (r : ℕ) → r < 6 → is_reserved (register_name Source r) ≡ true
-numbered r h = agree_below_at (λ q. is_reserved (register_name Source q)) (λ q. true) 6 r refl h
+register_name-is_reserved : (r : ℕ) → r < 6 → is_reserved (register_name Source r) ≡ true
+register_name-is_reserved r h = agree_below_at (λ q. is_reserved (register_name Source q)) (λ q. true) 6 r refl h
 
 -- The name of a register of x86, in lower case, is on the list of them.
 x86_register_listed : (r : ℕ)
@@ -29,19 +30,19 @@ x86_register_listed r h =
 
 -- A token that names a register, of either language and in any case allowed, is reserved.
 register_reserved : (arch : Arch) (w : Bytes) (r : ℕ) → IsRegisterName arch w r → is_reserved w ≡ true
-register_reserved Source w r h = ap is_reserved (sym h.1) ∙ numbered r h.0
+register_reserved Source w r h = ap is_reserved (sym h.1) ∙ register_name-is_reserved r h.0
 register_reserved X86 w r h =
     or_right (is_numbered_register w || list_any (λ k. bytes_eq w k) keywords)
     (list_any (λ k. bytes_eq (map to_ascii_lowercase w) k) x86_registers)
     (ap (λ v. list_any (λ k. bytes_eq v k) x86_registers) (sym h.1) ∙ x86_register_listed r h.0)
 
 -- A register's name is no location's name.
-pub register_apart : (arch : Arch) (w : Bytes) (r : ℕ) → IsRegisterName arch w r → IsLocationName w → ⊥
-register_apart arch w r reg loc = true≢false (sym (register_reserved arch w r reg) ∙ loc.1)
+pub not_register_and_location : (arch : Arch) (w : Bytes) (r : ℕ) → IsRegisterName arch w r → IsLocationName w → ⊥
+not_register_and_location arch w r reg loc = true≢false (sym (register_reserved arch w r reg) ∙ loc.1)
 
 -- A number is no location's name.
-number_apart : (w : Bytes) (n : ℕ) → IsNumber w n → IsLocationName w → ⊥
-number_apart w n num loc = true≢false (sym (number_first w n num) ∙ loc.0.0.front)
+not_number_and_location : (w : Bytes) (n : ℕ) → IsNumber w n → IsLocationName w → ⊥
+not_number_and_location w n num loc = true≢false (sym (number_first w n num) ∙ loc.0.0.front)
 
 -- The name of a register does not start with a digit.
 letter_first : (arch : Arch) (r : ℕ) → r < 6 → first_byte_is is_ascii_digit (lowercase_if_x86 arch (register_name arch r)) ≡ false
@@ -70,19 +71,19 @@ register_no_number arch w r n reg num =
 
 -- A token is at most one operand.
 operand_unique : (arch : Arch) (w : Bytes) (u v : Operand) → IsOperand arch w u → IsOperand arch w v → u ≡ v
-operand_unique arch w (operand.Register r) (operand.Register q) h k = ap operand.Register (register_unique arch w r q h k)
+operand_unique arch w (operand.Register r) (operand.Register q) h k = ap operand.Register (register_of_name-unique arch w r q h k)
 operand_unique arch w (operand.Register r) (operand.Number n) h k = absurd (register_no_number arch w r n h k)
 operand_unique arch w (operand.Number n) (operand.Register r) h k = absurd (register_no_number arch w r n k h)
 operand_unique arch w (operand.Number n) (operand.Number m) h k = ap operand.Number (number-unique w n m h k)
 
 -- No token is both an operand and a location's name.
-operand_apart : (arch : Arch) (w : Bytes) (v : Operand) → IsOperand arch w v → IsLocationName w → ⊥
-operand_apart arch w (operand.Register r) h = register_apart arch w r h
-operand_apart arch w (operand.Number n) h = number_apart w n h
+not_operand_and_location : (arch : Arch) (w : Bytes) (v : Operand) → IsOperand arch w v → IsLocationName w → ⊥
+not_operand_and_location arch w (operand.Register r) h = not_register_and_location arch w r h
+not_operand_and_location arch w (operand.Number n) h = not_number_and_location w n h
 
 -- Texts that the comparison finds unequal are unequal.
-unequal : (u v : Bytes) → not (bytes_eq u v) ≡ true → u ≡ v → ⊥
-unequal u v e same = true≢false (sym e ∙ ap not ((bytes_eq-Decides u v).1 same))
+bytes_eq-false : (u v : Bytes) → not (bytes_eq u v) ≡ true → u ≡ v → ⊥
+bytes_eq-false u v e same = true≢false (sym e ∙ ap not ((bytes_eq-Decides u v).1 same))
 
 -- A `:` in lower case is a `:`.
 colon_case : (arch : Arch) → lowercase_if_x86 arch (codes ":") ≡ codes ":"
@@ -94,20 +95,20 @@ colon_location : IsLocationName (codes ":") → ⊥
 colon_location loc = true≢false (sym loc.0.0.all.0)
 
 -- A byte is a name's if and only if it is one in lower case.
-case_same : (b : ℕ) → is_name_byte (to_ascii_lowercase b) ≡ is_name_byte b
-case_same b = elim (cases_Bool (ltb b 128)) [
+is_name_byte-to_ascii_lowercase : (b : ℕ) → is_name_byte (to_ascii_lowercase b) ≡ is_name_byte b
+is_name_byte-to_ascii_lowercase b = elim (cases_Bool (ltb b 128)) [
   | inl e ↦ agree_below_at (λ q. is_name_byte (to_ascii_lowercase q)) is_name_byte 128 b refl (ltb-true b 128 e)
   | inr e ↦ ap is_name_byte ((lowercase_is b).2 (let most = ltb-false b 128 e in omega (arith, most)))
 ]
 
 -- If bytes are equal in lower case, and one is a name's, so is the other.
 name_byte_case : (b c : ℕ) → to_ascii_lowercase b ≡ to_ascii_lowercase c → is_name_byte c ≡ true → is_name_byte b ≡ true
-name_byte_case b c e h = sym (case_same b) ∙ ap is_name_byte e ∙ case_same c ∙ h
+name_byte_case b c e h = sym (is_name_byte-to_ascii_lowercase b) ∙ ap is_name_byte e ∙ is_name_byte-to_ascii_lowercase c ∙ h
 
 -- A location's name is not empty, and its first byte is a name's.
-first_byte : (t : Bytes) → IsLocationName t → first_byte_is is_name_byte t ≡ true
-first_byte [] loc = absurd (omega (arith, loc.0.0.some))
-first_byte (b ∷ t) loc = loc.0.0.all.0
+first_byte_of_location : (t : Bytes) → IsLocationName t → first_byte_is is_name_byte t ≡ true
+first_byte_of_location [] loc = absurd (omega (arith, loc.0.0.not_empty))
+first_byte_of_location (b ∷ t) loc = loc.0.0.all.0
 
 -- What is equal to such a text in lower case begins with a name's byte too.
 first_byte_case : (w t : Bytes)
@@ -120,16 +121,17 @@ first_byte_case (b ∷ w) [] e h = absurd cc
 first_byte_case (b ∷ w) (c ∷ t) e h = name_byte_case b c (let f : to_ascii_lowercase b ≡ to_ascii_lowercase c = cc in f) h
 
 -- A keyword that is no location's name is not read as one.
-no_word : (arch : Arch) (w t : Bytes)
+no_keyword-IsLocationName : (arch : Arch) (w t : Bytes)
     → is_no_location arch w ≡ true
     → lowercase_if_x86 arch w ≡ lowercase_if_x86 arch t
     → IsLocationName t
     → ⊥
-no_word Source w t none same loc = elim (cases_Bool (is_reserved w)) [
+no_keyword-IsLocationName Source w t none same loc = elim (cases_Bool (is_reserved w)) [
   | inl e ↦ true≢false (sym e ∙ ap is_reserved same ∙ loc.1)
-  | inr e ↦ true≢false (sym none ∙ rw (e, ap (first_byte_is is_name_byte) same ∙ first_byte t loc) refl)
+  | inr e ↦ true≢false (sym none ∙ rw (e, ap (first_byte_is is_name_byte) same ∙ first_byte_of_location t loc) refl)
 ]
-no_word X86 w t none same loc = true≢false (sym none ∙ ap not (first_byte_case w t same (first_byte t loc)))
+no_keyword-IsLocationName X86 w t none same loc =
+    true≢false (sym none ∙ ap not (first_byte_case w t same (first_byte_of_location t loc)))
 
 module _ {W Form Stmt : Type 0} (spelling : Spelling W Form Stmt) where
   -- ---- one token
@@ -140,45 +142,50 @@ module _ {W Form Stmt : Type 0} (spelling : Spelling W Form Stmt) where
       → Gives spelling t slot h
       → g ≡ h
   given_unique t (Keyword w) g h a b = refl
-  given_unique t Register g h a b = register_unique spelling.language.arch t g h a b
+  given_unique t Register g h a b = register_of_name-unique spelling.language.arch t g h a b
   given_unique t Location g h a b = sym a.0 ∙ b.0
   given_unique t Value g h a b = operand_unique spelling.language.arch t g h a b
   given_unique t Number g h a b = number-unique t g h a b
   given_unique t Label g h a b = sym a.0 ∙ b.0
 
-  named : (w : Bytes) (r : ℕ)
+  -- A text that is a register's name, up to case, names a register.
+  names_register-same_lowercase : (w : Bytes) (r : ℕ)
       → r < 6
       → lowercase_if_x86 spelling.language.arch (register_name spelling.language.arch r)
       ≡ lowercase_if_x86 spelling.language.arch w
       → names_register spelling w ≡ true
-  named w r h e =
+  names_register-same_lowercase w r h e =
       let all = 0 ∷ 1 ∷ 2 ∷ 3 ∷ 4 ∷ 5 ∷ [] in
       let there = eqb-true _ r (agree_below_at (λ q. eqb (get_or all q q) q) (λ q. true) 6 r refl h) in
       list_any_at (λ q.
       bytes_eq (lowercase_if_x86 spelling.language.arch (register_name spelling.language.arch q))
       (lowercase_if_x86 spelling.language.arch w)) all r r h (rw there ((bytes_eq-Decides _ _).1 e))
 
-  pub no_register : (t : Bytes) (w : W) (r : ℕ)
+  -- A keyword that names no register is not read as one.
+  pub no_register-keyword : (t : Bytes) (w : W) (r : ℕ)
       → not (names_register spelling (spelling.text_of w)) ≡ true
       → lowercase_if_x86 spelling.language.arch (spelling.text_of w) ≡ lowercase_if_x86 spelling.language.arch t
       → IsRegisterName spelling.language.arch t r
       → ⊥
-  no_register t w r none word reg = true≢false (sym none ∙ ap not (named (spelling.text_of w) r reg.0 (reg.1 ∙ sym word)))
+  no_register-keyword t w r none word reg =
+      true≢false (sym none ∙ ap not (names_register-same_lowercase (spelling.text_of w) r reg.0 (reg.1 ∙ sym word)))
 
   -- No token is accepted by two slots that differ.
-  pub differ_apart : (t : Bytes) (a b : Slot W) (g : SlotValue a) (h : SlotValue b)
+  pub not_given_to_differing_slots : (t : Bytes) (a b : Slot W) (g : SlotValue a) (h : SlotValue b)
       → tokens_differ spelling a b ≡ true
       → Gives spelling t a g
       → Gives spelling t b h
       → ⊥
-  differ_apart t (Keyword v) (Keyword w) g h d x y = unequal _ _ d (x ∙ sym y)
-  differ_apart t (Keyword w) Register g r d x y = no_register t w r d x y
-  differ_apart t Register (Keyword w) r h d x y = no_register t w r d y x
-  differ_apart t Register Location r n d x y = register_apart _ t r x (subst IsLocationName (sym y.0) y.1)
-  differ_apart t Location Register n r d x y = register_apart _ t r y (subst IsLocationName (sym x.0) x.1)
-  differ_apart t Location Value n v d x y = operand_apart _ t v y (subst IsLocationName (sym x.0) x.1)
-  differ_apart t Value Location v n d x y = operand_apart _ t v x (subst IsLocationName (sym y.0) y.1)
-  differ_apart t a b g h d x y = absurd cc
+  not_given_to_differing_slots t (Keyword v) (Keyword w) g h d x y = bytes_eq-false _ _ d (x ∙ sym y)
+  not_given_to_differing_slots t (Keyword w) Register g r d x y = no_register-keyword t w r d x y
+  not_given_to_differing_slots t Register (Keyword w) r h d x y = no_register-keyword t w r d y x
+  not_given_to_differing_slots t Register Location r n d x y =
+      not_register_and_location _ t r x (subst IsLocationName (sym y.0) y.1)
+  not_given_to_differing_slots t Location Register n r d x y =
+      not_register_and_location _ t r y (subst IsLocationName (sym x.0) x.1)
+  not_given_to_differing_slots t Location Value n v d x y = not_operand_and_location _ t v y (subst IsLocationName (sym x.0) x.1)
+  not_given_to_differing_slots t Value Location v n d x y = not_operand_and_location _ t v x (subst IsLocationName (sym y.0) y.1)
+  not_given_to_differing_slots t a b g h d x y = absurd cc
 
   -- A slot that accepts the name of a location, and is no word, is a location's.
   pub location_slot : (t : Bytes) (slot : Slot W) (g : SlotValue slot)
@@ -187,11 +194,11 @@ module _ {W Form Stmt : Type 0} (spelling : Spelling W Form Stmt) where
       → IsLocationName t
       → slot ≡ Location
   location_slot t (Keyword w) g none h loc =
-      absurd (no_word spelling.language.arch (spelling.text_of w) t (not-false _ none) h loc)
-  location_slot t Register r none h loc = absurd (register_apart _ t r h loc)
+      absurd (no_keyword-IsLocationName spelling.language.arch (spelling.text_of w) t (not-false _ none) h loc)
+  location_slot t Register r none h loc = absurd (not_register_and_location _ t r h loc)
   location_slot t Location x none h loc = refl
-  location_slot t Value v none h loc = absurd (operand_apart _ t v h loc)
-  location_slot t Number n none h loc = absurd (number_apart t n h loc)
+  location_slot t Value v none h loc = absurd (not_operand_and_location _ t v h loc)
+  location_slot t Number n none h loc = absurd (not_number_and_location t n h loc)
   location_slot t Label x none h loc = absurd (true≢false none)
 
   -- A `:` is accepted only by its own slot.
@@ -199,7 +206,7 @@ module _ {W Form Stmt : Type 0} (spelling : Spelling W Form Stmt) where
       → is_no_colon spelling (slot ∷ slots) ≡ true
       → Gives spelling (codes ":") slot g
       → ⊥
-  colon_gives (Keyword w) slots g apart h = unequal _ _ apart (h ∙ colon_case spelling.language.arch)
+  colon_gives (Keyword w) slots g apart h = bytes_eq-false _ _ apart (h ∙ colon_case spelling.language.arch)
   colon_gives Register slots r apart h = true≢false (sym (register_reserved _ (codes ":") r h))
   colon_gives Location slots x apart h = colon_location (subst IsLocationName (sym h.0) h.1)
   colon_gives Value slots (operand.Register r) apart h = true≢false (sym (register_reserved _ _ r h))
@@ -222,20 +229,20 @@ module _ {W Form Stmt : Type 0} (spelling : Spelling W Form Stmt) where
       ap (λ (z : SlotValue slot). (z, f)) (given_unique t slot x y a.0 b.0) ∙ ap (λ (z : Filling slots). (y, z)) h
 
   -- No tokens fill two disjoint lists of slots.
-  pub slots_apart : (ts : TokenList) (first second : List (Slot W)) (f : Filling first) (g : Filling second)
+  pub not_Fills-disjoint : (ts : TokenList) (first second : List (Slot W)) (f : Filling first) (g : Filling second)
       → are_disjoint_forms spelling first second ≡ true
       → Fills spelling ts first f
       → Fills spelling ts second g
       → ⊥
-  slots_apart [] [] [] f g d x y = absurd cc
-  slots_apart (t ∷ ts) [] second f g d x y = x
-  slots_apart [] (a ∷ first) second f g d x y = x
-  slots_apart [] [] (b ∷ second) f g d x y = y
-  slots_apart (t ∷ ts) (a ∷ first) [] f g d x y = y
-  slots_apart (t ∷ ts) (a ∷ first) (b ∷ second) (p, f) (q, g) d x y = elim (cases_Bool (tokens_differ spelling a b)) [
-    | inl e ↦ differ_apart t a b p q e x.0 y.0
+  not_Fills-disjoint [] [] [] f g d x y = absurd cc
+  not_Fills-disjoint (t ∷ ts) [] second f g d x y = x
+  not_Fills-disjoint [] (a ∷ first) second f g d x y = x
+  not_Fills-disjoint [] [] (b ∷ second) f g d x y = y
+  not_Fills-disjoint (t ∷ ts) (a ∷ first) [] f g d x y = y
+  not_Fills-disjoint (t ∷ ts) (a ∷ first) (b ∷ second) (p, f) (q, g) d x y = elim (cases_Bool (tokens_differ spelling a b)) [
+    | inl e ↦ not_given_to_differing_slots t a b p q e x.0 y.0
     | inr e ↦
-        slots_apart ts first second f g
+        not_Fills-disjoint ts first second f g
         (let h : (false || are_disjoint_forms spelling first second) ≡ true =
         subst (λ (z : Bool). (z || are_disjoint_forms spelling first second) ≡ true) e d in
         h) x.1 y.1

@@ -1,4 +1,5 @@
--- A statement is read or rejected as the language's grammar says.
+-- A statement is read or rejected as the language's grammar says: from the bindings of a form to the draft of
+-- its statement, or to the fault. `read_statement` returns by these lemmas.
 use Rattle.lw_statements.proofs.Common.{◌≡◌, ℕ, suc, ◌<◌, ◌≤◌, ◌+◌, Option, Some, None, List, [], ◌∷◌, ◌++◌}
 use Rattle.lw_statements.proofs.Common.{length, take, get_or, refl, sym, ap, ◌∙◌, subst, arith, slice_get}
 use Rattle.lw_statements.proofs.Common.{Contains, IfSome, MatchOption, slice_get_within}
@@ -10,12 +11,12 @@ use Rattle.lw_statements.proofs.Common.{name_in, CanStand, bindings_of, draft_on
 use Rattle.lw_statements.proofs.Common.{IsDrafted, IsNotDrafted, IsOverflowSlot, IsReach, IsSlotAfter}
 use Rattle.lw_statements.proofs.Common.{IsSpelling, Phrase, Fits, StatementRead, StatementRefused}
 use Rattle.lw_statements.proofs.Common.{HasOverflowIn}
-use Rattle.lw_statements.proofs.Elements.{all_at}
+use Rattle.lw_statements.proofs.Elements.{All-get}
 use Rattle.lw_statements.proofs.FrontLabels.{get_text}
-use Rattle.lw_statements.proofs.Causes.{further}
+use Rattle.lw_statements.proofs.Causes.{FaultClaim-weakened}
 use Rattle.lw_statements.proofs.Beginnings.{location_after}
-use Rattle.lw_statements.proofs.Fronts.{after_cut, fitting_before, slot_at}
-use Rattle.lw_statements.proofs.api.Forms.{is_grammar, passes}
+use Rattle.lw_statements.proofs.Fronts.{after_cut, fitting_before, IsSlotAfter-get}
+use Rattle.lw_statements.proofs.api.Forms.{is_grammar, list_all-get}
 
 module _ {W Form Stmt : Type 0} (spelling : Spelling W Form Stmt) where
   -- ---- where the name of a location is
@@ -33,12 +34,13 @@ module _ {W Form Stmt : Type 0} (spelling : Spelling W Form Stmt) where
       × CanStand spelling (take j ts) front
       × IsLocationName x
 
-  named_further : (i k : ℕ) (t : Bytes) (ts : TokenList) (slot : Slot W) (slots : List (Slot W)) (f : Filling (slot ∷ slots))
+  -- The name is the same with one more slot before, which names nothing.
+  IsNamed-suc : (i k : ℕ) (t : Bytes) (ts : TokenList) (slot : Slot W) (slots : List (Slot W)) (f : Filling (slot ∷ slots))
       → name_in (slot ∷ slots) f ≡ name_in slots f.1
       → CanStand spelling (t ∷ []) (slot ∷ [])
       → IsNamed (i + 1) k ts slots f.1
       → IsNamed i k (t ∷ ts) (slot ∷ slots) f
-  named_further i k t ts slot slots f same stands (x, j, front, back, is, at, there, cut, before, loc) = (
+  IsNamed-suc i k t ts slot slots f same stands (x, j, front, back, is, at, there, cut, before, loc) = (
     x,
     suc j,
     slot ∷ front,
@@ -51,6 +53,7 @@ module _ {W Form Stmt : Type 0} (spelling : Spelling W Form Stmt) where
     loc,
   )
 
+  -- The index that is bound to a name is that of the slot of a location.
   name_index : (i k : ℕ) (ts : TokenList) (slots : List (Slot W)) (f : Filling slots)
       → Fills spelling ts slots f
       → (bindings_of i slots f).name ≡ Some k
@@ -62,86 +65,95 @@ module _ {W Form Stmt : Type 0} (spelling : Spelling W Form Stmt) where
       let d : i ≡ k = cc in
       (f.0, 0, [], slots, refl, omega (arith, d), ap Some h.0.0, refl, (tt, tt), h.0.1)
   name_index i k (t ∷ ts) (slot ∷ slots) f h e =
-      named_further i k t ts slot _ f refl ((f.0, tt), (h.0, tt)) (name_index (i + 1) k ts slots f.1 h.1 e)
+      IsNamed-suc i k t ts slot _ f refl ((f.0, tt), (h.0, tt)) (name_index (i + 1) k ts slots f.1 h.1 e)
 
-  no_name : (i : ℕ) (slots : List (Slot W)) (f : Filling slots) → (bindings_of i slots f).name ≡ None → name_in slots f ≡ None
-  no_name i [] f e = refl
-  no_name i (Location ∷ slots) f e = absurd cc
-  no_name i (slot ∷ slots) f e = no_name (i + 1) slots f.1 e
+  -- Without such an index the form names no location.
+  name_in-None : (i : ℕ) (slots : List (Slot W)) (f : Filling slots)
+      → (bindings_of i slots f).name ≡ None
+      → name_in slots f ≡ None
+  name_in-None i [] f e = refl
+  name_in-None i (Location ∷ slots) f e = absurd cc
+  name_in-None i (slot ∷ slots) f e = name_in-None (i + 1) slots f.1 e
 
   -- ---- a form whose slots the tokens fill
 
   module _ (phrase : Phrase) (form : Form) (f : Filling (spelling.slots_of form)) (there : Contains spelling.forms form)
       (fills : Fills spelling (token_texts phrase.tokens.now) (spelling.slots_of form) f) where
+    -- The tokens of the statement.
     abbrev tokens : List Token
     tokens = phrase.tokens.now
 
+    -- The statement that the tokens say.
     abbrev said : ParsesStatement spelling
     said = record { form = form; filling = f }
 
-    abbrev found : SlotBindings
-    found = bindings_of 0 (spelling.slots_of form) f
+    -- The bindings of the statement's tokens.
+    abbrev bindings_found : SlotBindings
+    bindings_found = bindings_of 0 (spelling.slots_of form) f
 
     -- If a name is found, it is the token of this index.
-    named : (k : ℕ) → found.name ≡ Some k → IsNamed 0 k (token_texts tokens) (spelling.slots_of form) f
-    named k is = name_index 0 k (token_texts tokens) (spelling.slots_of form) f fills is
+    IsNamed-of_found : (k : ℕ) → bindings_found.name ≡ Some k → IsNamed 0 k (token_texts tokens) (spelling.slots_of form) f
+    IsNamed-of_found k is = name_index 0 k (token_texts tokens) (spelling.slots_of form) f fills is
 
-    name_is : (k : ℕ) (t : Token)
-        → found.name ≡ Some k
+    -- The token at the bound index is the name of the statement's location.
+    name_in-found : (k : ℕ) (t : Token)
+        → bindings_found.name ≡ Some k
         → slice_get tokens k ≡ Some t
         → (name_in (spelling.slots_of form) f ≡ Some t.text.now) × IsLocationName t.text.now
-    name_is k t is at =
-        let n = named k is in
+    name_in-found k t is at =
+        let n = IsNamed-of_found k is in
         let j : n.1 ≡ k = omega (arith, n.5) in
         let one = same_Some _ _ (sym n.6 ∙ ap (slice_get (token_texts tokens)) j ∙ get_text tokens k t at) in
         (n.4 ∙ ap Some one, subst IsLocationName one n.9)
 
-    pub name_among : IsNameAmong found tokens
-    name_among = go found.name refl
+    -- The bound index is that of a name among the tokens.
+    pub name_among : IsNameAmong bindings_found tokens
+    name_among = go bindings_found.name refl
       where
         go : (m : Option ℕ)
-            → found.name ≡ m
+            → bindings_found.name ≡ m
             → IfSome m (λ k. (k < length tokens) × ((t : Token) → slice_get tokens k ≡ Some t → IsLocationName t.text.now))
         go None is = tt
         go (Some k) is =
-            let n = named k is in
+            let n = IsNamed-of_found k is in
             let within : n.1 < length (token_texts tokens) = slice_get_within (token_texts tokens) n.1 n.0 n.6 in
-            (omega (arith, n.5, within, length-map tokens (λ t. t.text.now)), λ t at. (name_is k t is at).1)
+            (omega (arith, n.5, within, length-map tokens (λ t. t.text.now)), λ t at. (name_in-found k t is at).1)
 
-    pub statement_read : (before : NameTable) (draft : Draft Form) (after : NameTable)
-        → IsDrafted form found tokens before draft after
+    -- The draft made of the bindings is the draft of the statement.
+    pub StatementRead-IsDrafted : (before : NameTable) (draft : Draft Form) (after : NameTable)
+        → IsDrafted form bindings_found tokens before draft after
         → StatementRead (grammar_of spelling) (draft_of spelling) (token_texts tokens) before draft after
-    statement_read before draft after h = go found.name refl h
+    StatementRead-IsDrafted before draft after h = go bindings_found.name refl h
       where
         go : (m : Option ℕ)
-            → found.name ≡ m
-            → MatchOption m ((after ≡ before) × (draft ≡ draft_on form None found)) (λ k.
+            → bindings_found.name ≡ m
+            → MatchOption m ((after ≡ before) × (draft ≡ draft_on form None bindings_found)) (λ k.
             (t : Token)
             × (loc : ℕ)
             × (slice_get tokens k ≡ Some t)
             × NameRead before t loc after
-            × (draft ≡ draft_on form (Some loc) found))
+            × (draft ≡ draft_on form (Some loc) bindings_found))
             → StatementRead (grammar_of spelling) (draft_of spelling) (token_texts tokens) before draft after
         go None is (names, made) = record {
           syntax = said;
           says = (there, fills);
-          names = rw (no_name 0 (spelling.slots_of form) f is) names;
+          names = rw (name_in-None 0 (spelling.slots_of form) f is) names;
           made = rw is made;
         }
         go (Some k) is (t, loc, at, read, made) =
-            let n = (name_is k t is at).0 in
+            let n = (name_in-found k t is at).0 in
             record { syntax = said; says = (there, fills); names = rw n read.names; made = rw (is, n, ← read.number) made }
 
     -- A statement is rejected if the table has no room for its location.
-    pub refused_by_form : (made : Form → Operands → Option Stmt)
+    pub StatementRefused-IsNotDrafted : (made : Form → Operands → Option Stmt)
         → IsSpelling spelling made
         → (before : NameTable) (fault : CellFault)
         → IsNameTable before
-        → IsNotDrafted found tokens before fault
+        → IsNotDrafted bindings_found tokens before fault
         → StatementRefused (grammar_of spelling) before phrase fault
-    refused_by_form made lawful before fault table h =
-        let n = named h.index h.name in
-        let is = name_is h.index h.token h.name h.is in
+    StatementRefused-IsNotDrafted made lawful before fault table h =
+        let n = IsNamed-of_found h.index h.name in
+        let is = name_in-found h.index h.token h.name h.token_at in
         let front : CanStand spelling (token_texts (take h.index tokens)) n.2 =
         subst (λ (ts : TokenList). CanStand spelling ts n.2)
         (ap (λ (m : ℕ). take m (token_texts tokens)) (omega (arith, n.5)) ∙ take-map (λ (t : Token). t.text.now) h.index tokens)
@@ -152,22 +164,22 @@ module _ {W Form Stmt : Type 0} (spelling : Spelling W Form Stmt) where
               let same : s ≡ said = (is_grammar _ _ lawful).one (token_texts tokens) s said fits.0 (there, fills) in
               h.refused.none known (is.1, rw (same, is.0) at fits.1);
           cause =
-              further (λ c none. absurd none) (λ none. absurd none) (λ ninth. record {
+              FaultClaim-weakened (λ c none. absurd none) (λ none. absurd none) (λ ninth. record {
                 place = h.index;
                 token = h.token;
-                is = h.is;
+                token_at = h.token_at;
                 begun = λ some.
                     fitting_before spelling before table form (token_texts (take h.index tokens)) there
-                    (passes _ spelling.forms there.0 form lawful.names there.1 there.2) after;
+                    (list_all-get _ spelling.forms there.0 form lawful.names there.1 there.2) after;
                 location =
                     location_after _ made lawful form (token_texts (take h.index tokens)) h.token.text.now there after is.1;
                 ninth = ninth;
               }) h.refused.cause;
-          place = λ len lies. h.refused.place len (all_at (λ t. t.at ≤ len) tokens _ h.token h.is lies.0);
+          place = λ len lies. h.refused.place len (All-get (λ t. t.at ≤ len) tokens _ h.token h.token_at lies.0);
         }
 
   -- A ninth location at a slot that the tokens reach is at a position where a statement may have a location.
-  pub ninth_in : (made : Form → Operands → Option Stmt)
+  pub HasOverflowIn-IsOverflowSlot : (made : Form → Operands → Option Stmt)
       → IsSpelling spelling made
       → (form : Form)
       → Contains spelling.forms form
@@ -175,26 +187,26 @@ module _ {W Form Stmt : Type 0} (spelling : Spelling W Form Stmt) where
       → IsReach spelling (token_texts tokens) (spelling.slots_of form) front
       → IsOverflowSlot (spelling.slots_of form) tokens front names index
       → HasOverflowIn (grammar_of spelling) tokens names (get_or tokens index default).at
-  ninth_in made lawful form there tokens names table front index default reach n =
-      let r = slot_at spelling (spelling.slots_of form) (token_texts tokens) front index Location reach n.before n.slot in
-      let here = r.1 n.token.text.now (get_text tokens index n.token n.is) in
+  HasOverflowIn-IsOverflowSlot made lawful form there tokens names table front index default reach n =
+      let r = IsSlotAfter-get spelling (spelling.slots_of form) (token_texts tokens) front index Location reach n.before n.slot in
+      let here = r.1 n.token.text.now (get_text tokens index n.token n.token_at) in
       let loc = subst IsLocationName (sym here.1.0.0) here.1.0.1 in
       let after =
       subst (λ ts. IsSlotAfter spelling ts (spelling.slots_of form) Location) (take-map (λ t. t.text.now) index tokens) r.0 in
       subst (λ (t : Token). HasOverflowIn (grammar_of spelling) tokens names t.at)
-      (sym (get_or_from_slice_get tokens index n.token default n.is)) (record {
+      (sym (get_or_from_slice_get tokens index n.token default n.token_at)) (record {
         place = index;
         token = n.token;
-        is = n.is;
+        token_at = n.token_at;
         begun = λ some.
-            fitting_before spelling names table form _ there (passes _ spelling.forms there.0 form lawful.names there.1 there.2)
-            after;
+            fitting_before spelling names table form _ there
+            (list_all-get _ spelling.forms there.0 form lawful.names there.1 there.2) after;
         location = location_after spelling made lawful form _ n.token.text.now there after loc;
         ninth = (refl, loc, n.full, n.new);
       })
 
   -- Tokens that fill no form say no statement that fits.
-  pub none_said : (ts : TokenList) (before : NameTable)
+  pub no_statement-no_form : (ts : TokenList) (before : NameTable)
       → ((form : Form) (f : Filling (spelling.slots_of form))
       → Contains spelling.forms form
       → Fills spelling ts (spelling.slots_of form) f
@@ -202,4 +214,4 @@ module _ {W Form Stmt : Type 0} (spelling : Spelling W Form Stmt) where
       → (s : ParsesStatement spelling)
       → Fits (grammar_of spelling) before ts s
       → ⊥
-  none_said ts before none s fits = none s.form s.filling fits.0.0 fits.0.1
+  no_statement-no_form ts before none s fits = none s.form s.filling fits.0.0 fits.0.1

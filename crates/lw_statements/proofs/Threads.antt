@@ -1,4 +1,5 @@
--- Reading the threads of a test in sequence: the invariant when one more is read.
+-- Reading the threads of a test in sequence: the invariant when one more is read. The loop of `read_columns`
+-- goes by it, and `read_test` makes the frame's test of the threads.
 use Rattle.lw_statements.proofs.Common.{◌≡◌, ℕ, ◌<◌, ◌≤◌, ◌+◌, ◌-◌, List, [], ◌∷◌, ◌++◌, length, suc, take}
 use Rattle.lw_statements.proofs.Common.{drop, get_or, refl, sym, ap, ◌∙◌, subst, arith, All, replicate}
 use Rattle.lw_statements.proofs.Common.{append-nil, AllZip, map-append, flat_map-append, TestHead}
@@ -7,44 +8,48 @@ use Rattle.lw_statements.proofs.Common.{Memory, CellFault, Cell, cells_texts, al
 use Rattle.lw_statements.proofs.Common.{placed_cells, EndsBefore, grid_placed, Grammar, IsGrammar, CellSyntax}
 use Rattle.lw_statements.proofs.Common.{Column, names_in, names_of, code_in, FrameHasTest, ColumnRead}
 use Rattle.lw_statements.proofs.Common.{ColumnsRead, ColumnRefused, ColumnsRefused}
-use Rattle.lw_statements.proofs.Causes.{refused_memory}
-use Rattle.lw_statements.proofs.Elements.{all_amid, cut_there, take_further}
+use Rattle.lw_statements.proofs.Causes.{refusal-Memory}
+use Rattle.lw_statements.proofs.Elements.{All-middle, take-item-drop, take_further}
 use Rattle.lw_statements.proofs.OneReading.{column_unique}
-use Rattle.lw_statements.proofs.ResolvedNames.{code_stays}
-use Rattle.lw_statements.proofs.TablesRead.{AreIn, read_more, read_room}
-use Rattle.lw_statements.proofs.api.Zips.{zip_cut}
+use Rattle.lw_statements.proofs.ResolvedNames.{code_in-insert_names}
+use Rattle.lw_statements.proofs.TablesRead.{AreIn, columns_read-one_more, room_for_read_names}
+use Rattle.lw_statements.proofs.api.Zips.{AllZip-split}
 
 module _ {Syntax Stmt : Type 0} (grammar : Grammar Syntax Stmt) where
+  -- The names of two lists of threads are those of the first, then those of the second.
   names_of-append : (xs ys : List (List (CellSyntax Syntax)))
       → names_of grammar (xs ++ ys) ≡ names_of grammar xs ++ names_of grammar ys
   names_of-append xs ys = flat_map-append (names_in grammar) xs ys
 
-  stays : (names ns : NameTable) (t : List (CellSyntax Syntax))
+  -- Inserting names preserves the code of a thread whose names are in the table.
+  code_in-insert_more_names : (names ns : NameTable) (t : List (CellSyntax Syntax))
       → AreIn names (names_of grammar (t ∷ []))
       → code_in grammar (insert_names names ns) t ≡ code_in grammar names t
-  stays names ns t all = code_stays grammar _ ns t (subst (AreIn names) (append-nil (names_in grammar t)) all)
+  code_in-insert_more_names names ns t all =
+      code_in-insert_names grammar _ ns t (subst (AreIn names) (append-nil (names_in grammar t)) all)
 
   -- A fault because memory ran out rejects the cells of the threads.
   pub columns_out_of_memory : {A : Type 0} (names : NameTable) (columns : List (List (Cell A))) (f : CellFault)
       → f.cause ≡ Memory
       → f.at ≡ 0
       → ColumnsRefused grammar names columns f
-  columns_out_of_memory names columns f = refused_memory f (λ at. tt)
+  columns_out_of_memory names columns f = refusal-Memory f (λ at. tt)
 
   -- A column, after those that were read.
   module _ {A : Type 0} (columns : List (List (Cell A))) (i : ℕ) (column : List (Cell A)) (within : i < length columns)
       (is : column ≡ get_or columns i column) (before mid : NameTable) (threads : List (List Stmt))
       (read : ColumnsRead grammar (all_texts (take i columns)) before threads mid) where
     -- If that column is read, the columns up to it are.
-    pub threads_more : (stmts : List Stmt) (after : NameTable)
+    pub ColumnsRead-one_more : (stmts : List Stmt) (after : NameTable)
         → ColumnRead grammar (cells_texts column) mid stmts after
         → ColumnsRead grammar (all_texts (take (i + 1) columns)) before (threads ++ stmts ∷ []) after
-    threads_more stmts after one =
+    ColumnsRead-one_more stmts after one =
         let grown : after ≡ insert_names mid (names_of grammar (one.syntax ∷ [])) =
         one.names ∙ ap (insert_names mid) (sym (append-nil (names_in grammar one.syntax))) in
         let more =
-        read_more (names_of grammar) (code_in grammar) names_of-append stays (Column grammar) (all_texts (take i columns)) before
-        mid threads read (cells_texts column) one.syntax stmts after one.says grown one.made in
+        columns_read-one_more (names_of grammar) (code_in grammar) names_of-append code_in-insert_more_names (Column grammar)
+        (all_texts (take i columns)) before mid threads read (cells_texts column) one.syntax stmts after one.says grown
+        one.made in
         record {
           syntax = read.syntax ++ one.syntax ∷ [];
           says = rw (take_further columns i column within is, map-append cells_texts (take i columns) (column ∷ [])) more.0;
@@ -53,23 +58,23 @@ module _ {Syntax Stmt : Type 0} (grammar : Grammar Syntax Stmt) where
         }
 
     -- If that column is rejected, so are all columns.
-    pub threads_refused : IsGrammar grammar
+    pub ColumnsRefused-ColumnRefused : IsGrammar grammar
         → (f : CellFault)
         → ColumnRefused grammar mid column f
         → ColumnsRefused grammar before columns f
-    threads_refused lawful f r =
+    ColumnsRefused-ColumnRefused lawful f r =
         let front = take i columns in
         let rest = drop (suc i) columns in
-        let whole = cut_there columns i column within is in
+        let whole = take-item-drop columns i column within is in
         record {
           none = λ known ts (all, few).
               let cut =
-              zip_cut (Column grammar) (all_texts front) (cells_texts column) (all_texts rest) ts
+              AllZip-split (Column grammar) (all_texts front) (cells_texts column) (all_texts rest) ts
               (subst (λ (cs : CellGrid). AllZip (Column grammar) cs ts)
               (ap all_texts whole ∙ map-append cells_texts front (column ∷ rest)) all) in
               let room =
-              read_room (names_of grammar) (code_in grammar) names_of-append stays (Column grammar) _ before mid threads read _
-              (column_unique grammar lawful) (all_texts rest) ts cut in
+              room_for_read_names (names_of grammar) (code_in grammar) names_of-append code_in-insert_more_names (Column grammar)
+              _ before mid threads read _ (column_unique grammar lawful) (all_texts rest) ts cut in
               r.none known cut.here (
                 cut.says,
                 omega (
@@ -83,12 +88,12 @@ module _ {Syntax Stmt : Type 0} (grammar : Grammar Syntax Stmt) where
               rw (← ap placed_cells whole ∙ map-append placed_row front (column ∷ rest)) at
               (r.cause before (placed_cells front) (placed_cells rest) read.syntax (rw (grid_placed front) read.says) read.names);
           place = λ len all.
-              r.place len (all_amid (All (EndsBefore len)) front rest column (subst (All (All (EndsBefore len))) whole all));
+              r.place len (All-middle (All (EndsBefore len)) front rest column (subst (All (All (EndsBefore len))) whole all));
         }
 
   -- If the threads of a frame's cells are read, the frame has a test of them: its head is the frame's, with the table after reading, and a
   -- 0 for each new location.
-  pub test_found : (frame_head head : TestHead)
+  pub FrameHasTest-ColumnsRead : (frame_head head : TestHead)
       → head ≡ frame_head
       → (cells : CellGrid) (threads : List (List Stmt)) (names : NameTable) (words : List ℕ)
       → frame_head.arch ≡ grammar.language.arch
@@ -98,7 +103,7 @@ module _ {Syntax Stmt : Type 0} (grammar : Grammar Syntax Stmt) where
       → words ≡ head.init_words ++ replicate (length names - length head.init_words) 0
       → FrameHasTest grammar (record { head = frame_head; cells = cells })
       (record { head = record (set_location_names head names) { init_words = words }; threads = threads })
-  test_found frame_head head same cells threads names words arch long read few filled =
+  FrameHasTest-ColumnsRead frame_head head same cells threads names words arch long read few filled =
       let zeros : words ≡ frame_head.init_words ++ replicate (length names - length frame_head.locs) 0 =
       rw (← long, ← same) filled in
       let grown : names ≡ insert_names frame_head.locs (names_of grammar read.syntax) = rw (← same) read.names in

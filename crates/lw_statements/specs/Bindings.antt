@@ -140,7 +140,7 @@ pub record IsNotDrafted (o : SlotBindings) (tokens : List Token) (before : NameT
   pub index : ℕ
   pub name : o.name ≡ Some index
   pub token : Token
-  pub is : slice_get tokens index ≡ Some token
+  pub token_at : slice_get tokens index ≡ Some token
   pub refused : NameRefused before token fault
 
 -- The slot at this index, which is below `front`, takes a location, and the token there is not in the table, which is full.
@@ -148,7 +148,7 @@ pub record IsOverflowSlot {W : Type 0} (slots : List (Slot W)) (tokens : List To
   pub before : index < front
   pub slot : slice_get slots index ≡ Some Location
   pub token : Token
-  pub is : slice_get tokens index ≡ Some token
+  pub token_at : slice_get tokens index ≡ Some token
   pub full : length names ≡ most_locations
   pub new : Contains names token.text.now → ⊥
 
@@ -327,7 +327,7 @@ module _ {W Form Stmt : Type 0} (spelling : Spelling W Form Stmt) where
     pub is : made form (operands_of x (option_map (λ l. to) (label_in (spelling.slots_of form) f)) (bindings_of 0 (spelling.slots_of form) f)) ≡ Some
         (spelling.statement x to form f)
     pub located : location_of (spelling.language.operation_of (spelling.statement x to form f)) ≡ option_map (λ n. x) (name_in (spelling.slots_of form) f)
-    pub led : branch_target (spelling.language.operation_of (spelling.statement x to form f)) ≡ option_map (λ l. to) (label_in (spelling.slots_of form) f)
+    pub target_is : branch_target (spelling.language.operation_of (spelling.statement x to form f)) ≡ option_map (λ l. to) (label_in (spelling.slots_of form) f)
     pub given :
         AllByRecursion IsRegisterIndex (registers_in (spelling.slots_of form) f)
         → AllByRecursion IsWordNumber (numbers_in (spelling.slots_of form) f)

@@ -66,7 +66,7 @@ module _ {Syntax Stmt : Type 0} (grammar : Grammar Syntax Stmt) where
   pub record Column (cells : Cells) (syntaxes : List (CellSyntax Syntax)) : Type 0 where
     pub says : AllZip ParsesCell cells syntaxes
     pub few : length (statements syntaxes) ≤ grammar.language.most
-    pub once : IsDuplicateFree (labels_of syntaxes)
+    pub without_duplicates : IsDuplicateFree (labels_of syntaxes)
     pub forward :
         (k : ℕ) (s : Syntax) → slice_get (statements syntaxes) k ≡ Some s → LabelsLeadForward syntaxes k s
 

@@ -75,7 +75,7 @@ module _ {Syntax Stmt : Type 0} (grammar : Grammar Syntax Stmt) where
     pub before_says : AllZip (Column grammar) (texts_of_grid before) threads
     pub says : AllZip (ParsesCell grammar) (texts_of_cells above) syntaxes
     pub few : length (statements syntaxes) ≤ grammar.language.most
-    pub once : IsDuplicateFree (labels_of syntaxes ++ labels)
+    pub without_duplicates : IsDuplicateFree (labels_of syntaxes ++ labels)
     pub room : length (table_after names threads syntaxes) ≤ most_locations
 
   -- What precedes a fault in a cell is read: the threads before, the cells above, and of the cell the tokens `ts`, which are labels followed
@@ -110,7 +110,7 @@ module _ {Syntax Stmt : Type 0} (grammar : Grammar Syntax Stmt) where
     pub mid : TokenList
     pub read : IsReadTo names c (texts_of_tokens c.cell.tokens) mid
     pub no_label : BeginsWithLabel mid → ⊥
-    pub some : mid ≢ []
+    pub not_empty : mid ≢ []
     pub begun : IsBegun read
     pub none : (s : Syntax) → grammar.says mid s → ⊥
     pub ends : c.cell.end ≡ at
@@ -141,7 +141,7 @@ module _ {Syntax Stmt : Type 0} (grammar : Grammar Syntax Stmt) where
     pub record IsSecondLabel (p : TokenPosition columns at) : Type 0 where
       pub read : IsReadTo names p.place (texts_of_tokens p.front) []
       pub colon : BeginsWithColon (texts_of_tokens p.back)
-      pub there : Contains (labels_of read.syntaxes ++ read.labels) p.token.text
+      pub label_is_taken : Contains (labels_of read.syntaxes ++ read.labels) p.token.text
 
     -- The token is the first after the labels of its cell, is no label, and can begin a statement; the cells above have as many statements
     -- as a thread may have.

@@ -65,7 +65,7 @@ module _ {Syntax Stmt : Type 0} (grammar : Grammar Syntax Stmt) where
     pub no_label : (ts : TokenList) (s : Syntax) → grammar.says ts s → slice_get ts 1 ≡ Some (codes ":") → ⊥
     -- A statement accesses the location of its name, and jumps to where its label does.
     pub located : (x to : ℕ) (s : Syntax) → location_of (grammar.language.operation_of (grammar.made x to s)) ≡ option_map (λ n. x) (grammar.name_of s)
-    pub led : (x to : ℕ) (s : Syntax) → branch_target (grammar.language.operation_of (grammar.made x to s)) ≡ option_map (λ l. to) (grammar.label_of s)
+    pub target_is : (x to : ℕ) (s : Syntax) → branch_target (grammar.language.operation_of (grammar.made x to s)) ≡ option_map (λ l. to) (grammar.label_of s)
     -- Its registers are registers of a thread, and its numbers are words.
     pub registers : (ts : TokenList) (x to : ℕ) (s : Syntax) → grammar.says ts s
         → All IsRegisterIndex (registers_of (grammar.language.operation_of (grammar.made x to s)))

@@ -1,4 +1,5 @@
--- The texts of an initial block's initializers, one by one, as the code writes them.
+-- The texts of an initial block's initializers, one by one, as the code writes them. The loops of block.rt
+-- write them so.
 use Rattle.lw_x86.proofs.Common.{◌≡◌, ℕ, List, [], ◌∷◌, map, refl, flat_map, range_with_len, flat_map-append}
 use Rattle.lw_x86.proofs.Common.{Bytes, TestHead, Register, Location, thread_registers, all_registers}
 use Rattle.lw_x86.proofs.Common.{locations, initializer_text, register_initializer}
@@ -27,12 +28,12 @@ flat_map-flat_map f g [] = refl
 flat_map-flat_map f g (x ∷ xs) = rw (flat_map-append f (g x), flat_map-flat_map f g xs) refl
 
 -- The texts of the locations' initializers, index by index.
-pub locations_are : (head : TestHead) (len : ℕ)
+pub initializer_texts-locations : (head : TestHead) (len : ℕ)
     → flat_map (initializer_text head) (locations len) ≡ flat_map (location_initializer head) (range_with_len 0 len)
-locations_are head len = flat_map-map (initializer_text head) (λ x. Location x) (range_with_len 0 len)
+initializer_texts-locations head len = flat_map-map (initializer_text head) (λ x. Location x) (range_with_len 0 len)
 
 -- The texts of the registers' initializers, thread by thread.
-pub registers_are : (head : TestHead) (threads : ℕ)
+pub initializer_texts-registers : (head : TestHead) (threads : ℕ)
     → flat_map (register_initializer head) (all_registers threads)
     ≡ flat_map (thread_initializers head) (range_with_len 0 threads)
-registers_are head threads = flat_map-flat_map (register_initializer head) thread_registers _
+initializer_texts-registers head threads = flat_map-flat_map (register_initializer head) thread_registers _

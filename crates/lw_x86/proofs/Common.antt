@@ -35,19 +35,21 @@ pub use Rattle.lw_base.proofs.Common.{condition_text, contains_name, first_byte_
 pub use Rattle.lw_base.proofs.Common.{is_blank, is_name_byte, joined, locations, most_threads, register_name}
 pub use Rattle.lw_base.proofs.Common.{seen_eq, thread_registers}
 pub use Rattle.lw_base.proofs.api.Blanks.{name_ascii}
-pub use Rattle.lw_base.proofs.api.Elements.{All-map_inv, All-mono, all_append, all_filter, all_map}
-pub use Rattle.lw_base.proofs.api.Elements.{all_of_flat, all_of_range}
-pub use Rattle.lw_base.proofs.api.Formulas.{has_locations}
+pub use Rattle.lw_base.proofs.api.Elements.{All-map_inv, All-mono, AllByRecursion-append}
+pub use Rattle.lw_base.proofs.api.Elements.{AllByRecursion-filter, AllByRecursion-flat_map_range}
+pub use Rattle.lw_base.proofs.api.Elements.{AllByRecursion-map, AllByRecursion-map_range}
+pub use Rattle.lw_base.proofs.api.Formulas.{MentionsLocationsBelow-if_mentions_only}
 pub use Rattle.lw_base.proofs.api.GrowingTables.{insert_names-append}
-pub use Rattle.lw_base.proofs.api.Lists.{drop_all, get_some, take_one}
+pub use Rattle.lw_base.proofs.api.Lists.{drop-past_end, slice_get-in_range, take-suc}
 pub use Rattle.lw_base.proofs.api.Returns.{Err-clause_propagated}
-pub use Rattle.lw_base.proofs.api.SeenMembership.{filter_shorter, has_left, has_location, has_register}
-pub use Rattle.lw_base.proofs.api.SeenMembership.{has_right, has_seen, listed_again, listed_few, most_seen}
-pub use Rattle.lw_base.proofs.api.SeenMembership.{same_seen_is, seen_length}
+pub use Rattle.lw_base.proofs.api.SeenMembership.{filter_has_seen-all_seen, has_seen, has_seen-append_left}
+pub use Rattle.lw_base.proofs.api.SeenMembership.{has_seen-append_right, has_seen-location, has_seen-register}
+pub use Rattle.lw_base.proofs.api.SeenMembership.{length-all_seen, length_le-ascending_seen, length_le-filter}
+pub use Rattle.lw_base.proofs.api.SeenMembership.{max_seen_count, seen_eq-sound}
 pub use Rattle.lw_base.proofs.api.Tables.{IsInTable, insert_names-again, insert_names-there}
 pub use Rattle.lw_base.proofs.api.Tables.{position_of_name-again}
-pub use Rattle.lw_base.proofs.api.Writing.{both_written, numbers_all, numbers_more, pushed, then_written}
-pub use Rattle.lw_base.proofs.api.Writing.{written_as}
+pub use Rattle.lw_base.proofs.api.Writing.{OnOk-push_str, numbers_written-all, numbers_written-push}
+pub use Rattle.lw_base.proofs.api.Writing.{written-append, written-equal_text, written-two_parts}
 pub use Rattle.lw_base.specs.declared.head.Arch.TheVariants.{X86}
 pub use Rattle.lw_base.specs.declared.head.Quant.{Quant}
 pub use Rattle.lw_base.specs.declared.head.Quant.TheVariants.{Exists}
@@ -68,33 +70,36 @@ pub use Rattle.lw_text.proofs.Common.{columns, ends_cell, frame_of_syntax, head_
 pub use Rattle.lw_text.proofs.Common.{listed_in, location_table, resolved, seen_in, site_name, site_names}
 pub use Rattle.lw_text.proofs.Common.{sites_in, thread_name}
 pub use Rattle.lw_text.proofs.api.CellTokens.{EndsNoCell}
-pub use Rattle.lw_text.proofs.api.ConditionTokens.{IsPrintable, ended_said, named_claim, named_printable}
-pub use Rattle.lw_text.proofs.api.ConditionTokens.{named_site, quantifier_said, quantifier_tokens, seen_again}
-pub use Rattle.lw_text.proofs.api.ConditionTokens.{site_exists, site_said, site_tokens, sites_in_table}
-pub use Rattle.lw_text.proofs.api.ConditionTokens.{sites_printable, terminal_tokens, terminals_said}
-pub use Rattle.lw_text.proofs.api.ConditionTokens.{value_said, value_tokens, whole_again, whole_fine}
+pub use Rattle.lw_text.proofs.api.ConditionTokens.{IsPrintable, IsSite-site_tokens, ParsesSepEndBy-tokens}
+pub use Rattle.lw_text.proofs.api.ConditionTokens.{Quantified-quantifier_tokens, Terminals-terminal_tokens}
+pub use Rattle.lw_text.proofs.api.ConditionTokens.{Value-value_tokens, condition_is_printable, named_claim}
+pub use Rattle.lw_text.proofs.api.ConditionTokens.{named_printable, named_site, quantifier_tokens}
+pub use Rattle.lw_text.proofs.api.ConditionTokens.{resolved-enclosed_named_terms, seen_in-named_site}
+pub use Rattle.lw_text.proofs.api.ConditionTokens.{site_exists, site_tokens, sites_in_table, sites_printable}
+pub use Rattle.lw_text.proofs.api.ConditionTokens.{terminal_tokens, value_tokens}
 pub use Rattle.lw_text.proofs.api.Frames.{HasFrame-unique}
 pub use Rattle.lw_text.proofs.api.Indices.{is_index}
-pub use Rattle.lw_text.proofs.api.PrintedConditions.{Spells-colon, Spells-register, assignment_spelled}
-pub use Rattle.lw_text.proofs.api.PrintedConditions.{blank_no_equals, name_there, quantifier_spelled}
+pub use Rattle.lw_text.proofs.api.PrintedConditions.{IsLocationName-in_table, Spells-colon, Spells-register}
+pub use Rattle.lw_text.proofs.api.PrintedConditions.{assignment_spelled, blank_no_equals, quantifier_spelled}
 pub use Rattle.lw_text.proofs.api.PrintedConditions.{register_is_name, site_spelled, whole_spelled}
 pub use Rattle.lw_text.proofs.api.PrintedPropositions.{enclosed, printed_proposition, terminals_of}
-pub use Rattle.lw_text.proofs.api.PropositionNodes.{proposition_nodes, resolved_count, resolved_single}
-pub use Rattle.lw_text.proofs.api.Spelling.{Anything, EndsName, IsBlankNext, Spells, Spells-before}
-pub use Rattle.lw_text.proofs.api.Spelling.{Spells-mark, Spells-name, Spells-newline, Spells-nothing}
-pub use Rattle.lw_text.proofs.api.Spelling.{Spells-number, Spells-on, Spells-run, Spells-space, Spells-then}
-pub use Rattle.lw_text.proofs.api.Spelling.{Spells-whole, Spells-within, blank_ends_name, decimal_is_name_run}
-pub use Rattle.lw_text.proofs.api.Spelling.{decimal_is_number, decimal_is_short, is_name_text, name_by_test}
+pub use Rattle.lw_text.proofs.api.PropositionNodes.{node_count-resolved, proposition_nodes, resolved_single}
+pub use Rattle.lw_text.proofs.api.Spelling.{Anything, EndsName, IsBlankNext, Spells, Spells-append}
+pub use Rattle.lw_text.proofs.api.Spelling.{Spells-append_anything, Spells-before, Spells-mark, Spells-mono}
+pub use Rattle.lw_text.proofs.api.Spelling.{Spells-name, Spells-newline, Spells-nothing, Spells-number}
+pub use Rattle.lw_text.proofs.api.Spelling.{Spells-run, Spells-space, Spells-whole, blank_ends_name}
+pub use Rattle.lw_text.proofs.api.Spelling.{decimal_is_name_run, decimal_is_number, decimal_is_short}
+pub use Rattle.lw_text.proofs.api.Spelling.{is_name_text, name_by_test}
 pub use Rattle.lw_text.specs.Conditions.{Condition}
 pub use Rattle.lw_statements.proofs.Common.{CellSyntax, Column, Filling, Fills, Gives, IsGrammar, IsMade}
 pub use Rattle.lw_statements.proofs.Common.{IsSpelling, Labels, LabelsLeadForward, MaybeStatement, ParsesCell}
 pub use Rattle.lw_statements.proofs.Common.{ParsesStatement, SlotValue, code_in, label_in, labels_of}
 pub use Rattle.lw_statements.proofs.Common.{location_index, name_in, names_in, names_of, resolve_test}
 pub use Rattle.lw_statements.proofs.Common.{resolved_statement, resolved_target, statements, target_in}
-pub use Rattle.lw_statements.proofs.api.Faults.{faults_one, test_faultless}
+pub use Rattle.lw_statements.proofs.api.Faults.{CellFaultIsTrue-unique, no_CellFault-of_test}
 pub use Rattle.lw_statements.proofs.api.Forms.{is_grammar, names_allowed}
-pub use Rattle.lw_statements.proofs.api.Greater.{greater_is}
-pub use Rattle.lw_statements.proofs.api.Tests.{one_test, well_formed_test}
+pub use Rattle.lw_statements.proofs.api.Greater.{ord_max-is_max}
+pub use Rattle.lw_statements.proofs.api.Tests.{test-unique, well_formed_test}
 pub use Rattle.lw_statements.specs.declared.slot.Slot.{Slot}
 pub use Rattle.lw_statements.specs.declared.slot.Slot.TheVariants.{Keyword, Label, Value}
 pub use Rattle.lw_x86.specs.CanonicalTexts.{block_text, canonical_text, cell_text, cells_from, cells_of}

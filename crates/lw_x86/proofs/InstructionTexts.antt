@@ -1,10 +1,12 @@
--- The text of an instruction, from those of its operands.
+-- The text of an instruction, from those of its operands. `write_instruction` prints each instruction by its
+-- operands.
 use Rattle.lw_x86.proofs.Common.{◌≡◌, ℕ, refl, append_assoc, codes, slice_index_or, [], Bytes, NameTable, X86}
 use Rattle.lw_x86.proofs.Common.{Operand, Number, register_name, Store, Set, Add, Cmp, ◌++◌, instruction_text}
 use Rattle.lw_x86.proofs.Common.{operand_text, memory_text, with_operands}
 use Rattle.lw_base.specs.declared.operand.Operand.TheVariants.{Register}
 
 module _ (names : NameTable) (x : ℕ) where
+  -- The name of the location.
   abbrev name : Bytes
   name = slice_index_or names x []
 

@@ -1,18 +1,20 @@
--- The printed cells of a thread, by their rows: each text spells tokens, which say a label and an instruction.
+-- The printed cells of a thread, by their rows: each text spells tokens, which say a label and an
+-- instruction. Rows are made of these cells (PrintedRows), and columns of them say the threads
+-- (PrintedColumns).
 use Rattle.lw_x86.proofs.Common.{EndsNoCell, ◌≡◌, ℕ, ◌<◌, ◌^◌, Bool, true, false, Option, Some, None, List}
 use Rattle.lw_x86.proofs.Common.{[], ◌∷◌, ◌++◌, length, refl, arith, if◌then◌else◌, codes, option_map}
 use Rattle.lw_x86.proofs.Common.{slice_get, slice_index_or, subst, AllByRecursion, slice_get_within}
 use Rattle.lw_x86.proofs.Common.{get_or_from_slice_get, Bytes, NameTable, TokenList, IsLocationName}
-use Rattle.lw_x86.proofs.Common.{begins_stop, all_append, Anything, IsBlankNext, Spells, Spells-then}
-use Rattle.lw_x86.proofs.Common.{Spells-on, Spells-before, Spells-within, Spells-nothing, Spells-space}
-use Rattle.lw_x86.proofs.Common.{blank_ends_name, Spells-colon, blank_no_equals, CellSyntax, MaybeStatement}
-use Rattle.lw_x86.proofs.Common.{Labels, ParsesCell, IsWellFormedStatement, IsWellFormedThread, Instr}
-use Rattle.lw_x86.proofs.Common.{ParsesStatement, x86_spelling, x86_language, label, printed_form, is_target}
-use Rattle.lw_x86.proofs.Common.{cells_of, x86_grammar}
-use Rattle.lw_x86.proofs.CellLists.{at_row, cell_at}
+use Rattle.lw_x86.proofs.Common.{begins_stop, AllByRecursion-append, Anything, IsBlankNext, Spells}
+use Rattle.lw_x86.proofs.Common.{Spells-append, Spells-append_anything, Spells-before, Spells-mono}
+use Rattle.lw_x86.proofs.Common.{Spells-nothing, Spells-space, blank_ends_name, Spells-colon, blank_no_equals}
+use Rattle.lw_x86.proofs.Common.{CellSyntax, MaybeStatement, Labels, ParsesCell, IsWellFormedStatement}
+use Rattle.lw_x86.proofs.Common.{IsWellFormedThread, Instr, ParsesStatement, x86_spelling, x86_language}
+use Rattle.lw_x86.proofs.Common.{label, printed_form, is_target, cells_of, x86_grammar}
+use Rattle.lw_x86.proofs.CellLists.{text_at_row, cells_of-get}
 use Rattle.lw_x86.proofs.PrintedSlots.{name_no_end}
 use Rattle.lw_x86.proofs.PrintedInstructions.{instruction_tokens, HasTarget, label_is_location, Spells-label}
-use Rattle.lw_x86.proofs.PrintedInstructions.{printed, instruction_spelled, instruction_said}
+use Rattle.lw_x86.proofs.PrintedInstructions.{IsPrintedAs-each, instruction_spelled, Fills-instruction_tokens}
 use Rattle.lw_x86.proofs.PrintedInstructions.{instruction_no_end}
 
 -- ---- the tokens of a cell, and what they say
@@ -51,8 +53,9 @@ pub record IsPrintedCell (text : Bytes) (tokens : TokenList) : Type 0 where
 front_spelled : (needed : Bool) (k : ℕ)
     → k < 2 ^ 32
     → Spells Anything 13 (if needed then label k ++ codes ": " else []) (front_tokens needed k)
-front_spelled true k h = Spells-then (λ rest g. refl) (Spells-label k h) (Spells-then (λ rest g. refl) Spells-colon Spells-space)
-front_spelled false k h = Spells-within 13 (omega arith) (Spells-nothing Anything)
+front_spelled true k h =
+    Spells-append (λ rest g. refl) (Spells-label k h) (Spells-append (λ rest g. refl) Spells-colon Spells-space)
+front_spelled false k h = Spells-mono 13 (omega arith) (Spells-nothing Anything)
 
 -- The tokens of a label contain no end of a cell.
 front_plain : (needed : Bool) (k : ℕ) → k < 2 ^ 32 → EndsNoCell (front_tokens needed k)
@@ -72,66 +75,70 @@ end_printed : (needed : Bool) (k : ℕ)
     → IsPrintedCell (slice_index_or (if needed then (label k ++ codes ":") ∷ [] else []) 0 []) (front_tokens needed k ++ [])
 end_printed true k h = record {
   spells =
-      Spells-within 150 (omega arith)
-      (Spells-then (λ rest g. refl) (Spells-label k h) (Spells-before IsBlankNext blank_no_equals Spells-colon));
+      Spells-mono 150 (omega arith)
+      (Spells-append (λ rest g. refl) (Spells-label k h) (Spells-before IsBlankNext blank_no_equals Spells-colon));
   plain = front_plain true k h;
   starts = refl;
 }
-end_printed false k h =
-    record { spells = Spells-within 150 (omega arith) (Spells-nothing IsBlankNext); plain = tt; starts = refl }
+end_printed false k h = record { spells = Spells-mono 150 (omega arith) (Spells-nothing IsBlankNext); plain = tt; starts = refl }
 
 -- The tokens of a label, or of none, say that label, or none.
-labels_said : (needed : Bool) (k : ℕ) (mid : TokenList)
+Labels-front_tokens : (needed : Bool) (k : ℕ) (mid : TokenList)
     → k < 2 ^ 32
     → Labels (front_tokens needed k ++ mid) (front_labels needed k) mid
-labels_said true k mid h = (mid, refl, label_is_location k h, refl)
-labels_said false k mid h = refl
+Labels-front_tokens true k mid h = (mid, refl, label_is_location k h, refl)
+Labels-front_tokens false k mid h = refl
 
 -- ---- a thread
 
 module _ (names : NameTable) (table : AllByRecursion IsLocationName names) (code : List Instr)
     (thread : IsWellFormedThread x86_language (length names) code) where
   -- Each instruction of the thread is well-formed.
-  pub statement_at : (k : ℕ) (i : Instr) → slice_get code k ≡ Some i → IsWellFormedStatement x86_language (length names) i
-  statement_at k i e =
+  pub IsWellFormedStatement-get : (k : ℕ) (i : Instr)
+      → slice_get code k ≡ Some i
+      → IsWellFormedStatement x86_language (length names) i
+  IsWellFormedStatement-get k i e =
       subst (IsWellFormedStatement x86_language (length names)) (get_or_from_slice_get code k i i e)
-      (thread.there k i (slice_get_within code k i e))
+      (thread.statements_formed k i (slice_get_within code k i e))
 
   -- Each target in the thread is below `2 ^ 32`.
   pub target_small : (k : ℕ) (i : Instr) → slice_get code k ≡ Some i → HasTarget i
   target_small k i e = λ to f. omega (arith, (thread.forward k i e to f).1, thread.short)
 
   module _ (k : ℕ) (small : k < 2 ^ 32) where
+    -- The text of a cell, of an instruction or of the end, spells its label and what follows.
     maybe_printed : (o : Option Instr)
         → slice_get code k ≡ o
-        → IsPrintedCell (at_row names code k o) (front_tokens (is_target code k) k ++ maybe_tokens names o)
+        → IsPrintedCell (text_at_row names code k o) (front_tokens (is_target code k) k ++ maybe_tokens names o)
     maybe_printed None e = end_printed (is_target code k) k small
     maybe_printed (Some i) e =
-        let fine = statement_at k i e in
+        let fine = IsWellFormedStatement-get k i e in
         let goes = target_small k i e in
         record {
           spells =
               Spells-before IsBlankNext blank_ends_name
-              (Spells-within 150 (omega arith)
-              (Spells-on (front_spelled _ k small) (instruction_spelled names table i fine goes)));
-          starts = front_starts (is_target code k) k (instruction_tokens names i) (printed names i).starts;
-          plain = all_append _ _ _ (front_plain _ k small) (instruction_no_end names table i fine goes);
+              (Spells-mono 150 (omega arith)
+              (Spells-append_anything (front_spelled _ k small) (instruction_spelled names table i fine goes)));
+          starts = front_starts (is_target code k) k (instruction_tokens names i) (IsPrintedAs-each names i).starts;
+          plain = AllByRecursion-append _ _ _ (front_plain _ k small) (instruction_no_end names table i fine goes);
         }
 
-    maybe_said : (o : Option Instr)
+    -- The tokens after a cell's label say the instruction, or nothing at the end.
+    MaybeStatement-maybe_tokens : (o : Option Instr)
         → slice_get code k ≡ o
         → MaybeStatement x86_grammar (maybe_tokens names o) (option_map (printed_form names) o)
-    maybe_said None e = refl
-    maybe_said (Some i) e = instruction_said names table i (statement_at k i e) (target_small k i e)
+    MaybeStatement-maybe_tokens None e = refl
+    MaybeStatement-maybe_tokens (Some i) e =
+        Fills-instruction_tokens names table i (IsWellFormedStatement-get k i e) (target_small k i e)
 
     -- The text of a thread's cell spells its tokens.
     pub cell_printed : IsPrintedCell (slice_index_or (cells_of names code) k []) (cell_tokens names code k)
-    cell_printed = rw (cell_at names (length names) code thread k) (maybe_printed (slice_get code k) refl)
+    cell_printed = rw (cells_of-get names (length names) code thread k) (maybe_printed (slice_get code k) refl)
 
     -- The tokens of a thread's cell say its label and its instruction.
-    pub cell_said : ParsesCell x86_grammar (cell_tokens names code k) (cell_syntax names code k)
-    cell_said = (
+    pub ParsesCell-cell_tokens : ParsesCell x86_grammar (cell_tokens names code k) (cell_syntax names code k)
+    ParsesCell-cell_tokens = (
       maybe_tokens names (slice_get code k),
-      labels_said (is_target code k) k (maybe_tokens names (slice_get code k)) small,
-      maybe_said (slice_get code k) refl,
+      Labels-front_tokens (is_target code k) k (maybe_tokens names (slice_get code k)) small,
+      MaybeStatement-maybe_tokens (slice_get code k) refl,
     )

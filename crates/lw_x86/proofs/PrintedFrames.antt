@@ -1,4 +1,5 @@
--- The printed text of a test is the text of a frame: the test's head, and its threads' cells.
+-- The printed text of a test is the text of a frame: preamble, block, header, rows and condition in sequence,
+-- with the test's head and its threads' cells. One half of the proof that a printed test reads back.
 use Rattle.lw_x86.proofs.Common.{name_ascii, ◌≡◌, ℕ, ◌+◌, ◌*◌, ◌<◌, ◌≤◌, inl, List, [], ◌∷◌, ◌++◌, map}
 use Rattle.lw_x86.proofs.Common.{length, refl, sym, ap, ◌∙◌, subst, arith, append_assoc, length-append, codes}
 use Rattle.lw_x86.proofs.Common.{flat_map, IsUtf8, slice_index_or, AllByRecursion, AllZip, range_with_len}
@@ -6,25 +7,28 @@ use Rattle.lw_x86.proofs.Common.{length-map, length-map-range_with_len, recursio
 use Rattle.lw_x86.proofs.Common.{IsUtf8-from_ascii, Bytes, NameTable, TokenList, Cells, CellGrid, X86}
 use Rattle.lw_x86.proofs.Common.{condition_text, IsName, blank, Preamble, columns, HasFewNodes, IsProposition}
 use Rattle.lw_x86.proofs.Common.{sites_in, resolved, TestSyntax, TestFrame, ParsesTest, HasFrame}
-use Rattle.lw_x86.proofs.Common.{location_table, head_of_syntax, frame_of_syntax, all_append, all_map}
-use Rattle.lw_x86.proofs.Common.{All-mono, proposition_nodes, resolved_single, resolved_count, Anything}
-use Rattle.lw_x86.proofs.Common.{Spells, Spells-on, Spells-within, Spells-whole, Spells-space, Spells-newline}
-use Rattle.lw_x86.proofs.Common.{Spells-name, name_by_test, printed_proposition, IsPrintable, sites_printable}
-use Rattle.lw_x86.proofs.Common.{whole_fine, whole_again, IsWellFormedThread, Instr, x86_language}
+use Rattle.lw_x86.proofs.Common.{location_table, head_of_syntax, frame_of_syntax, AllByRecursion-append}
+use Rattle.lw_x86.proofs.Common.{AllByRecursion-map, All-mono, proposition_nodes, resolved_single}
+use Rattle.lw_x86.proofs.Common.{node_count-resolved, Anything, Spells, Spells-append_anything, Spells-mono}
+use Rattle.lw_x86.proofs.Common.{Spells-whole, Spells-space, Spells-newline, Spells-name, name_by_test}
+use Rattle.lw_x86.proofs.Common.{printed_proposition, IsPrintable, sites_printable, condition_is_printable}
+use Rattle.lw_x86.proofs.Common.{resolved-enclosed_named_terms, IsWellFormedThread, Instr, x86_language}
 use Rattle.lw_x86.proofs.Common.{IsWellFormedProgram, X86Test, cells_of, row_at, max_cell_count, rows_text}
 use Rattle.lw_x86.proofs.Common.{header_text, block_text, listed_text, canonical_text}
 use Rattle.lw_text.specs.Tokens.{none as no_trivia}
 use Rattle.lw_text.specs.Preambles.{none as no_notes}
 use Rattle.lw_x86.proofs.PrintedCells.{IsPrintedCell, cell_tokens, cell_printed}
-use Rattle.lw_x86.proofs.PrintedRows.{row_tokens, header_tokens, row_bytes, header_spelled, header_said}
-use Rattle.lw_x86.proofs.PrintedRows.{rows_spelled, rows_plain, rows_said}
-use Rattle.lw_x86.proofs.PrintedGrids.{columns_are, longest_under, cells_few}
-use Rattle.lw_x86.proofs.PrintedBlocks.{initializers_of, block_tokens, block_bytes, block_spelled, block_said}
-use Rattle.lw_x86.proofs.PrintedBlocks.{initializers_exist}
-use Rattle.lw_x86.proofs.PrintedHeads.{table_again, registers_again, words_again, list_again}
+use Rattle.lw_x86.proofs.PrintedRows.{row_tokens, header_tokens, row_bytes, header_spelled}
+use Rattle.lw_x86.proofs.PrintedRows.{Header-header_tokens, rows_spelled, rows_plain}
+use Rattle.lw_x86.proofs.PrintedRows.{ParsesManyTill-row_tokens}
+use Rattle.lw_x86.proofs.PrintedGrids.{columns-of_rows_by_item, longest_under, cell_count_at_most}
+use Rattle.lw_x86.proofs.PrintedBlocks.{initializers_of, block_tokens, block_bytes, block_spelled}
+use Rattle.lw_x86.proofs.PrintedBlocks.{Block-block_tokens, initializers_exist}
+use Rattle.lw_x86.proofs.PrintedHeads.{insert_names-printed_names, initial_registers-printed}
+use Rattle.lw_x86.proofs.PrintedHeads.{initial_words-printed, listed_in-named_sites}
 use Rattle.lw_x86.proofs.PrintedLists.{named_sites, listed_tokens, terminals_in, condition_tokens}
 use Rattle.lw_x86.proofs.PrintedLists.{listed_bytes, listed_spelled, condition_bytes, condition_spelled}
-use Rattle.lw_x86.proofs.PrintedLists.{listed_printable, condition_said, rows_stop}
+use Rattle.lw_x86.proofs.PrintedLists.{listed_printable, Condition-condition_tokens, rows_stop}
 
 -- ---- the threads' cells
 
@@ -91,17 +95,18 @@ body_bytes = block_bytes + row_bytes * 34 + listed_bytes + condition_bytes
 
 module _ (p : X86Test) (well : IsWellFormedProgram p) where
   -- Each thread of a well-formed test is well-formed with the test's locations.
-  pub threads_are : AllByRecursion (IsWellFormedThread x86_language (length p.head.locs)) p.threads
-  threads_are = recursion_from_All (IsWellFormedThread x86_language (length p.head.locs)) p.threads well.code
+  pub IsWellFormedThread-threads : AllByRecursion (IsWellFormedThread x86_language (length p.head.locs)) p.threads
+  IsWellFormedThread-threads = recursion_from_All (IsWellFormedThread x86_language (length p.head.locs)) p.threads well.code
 
   -- No thread has more than 33 cells.
   pub height_few : height_of p ≤ 33
   height_few =
       longest_under 33 (texts_in p)
-      (all_map (λ cells. length cells ≤ 33) (cells_of p.head.locs) p.threads
+      (AllByRecursion-map (λ cells. length cells ≤ 33) (cells_of p.head.locs) p.threads
       (All-mono (IsWellFormedThread x86_language (length p.head.locs)) (λ code. length (cells_of p.head.locs code) ≤ 33)
-      (λ code thread. omega (arith, cells_few p.head.locs code, thread.short)) p.threads threads_are))
+      (λ code thread. omega (arith, cell_count_at_most p.head.locs code, thread.short)) p.threads IsWellFormedThread-threads))
 
+  -- The texts of a row's cells spell their tokens, thread by thread.
   row_printed : (k : ℕ)
       → k < 33
       → (threads : List (List Instr))
@@ -112,106 +117,129 @@ module _ (p : X86Test) (well : IsWellFormedProgram p) where
   row_printed k small (code ∷ threads) h =
       (cell_printed p.head.locs well.head.table.all code h.0 k (omega (arith, small)), row_printed k small threads h.1)
 
-  printed : (k : ℕ) → k < 33 → AllZip IsPrintedCell (row_at (texts_in p) k) (row_in p k)
-  printed k small = row_printed k small p.threads threads_are
+  -- In each row the texts of the cells of all threads spell their tokens.
+  IsPrintedCell-rows : (k : ℕ) → k < 33 → AllZip IsPrintedCell (row_at (texts_in p) k) (row_in p k)
+  IsPrintedCell-rows k small = row_printed k small p.threads IsWellFormedThread-threads
 
+  -- A printed row has a cell for each thread.
   texts_long : (k : ℕ) → length (row_at (texts_in p) k) ≡ p.head.threads
   texts_long k =
       length-map (texts_in p) (λ cells. slice_index_or cells k []) ∙ length-map p.threads (cells_of p.head.locs) ∙ well.as_many
 
+  -- A row of printed tokens has a cell for each thread.
   row_long : (k : ℕ) → length (row_in p k) ≡ p.head.threads
   row_long k = length-map p.threads (λ code. cell_tokens p.head.locs code k) ∙ well.as_many
 
   -- ---- the text
 
+  -- The text after the preamble spells its tokens: the five parts in sequence.
   body_spelled : Spells Anything body_bytes (body_text p) (tokens_in p)
   body_spelled =
-      Spells-within body_bytes (omega (arith, height_few))
-      (Spells-on (block_spelled p.head well.head)
-      (Spells-on (header_spelled p.head.threads well.head.some well.head.few)
-      (Spells-on
-      (rows_spelled (row_at (texts_in p)) (row_in p) p.head.threads 33 well.head.some well.head.few printed texts_long row_long 0
-      (height_of p) (omega (arith, height_few)))
-      (Spells-on (listed_spelled p.head well.head) (condition_spelled p.head well.head well.arch)))))
+      Spells-mono body_bytes (omega (arith, height_few))
+      (Spells-append_anything (block_spelled p.head well.head)
+      (Spells-append_anything (header_spelled p.head.threads well.head.has_thread well.head.few)
+      (Spells-append_anything
+      (rows_spelled (row_at (texts_in p)) (row_in p) p.head.threads 33 well.head.has_thread well.head.few IsPrintedCell-rows
+      texts_long row_long 0 (height_of p) (omega (arith, height_few)))
+      (Spells-append_anything (listed_spelled p.head well.head) (condition_spelled p.head well.head well.arch)))))
 
   -- ---- what the text says
 
-  more_printable : AllByRecursion (IsPrintable p.head.threads p.head.locs)
+  -- All listed sites and all sites of the condition can be printed.
+  IsPrintable-all_sites : AllByRecursion (IsPrintable p.head.threads p.head.locs)
       (named_sites p.head.locs p.head.listed ++ sites_in (terminals_in p.head))
-  more_printable =
-      all_append (IsPrintable p.head.threads p.head.locs) (named_sites p.head.locs p.head.listed) (sites_in (terminals_in p.head))
-      (listed_printable p.head well.head)
+  IsPrintable-all_sites =
+      AllByRecursion-append (IsPrintable p.head.threads p.head.locs) (named_sites p.head.locs p.head.listed)
+      (sites_in (terminals_in p.head)) (listed_printable p.head well.head)
       (sites_printable p.head.threads p.head.locs (terminals_in p.head)
-      (whole_fine p.head.threads p.head.locs well.head.table.all p.head.condition well.head.condition))
+      (condition_is_printable p.head.threads p.head.locs well.head.table.all p.head.condition well.head.condition))
 
-  table_is : location_table (syntax_in p) ≡ p.head.locs
-  table_is =
+  -- The table of locations that the tokens give is the test's.
+  location_table-of_syntax : location_table (syntax_in p) ≡ p.head.locs
+  location_table-of_syntax =
       rw
       (append_assoc (map (λ e. e.site) (initializers_of p.head)) (named_sites p.head.locs p.head.listed)
       (sites_in (terminals_in p.head)))
-      (table_again p.head well.head (named_sites p.head.locs p.head.listed ++ sites_in (terminals_in p.head)) more_printable)
+      (insert_names-printed_names p.head well.head (named_sites p.head.locs p.head.listed ++ sites_in (terminals_in p.head))
+      IsPrintable-all_sites)
 
-  proposition_on : IsProposition (map (resolved p.head.locs) (terminals_in p.head)) p.head.condition
-  proposition_on =
-      rw (whole_again p.head.threads p.head.locs well.head.table.once p.head.condition well.head.condition)
-      (printed_proposition p.head.condition)
+  -- The condition's terminals, resolved by the test's table, are a proposition that says the condition.
+  IsProposition-of_condition : IsProposition (map (resolved p.head.locs) (terminals_in p.head)) p.head.condition
+  IsProposition-of_condition =
+      rw
+      (resolved-enclosed_named_terms p.head.threads p.head.locs well.head.table.without_duplicates p.head.condition
+      well.head.condition) (printed_proposition p.head.condition)
 
+  -- The condition has at most as many nodes as can be read.
   nodes_few : HasFewNodes (terminals_in p.head)
   nodes_few = omega (
     arith,
-    proposition_nodes proposition_on (resolved_single p.head.locs (terminals_in p.head)),
-    resolved_count p.head.locs (terminals_in p.head),
+    proposition_nodes IsProposition-of_condition (resolved_single p.head.locs (terminals_in p.head)),
+    node_count-resolved p.head.locs (terminals_in p.head),
     well.head.nodes_few,
   )
 
-  parts : ParsesTest X86 (tokens_in p) (syntax_in p)
-  parts = record {
+  -- The tokens are the parts of a test, and no others.
+  ParsesTest-of_tokens : ParsesTest X86 (tokens_in p) (syntax_in p)
+  ParsesTest-of_tokens = record {
     behind_block = tokens_behind_block p;
     behind_header = tokens_behind_header p;
     behind_rows = tokens_behind_rows p;
-    block = block_said p.head well.head (tokens_behind_block p);
-    header = header_said p.head.threads (tokens_behind_header p) well.head.some well.head.few;
-    there = initializers_exist p.head well.head;
+    block = Block-block_tokens p.head well.head (tokens_behind_block p);
+    header = Header-header_tokens p.head.threads (tokens_behind_header p) well.head.has_thread well.head.few;
+    threads_exist = initializers_exist p.head well.head;
     rows = (
-      rows_said p.head.threads (rows_in p) (tokens_behind_rows p) well.head.some
-          (rows_plain (row_at (texts_in p)) (row_in p) p.head.threads 33 well.head.some well.head.few printed texts_long row_long
-          0 (height_of p) (omega (arith, height_few))) (rows_stop p.head well.head),
+      ParsesManyTill-row_tokens p.head.threads (rows_in p) (tokens_behind_rows p) well.head.has_thread
+          (rows_plain (row_at (texts_in p)) (row_in p) p.head.threads 33 well.head.has_thread well.head.few IsPrintedCell-rows
+          texts_long row_long 0 (height_of p) (omega (arith, height_few))) (rows_stop p.head well.head),
       omega (arith, length-map-range_with_len (row_in p) 0 (height_of p), height_few),
     );
-    condition = condition_said p.head well.head;
-    few_names = omega (arith, ap length table_is, well.head.table.few);
+    condition = Condition-condition_tokens p.head well.head;
+    few_names = omega (arith, ap length location_table-of_syntax, well.head.table.few);
     few_nodes = nodes_few;
   }
 
   -- ---- the head and the cells
 
-  head_is : head_of_syntax X86 p.head.name (syntax_in p) p.head.condition ≡ p.head
-  head_is =
-      rw (table_is, registers_again p.head well.head, words_again p.head well.head, list_again p.head well.head, ← well.arch) refl
+  -- The head computed from the syntax is the test's head.
+  head_of_syntax-printed : head_of_syntax X86 p.head.name (syntax_in p) p.head.condition ≡ p.head
+  head_of_syntax-printed =
+      rw (
+        location_table-of_syntax,
+        initial_registers-printed p.head well.head,
+        initial_words-printed p.head well.head,
+        listed_in-named_sites p.head well.head,
+        ← well.arch,
+      ) refl
 
-  cells_are : columns p.head.threads (rows_in p) ≡ (frame_in p).cells
-  cells_are = rw (← well.as_many) (columns_are (cell_tokens p.head.locs) p.threads (height_of p))
+  -- The columns of the rows are the threads' cells.
+  columns-of_rows : columns p.head.threads (rows_in p) ≡ (frame_in p).cells
+  columns-of_rows = rw (← well.as_many) (columns-of_rows_by_item (cell_tokens p.head.locs) p.threads (height_of p))
 
-  frame_is : frame_in p ≡ frame_of_syntax X86 p.head.name (syntax_in p) p.head.condition
-  frame_is = rw (head_is, cells_are) refl
+  -- The frame of the printed syntax is the frame of the test.
+  frame_of_syntax-printed : frame_in p ≡ frame_of_syntax X86 p.head.name (syntax_in p) p.head.condition
+  frame_of_syntax-printed = rw (head_of_syntax-printed, columns-of_rows) refl
 
   -- ---- the whole text
 
-  x86_keyword_there : IsName (codes "X86")
-  x86_keyword_there = name_by_test (codes "X86") refl
+  -- The language's keyword is a name, so a token.
+  x86_keyword_is_name : IsName (codes "X86")
+  x86_keyword_is_name = name_by_test (codes "X86") refl
 
+  -- The printed text is UTF-8, since it is ASCII.
   text_utf8 : IsUtf8 (canonical_text p)
   text_utf8 =
-      IsUtf8-append (codes "X86") _ (Spells-name (codes "X86") x86_keyword_there).utf8
+      IsUtf8-append (codes "X86") _ (Spells-name (codes "X86") x86_keyword_is_name).utf8
       (IsUtf8-append (codes " ") _ Spells-space.utf8
       (IsUtf8-append p.head.name _ (IsUtf8-from_ascii p.head.name (name_ascii p.head.name well.head.name))
       (IsUtf8-append (codes "\n") (body_text p) Spells-newline.utf8 body_spelled.utf8)))
 
+  -- The text starts with the preamble: the keyword, the name, and no notes.
   preamble : Preamble (canonical_text p) X86 p.head.name (body_text p)
   preamble = (
     codes " " ++ (p.head.name ++ (codes "\n" ++ body_text p)),
     codes "\n" ++ body_text p,
-    (no_trivia, inl (record { all = x86_keyword_there.0.all; longest = refl; kind = inl x86_keyword_there })),
+    (no_trivia, inl (record { all = x86_keyword_is_name.0.all; longest = refl; kind = inl x86_keyword_is_name })),
     record {
       blanks = codes " ";
       parts = refl;
@@ -223,6 +251,7 @@ module _ (p : X86Test) (well : IsWellFormedProgram p) where
     no_notes (blank refl no_trivia) refl,
   )
 
+  -- The text is short enough to be read.
   text_short : length (canonical_text p) ≤ 65536
   text_short = omega (arith, length-append p.head.name (codes "\n" ++ body_text p), well.head.name.short, body_spelled.short)
 
@@ -239,9 +268,9 @@ module _ (p : X86Test) (well : IsWellFormedProgram p) where
     condition = p.head.condition;
     preamble = preamble;
     stream = Spells-whole tt body_spelled;
-    parts = parts;
+    parts = ParsesTest-of_tokens;
     proposition =
-        subst (λ (names : NameTable). IsProposition (map (resolved names) (terminals_in p.head)) p.head.condition) (sym table_is)
-        proposition_on;
-    made = frame_is;
+        subst (λ (names : NameTable). IsProposition (map (resolved names) (terminals_in p.head)) p.head.condition)
+        (sym location_table-of_syntax) IsProposition-of_condition;
+    made = frame_of_syntax-printed;
   }

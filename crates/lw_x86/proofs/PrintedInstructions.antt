@@ -1,16 +1,16 @@
--- Printed instructions: their texts spell tokens, which say them.
+-- Printed instructions: their texts spell tokens, which say them. One row for each form of instructions.
 use Rattle.lw_x86.proofs.Common.{EndsNoCell, ◌≡◌, ℕ, ◌<◌, ◌≤◌, ◌^◌, inl, true, false, [], ◌∷◌, length, refl}
 use Rattle.lw_x86.proofs.Common.{ap, arith, slice_index_or, Contains, option_map, AllByRecursion, ForSome}
 use Rattle.lw_x86.proofs.Common.{recursion_from_All, NameTable, TokenList, Number, IsLocationName}
-use Rattle.lw_x86.proofs.Common.{IsRegisterIndex, IsWordNumber, begins_stop, EndsName, Spells, Spells-within}
-use Rattle.lw_x86.proofs.Common.{Spells-run, decimal_is_name_run, decimal_is_short, name_there}
+use Rattle.lw_x86.proofs.Common.{IsRegisterIndex, IsWordNumber, begins_stop, EndsName, Spells, Spells-mono}
+use Rattle.lw_x86.proofs.Common.{Spells-run, decimal_is_name_run, decimal_is_short, IsLocationName-in_table}
 use Rattle.lw_x86.proofs.Common.{IsWellFormedStatement, registers_of, numbers_of, Instr, branch_target}
 use Rattle.lw_x86.proofs.Common.{location_of, x86_language, x86_operation, Fills, ParsesStatement, name_in}
 use Rattle.lw_x86.proofs.Common.{label_in, x86_forms, x86_slots, instruction, x86_spelling, label}
 use Rattle.lw_x86.proofs.Common.{printed_form, instruction_text}
 use Rattle.lw_base.specs.declared.operand.Operand.TheVariants.{Register}
 use Rattle.lw_x86.proofs.PrintedSlots.{ArePrintable, are_spaced, most_in, slots_tokens, slots_spelled}
-use Rattle.lw_x86.proofs.PrintedSlots.{slots_said, slots_no_end}
+use Rattle.lw_x86.proofs.PrintedSlots.{Fills-slots_tokens, slots_no_end}
 use Rattle.lw_litmus.specs.declared.instr.Instr.TheVariants as instr
 
 -- ---- labels
@@ -18,7 +18,7 @@ use Rattle.lw_litmus.specs.declared.instr.Instr.TheVariants as instr
 -- A label of an instruction is a name that is not reserved.
 pub label_is_location : (k : ℕ) → k < 2 ^ 32 → IsLocationName (label k)
 label_is_location k h = (
-  (record { some = omega arith; all = (refl, decimal_is_name_run k h); front = refl }, omega (arith, decimal_is_short k h)),
+  (record { not_empty = omega arith; all = (refl, decimal_is_name_run k h); front = refl }, omega (arith, decimal_is_short k h)),
   refl,
 )
 
@@ -39,19 +39,21 @@ instruction_tokens names i = slots_tokens (x86_slots (printed_form names i).form
 
 -- The form is short and starts with a mnemonic; it has the instruction's location and label, and with them gives the instruction.
 pub record IsPrintedAs (names : NameTable) (i : Instr) (s : ParsesStatement x86_spelling) : Type 0 where
-  pub there : Contains x86_forms s.form
+  pub form_is_listed : Contains x86_forms s.form
   pub spaced : are_spaced (x86_slots s.form) ≡ true
   pub short : most_in (x86_slots s.form) ≤ 133
   pub starts : begins_stop (slots_tokens (x86_slots s.form) s.filling) ≡ false
   pub name : name_in (x86_slots s.form) s.filling ≡ option_map (λ x. slice_index_or names x []) (location_of (x86_operation i))
-  pub led : label_in (x86_slots s.form) s.filling ≡ option_map label (branch_target (x86_operation i))
+  pub label_is : label_in (x86_slots s.form) s.filling ≡ option_map label (branch_target (x86_operation i))
   pub again : (x to : ℕ)
       → ForSome (location_of (x86_operation i)) (λ y. x ≡ y)
       → ForSome (branch_target (x86_operation i)) (λ t. to ≡ t)
       → instruction x to s.form s.filling ≡ i
 
 module _ (names : NameTable) where
-  row : {i : Instr} {s : ParsesStatement x86_spelling}
+  -- What must be checked of a form: its slots can be printed, and its operation names the location, target,
+  -- registers and numbers of the instruction.
+  IsPrintedAs-by_form : {i : Instr} {s : ParsesStatement x86_spelling}
       → Contains x86_forms s.form
       → are_spaced (x86_slots s.form) ≡ true
       → most_in (x86_slots s.form) ≤ 133
@@ -63,63 +65,88 @@ module _ (names : NameTable) where
       → ForSome (branch_target (x86_operation i)) (λ t. to ≡ t)
       → instruction x to s.form s.filling ≡ i)
       → IsPrintedAs names i s
-  row there spaced short starts name led again =
-      record { there = there; spaced = spaced; short = short; starts = starts; name = name; led = led; again = again }
+  IsPrintedAs-by_form there spaced short starts name led again = record {
+    form_is_listed = there;
+    spaced = spaced;
+    short = short;
+    starts = starts;
+    name = name;
+    label_is = led;
+    again = again;
+  }
 
   -- Each instruction has such a printed form.
-  pub printed : (i : Instr) → IsPrintedAs names i (printed_form names i)
-  printed (instr.Store x (Register a)) =
-      row (0, omega arith, refl) refl (omega arith) refl refl refl
+  pub IsPrintedAs-each : (i : Instr) → IsPrintedAs names i (printed_form names i)
+  IsPrintedAs-each (instr.Store x (Register a)) =
+      IsPrintedAs-by_form (0, omega arith, refl) refl (omega arith) refl refl refl
       (λ y to p q. ap (λ (z : ℕ). instr.Store z (Register a)) (p x refl))
-  printed (instr.Store x (Number n)) =
-      row (1, omega arith, refl) refl (omega arith) refl refl refl
+  IsPrintedAs-each (instr.Store x (Number n)) =
+      IsPrintedAs-by_form (1, omega arith, refl) refl (omega arith) refl refl refl
       (λ y to p q. ap (λ (z : ℕ). instr.Store z (Number n)) (p x refl))
-  printed (instr.Load d x) =
-      row (2, omega arith, refl) refl (omega arith) refl refl refl (λ y to p q. ap (instr.Load d) (p x refl))
-  printed (instr.Set d (Register a)) = row (3, omega arith, refl) refl (omega arith) refl refl refl (λ y to p q. refl)
-  printed (instr.Set d (Number n)) = row (4, omega arith, refl) refl (omega arith) refl refl refl (λ y to p q. refl)
-  printed (instr.Add d (Register a)) = row (5, omega arith, refl) refl (omega arith) refl refl refl (λ y to p q. refl)
-  printed (instr.Add d (Number n)) = row (6, omega arith, refl) refl (omega arith) refl refl refl (λ y to p q. refl)
-  printed (instr.Cmp a (Register b)) = row (7, omega arith, refl) refl (omega arith) refl refl refl (λ y to p q. refl)
-  printed (instr.Cmp a (Number n)) = row (8, omega arith, refl) refl (omega arith) refl refl refl (λ y to p q. refl)
-  printed (instr.Xchg x a) =
-      row (9, omega arith, refl) refl (omega arith) refl refl refl (λ y to p q. ap (λ (z : ℕ). instr.Xchg z a) (p x refl))
-  printed (instr.Xadd x a) =
-      row (13, omega arith, refl) refl (omega arith) refl refl refl (λ y to p q. ap (λ (z : ℕ). instr.Xadd z a) (p x refl))
-  printed instr.Mfence = row (14, omega arith, refl) refl (omega arith) refl refl refl (λ y to p q. refl)
-  printed (instr.Je to) = row (15, omega arith, refl) refl (omega arith) refl refl refl (λ y t p q. ap instr.Je (q to refl))
-  printed (instr.Jne to) = row (16, omega arith, refl) refl (omega arith) refl refl refl (λ y t p q. ap instr.Jne (q to refl))
-  printed (instr.Jmp to) = row (17, omega arith, refl) refl (omega arith) refl refl refl (λ y t p q. ap instr.Jmp (q to refl))
+  IsPrintedAs-each (instr.Load d x) =
+      IsPrintedAs-by_form (2, omega arith, refl) refl (omega arith) refl refl refl (λ y to p q. ap (instr.Load d) (p x refl))
+  IsPrintedAs-each (instr.Set d (Register a)) =
+      IsPrintedAs-by_form (3, omega arith, refl) refl (omega arith) refl refl refl (λ y to p q. refl)
+  IsPrintedAs-each (instr.Set d (Number n)) =
+      IsPrintedAs-by_form (4, omega arith, refl) refl (omega arith) refl refl refl (λ y to p q. refl)
+  IsPrintedAs-each (instr.Add d (Register a)) =
+      IsPrintedAs-by_form (5, omega arith, refl) refl (omega arith) refl refl refl (λ y to p q. refl)
+  IsPrintedAs-each (instr.Add d (Number n)) =
+      IsPrintedAs-by_form (6, omega arith, refl) refl (omega arith) refl refl refl (λ y to p q. refl)
+  IsPrintedAs-each (instr.Cmp a (Register b)) =
+      IsPrintedAs-by_form (7, omega arith, refl) refl (omega arith) refl refl refl (λ y to p q. refl)
+  IsPrintedAs-each (instr.Cmp a (Number n)) =
+      IsPrintedAs-by_form (8, omega arith, refl) refl (omega arith) refl refl refl (λ y to p q. refl)
+  IsPrintedAs-each (instr.Xchg x a) =
+      IsPrintedAs-by_form (9, omega arith, refl) refl (omega arith) refl refl refl
+      (λ y to p q. ap (λ (z : ℕ). instr.Xchg z a) (p x refl))
+  IsPrintedAs-each (instr.Xadd x a) =
+      IsPrintedAs-by_form (13, omega arith, refl) refl (omega arith) refl refl refl
+      (λ y to p q. ap (λ (z : ℕ). instr.Xadd z a) (p x refl))
+  IsPrintedAs-each instr.Mfence = IsPrintedAs-by_form (14, omega arith, refl) refl (omega arith) refl refl refl (λ y to p q. refl)
+  IsPrintedAs-each (instr.Je to) =
+      IsPrintedAs-by_form (15, omega arith, refl) refl (omega arith) refl refl refl (λ y t p q. ap instr.Je (q to refl))
+  IsPrintedAs-each (instr.Jne to) =
+      IsPrintedAs-by_form (16, omega arith, refl) refl (omega arith) refl refl refl (λ y t p q. ap instr.Jne (q to refl))
+  IsPrintedAs-each (instr.Jmp to) =
+      IsPrintedAs-by_form (17, omega arith, refl) refl (omega arith) refl refl refl (λ y t p q. ap instr.Jmp (q to refl))
 
 module _ (names : NameTable) (table : AllByRecursion IsLocationName names) where
   -- The filling of an instruction's form can be printed if its location, registers, numbers and target are in range.
-  fills : (i : Instr)
+  ArePrintable-of_operands : (i : Instr)
       → ForSome (location_of (x86_operation i)) (λ x. x < length names)
       → AllByRecursion IsRegisterIndex (registers_of (x86_operation i))
       → AllByRecursion IsWordNumber (numbers_of (x86_operation i))
       → HasTarget i
       → ArePrintable (x86_slots (printed_form names i).form) (printed_form names i).filling
-  fills (instr.Store x (Register a)) l r n t = (tt, (tt, (name_there _ x table (l x refl), (tt, (tt, (r.0, tt))))))
-  fills (instr.Store x (Number k)) l r n t = (tt, (tt, (name_there names x table (l x refl), (tt, (tt, (tt, (n.0, tt)))))))
-  fills (instr.Load d x) l r n t = (tt, (r.0, (tt, (tt, (name_there names x table (l x refl), (tt, tt))))))
-  fills (instr.Set d (Register a)) l r n t = (tt, (r.0, (tt, (r.1.0, tt))))
-  fills (instr.Set d (Number k)) l r n t = (tt, (r.0, (tt, (tt, (n.0, tt)))))
-  fills (instr.Add d (Register a)) l r n t = (tt, (r.0, (tt, (r.1.1.0, tt))))
-  fills (instr.Add d (Number k)) l r n t = (tt, (r.0, (tt, (tt, (n.0, tt)))))
-  fills (instr.Cmp a (Register b)) l r n t = (tt, (r.0, (tt, (r.1.0, tt))))
-  fills (instr.Cmp a (Number k)) l r n t = (tt, (r.0, (tt, (tt, (n.0, tt)))))
-  fills (instr.Xchg x a) l r n t = (tt, (tt, (name_there names x table (l x refl), (tt, (tt, (r.0, tt))))))
-  fills (instr.Xadd x a) l r n t = (tt, (tt, (tt, (name_there names x table (l x refl), (tt, (tt, (r.0, tt)))))))
-  fills instr.Mfence l r n t = (tt, tt)
-  fills (instr.Je to) l r n t = (tt, (label_is_location to (t to refl), tt))
-  fills (instr.Jne to) l r n t = (tt, (label_is_location to (t to refl), tt))
-  fills (instr.Jmp to) l r n t = (tt, (label_is_location to (t to refl), tt))
+  ArePrintable-of_operands (instr.Store x (Register a)) l r n t =
+      (tt, (tt, (IsLocationName-in_table _ x table (l x refl), (tt, (tt, (r.0, tt))))))
+  ArePrintable-of_operands (instr.Store x (Number k)) l r n t =
+      (tt, (tt, (IsLocationName-in_table names x table (l x refl), (tt, (tt, (tt, (n.0, tt)))))))
+  ArePrintable-of_operands (instr.Load d x) l r n t =
+      (tt, (r.0, (tt, (tt, (IsLocationName-in_table names x table (l x refl), (tt, tt))))))
+  ArePrintable-of_operands (instr.Set d (Register a)) l r n t = (tt, (r.0, (tt, (r.1.0, tt))))
+  ArePrintable-of_operands (instr.Set d (Number k)) l r n t = (tt, (r.0, (tt, (tt, (n.0, tt)))))
+  ArePrintable-of_operands (instr.Add d (Register a)) l r n t = (tt, (r.0, (tt, (r.1.1.0, tt))))
+  ArePrintable-of_operands (instr.Add d (Number k)) l r n t = (tt, (r.0, (tt, (tt, (n.0, tt)))))
+  ArePrintable-of_operands (instr.Cmp a (Register b)) l r n t = (tt, (r.0, (tt, (r.1.0, tt))))
+  ArePrintable-of_operands (instr.Cmp a (Number k)) l r n t = (tt, (r.0, (tt, (tt, (n.0, tt)))))
+  ArePrintable-of_operands (instr.Xchg x a) l r n t =
+      (tt, (tt, (IsLocationName-in_table names x table (l x refl), (tt, (tt, (r.0, tt))))))
+  ArePrintable-of_operands (instr.Xadd x a) l r n t =
+      (tt, (tt, (tt, (IsLocationName-in_table names x table (l x refl), (tt, (tt, (r.0, tt)))))))
+  ArePrintable-of_operands instr.Mfence l r n t = (tt, tt)
+  ArePrintable-of_operands (instr.Je to) l r n t = (tt, (label_is_location to (t to refl), tt))
+  ArePrintable-of_operands (instr.Jne to) l r n t = (tt, (label_is_location to (t to refl), tt))
+  ArePrintable-of_operands (instr.Jmp to) l r n t = (tt, (label_is_location to (t to refl), tt))
 
-  printable : (i : Instr)
+  -- The operands of a well-formed instruction can be printed in its form's slots.
+  ArePrintable-of_instruction : (i : Instr)
       → IsWellFormedStatement x86_language (length names) i
       → HasTarget i
       → ArePrintable (x86_slots (printed_form names i).form) (printed_form names i).filling
-  printable i h t = fills i h.0 (recursion_from_All _ _ h.1) (recursion_from_All IsWordNumber _ h.2) t
+  ArePrintable-of_instruction i h t =
+      ArePrintable-of_operands i h.0 (recursion_from_All _ _ h.1) (recursion_from_All IsWordNumber _ h.2) t
 
   -- The text of an instruction spells its tokens.
   pub instruction_spelled : (i : Instr)
@@ -127,20 +154,23 @@ module _ (names : NameTable) (table : AllByRecursion IsLocationName names) where
       → HasTarget i
       → Spells EndsName 133 (instruction_text names i) (instruction_tokens names i)
   instruction_spelled i h t =
-      let p = printed names i in
-      Spells-within 133 p.short (slots_spelled _ (printed_form names i).filling (printable i h t) p.spaced)
+      let p = IsPrintedAs-each names i in
+      Spells-mono 133 p.short (slots_spelled _ (printed_form names i).filling (ArePrintable-of_instruction i h t) p.spaced)
 
   -- The tokens of an instruction fill the slots of its form.
-  pub instruction_said : (i : Instr)
+  pub Fills-instruction_tokens : (i : Instr)
       → IsWellFormedStatement x86_language (length names) i
       → HasTarget i
       → Contains x86_forms (printed_form names i).form
       × Fills x86_spelling (instruction_tokens names i) (x86_slots (printed_form names i).form) (printed_form names i).filling
-  instruction_said i h t = ((printed _ i).there, slots_said _ (printed_form names i).filling (printable i h t))
+  Fills-instruction_tokens i h t = (
+    (IsPrintedAs-each _ i).form_is_listed,
+    Fills-slots_tokens _ (printed_form names i).filling (ArePrintable-of_instruction i h t),
+  )
 
   -- The tokens of an instruction contain no end of a cell.
   pub instruction_no_end : (i : Instr)
       → IsWellFormedStatement x86_language (length names) i
       → HasTarget i
       → EndsNoCell (instruction_tokens names i)
-  instruction_no_end i h t = slots_no_end _ (printed_form names i).filling (printable i h t)
+  instruction_no_end i h t = slots_no_end _ (printed_form names i).filling (ArePrintable-of_instruction i h t)

@@ -1,16 +1,18 @@
--- The printed list of names and condition: their texts spell tokens, which say them.
+-- The printed list of names and condition: their texts spell tokens, which say them. The last parts of a
+-- printed text (PrintedFrames).
 use Rattle.lw_x86.proofs.Common.{◌≡◌, ℕ, suc, ◌+◌, ◌*◌, inl, inr, true, false, List, [], ◌∷◌, ◌++◌, map}
 use Rattle.lw_x86.proofs.Common.{length, refl, arith, append_assoc, append-nil, codes, flat_map}
 use Rattle.lw_x86.proofs.Common.{AllByRecursion, NameTable, TokenList, X86, Quant, Exists, Seen}
 use Rattle.lw_x86.proofs.Common.{condition_text, TestHead, IsSeenInRange, IsWellFormedHead, SiteSyntax}
 use Rattle.lw_x86.proofs.Common.{IsSite, begins_stop, AtomSyntax, Listed, Condition, begins_token, Terminal}
-use Rattle.lw_x86.proofs.Common.{all_map, All-mono, listed_few, most_seen, Anything, Spells, Spells-nothing}
-use Rattle.lw_x86.proofs.Common.{Spells-then, Spells-on, Spells-within, Spells-space, Spells-newline}
-use Rattle.lw_x86.proofs.Common.{Spells-mark, Spells-name, name_by_test, enclosed, terminals_of, named_site}
-use Rattle.lw_x86.proofs.Common.{site_tokens, terminal_tokens, quantifier_tokens, named_claim, IsPrintable}
-use Rattle.lw_x86.proofs.Common.{site_said, site_exists, terminals_said, named_printable, whole_fine}
-use Rattle.lw_x86.proofs.Common.{quantifier_said, ended_said, site_spelled, whole_spelled, quantifier_spelled}
-use Rattle.lw_x86.proofs.Common.{element_text, listed_text}
+use Rattle.lw_x86.proofs.Common.{AllByRecursion-map, All-mono, length_le-ascending_seen, max_seen_count}
+use Rattle.lw_x86.proofs.Common.{Anything, Spells, Spells-nothing, Spells-append, Spells-append_anything}
+use Rattle.lw_x86.proofs.Common.{Spells-mono, Spells-space, Spells-newline, Spells-mark, Spells-name}
+use Rattle.lw_x86.proofs.Common.{name_by_test, enclosed, terminals_of, named_site, site_tokens}
+use Rattle.lw_x86.proofs.Common.{terminal_tokens, quantifier_tokens, named_claim, IsPrintable}
+use Rattle.lw_x86.proofs.Common.{IsSite-site_tokens, site_exists, Terminals-terminal_tokens, named_printable}
+use Rattle.lw_x86.proofs.Common.{condition_is_printable, Quantified-quantifier_tokens, ParsesSepEndBy-tokens}
+use Rattle.lw_x86.proofs.Common.{site_spelled, whole_spelled, quantifier_spelled, element_text, listed_text}
 
 -- ---- tokens
 
@@ -38,7 +40,7 @@ condition_tokens head = quantifier_tokens head.quant ++ flat_map (terminal_token
 
 -- The maximal number of bytes of the line of the list.
 abbrev pub listed_bytes : ℕ
-listed_bytes = 80 + 45 * most_seen
+listed_bytes = 80 + 45 * max_seen_count
 
 -- The maximal number of bytes of the condition's line.
 abbrev pub condition_bytes : ℕ
@@ -46,46 +48,55 @@ condition_bytes = 15397
 
 module _ (head : TestHead) (well : IsWellFormedHead head) where
   -- The register or location is of the test.
-  abbrev Sees : Seen → Type 0
-  Sees = IsSeenInRange head.threads (length head.locs)
+  abbrev IsOfTest : Seen → Type 0
+  IsOfTest = IsSeenInRange head.threads (length head.locs)
 
   -- ---- the texts
 
-  element_spelled : (s : Seen) → Sees s → Spells Anything 44 (element_text head.locs s) (element_tokens (named_site head.locs s))
+  -- The text of an element spells its tokens.
+  element_spelled : (s : Seen)
+      → IsOfTest s
+      → Spells Anything 44 (element_text head.locs s) (element_tokens (named_site head.locs s))
   element_spelled s h =
-      Spells-then (λ rest g. refl) (site_spelled X86 head.threads well.few head.locs well.table.all s h)
+      Spells-append (λ rest g. refl) (site_spelled X86 head.threads well.few head.locs well.table.all s h)
       (Spells-mark 59 refl (λ c. refl) refl (omega arith))
 
+  -- The texts of further elements, each after a space, spell their tokens.
   elements_spelled : (ss : List Seen)
-      → AllByRecursion Sees ss
+      → AllByRecursion IsOfTest ss
       → Spells Anything (45 * length ss) (flat_map (λ next. codes " " ++ next) (map (element_text head.locs) ss))
       (flat_map element_tokens (named_sites head.locs ss))
-  elements_spelled [] h = Spells-within (45 * 0) (omega arith) (Spells-nothing Anything)
+  elements_spelled [] h = Spells-mono (45 * 0) (omega arith) (Spells-nothing Anything)
   elements_spelled (s ∷ ss) h =
-      Spells-within (45 * suc (length ss)) (omega arith)
-      (Spells-on (Spells-on Spells-space (element_spelled s h.0)) (elements_spelled ss h.1))
+      Spells-mono (45 * suc (length ss)) (omega arith)
+      (Spells-append_anything (Spells-append_anything Spells-space (element_spelled s h.0)) (elements_spelled ss h.1))
 
-  opening : Spells Anything 34 (codes "locations [") (codes "locations" ∷ codes "[" ∷ [])
-  opening =
-      Spells-then (λ rest g. refl) (Spells-name (codes "locations") (name_by_test (codes "locations") refl))
-      (Spells-on Spells-space (Spells-mark 91 refl (λ c. refl) refl (omega arith)))
+  -- The word and the bracket spell two tokens.
+  Spells-locations : Spells Anything 34 (codes "locations [") (codes "locations" ∷ codes "[" ∷ [])
+  Spells-locations =
+      Spells-append (λ rest g. refl) (Spells-name (codes "locations") (name_by_test (codes "locations") refl))
+      (Spells-append_anything Spells-space (Spells-mark 91 refl (λ c. refl) refl (omega arith)))
 
+  -- The text of the list of names, or none, spells its tokens.
   list_spelled : (ss : List Seen)
-      → AllByRecursion Sees ss
+      → AllByRecursion IsOfTest ss
       → Spells Anything (80 + 45 * length ss) (listed_text head.locs ss) (listed_tokens head.locs ss)
-  list_spelled [] h = Spells-within (80 + 45 * 0) (omega arith) (Spells-nothing Anything)
+  list_spelled [] h = Spells-mono (80 + 45 * 0) (omega arith) (Spells-nothing Anything)
   list_spelled (s ∷ ss) h =
-      Spells-within (80 + 45 * suc (length ss)) (omega arith)
-      (Spells-on opening
-      (Spells-on (Spells-on (element_spelled s h.0) (elements_spelled ss h.1))
-      (Spells-on (Spells-mark 93 refl (λ c. refl) refl (omega arith)) Spells-newline)))
+      Spells-mono (80 + 45 * suc (length ss)) (omega arith)
+      (Spells-append_anything Spells-locations
+      (Spells-append_anything (Spells-append_anything (element_spelled s h.0) (elements_spelled ss h.1))
+      (Spells-append_anything (Spells-mark 93 refl (λ c. refl) refl (omega arith)) Spells-newline)))
 
   -- The text of the list of names spells its tokens.
   pub listed_spelled : Spells Anything listed_bytes (listed_text head.locs head.listed) (listed_tokens head.locs head.listed)
   listed_spelled =
-      Spells-within listed_bytes
-      (omega (arith, listed_few head.threads (length head.locs) head.listed well.ascending well.there, well.few, well.table.few))
-      (list_spelled head.listed well.there)
+      Spells-mono listed_bytes (omega (
+        arith,
+        length_le-ascending_seen head.threads (length head.locs) head.listed well.ascending well.listed_in_range,
+        well.few,
+        well.table.few,
+      )) (list_spelled head.listed well.listed_in_range)
 
   -- The text of the condition's line spells its tokens.
   pub condition_spelled : head.arch ≡ X86
@@ -93,31 +104,33 @@ module _ (head : TestHead) (well : IsWellFormedHead head) where
   condition_spelled arch =
       let proposition = whole_spelled X86 head.threads well.few head.locs well.table.all head.condition well.condition in
       let line =
-      Spells-on (Spells-then {G = Anything} (λ rest g. refl) (quantifier_spelled head.quant) (Spells-on Spells-space proposition))
-      Spells-newline in
-      rw (arch, ← append-nil (condition_tokens head)) (Spells-within condition_bytes (omega (arith, well.nodes_few)) line)
+      Spells-append_anything
+      (Spells-append {G = Anything} (λ rest g. refl) (quantifier_spelled head.quant)
+      (Spells-append_anything Spells-space proposition)) Spells-newline in
+      rw (arch, ← append-nil (condition_tokens head)) (Spells-mono condition_bytes (omega (arith, well.nodes_few)) line)
 
   -- ---- what the tokens say
 
   -- The list of names can be printed.
   pub listed_printable : AllByRecursion (IsPrintable head.threads head.locs) (named_sites head.locs head.listed)
   listed_printable =
-      all_map (IsPrintable head.threads head.locs) (named_site head.locs) head.listed
-      (All-mono _ _ (named_printable head.threads head.locs well.table.all) head.listed well.there)
+      AllByRecursion-map (IsPrintable head.threads head.locs) (named_site head.locs) head.listed
+      (All-mono _ _ (named_printable head.threads head.locs well.table.all) head.listed well.listed_in_range)
 
-  list_said : (ss : List Seen) (rest : TokenList)
+  -- The tokens of the list of names, or none, say the listed sites.
+  Listed-listed_tokens : (ss : List Seen) (rest : TokenList)
       → AllByRecursion (IsPrintable head.threads head.locs) (named_sites head.locs ss)
       → begins_token (codes "locations") rest ≡ false
       → Listed X86 (listed_tokens head.locs ss ++ rest) (named_sites head.locs ss) rest
-  list_said [] rest h other = inr (other, refl, refl)
-  list_said (s ∷ ss) rest h other =
+  Listed-listed_tokens [] rest h other = inr (other, refl, refl)
+  Listed-listed_tokens (s ∷ ss) rest h other =
       let sites = named_sites head.locs (s ∷ ss) in
       inl (
         (flat_map element_tokens sites ++ (codes "]" ∷ [])) ++ rest,
         refl,
         rw (append_assoc (flat_map element_tokens sites))
-            (ended_said (IsSite X86) (site_tokens X86) (codes ";") (codes "]") sites rest
-            (All-mono _ _ (λ site p l. site_said X86 head.threads well.few head.locs site l p) sites h)),
+            (ParsesSepEndBy-tokens (IsSite X86) (site_tokens X86) (codes ";") (codes "]") sites rest
+            (All-mono _ _ (λ site p l. IsSite-site_tokens X86 head.threads well.few head.locs site l p) sites h)),
       )
 
   -- A quantifier starts no list, and ends the rows.
@@ -128,19 +141,19 @@ module _ (head : TestHead) (well : IsWellFormedHead head) where
   quantifier_begins q rest = (refl, refl)
 
   -- The tokens of the list and the condition say the list, the quantifier and the terminals.
-  pub condition_said : Condition X86 head.threads (listed_tokens head.locs head.listed ++ condition_tokens head)
+  pub Condition-condition_tokens : Condition X86 head.threads (listed_tokens head.locs head.listed ++ condition_tokens head)
       (named_sites head.locs head.listed) head.quant (terminals_in head)
-  condition_said = record {
+  Condition-condition_tokens = record {
     behind_list = condition_tokens head;
     behind_quant = flat_map (terminal_tokens X86) (terminals_in head);
-    lists = list_said head.listed (condition_tokens head) listed_printable (quantifier_begins head.quant _).0;
-    there =
+    lists = Listed-listed_tokens head.listed (condition_tokens head) listed_printable (quantifier_begins head.quant _).0;
+    threads_exist =
         All-mono _ _ (λ site p. site_exists X86 head.threads well.few head.locs site p) (named_sites head.locs head.listed)
         listed_printable;
-    quantifies = quantifier_said head.quant (flat_map (terminal_tokens X86) (terminals_in head));
+    quantifies = Quantified-quantifier_tokens head.quant (flat_map (terminal_tokens X86) (terminals_in head));
     says =
-        terminals_said X86 head.threads well.few head.locs (terminals_in head)
-        (whole_fine head.threads head.locs well.table.all head.condition well.condition);
+        Terminals-terminal_tokens X86 head.threads well.few head.locs (terminals_in head)
+        (condition_is_printable head.threads head.locs well.table.all head.condition well.condition);
   }
 
   -- If tokens start as an end of the rows does, so do they with the list of names before them.

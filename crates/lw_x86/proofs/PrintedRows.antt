@@ -1,54 +1,60 @@
--- Printed rows: their texts spell tokens, which are cells between bars.
+-- Printed rows: their texts spell tokens, which are cells between bars. One part of a printed text
+-- (PrintedFrames).
 use Rattle.lw_x86.proofs.Common.{EndsNoCell, ◌≡◌, ℕ, zero, suc, ◌+◌, ◌*◌, ◌<◌, ◌≤◌, true, false, List, []}
 use Rattle.lw_x86.proofs.Common.{◌∷◌, ◌++◌, map, length, refl, arith, append_assoc, codes, flat_map}
 use Rattle.lw_x86.proofs.Common.{AllByRecursion, AllZip, range_with_len, agree_below_at}
 use Rattle.lw_x86.proofs.Common.{length-map-range_with_len, Bytes, TokenList, Cells, CellGrid, first_byte_is}
 use Rattle.lw_x86.proofs.Common.{is_blank, most_threads, ParsesManyTill, thread_name, Names, Header, RowCells}
-use Rattle.lw_x86.proofs.Common.{Row, begins_stop, Anything, IsBlankNext, Spells, Spells-then, Spells-on}
-use Rattle.lw_x86.proofs.Common.{Spells-before, Spells-within, Spells-nothing, Spells-space, Spells-newline}
-use Rattle.lw_x86.proofs.Common.{Spells-mark, Spells-name, is_name_text, name_by_test, blank_ends_name}
-use Rattle.lw_x86.proofs.Common.{row_text, header_text}
+use Rattle.lw_x86.proofs.Common.{Row, begins_stop, Anything, IsBlankNext, Spells, Spells-append}
+use Rattle.lw_x86.proofs.Common.{Spells-append_anything, Spells-before, Spells-mono, Spells-nothing}
+use Rattle.lw_x86.proofs.Common.{Spells-space, Spells-newline, Spells-mark, Spells-name, is_name_text}
+use Rattle.lw_x86.proofs.Common.{name_by_test, blank_ends_name, row_text, header_text}
 use Rattle.lw_x86.proofs.PrintedSlots.{name_no_end}
 use Rattle.lw_x86.proofs.PrintedCells.{IsPrintedCell}
 
 -- ---- one row
 
 -- The text of a row after its first cell: the other cells, each after a bar, and the end of the row.
-abbrev behind_text : List Bytes → Bytes
-behind_text cells = flat_map (λ next. codes " | " ++ next) cells ++ codes " ;\n"
+abbrev text_after_first : List Bytes → Bytes
+text_after_first cells = flat_map (λ next. codes " | " ++ next) cells ++ codes " ;\n"
 
 -- The tokens of the cells after the first, each after a `|`, and the `;`.
-abbrev pub tokens_behind : Cells → TokenList
-tokens_behind [] = codes ";" ∷ []
-tokens_behind (t ∷ ts) = codes "|" ∷ (t ++ tokens_behind ts)
+abbrev pub tokens_after_first : Cells → TokenList
+tokens_after_first [] = codes ";" ∷ []
+tokens_after_first (t ∷ ts) = codes "|" ∷ (t ++ tokens_after_first ts)
 
 -- The tokens of a row of cells.
 abbrev pub row_tokens : Cells → TokenList
 row_tokens [] = codes ";" ∷ []
-row_tokens (t ∷ ts) = t ++ tokens_behind ts
+row_tokens (t ∷ ts) = t ++ tokens_after_first ts
 
 -- What follows a cell in its row starts with a blank.
-begins_behind : (cells : List Bytes) (rest : Bytes) → first_byte_is is_blank (behind_text cells ++ rest) ≡ true
-begins_behind [] rest = refl
-begins_behind (c ∷ cells) rest = refl
+blank_after_cell : (cells : List Bytes) (rest : Bytes) → first_byte_is is_blank (text_after_first cells ++ rest) ≡ true
+blank_after_cell [] rest = refl
+blank_after_cell (c ∷ cells) rest = refl
 
 -- ` | ` spells a bar.
-bar : Spells Anything 3 (codes " | ") (codes "|" ∷ [])
-bar = Spells-on Spells-space (Spells-on (Spells-mark 124 refl (λ c. refl) refl (omega arith)) Spells-space)
+Spells-bar : Spells Anything 3 (codes " | ") (codes "|" ∷ [])
+Spells-bar =
+    Spells-append_anything Spells-space
+    (Spells-append_anything (Spells-mark 124 refl (λ c. refl) refl (omega arith)) Spells-space)
 
 -- ` ;` and the line's end spell a `;`.
 row_end : Spells Anything 3 (codes " ;\n") (codes ";" ∷ [])
-row_end = Spells-on Spells-space (Spells-on (Spells-mark 59 refl (λ c. refl) refl (omega arith)) Spells-newline)
+row_end =
+    Spells-append_anything Spells-space
+    (Spells-append_anything (Spells-mark 59 refl (λ c. refl) refl (omega arith)) Spells-newline)
 
 -- The text of the cells after the first spells their tokens.
 behind_spelled : (cells : List Bytes) (ts : Cells)
     → AllZip IsPrintedCell cells ts
-    → Spells Anything (153 * length cells + 3) (behind_text cells) (tokens_behind ts)
-behind_spelled [] [] h = Spells-within (153 * 0 + 3) (omega arith) row_end
+    → Spells Anything (153 * length cells + 3) (text_after_first cells) (tokens_after_first ts)
+behind_spelled [] [] h = Spells-mono (153 * 0 + 3) (omega arith) row_end
 behind_spelled (c ∷ cells) (t ∷ ts) h =
     rw (append_assoc c)
-    (Spells-within (153 * suc (length cells) + 3) (omega arith)
-    (Spells-on bar (Spells-then (λ more g. begins_behind cells more) h.0.spells (behind_spelled cells ts h.1))))
+    (Spells-mono (153 * suc (length cells) + 3) (omega arith)
+    (Spells-append_anything Spells-bar
+    (Spells-append (λ more g. blank_after_cell cells more) h.0.spells (behind_spelled cells ts h.1))))
 behind_spelled cells ts h = absurd h
 
 -- The text of a row spells its tokens.
@@ -60,27 +66,28 @@ row_spelled [] ts some h = absurd (omega arith)
 row_spelled (c ∷ cells) [] some h = absurd h
 row_spelled (c ∷ cells) (t ∷ ts) some h =
     rw (append_assoc c)
-    (Spells-within (153 * suc (length cells) + 1) (omega arith)
-    (Spells-on Spells-space (Spells-then (λ more g. begins_behind cells more) h.0.spells (behind_spelled cells ts h.1))))
+    (Spells-mono (153 * suc (length cells) + 1) (omega arith)
+    (Spells-append_anything Spells-space
+    (Spells-append (λ more g. blank_after_cell cells more) h.0.spells (behind_spelled cells ts h.1))))
 
 -- ---- what the tokens of a row are
 
 -- The tokens of a row say its cells.
-pub cells_said : (t : TokenList) (ts : Cells) (rest : TokenList)
+pub RowCells-row_tokens : (t : TokenList) (ts : Cells) (rest : TokenList)
     → AllByRecursion EndsNoCell (t ∷ ts)
     → RowCells (row_tokens (t ∷ ts) ++ rest) (t ∷ ts) rest
-cells_said t [] rest h = (append_assoc t (codes ";" ∷ []) rest, h.0)
-cells_said t (u ∷ ts) rest h =
-    (row_tokens (u ∷ ts) ++ rest, (append_assoc t (tokens_behind (u ∷ ts)) rest, h.0), cells_said u ts rest h.1)
+RowCells-row_tokens t [] rest h = (append_assoc t (codes ";" ∷ []) rest, h.0)
+RowCells-row_tokens t (u ∷ ts) rest h =
+    (row_tokens (u ∷ ts) ++ rest, (append_assoc t (tokens_after_first (u ∷ ts)) rest, h.0), RowCells-row_tokens u ts rest h.1)
 
 -- The tokens of a row are a row with a cell for each thread.
-pub row_said : (threads : ℕ) (ts : Cells) (rest : TokenList)
+pub Row-row_tokens : (threads : ℕ) (ts : Cells) (rest : TokenList)
     → 1 ≤ threads
     → length ts ≡ threads
     → AllByRecursion EndsNoCell ts
     → Row threads (row_tokens ts ++ rest) ts rest
-row_said threads [] rest some long h = absurd (omega (arith, some, long))
-row_said threads (t ∷ ts) rest some long h = (cells_said t ts rest h, long)
+Row-row_tokens threads [] rest some long h = absurd (omega (arith, some, long))
+Row-row_tokens threads (t ∷ ts) rest some long h = (RowCells-row_tokens t ts rest h, long)
 
 -- If no cell starts as an end of the rows does, neither does the row.
 row_starts : (ts : Cells) (rest : TokenList)
@@ -96,16 +103,18 @@ abbrev pub IsPlainRow : ℕ → Cells → Type 0
 IsPlainRow threads ts = (length ts ≡ threads) × AllByRecursion EndsNoCell ts × AllByRecursion (λ t. begins_stop t ≡ false) ts
 
 -- The tokens of plain rows are rows, up to what ends them.
-pub rows_said : (threads : ℕ) (rows : CellGrid) (rest : TokenList)
+pub ParsesManyTill-row_tokens : (threads : ℕ) (rows : CellGrid) (rest : TokenList)
     → 1 ≤ threads
     → AllByRecursion (IsPlainRow threads) rows
     → begins_stop rest ≡ true
     → ParsesManyTill begins_stop (Row threads) (flat_map row_tokens rows ++ rest) rows rest
-rows_said threads [] rest some h stop = (refl, stop)
-rows_said threads (row ∷ rows) rest some h stop =
+ParsesManyTill-row_tokens threads [] rest some h stop = (refl, stop)
+ParsesManyTill-row_tokens threads (row ∷ rows) rest some h stop =
     let more = flat_map row_tokens rows ++ rest in
-    rw (append_assoc (row_tokens row))
-    (row_starts row more h.0.2, (more, row_said threads row more some h.0.0 h.0.1, rows_said threads rows rest some h.1 stop))
+    rw (append_assoc (row_tokens row)) (
+      row_starts row more h.0.2,
+      (more, Row-row_tokens threads row more some h.0.0 h.0.1, ParsesManyTill-row_tokens threads rows rest some h.1 stop),
+    )
 
 -- ---- the header
 
@@ -119,7 +128,7 @@ thread_cell k lt =
     let name =
     name_by_test (thread_name k) (agree_below_at (λ j. is_name_text (thread_name j)) (λ j. true) most_threads k refl lt) in
     record {
-      spells = Spells-within 150 (omega arith) (Spells-before IsBlankNext blank_ends_name (Spells-name (thread_name k) name));
+      spells = Spells-mono 150 (omega arith) (Spells-before IsBlankNext blank_ends_name (Spells-name (thread_name k) name));
       plain = (name_no_end (thread_name k) name, tt);
       starts = agree_below_at (λ j. begins_stop (thread_name j ∷ [])) (λ j. false) most_threads k refl lt;
     }
@@ -144,24 +153,24 @@ pub header_spelled : (threads : ℕ)
     → Spells Anything row_bytes (header_text threads) (header_tokens threads)
 header_spelled threads some few =
     let long = length-map-range_with_len thread_name 0 threads in
-    Spells-within row_bytes (omega (arith, long, few))
+    Spells-mono row_bytes (omega (arith, long, few))
     (row_spelled (map thread_name (range_with_len 0 threads)) (names_from 0 threads) (omega (arith, long, some))
     (header_cells 0 threads (omega (arith, few))))
 
 -- The tokens of `n + 1` threads' names from the k-th on say these names.
-names_said : (k n : ℕ) (rest : TokenList) → Names k (suc n) (row_tokens (names_from k (suc n)) ++ rest) rest
-names_said k zero rest = refl
-names_said k (suc n) rest =
+Names-row_tokens : (k n : ℕ) (rest : TokenList) → Names k (suc n) (row_tokens (names_from k (suc n)) ++ rest) rest
+Names-row_tokens k zero rest = refl
+Names-row_tokens k (suc n) rest =
     let next : k + 1 ≡ suc k = omega arith in
-    (row_tokens (names_from (k + 1) (suc n)) ++ rest, refl, rw (← next) (names_said (k + 1) n rest))
+    (row_tokens (names_from (k + 1) (suc n)) ++ rest, refl, rw (← next) (Names-row_tokens (k + 1) n rest))
 
 -- The tokens of the header say the number of threads.
-pub header_said : (threads : ℕ) (rest : TokenList)
+pub Header-header_tokens : (threads : ℕ) (rest : TokenList)
     → 1 ≤ threads
     → threads ≤ most_threads
     → Header (header_tokens threads ++ rest) threads rest
-header_said zero rest some few = absurd (omega arith)
-header_said (suc n) rest some few = (names_said 0 n rest, few)
+Header-header_tokens zero rest some few = absurd (omega arith)
+Header-header_tokens (suc n) rest some few = (Names-row_tokens 0 n rest, few)
 
 -- ---- rows
 
@@ -182,12 +191,13 @@ module _ (text : ℕ → List Bytes) (row : ℕ → Cells) (threads most : ℕ) 
       → k + n ≤ most
       → Spells Anything (row_bytes * n) (flat_map (λ j. row_text (text j)) (range_with_len k n))
       (flat_map row_tokens (map row (range_with_len k n)))
-  rows_spelled k zero within = Spells-within (row_bytes * 0) (omega arith) (Spells-nothing Anything)
+  rows_spelled k zero within = Spells-mono (row_bytes * 0) (omega arith) (Spells-nothing Anything)
   rows_spelled k (suc n) within =
       let e = long k in
       let here = row_spelled (text k) (row k) (omega (arith, e, some)) (printed k (omega (arith, within))) in
-      Spells-within (row_bytes * suc n) (omega arith)
-      (Spells-on (Spells-within row_bytes (omega (arith, e, few)) here) (rows_spelled (k + 1) n (omega (arith, within))))
+      Spells-mono (row_bytes * suc n) (omega arith)
+      (Spells-append_anything (Spells-mono row_bytes (omega (arith, e, few)) here)
+      (rows_spelled (k + 1) n (omega (arith, within))))
 
   -- The n rows from the k-th on are plain.
   pub rows_plain : (k n : ℕ) → k + n ≤ most → AllByRecursion (IsPlainRow threads) (map row (range_with_len k n))

@@ -1,26 +1,28 @@
--- Printed slots: each text spells a token, which gives the slot's value.
+-- Printed slots: each text spells a token, which gives the slot's value. Instructions are printed slot by
+-- slot (PrintedInstructions).
 use Rattle.lw_x86.proofs.Common.{◌≡◌, ℕ, ◌+◌, ◌<◌, ◌⊎◌, inl, inr, Bool, true, false, List, [], ◌∷◌, ◌++◌}
 use Rattle.lw_x86.proofs.Common.{length, refl, arith, append_assoc, ◌==◌, ◌&&◌, ◌||◌, decimal, eqb-true}
 use Rattle.lw_x86.proofs.Common.{AllByRecursion, cases_Bool, and_parts, decimal_nonempty, Bytes, TokenList}
 use Rattle.lw_x86.proofs.Common.{X86, is_name_byte, IsName, IsLocationName, register_name, IsRegisterIndex}
-use Rattle.lw_x86.proofs.Common.{IsWordNumber, ends_cell, Anything, EndsName, Spells, Spells-then, Spells-on}
-use Rattle.lw_x86.proofs.Common.{Spells-within, Spells-before, Spells-nothing, Spells-space, Spells-mark}
-use Rattle.lw_x86.proofs.Common.{Spells-name, Spells-number, name_by_test, decimal_is_number}
-use Rattle.lw_x86.proofs.Common.{decimal_is_name_run, Spells-register, register_is_name, Slot, Keyword, Value}
-use Rattle.lw_x86.proofs.Common.{Label, SlotValue, Filling, Gives, Fills, X86Keyword, Open, Close, Comma}
-use Rattle.lw_x86.proofs.Common.{Dollar, x86_keyword_text, x86_spelling, slot_text, is_sign, slots_text}
-use Rattle.lw_x86.proofs.Common.{EndsNoCell}
+use Rattle.lw_x86.proofs.Common.{IsWordNumber, ends_cell, Anything, EndsName, Spells, Spells-append}
+use Rattle.lw_x86.proofs.Common.{Spells-append_anything, Spells-mono, Spells-before, Spells-nothing}
+use Rattle.lw_x86.proofs.Common.{Spells-space, Spells-mark, Spells-name, Spells-number, name_by_test}
+use Rattle.lw_x86.proofs.Common.{decimal_is_number, decimal_is_name_run, Spells-register, register_is_name}
+use Rattle.lw_x86.proofs.Common.{Slot, Keyword, Value, Label, SlotValue, Filling, Gives, Fills, X86Keyword}
+use Rattle.lw_x86.proofs.Common.{Open, Close, Comma, Dollar, x86_keyword_text, x86_spelling, slot_text}
+use Rattle.lw_x86.proofs.Common.{is_sign, slots_text, EndsNoCell}
 use Rattle.lw_statements.specs.declared.slot.Slot.TheVariants.{Register, Location, Number}
 use Rattle.lw_base.specs.declared.operand.Operand.TheVariants as operand
 
 -- ---- no token ends a cell
 
 -- A token that starts with a name byte ends no cell.
-no_end : (b : ℕ) (w : Bytes) → is_name_byte b ≡ true → ends_cell (b ∷ w) ≡ false
-no_end b w h = rw (other b h 124 refl, other b h 59 refl) refl
+name_byte_ends_no_cell : (b : ℕ) (w : Bytes) → is_name_byte b ≡ true → ends_cell (b ∷ w) ≡ false
+name_byte_ends_no_cell b w h = rw (name_byte_ne_other b h 124 refl, name_byte_ne_other b h 59 refl) refl
   where
-    other : (b : ℕ) → is_name_byte b ≡ true → (c : ℕ) → is_name_byte c ≡ false → (b == c) ≡ false
-    other b h c k = elim (cases_Bool (b == c)) [
+    -- A name byte differs from each byte that is none.
+    name_byte_ne_other : (b : ℕ) → is_name_byte b ≡ true → (c : ℕ) → is_name_byte c ≡ false → (b == c) ≡ false
+    name_byte_ne_other b h c k = elim (cases_Bool (b == c)) [
       | inl e ↦ absurd (let i : is_name_byte b ≡ is_name_byte c = rw (eqb-true b c e) refl in cc)
       | inr e ↦ e
     ]
@@ -28,11 +30,11 @@ no_end b w h = rw (other b h 124 refl, other b h 59 refl) refl
 -- A run of name bytes ends no cell.
 run_no_end : (w : Bytes) → 0 < length w → AllByRecursion (λ b. is_name_byte b ≡ true) w → ends_cell w ≡ false
 run_no_end [] some all = absurd (omega arith)
-run_no_end (b ∷ w) some all = no_end b w all.0
+run_no_end (b ∷ w) some all = name_byte_ends_no_cell b w all.0
 
 -- A name ends no cell.
 pub name_no_end : (w : Bytes) → IsName w → ends_cell w ≡ false
-name_no_end w n = run_no_end w n.0.some n.0.all
+name_no_end w n = run_no_end w n.0.not_empty n.0.all
 
 -- ---- mnemonics and signs
 
@@ -129,49 +131,45 @@ register_no_end : (r : ℕ) → IsRegisterIndex r → ends_cell (register_name X
 register_no_end r p = name_no_end (register_name X86 r) (register_is_name X86 r p)
 
 -- A value that can be printed is printed as one token.
-printed : (slot : Slot X86Keyword) (g : SlotValue slot) → IsPrintable slot g → IsPrinted slot g
-printed (Keyword w) g p = elim (kind_of w) [
+IsPrinted-IsPrintable : (slot : Slot X86Keyword) (g : SlotValue slot) → IsPrintable slot g → IsPrinted slot g
+IsPrinted-IsPrintable (Keyword w) g p = elim (kind_of w) [
   | inl m ↦ record {
-    spelled = Spells-within (1 + length (x86_keyword_text w)) (omega arith) (name_spelled (x86_keyword_text w) m.name);
+    spelled = Spells-mono (1 + length (x86_keyword_text w)) (omega arith) (name_spelled (x86_keyword_text w) m.name);
     said = refl;
     plain = name_no_end (x86_keyword_text w) m.name;
   }
   | inr s ↦ record {
-    spelled = Spells-within (1 + length (x86_keyword_text w)) (omega arith) (Spells-before EndsName (λ rest e. tt) s.mark);
+    spelled = Spells-mono (1 + length (x86_keyword_text w)) (omega arith) (Spells-before EndsName (λ rest e. tt) s.mark);
     said = refl;
     plain = s.plain;
   }
 ]
-printed Register r p = record { spelled = Spells-register X86 r p; said = (p, refl); plain = register_no_end r p }
-printed Location x p = record { spelled = Spells-name x p.0; said = (refl, p); plain = name_no_end x p.0 }
-printed Value (operand.Register r) p = record { spelled = Spells-register X86 r p; said = (p, refl); plain = register_no_end r p }
-printed Value (operand.Number n) p = record {
-  spelled = Spells-within 32 (omega arith) (Spells-number n p);
-  said = decimal_is_number n p;
-  plain = number_no_end n p;
-}
-printed Number n p = record {
-  spelled = Spells-within 32 (omega arith) (Spells-number n p);
-  said = decimal_is_number n p;
-  plain = number_no_end n p;
-}
-printed Label l p = record { spelled = Spells-name l p.0; said = (refl, p); plain = name_no_end l p.0 }
+IsPrinted-IsPrintable Register r p = record { spelled = Spells-register X86 r p; said = (p, refl); plain = register_no_end r p }
+IsPrinted-IsPrintable Location x p = record { spelled = Spells-name x p.0; said = (refl, p); plain = name_no_end x p.0 }
+IsPrinted-IsPrintable Value (operand.Register r) p =
+    record { spelled = Spells-register X86 r p; said = (p, refl); plain = register_no_end r p }
+IsPrinted-IsPrintable Value (operand.Number n) p =
+    record { spelled = Spells-mono 32 (omega arith) (Spells-number n p); said = decimal_is_number n p; plain = number_no_end n p }
+IsPrinted-IsPrintable Number n p =
+    record { spelled = Spells-mono 32 (omega arith) (Spells-number n p); said = decimal_is_number n p; plain = number_no_end n p }
+IsPrinted-IsPrintable Label l p = record { spelled = Spells-name l p.0; said = (refl, p); plain = name_no_end l p.0 }
 
 -- A sign spells one token, which ends a name and no cell.
-signed : (w : X86Keyword) → is_sign w ≡ true → IsSign w
-signed w e = elim (kind_of w) [ inl m ↦ absurd (let other = m.unsigned in cc) | inr s ↦ s ]
+IsSign-is_sign : (w : X86Keyword) → is_sign w ≡ true → IsSign w
+IsSign-is_sign w e = elim (kind_of w) [ inl m ↦ absurd (let other = m.unsigned in cc) | inr s ↦ s ]
 
 -- Before slots of which the first is a sign's, a name ends.
 sign_ends : (next : Slot X86Keyword) (slots : List (Slot X86Keyword)) (h : SlotValue next) (f : Filling slots)
     → is_sign_slot next ≡ true
     → (rest : Bytes)
     → EndsName (slots_text (next ∷ slots) (h, f) ++ rest)
-sign_ends (Keyword w) [] h f e rest = (signed w e).ends rest
-sign_ends (Keyword w) (next ∷ slots) h (k, f) e rest = rw (append_assoc (x86_keyword_text w)) ((signed w e).ends _)
+sign_ends (Keyword w) [] h f e rest = (IsSign-is_sign w e).ends rest
+sign_ends (Keyword w) (next ∷ slots) h (k, f) e rest = rw (append_assoc (x86_keyword_text w)) ((IsSign-is_sign w e).ends _)
 sign_ends next slots h f e rest = absurd cc
 
 module _ (next : Slot X86Keyword) (slots : List (Slot X86Keyword)) (h : SlotValue next) (f : Filling slots) (n : ℕ)
     (us : TokenList) (behind : Spells EndsName n (slots_text (next ∷ slots) (h, f)) us) where
+  -- A slot's text spells its token if what follows ends a name.
   front_spelled : (slot : Slot X86Keyword) (g : SlotValue slot)
       → IsPrintable slot g
       → (is_keyword_slot slot || is_sign_slot next) ≡ true
@@ -179,11 +177,12 @@ module _ (next : Slot X86Keyword) (slots : List (Slot X86Keyword)) (h : SlotValu
   front_spelled (Keyword w) g p e = elim (kind_of w) [
     | inl m ↦
         rw m.unsigned
-        (Spells-within (1 + length (x86_keyword_text w) + n) (omega arith)
-        (Spells-then (λ rest g. refl) (name_spelled (x86_keyword_text w) m.name) (Spells-on Spells-space behind)))
-    | inr s ↦ rw s.signed (Spells-within (1 + length (x86_keyword_text w) + n) (omega arith) (Spells-on s.mark behind))
+        (Spells-mono (1 + length (x86_keyword_text w) + n) (omega arith)
+        (Spells-append (λ rest g. refl) (name_spelled (x86_keyword_text w) m.name) (Spells-append_anything Spells-space behind)))
+    | inr s ↦ rw s.signed (Spells-mono (1 + length (x86_keyword_text w) + n) (omega arith) (Spells-append_anything s.mark behind))
   ]
-  front_spelled slot g p e = Spells-then (λ rest k. sign_ends next slots h f e rest) (printed slot g p).spelled behind
+  front_spelled slot g p e =
+      Spells-append (λ rest k. sign_ends next slots h f e rest) (IsPrinted-IsPrintable slot g p).spelled behind
 
 -- ---- slots
 
@@ -193,20 +192,20 @@ pub slots_spelled : (slots : List (Slot X86Keyword)) (f : Filling slots)
     → are_spaced slots ≡ true
     → Spells EndsName (most_in slots) (slots_text slots f) (slots_tokens slots f)
 slots_spelled [] f p e = Spells-nothing EndsName
-slots_spelled (slot ∷ []) (g, f) p e = Spells-within (most_of slot + 0) (omega arith) (printed slot g p.0).spelled
+slots_spelled (slot ∷ []) (g, f) p e = Spells-mono (most_of slot + 0) (omega arith) (IsPrinted-IsPrintable slot g p.0).spelled
 slots_spelled (slot ∷ next ∷ slots) (g, (h, f)) p e =
     let both = and_parts (is_keyword_slot slot || is_sign_slot next) (are_spaced (next ∷ slots)) e in
     front_spelled next slots h f (most_in (next ∷ slots)) (slots_tokens (next ∷ slots) (h, f))
     (slots_spelled (next ∷ slots) (h, f) p.1 both.1) slot g p.0 both.0
 
 -- The tokens of slots give the values that were printed.
-pub slots_said : (slots : List (Slot X86Keyword)) (f : Filling slots)
+pub Fills-slots_tokens : (slots : List (Slot X86Keyword)) (f : Filling slots)
     → ArePrintable slots f
     → Fills x86_spelling (slots_tokens slots f) slots f
-slots_said [] f p = tt
-slots_said (slot ∷ slots) (g, f) p = ((printed slot g p.0).said, slots_said slots f p.1)
+Fills-slots_tokens [] f p = tt
+Fills-slots_tokens (slot ∷ slots) (g, f) p = ((IsPrinted-IsPrintable slot g p.0).said, Fills-slots_tokens slots f p.1)
 
 -- The tokens of slots contain no end of a cell.
 pub slots_no_end : (slots : List (Slot X86Keyword)) (f : Filling slots) → ArePrintable slots f → EndsNoCell (slots_tokens slots f)
 slots_no_end [] f p = tt
-slots_no_end (slot ∷ slots) (g, f) p = ((printed slot g p.0).plain, slots_no_end slots f p.1)
+slots_no_end (slot ∷ slots) (g, f) p = ((IsPrinted-IsPrintable slot g p.0).plain, slots_no_end slots f p.1)

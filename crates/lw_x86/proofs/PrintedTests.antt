@@ -1,77 +1,89 @@
--- The frame of a printed test says the test.
+-- The frame of a printed test says the test, so the canonical text of a well-formed test reads back. The law
+-- `a_canonical_text_reads_back` is its last lemma.
 use Rattle.lw_x86.proofs.Common.{◌≡◌, ◌-◌, ◌≤◌, List, [], ◌∷◌, map, length, refl, sym, ap, arith, append-nil}
 use Rattle.lw_x86.proofs.Common.{AllByRecursion, AllZip, range_with_len, NameTable, insert_names, IsInTable}
-use Rattle.lw_x86.proofs.Common.{insert_names-there, all_append, All-map_inv, CellSyntax, Column, code_in}
-use Rattle.lw_x86.proofs.Common.{names_in, names_of, resolve_test, IsWellFormedThread, Instr, ParsesStatement}
-use Rattle.lw_x86.proofs.Common.{x86_spelling, x86_language, IsWellFormedProgram, X86Test, HasProgram}
-use Rattle.lw_x86.proofs.Common.{x86_grammar, cells_of, canonical_text, IsTextOf}
+use Rattle.lw_x86.proofs.Common.{insert_names-there, AllByRecursion-append, All-map_inv, CellSyntax, Column}
+use Rattle.lw_x86.proofs.Common.{code_in, names_in, names_of, resolve_test, IsWellFormedThread, Instr}
+use Rattle.lw_x86.proofs.Common.{ParsesStatement, x86_spelling, x86_language, IsWellFormedProgram, X86Test}
+use Rattle.lw_x86.proofs.Common.{HasProgram, x86_grammar, cells_of, canonical_text, IsTextOf}
 use Rattle.lw_x86.proofs.PrintedCells.{cell_tokens}
 use Rattle.lw_x86.proofs.PrintedLabels.{syntaxes_from}
-use Rattle.lw_x86.proofs.PrintedColumns.{thread_said}
-use Rattle.lw_x86.proofs.PrintedGrids.{under_longest}
-use Rattle.lw_x86.proofs.PrintedFrames.{texts_in, height_of, frame_in, threads_are, height_few, printed_frame}
+use Rattle.lw_x86.proofs.PrintedColumns.{Column-of_thread}
+use Rattle.lw_x86.proofs.PrintedGrids.{cell_counts_at_most_longest}
+use Rattle.lw_x86.proofs.PrintedFrames.{texts_in, height_of, frame_in, IsWellFormedThread-threads, height_few}
+use Rattle.lw_x86.proofs.PrintedFrames.{printed_frame}
 
 module _ (p : X86Test) (well : IsWellFormedProgram p) where
+  -- The test's table of locations.
   abbrev locs : NameTable
   locs = p.head.locs
 
   -- The syntax of a thread's cells, in all rows.
-  abbrev thread_says : List Instr → List (CellSyntax (ParsesStatement x86_spelling))
-  thread_says code = syntaxes_from locs code 0 (height_of p)
+  abbrev syntaxes_of_thread : List Instr → List (CellSyntax (ParsesStatement x86_spelling))
+  syntaxes_of_thread code = syntaxes_from locs code 0 (height_of p)
 
   -- The thread has a row for each of its cells.
   abbrev HasRoom : List Instr → Type 0
   HasRoom code = IsWellFormedThread x86_language (length locs) code × (length (cells_of locs code) ≤ height_of p)
 
-  all_room : (threads : List (List Instr))
+  -- Each thread's cells fit into the rows.
+  HasRoom-threads : (threads : List (List Instr))
       → AllByRecursion (IsWellFormedThread x86_language (length locs)) threads
       → AllByRecursion (λ code. length (cells_of locs code) ≤ height_of p) threads
       → AllByRecursion HasRoom threads
-  all_room [] h k = tt
-  all_room (code ∷ threads) h k = ((h.0, k.0), all_room threads h.1 k.1)
+  HasRoom-threads [] h k = tt
+  HasRoom-threads (code ∷ threads) h k = ((h.0, k.0), HasRoom-threads threads h.1 k.1)
 
-  all_said : (threads : List (List Instr))
+  -- The cells of all threads say their code, and name only locations of the table.
+  AllZip-Column_of_threads : (threads : List (List Instr))
       → AllByRecursion HasRoom threads
       → AllZip (Column x86_grammar) (map (λ code. map (cell_tokens locs code) (range_with_len 0 (height_of p))) threads)
-      (map thread_says threads)
-      × (map (code_in x86_grammar locs) (map thread_says threads) ≡ threads)
-      × AllByRecursion (IsInTable locs) (names_of x86_grammar (map thread_says threads))
-  all_said [] h = (tt, refl, tt)
-  all_said (code ∷ threads) h =
-      let here = thread_said locs well.head.table (height_of p) (height_few p well) code h.0.0 h.0.1 in
-      let more = all_said threads h.1 in (
+      (map syntaxes_of_thread threads)
+      × (map (code_in x86_grammar locs) (map syntaxes_of_thread threads) ≡ threads)
+      × AllByRecursion (IsInTable locs) (names_of x86_grammar (map syntaxes_of_thread threads))
+  AllZip-Column_of_threads [] h = (tt, refl, tt)
+  AllZip-Column_of_threads (code ∷ threads) h =
+      let here = Column-of_thread locs well.head.table (height_of p) (height_few p well) code h.0.0 h.0.1 in
+      let more = AllZip-Column_of_threads threads h.1 in (
         (here.0, more.0),
         rw (here.1, more.1) refl,
-        all_append (IsInTable locs) (names_in x86_grammar (thread_says code)) (names_of x86_grammar (map thread_says threads))
-            here.2 more.2,
+        AllByRecursion-append (IsInTable locs) (names_in x86_grammar (syntaxes_of_thread code))
+            (names_of x86_grammar (map syntaxes_of_thread threads)) here.2 more.2,
       )
 
-  room : AllByRecursion HasRoom p.threads
-  room =
-      all_room p.threads (threads_are p well)
-      (All-map_inv (λ cells. length cells ≤ height_of p) (cells_of locs) p.threads (under_longest (texts_in p)))
+  -- The cells of each thread of the test fit into the rows.
+  HasRoom-of_test : AllByRecursion HasRoom p.threads
+  HasRoom-of_test =
+      HasRoom-threads p.threads (IsWellFormedThread-threads p well)
+      (All-map_inv (λ cells. length cells ≤ height_of p) (cells_of locs) p.threads (cell_counts_at_most_longest (texts_in p)))
 
-  abbrev all_say : List (List (CellSyntax (ParsesStatement x86_spelling)))
-  all_say = map thread_says p.threads
+  -- The syntax of all threads' cells.
+  abbrev syntaxes_of_threads : List (List (CellSyntax (ParsesStatement x86_spelling)))
+  syntaxes_of_threads = map syntaxes_of_thread p.threads
 
-  names_are : insert_names locs (names_of x86_grammar all_say) ≡ locs
-  names_are = insert_names-there locs (names_of x86_grammar all_say) (all_said p.threads room).2
+  -- The cells name no new location.
+  insert_names-no_new_name : insert_names locs (names_of x86_grammar syntaxes_of_threads) ≡ locs
+  insert_names-no_new_name =
+      insert_names-there locs (names_of x86_grammar syntaxes_of_threads) (AllZip-Column_of_threads p.threads HasRoom-of_test).2
 
   -- No location is new, so no word is.
-  test_is : resolve_test x86_grammar p.head (insert_names locs (names_of x86_grammar all_say)) all_say ≡ p
-  test_is =
+  resolve_test-printed :
+      resolve_test x86_grammar p.head (insert_names locs (names_of x86_grammar syntaxes_of_threads)) syntaxes_of_threads ≡ p
+  resolve_test-printed =
       let none : length locs - length locs ≡ 0 = omega arith in
-      rw (names_are, none, append-nil p.head.init_words, (all_said p.threads room).1) refl
+      rw (insert_names-no_new_name, none, append-nil p.head.init_words, (AllZip-Column_of_threads p.threads HasRoom-of_test).1)
+      refl
 
-  frame_says : HasProgram (frame_in p) p
-  frame_says = record {
+  -- The frame of the test says the test.
+  HasProgram-printed_frame : HasProgram (frame_in p) p
+  HasProgram-printed_frame = record {
     arch = well.arch;
-    threads = all_say;
-    says = (all_said p.threads room).0;
-    few = omega (arith, ap length names_are, well.head.table.few);
-    made = sym test_is;
+    threads = syntaxes_of_threads;
+    says = (AllZip-Column_of_threads p.threads HasRoom-of_test).0;
+    few = omega (arith, ap length insert_names-no_new_name, well.head.table.few);
+    made = sym resolve_test-printed;
   }
 
   -- The canonical text of a well-formed program says that program.
-  pub reads_back : IsTextOf (canonical_text p) p
-  reads_back = record { frame = frame_in p; framed = printed_frame p well; says = frame_says }
+  pub HasTest-canonical_text : IsTextOf (canonical_text p) p
+  HasTest-canonical_text = record { frame = frame_in p; framed = printed_frame p well; says = HasProgram-printed_frame }

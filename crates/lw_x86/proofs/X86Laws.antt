@@ -1,4 +1,5 @@
--- The spelling of x86 satisfies the rule of cells.
+-- The spelling of x86 satisfies the rule of cells: its forms are distinguishable, and each instruction is
+-- made from the operands that its tokens give. So all laws of lw_statements hold for x86.
 use Rattle.lw_x86.proofs.Common.{ℕ, refl, arith, rules, Number, IsGrammar, Filling, IsMade, IsSpelling}
 use Rattle.lw_x86.proofs.Common.{is_grammar, X86Form, Compare, x86_slots, x86_spelling, x86_grammar}
 use Rattle.lw_x86.proofs.Common.{instruction_of_operands}
@@ -6,23 +7,38 @@ use Rattle.lw_base.specs.declared.operand.Operand.TheVariants.{Register}
 use Rattle.lw_x86.specs.declared.language.X86Form.TheVariants.{Store, Set, Add}
 
 -- The instruction of each form is made from the operands that its tokens give.
-making : (x to : ℕ) (form : X86Form) (f : Filling (x86_slots form)) → IsMade x86_spelling instruction_of_operands x to form f
-making x to Store (_, (_, (y, (_, (_, (Register r, _)))))) =
-    record { is = refl; located = refl; led = refl; given = λ p q. (p, q) }
-making x to Store (_, (_, (y, (_, (_, (Number n, _)))))) = record { is = refl; located = refl; led = refl; given = λ p q. (p, q) }
-making x to Set (_, (d, (_, (Register r, _)))) = record { is = refl; located = refl; led = refl; given = λ p q. (p, q) }
-making x to Set (_, (d, (_, (Number n, _)))) = record { is = refl; located = refl; led = refl; given = λ p q. (p, q) }
-making x to Add (_, (d, (_, (Register r, _)))) = record { is = refl; located = refl; led = refl; given = λ p q. ((p.0, p), q) }
-making x to Add (_, (d, (_, (Number n, _)))) = record { is = refl; located = refl; led = refl; given = λ p q. ((p.0, p), q) }
-making x to Compare (_, (d, (_, (Register r, _)))) = record { is = refl; located = refl; led = refl; given = λ p q. (p, q) }
-making x to Compare (_, (d, (_, (Number n, _)))) = record { is = refl; located = refl; led = refl; given = λ p q. (p, q) }
-making x to form f = record { is = refl; located = refl; led = refl; given = λ p q. search rules }
+IsMade-each_form : (x to : ℕ) (form : X86Form) (f : Filling (x86_slots form))
+    → IsMade x86_spelling instruction_of_operands x to form f
+IsMade-each_form x to Store (_, (_, (y, (_, (_, (Register r, _)))))) =
+    record { is = refl; located = refl; target_is = refl; given = λ p q. (p, q) }
+IsMade-each_form x to Store (_, (_, (y, (_, (_, (Number n, _)))))) =
+    record { is = refl; located = refl; target_is = refl; given = λ p q. (p, q) }
+IsMade-each_form x to Set (_, (d, (_, (Register r, _)))) =
+    record { is = refl; located = refl; target_is = refl; given = λ p q. (p, q) }
+IsMade-each_form x to Set (_, (d, (_, (Number n, _)))) =
+    record { is = refl; located = refl; target_is = refl; given = λ p q. (p, q) }
+IsMade-each_form x to Add (_, (d, (_, (Register r, _)))) =
+    record { is = refl; located = refl; target_is = refl; given = λ p q. ((p.0, p), q) }
+IsMade-each_form x to Add (_, (d, (_, (Number n, _)))) =
+    record { is = refl; located = refl; target_is = refl; given = λ p q. ((p.0, p), q) }
+IsMade-each_form x to Compare (_, (d, (_, (Register r, _)))) =
+    record { is = refl; located = refl; target_is = refl; given = λ p q. (p, q) }
+IsMade-each_form x to Compare (_, (d, (_, (Number n, _)))) =
+    record { is = refl; located = refl; target_is = refl; given = λ p q. (p, q) }
+IsMade-each_form x to form f = record { is = refl; located = refl; target_is = refl; given = λ p q. search rules }
 
 -- The spelling of x86 is lawful: its forms are distinguishable, and its instructions made from their operands.
-pub x86_spelled : IsSpelling x86_spelling instruction_of_operands
-x86_spelled =
-    record { countable = omega arith; apart = refl; statements = refl; names = refl; clear = refl; words = refl; making = making }
+pub x86_forms_are_spelled : IsSpelling x86_spelling instruction_of_operands
+x86_forms_are_spelled = record {
+  countable = omega arith;
+  apart = refl;
+  statements = refl;
+  names = refl;
+  clear = refl;
+  words = refl;
+  making = IsMade-each_form;
+}
 
 -- The grammar of x86 satisfies the rule of cells.
-pub x86_lawful : IsGrammar x86_grammar
-x86_lawful = is_grammar x86_spelling instruction_of_operands x86_spelled
+pub x86_grammar_is_lawful : IsGrammar x86_grammar
+x86_grammar_is_lawful = is_grammar x86_spelling instruction_of_operands x86_forms_are_spelled

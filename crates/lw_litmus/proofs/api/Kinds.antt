@@ -4,27 +4,27 @@ use Rattle.lw_litmus.proofs.Common.{written_change, is_locked, is_store, locatio
 use Rattle.lw_litmus.proofs.Common.{Sum, Compare, Store, Load, Fence, Branch}
 
 -- an operation that does not write makes no change of a word
-pub no_change : (o : Operation) (regs : List ℕ) → writes o ≡ false → written_change o regs ≡ None
-no_change (Set d v) regs e = refl
-no_change (Sum d a v) regs e = refl
-no_change (Compare a v) regs e = refl
-no_change (Load d x) regs e = refl
-no_change Fence regs e = refl
-no_change (Branch c to) regs e = refl
-no_change _ regs e = absurd (true≢false e)
+pub written_change-none : (o : Operation) (regs : List ℕ) → writes o ≡ false → written_change o regs ≡ None
+written_change-none (Set d v) regs e = refl
+written_change-none (Sum d a v) regs e = refl
+written_change-none (Compare a v) regs e = refl
+written_change-none (Load d x) regs e = refl
+written_change-none Fence regs e = refl
+written_change-none (Branch c to) regs e = refl
+written_change-none _ regs e = absurd (true≢false e)
 
 -- a locked operation has a location
-pub locked_located : (o : Operation) → is_locked o ≡ true → (x : ℕ) × (location_of o ≡ Some x)
-locked_located (Set d v) e = absurd (true≢false (sym e))
-locked_located (Sum d a v) e = absurd (true≢false (sym e))
-locked_located (Compare a v) e = absurd (true≢false (sym e))
-locked_located (Store x v) e = absurd (true≢false (sym e))
-locked_located (Load d x) e = absurd (true≢false (sym e))
-locked_located Fence e = absurd (true≢false (sym e))
-locked_located (Branch c to) e = absurd (true≢false (sym e))
-locked_located _ e = (_, refl)
+pub location_of-if_locked : (o : Operation) → is_locked o ≡ true → (x : ℕ) × (location_of o ≡ Some x)
+location_of-if_locked (Set d v) e = absurd (true≢false (sym e))
+location_of-if_locked (Sum d a v) e = absurd (true≢false (sym e))
+location_of-if_locked (Compare a v) e = absurd (true≢false (sym e))
+location_of-if_locked (Store x v) e = absurd (true≢false (sym e))
+location_of-if_locked (Load d x) e = absurd (true≢false (sym e))
+location_of-if_locked Fence e = absurd (true≢false (sym e))
+location_of-if_locked (Branch c to) e = absurd (true≢false (sym e))
+location_of-if_locked _ e = (_, refl)
 
 -- a locked operation is no plain store
-pub locked_no_store : (o : Operation) → is_locked o ≡ true → is_store o ≡ false
-locked_no_store (Store x v) e = absurd (true≢false (sym e))
-locked_no_store _ e = refl
+pub is_store-false_if_locked : (o : Operation) → is_locked o ≡ true → is_store o ≡ false
+is_store-false_if_locked (Store x v) e = absurd (true≢false (sym e))
+is_store-false_if_locked _ e = refl

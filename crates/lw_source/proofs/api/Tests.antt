@@ -1,4 +1,4 @@
--- The source test of a frame is well-formed.
+-- The source test of a frame is well-formed. The workbench uses this.
 use Rattle.std.proofs.Common.{◌≡◌, length}
 use Rattle.lw_base.specs.WellFormed.{IsWellFormedHead}
 use Rattle.lw_text.specs.Frames.{TestFrame}
@@ -8,7 +8,7 @@ use Rattle.lw_statements.proofs.api.Forms.{names_allowed}
 use Rattle.lw_statements.proofs.api.Tests.{well_formed_test}
 use Rattle.lw_source.specs.Spelling.{source_spelling}
 use Rattle.lw_source.specs.Grammar.{source_grammar, HasSource}
-use Rattle.lw_source.proofs.SourceLaws.{source_lawful}
+use Rattle.lw_source.proofs.SourceLaws.{source_grammar_is_lawful}
 
 -- If the frame's head is well-formed, so is its test.
 pub well_formed_source : (frame : TestFrame) (test : SourceTest)
@@ -16,4 +16,4 @@ pub well_formed_source : (frame : TestFrame) (test : SourceTest)
     → length frame.cells ≡ frame.head.threads
     → HasSource frame test
     → IsWellFormedSource test
-well_formed_source = well_formed_test source_grammar source_lawful (names_allowed source_spelling)
+well_formed_source = well_formed_test source_grammar source_grammar_is_lawful (names_allowed source_spelling)

@@ -1,4 +1,5 @@
--- Tokens say at most one statement, and a lawful spelling is a grammar as the rule of cells requires.
+-- Tokens say at most one statement, and a lawful spelling is a grammar as the rule of cells requires: so
+-- whoever proves a spelling lawful may cite all laws of cells.
 use Rattle.lw_statements.proofs.Common.{◌≡◌, ℕ, zero, suc, ◌<◌, Bool, true, Option, Some, List, [], ◌∷◌}
 use Rattle.lw_statements.proofs.Common.{length, get_or, sym, ap, ◌∙◌, subst, arith, codes, Contains}
 use Rattle.lw_statements.proofs.Common.{slice_get, AllByRecursion, list_all, ForSome, and_parts, same_Some}
@@ -8,49 +9,53 @@ use Rattle.lw_statements.proofs.Common.{Operands, Slot, Register, Location, Valu
 use Rattle.lw_statements.proofs.Common.{Spelling, Filling, Gives, Fills, ParsesStatement, grammar_of, name_in}
 use Rattle.lw_statements.proofs.Common.{are_disjoint_forms, all_apart, is_statement, is_label_last}
 use Rattle.lw_statements.proofs.Common.{registers_in, numbers_in, IsSpelling}
-use Rattle.lw_statements.proofs.Slots.{filling_unique, slots_apart, colon_gives}
+use Rattle.lw_statements.proofs.Slots.{filling_unique, not_Fills-disjoint, colon_gives}
 use Rattle.lw_base.specs.declared.operand.Operand.TheVariants as operand
 
 -- If all elements of a list pass a test, each does.
-pub passes : {X : Type 0} (test : X → Bool) (xs : List X) (k : ℕ) (x : X)
+pub list_all-get : {X : Type 0} (test : X → Bool) (xs : List X) (k : ℕ) (x : X)
     → list_all test xs ≡ true
     → k < length xs
     → get_or xs k x ≡ x
     → test x ≡ true
-passes test [] k x all h e = absurd (omega (arith, h))
-passes test (y ∷ xs) zero x all h e = ap test (sym e) ∙ (and_parts (test y) (list_all test xs) all).0
-passes test (y ∷ xs) (suc k) x all h e = passes test xs k x (and_parts (test y) (list_all test xs) all).1 (omega (arith, h)) e
+list_all-get test [] k x all h e = absurd (omega (arith, h))
+list_all-get test (y ∷ xs) zero x all h e = ap test (sym e) ∙ (and_parts (test y) (list_all test xs) all).0
+list_all-get test (y ∷ xs) (suc k) x all h e =
+    list_all-get test xs k x (and_parts (test y) (list_all test xs) all).1 (omega (arith, h)) e
 
 module _ {W Form Stmt : Type 0} (spelling : Spelling W Form Stmt) where
   -- Tokens fill the slots of at most one form.
   module _ (ts : TokenList) (a b : Form) (f : Filling (spelling.slots_of a)) (g : Filling (spelling.slots_of b))
       (x : Fills spelling ts (spelling.slots_of a) f) (y : Fills spelling ts (spelling.slots_of b) g) where
+    -- Tests whether two forms differ in a keyword.
     abbrev are_others : Form → Form → Bool
     are_others form other = are_disjoint_forms spelling (spelling.slots_of form) (spelling.slots_of other)
 
+    -- Two forms of a list in which all differ are equal, if the same tokens fill both.
     form_unique : (forms : List Form) → all_apart spelling forms ≡ true → Contains forms a → Contains forms b → a ≡ b
     form_unique [] all (i, less, e) there = absurd (omega (arith, less))
     form_unique (form ∷ forms) all (zero, less, e) (zero, more, h) = sym e ∙ h
     form_unique (form ∷ forms) all (zero, less, e) (suc j, more, h) =
         let others =
-        passes (are_others form) forms j b (and_parts (list_all (are_others form) forms) (all_apart spelling forms) all).0
+        list_all-get (are_others form) forms j b (and_parts (list_all (are_others form) forms) (all_apart spelling forms) all).0
         (omega (arith, more)) h in
-        absurd (slots_apart spelling ts (spelling.slots_of a) (spelling.slots_of b) f g (rw e at others) x y)
+        absurd (not_Fills-disjoint spelling ts (spelling.slots_of a) (spelling.slots_of b) f g (rw e at others) x y)
     form_unique (form ∷ forms) all (suc i, less, e) (zero, more, h) =
         let others =
-        passes (are_others form) forms i a (and_parts (list_all (are_others form) forms) (all_apart spelling forms) all).0
+        list_all-get (are_others form) forms i a (and_parts (list_all (are_others form) forms) (all_apart spelling forms) all).0
         (omega (arith, less)) e in
-        absurd (slots_apart spelling ts (spelling.slots_of b) (spelling.slots_of a) g f (rw h at others) y x)
+        absurd (not_Fills-disjoint spelling ts (spelling.slots_of b) (spelling.slots_of a) g f (rw h at others) y x)
     form_unique (form ∷ forms) all (suc i, less, e) (suc j, more, h) =
         form_unique forms (and_parts (list_all (are_others form) forms) (all_apart spelling forms) all).1
         (i, omega (arith, less), e) (j, omega (arith, more), h)
 
-  said_unique : all_apart spelling spelling.forms ≡ true
+  -- Tokens say at most one statement.
+  ParsesStatement-unique : all_apart spelling spelling.forms ≡ true
       → (ts : TokenList) (s t : ParsesStatement spelling)
       → (grammar_of spelling).says ts s
       → (grammar_of spelling).says ts t
       → s ≡ t
-  said_unique all ts s t x y = go _ (form_unique ts _ _ _ _ x.1 y.1 spelling.forms all x.0 y.0) t.filling y.1
+  ParsesStatement-unique all ts s t x y = go _ (form_unique ts _ _ _ _ x.1 y.1 spelling.forms all x.0 y.0) t.filling y.1
     where
       go : (b : Form)
           → s.form ≡ b
@@ -66,34 +71,42 @@ module _ {W Form Stmt : Type 0} (spelling : Spelling W Form Stmt) where
           (filling_unique spelling ts (spelling.slots_of s.form) s.filling g x.1 h))
 
   -- A statement has at least one token.
-  some_token : (slots : List (Slot W)) (f : Filling slots) → is_statement spelling slots ≡ true → Fills spelling [] slots f → ⊥
-  some_token [] f is h = absurd cc
-  some_token (slot ∷ slots) f is h = h
+  not_empty-is_statement : (slots : List (Slot W)) (f : Filling slots)
+      → is_statement spelling slots ≡ true
+      → Fills spelling [] slots f
+      → ⊥
+  not_empty-is_statement [] f is h = absurd cc
+  not_empty-is_statement (slot ∷ slots) f is h = h
 
-  no_colon : (ts : TokenList) (slots : List (Slot W)) (f : Filling slots)
+  -- The second token of a statement is not `:`.
+  no_colon-is_statement : (ts : TokenList) (slots : List (Slot W)) (f : Filling slots)
       → is_statement spelling slots ≡ true
       → Fills spelling ts slots f
       → slice_get ts 1 ≡ Some (codes ":")
       → ⊥
-  no_colon [] slots f is h e = absurd cc
-  no_colon (t ∷ []) slots f is h e = absurd cc
-  no_colon (t ∷ u ∷ ts) [] f is h e = h
-  no_colon (t ∷ u ∷ ts) (a ∷ []) f is h e = h.1
-  no_colon (t ∷ u ∷ ts) (a ∷ b ∷ slots) f is h e =
+  no_colon-is_statement [] slots f is h e = absurd cc
+  no_colon-is_statement (t ∷ []) slots f is h e = absurd cc
+  no_colon-is_statement (t ∷ u ∷ ts) [] f is h e = h
+  no_colon-is_statement (t ∷ u ∷ ts) (a ∷ []) f is h e = h.1
+  no_colon-is_statement (t ∷ u ∷ ts) (a ∷ b ∷ slots) f is h e =
       colon_gives spelling b slots f.1.0 is
       (subst (λ (w : Bytes). Gives spelling w b f.1.0) (let same : u ≡ codes ":" = cc in same) h.1.0)
 
   -- The registers and numbers that tokens give are in range.
-  given : (ts : TokenList) (slots : List (Slot W)) (f : Filling slots)
+  registers_and_numbers-Fills : (ts : TokenList) (slots : List (Slot W)) (f : Filling slots)
       → Fills spelling ts slots f
       → AllByRecursion IsRegisterIndex (registers_in slots f) × AllByRecursion IsWordNumber (numbers_in slots f)
-  given ts [] f h = (tt, tt)
-  given [] (slot ∷ slots) f h = absurd h
-  given (t ∷ ts) (Register ∷ slots) (r, f) h = let more = given ts slots f h.1 in ((h.0.0, more.0), more.1)
-  given (t ∷ ts) (Value ∷ slots) (operand.Register r, f) h = let more = given ts slots f h.1 in ((h.0.0, more.0), more.1)
-  given (t ∷ ts) (Value ∷ slots) (operand.Number n, f) h = let more = given ts slots f h.1 in (more.0, (h.0.0, more.1))
-  given (t ∷ ts) (Number ∷ slots) (n, f) h = let more = given ts slots f h.1 in (more.0, (h.0.0, more.1))
-  given (t ∷ ts) (slot ∷ slots) (g, f) h = given ts slots f h.1
+  registers_and_numbers-Fills ts [] f h = (tt, tt)
+  registers_and_numbers-Fills [] (slot ∷ slots) f h = absurd h
+  registers_and_numbers-Fills (t ∷ ts) (Register ∷ slots) (r, f) h =
+      let more = registers_and_numbers-Fills ts slots f h.1 in ((h.0.0, more.0), more.1)
+  registers_and_numbers-Fills (t ∷ ts) (Value ∷ slots) (operand.Register r, f) h =
+      let more = registers_and_numbers-Fills ts slots f h.1 in ((h.0.0, more.0), more.1)
+  registers_and_numbers-Fills (t ∷ ts) (Value ∷ slots) (operand.Number n, f) h =
+      let more = registers_and_numbers-Fills ts slots f h.1 in (more.0, (h.0.0, more.1))
+  registers_and_numbers-Fills (t ∷ ts) (Number ∷ slots) (n, f) h =
+      let more = registers_and_numbers-Fills ts slots f h.1 in (more.0, (h.0.0, more.1))
+  registers_and_numbers-Fills (t ∷ ts) (slot ∷ slots) (g, f) h = registers_and_numbers-Fills ts slots f h.1
 
   -- The name of a location is allowed.
   name_allowed : (ts : TokenList) (slots : List (Slot W)) (f : Filling slots)
@@ -117,29 +130,32 @@ module _ {W Form Stmt : Type 0} (spelling : Spelling W Form Stmt) where
         → (is_statement spelling (spelling.slots_of form) ≡ true) × (is_label_last spelling (spelling.slots_of form) ≡ true)
     well_spelled form (k, less, e) =
         and_parts (is_statement spelling (spelling.slots_of form)) (is_label_last spelling (spelling.slots_of form))
-        (passes _ spelling.forms k form lawful.statements less e)
+        (list_all-get _ spelling.forms k form lawful.statements less e)
 
+    -- The operation of the statement that the tokens say, with this location and target.
     abbrev operation : ℕ → ℕ → ParsesStatement spelling → Operation
     operation x to s = spelling.language.operation_of (spelling.statement x to s.form s.filling)
 
-    is_given : (ts : TokenList) (x to : ℕ) (s : ParsesStatement spelling)
+    -- The registers and numbers of a statement's operation are in range.
+    IsGiven-Fills : (ts : TokenList) (x to : ℕ) (s : ParsesStatement spelling)
         → (grammar_of spelling).says ts s
         → AllByRecursion IsRegisterIndex (registers_of (operation x to s))
         × AllByRecursion IsWordNumber (numbers_of (operation x to s))
-    is_given ts x to s says =
-        let g = given ts (spelling.slots_of s.form) s.filling says.1 in (lawful.making x to s.form s.filling).given g.0 g.1
+    IsGiven-Fills ts x to s says =
+        let g = registers_and_numbers-Fills ts (spelling.slots_of s.form) s.filling says.1 in
+        (lawful.making x to s.form s.filling).given g.0 g.1
 
     -- A lawful spelling gives a grammar that satisfies the rules of cells.
     pub is_grammar : IsGrammar (grammar_of spelling)
     is_grammar = record {
       countable = lawful.countable;
-      one = said_unique lawful.apart;
+      one = ParsesStatement-unique lawful.apart;
       some = λ ts s says none.
-          some_token (spelling.slots_of s.form) s.filling (well_spelled s.form says.0).0
+          not_empty-is_statement (spelling.slots_of s.form) s.filling (well_spelled s.form says.0).0
           (subst (λ (us : TokenList). Fills spelling us (spelling.slots_of s.form) s.filling) none says.1);
-      no_label = λ ts s says colon. no_colon ts _ s.filling (well_spelled s.form says.0).0 says.1 colon;
+      no_label = λ ts s says colon. no_colon-is_statement ts _ s.filling (well_spelled s.form says.0).0 says.1 colon;
       located = λ x to s. (lawful.making x to s.form s.filling).located;
-      led = λ x to s. (lawful.making x to s.form s.filling).led;
-      registers = λ ts x to s says. All-from_recursion IsRegisterIndex _ (is_given ts x to s says).0;
-      numbers = λ ts x to s says. All-from_recursion IsWordNumber _ (is_given ts x to s says).1;
+      target_is = λ x to s. (lawful.making x to s.form s.filling).target_is;
+      registers = λ ts x to s says. All-from_recursion IsRegisterIndex _ (IsGiven-Fills ts x to s says).0;
+      numbers = λ ts x to s says. All-from_recursion IsWordNumber _ (IsGiven-Fills ts x to s says).1;
     }

@@ -3,80 +3,88 @@ use Rattle.lw_statements.proofs.Common.{◌≡◌, Bool, true, false, List, [], 
 use Rattle.lw_statements.proofs.Common.{subst, filter_map, map, AllZip, AllByRecursion, ForSome, length-map}
 use Rattle.lw_statements.proofs.Common.{All-from_recursion, IsLocationName, IsNameTable, contains_name}
 use Rattle.lw_statements.proofs.Common.{insert_name, insert_names, Bytes, NameTable, TokenList, Cells}
-use Rattle.lw_statements.proofs.Common.{CellGrid, IsWellFormedHead, all_append, All-append_inv, once-along}
-use Rattle.lw_statements.proofs.Common.{insert_names-longer, set_location_names-well_formed}
-use Rattle.lw_statements.proofs.Common.{IsWellFormedThread, IsWellFormed, Test, TestFrame, Grammar, IsGrammar}
-use Rattle.lw_statements.proofs.Common.{CellSyntax, MaybeStatement, ParsesCell, Column, statements, names_of}
-use Rattle.lw_statements.proofs.Common.{code_in, resolve_test, FrameHasTest}
-use Rattle.lw_statements.proofs.Elements.{all_joined}
+use Rattle.lw_statements.proofs.Common.{CellGrid, IsWellFormedHead, AllByRecursion-append, All-append_inv}
+use Rattle.lw_statements.proofs.Common.{IsDuplicateFree-insert_names, insert_names-longer}
+use Rattle.lw_statements.proofs.Common.{set_location_names-well_formed, IsWellFormedThread, IsWellFormed}
+use Rattle.lw_statements.proofs.Common.{Test, TestFrame, Grammar, IsGrammar, CellSyntax, MaybeStatement}
+use Rattle.lw_statements.proofs.Common.{ParsesCell, Column, statements, names_of, code_in, resolve_test}
+use Rattle.lw_statements.proofs.Common.{FrameHasTest}
+use Rattle.lw_statements.proofs.Elements.{AllByRecursion-cons_option}
 use Rattle.lw_statements.proofs.OneReading.{column_unique}
-use Rattle.lw_statements.proofs.api.Zips.{zip_unique, zip_length}
-use Rattle.lw_statements.proofs.ResolvedNames.{AllSaid, thread_fits}
-use Rattle.lw_statements.proofs.TablesRead.{AreIn, are_in}
+use Rattle.lw_statements.proofs.api.Zips.{AllZip-unique, AllZip-length}
+use Rattle.lw_statements.proofs.ResolvedNames.{AllSaid, IsWellFormedThread-code_in}
+use Rattle.lw_statements.proofs.TablesRead.{AreIn, AreIn-insert_names}
 
 -- Inserting an allowed name preserves that all names of a table are allowed.
-name_right : (names : NameTable) (n : Bytes)
+AllLocationNames-insert_name : (names : NameTable) (n : Bytes)
     → AllByRecursion IsLocationName names
     → IsLocationName n
     → AllByRecursion IsLocationName (insert_name names n)
-name_right names n all here = go (contains_name names n) refl
+AllLocationNames-insert_name names n all here = go (contains_name names n) refl
   where
     go : (b : Bool) → contains_name names n ≡ b → AllByRecursion IsLocationName (insert_name names n)
     go true e = rw e all
-    go false e = rw e (all_append IsLocationName names (n ∷ []) all (here, tt))
+    go false e = rw e (AllByRecursion-append IsLocationName names (n ∷ []) all (here, tt))
 
 -- Inserting allowed names preserves that all names of a table are allowed.
-names_right : (names ns : NameTable)
+AllLocationNames-insert_names : (names ns : NameTable)
     → AllByRecursion IsLocationName names
     → AllByRecursion IsLocationName ns
     → AllByRecursion IsLocationName (insert_names names ns)
-names_right names [] all more = all
-names_right names (n ∷ ns) all more = names_right (insert_name names n) ns (name_right _ n all more.0) more.1
+AllLocationNames-insert_names names [] all more = all
+AllLocationNames-insert_names names (n ∷ ns) all more =
+    AllLocationNames-insert_names (insert_name names n) ns (AllLocationNames-insert_name _ n all more.0) more.1
 
 module _ {Syntax Stmt : Type 0} (grammar : Grammar Syntax Stmt) (lawful : IsGrammar grammar) where
   -- A frame has at most one test.
-  pub one_test : (frame : TestFrame) (s t : Test Stmt) → FrameHasTest grammar frame s → FrameHasTest grammar frame t → s ≡ t
-  one_test frame s t h k =
-      let same = zip_unique _ (column_unique grammar lawful) frame.cells h.threads k.threads h.says k.says in
+  pub test-unique : (frame : TestFrame) (s t : Test Stmt) → FrameHasTest grammar frame s → FrameHasTest grammar frame t → s ≡ t
+  test-unique frame s t h k =
+      let same = AllZip-unique _ (column_unique grammar lawful) frame.cells h.threads k.threads h.says k.says in
       h.made
       ∙ ap (λ ts. resolve_test grammar frame.head (insert_names frame.head.locs (names_of grammar ts)) ts) same
       ∙ sym k.made
 
   -- Each statement of a column is said by some tokens.
-  column_said : (cells : Cells) (t : List (CellSyntax Syntax))
+  AllSaid-Column : (cells : Cells) (t : List (CellSyntax Syntax))
       → AllZip (ParsesCell grammar) cells t
       → AllSaid grammar lawful (statements t)
-  column_said [] [] says = tt
-  column_said (c ∷ cells) (y ∷ t) says =
-      all_joined (λ (s : Syntax). (ts : TokenList) × grammar.says ts s) y.stmt (statements t)
-      (λ s is. (says.0.0, subst (MaybeStatement grammar says.0.0) is says.0.2)) (column_said cells t says.1)
-  column_said cells t says = absurd says
+  AllSaid-Column [] [] says = tt
+  AllSaid-Column (c ∷ cells) (y ∷ t) says =
+      AllByRecursion-cons_option (λ (s : Syntax). (ts : TokenList) × grammar.says ts s) y.stmt (statements t)
+      (λ s is. (says.0.0, subst (MaybeStatement grammar says.0.0) is says.0.2)) (AllSaid-Column cells t says.1)
+  AllSaid-Column cells t says = absurd says
 
-  all_fit : (names : NameTable) (columns : CellGrid) (ts : List (List (CellSyntax Syntax)))
+  -- The threads of a frame's columns are well-formed, if the table has all names of their statements.
+  IsWellFormedThread-all : (names : NameTable) (columns : CellGrid) (ts : List (List (CellSyntax Syntax)))
       → AllZip (Column grammar) columns ts
       → AreIn names (names_of grammar ts)
       → AllByRecursion (IsWellFormedThread grammar.language (length names)) (map (code_in grammar names) ts)
-  all_fit names [] [] says all = tt
-  all_fit names (c ∷ columns) (t ∷ ts) says all =
+  IsWellFormedThread-all names [] [] says all = tt
+  IsWellFormedThread-all names (c ∷ columns) (t ∷ ts) says all =
       let parts = All-append_inv (λ n. contains_name names n ≡ true) _ (names_of grammar ts) all in (
-        thread_fits grammar lawful names t (column_said c t says.0.says) parts.0 says.0.few says.0.forward,
-        all_fit names columns ts says.1 parts.1,
+        IsWellFormedThread-code_in grammar lawful names t (AllSaid-Column c t says.0.says) parts.0 says.0.few says.0.forward,
+        IsWellFormedThread-all names columns ts says.1 parts.1,
       )
-  all_fit names columns ts says all = absurd says
+  IsWellFormedThread-all names columns ts says all = absurd says
 
   -- The names of locations in statements are allowed.
   module _ (named : (ts : TokenList) (s : Syntax) → grammar.says ts s → ForSome (grammar.name_of s) IsLocationName) where
-    names_said : (ss : List Syntax) → AllSaid grammar lawful ss → AllByRecursion IsLocationName (filter_map grammar.name_of ss)
-    names_said [] said = tt
-    names_said (s ∷ ss) said = all_joined IsLocationName _ _ (named said.0.0 s said.0.1) (names_said ss said.1)
+    IsLocationName-AllSaid : (ss : List Syntax)
+        → AllSaid grammar lawful ss
+        → AllByRecursion IsLocationName (filter_map grammar.name_of ss)
+    IsLocationName-AllSaid [] said = tt
+    IsLocationName-AllSaid (s ∷ ss) said =
+        AllByRecursion-cons_option IsLocationName _ _ (named said.0.0 s said.0.1) (IsLocationName-AllSaid ss said.1)
 
-    all_named : (columns : CellGrid) (ts : List (List (CellSyntax Syntax)))
+    -- Each name of the statements in the columns is a location's name.
+    IsLocationName-all_names : (columns : CellGrid) (ts : List (List (CellSyntax Syntax)))
         → AllZip (Column grammar) columns ts
         → AllByRecursion IsLocationName (names_of grammar ts)
-    all_named [] [] says = tt
-    all_named (c ∷ columns) (t ∷ ts) says =
-        all_append IsLocationName _ _ (names_said _ (column_said c t says.0.says)) (all_named columns ts says.1)
-    all_named columns ts says = absurd says
+    IsLocationName-all_names [] [] says = tt
+    IsLocationName-all_names (c ∷ columns) (t ∷ ts) says =
+        AllByRecursion-append IsLocationName _ _ (IsLocationName-AllSaid _ (AllSaid-Column c t says.0.says))
+        (IsLocationName-all_names columns ts says.1)
+    IsLocationName-all_names columns ts says = absurd says
 
     -- The test of a frame with a well-formed head is well-formed.
     pub well_formed_test : (frame : TestFrame) (test : Test Stmt)
@@ -89,17 +97,19 @@ module _ {Syntax Stmt : Type 0} (grammar : Grammar Syntax Stmt) (lawful : IsGram
         let names : NameTable = insert_names frame.head.locs added in
         let table : IsNameTable names = record {
           few = h.few;
-          all = names_right frame.head.locs added formed.table.all (all_named frame.cells h.threads h.says);
-          once = once-along frame.head.locs added formed.table.once;
+          all =
+              AllLocationNames-insert_names frame.head.locs added formed.table.all
+              (IsLocationName-all_names frame.cells h.threads h.says);
+          without_duplicates = IsDuplicateFree-insert_names frame.head.locs added formed.table.without_duplicates;
         } in
         subst (IsWellFormed grammar.language) (sym h.made) (record {
           head = set_location_names-well_formed _ names formed table (insert_names-longer frame.head.locs added);
           arch = h.arch;
           as_many =
               length-map h.threads (code_in grammar names)
-              ∙ sym (zip_length (Column grammar) frame.cells h.threads h.says)
+              ∙ sym (AllZip-length (Column grammar) frame.cells h.threads h.says)
               ∙ columns;
           code =
               All-from_recursion (IsWellFormedThread grammar.language (length names)) (map (code_in grammar names) h.threads)
-              (all_fit names frame.cells h.threads h.says (are_in frame.head.locs added));
+              (IsWellFormedThread-all names frame.cells h.threads h.says (AreIn-insert_names frame.head.locs added));
         })

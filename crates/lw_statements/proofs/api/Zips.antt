@@ -13,38 +13,40 @@ pub record Cut {X Y : Type 0} (R : X → Y → Type 0) (front : List X) (x : X) 
 
 module _ {X Y : Type 0} (R : X → Y → Type 0) where
   -- If each item is related to at most one, a list is related to at most one list.
-  pub zip_unique : ((x : X) (y z : Y) → R x y → R x z → y ≡ z)
+  pub AllZip-unique : ((x : X) (y z : Y) → R x y → R x z → y ≡ z)
       → (xs : List X) (ys zs : List Y)
       → AllZip R xs ys
       → AllZip R xs zs
       → ys ≡ zs
-  zip_unique one [] [] [] h k = refl
-  zip_unique one [] [] (z ∷ zs) h k = absurd k
-  zip_unique one (x ∷ xs) (y ∷ ys) [] h k = absurd k
-  zip_unique one (x ∷ xs) (y ∷ ys) (z ∷ zs) h k =
+  AllZip-unique one [] [] [] h k = refl
+  AllZip-unique one [] [] (z ∷ zs) h k = absurd k
+  AllZip-unique one (x ∷ xs) (y ∷ ys) [] h k = absurd k
+  AllZip-unique one (x ∷ xs) (y ∷ ys) (z ∷ zs) h k =
       let e = one x y z h.0 k.0 in
-      let f = zip_unique one xs ys zs h.1 k.1 in
+      let f = AllZip-unique one xs ys zs h.1 k.1 in
       cc
-  zip_unique one xs ys zs h k = absurd h
+  AllZip-unique one xs ys zs h k = absurd h
 
   -- Appending related items preserves that two lists are related.
-  pub zip_more : (xs : List X) (ys : List Y) (x : X) (y : Y) → AllZip R xs ys → R x y → AllZip R (xs ++ x ∷ []) (ys ++ y ∷ [])
-  zip_more [] [] x y h k = (k, tt)
-  zip_more (w ∷ xs) (z ∷ ys) x y h k = (h.0, zip_more xs ys x y h.1 k)
-  zip_more xs ys x y h k = absurd h
+  pub AllZip-snoc : (xs : List X) (ys : List Y) (x : X) (y : Y) → AllZip R xs ys → R x y → AllZip R (xs ++ x ∷ []) (ys ++ y ∷ [])
+  AllZip-snoc [] [] x y h k = (k, tt)
+  AllZip-snoc (w ∷ xs) (z ∷ ys) x y h k = (h.0, AllZip-snoc xs ys x y h.1 k)
+  AllZip-snoc xs ys x y h k = absurd h
 
   -- Related lists have the same length.
-  pub zip_length : (xs : List X) (ys : List Y) → AllZip R xs ys → length xs ≡ length ys
-  zip_length [] [] h = refl
-  zip_length (x ∷ xs) (y ∷ ys) h = ap suc (zip_length xs ys h.1)
-  zip_length xs ys h = absurd h
+  pub AllZip-length : (xs : List X) (ys : List Y) → AllZip R xs ys → length xs ≡ length ys
+  AllZip-length [] [] h = refl
+  AllZip-length (x ∷ xs) (y ∷ ys) h = ap suc (AllZip-length xs ys h.1)
+  AllZip-length xs ys h = absurd h
 
   -- If the first list is split at an item, so is the second at the related item.
-  pub zip_cut : (front : List X) (x : X) (rest : List X) (zs : List Y) → AllZip R (front ++ x ∷ rest) zs → Cut R front x rest zs
-  zip_cut [] x rest (z ∷ zs) h =
+  pub AllZip-split : (front : List X) (x : X) (rest : List X) (zs : List Y)
+      → AllZip R (front ++ x ∷ rest) zs
+      → Cut R front x rest zs
+  AllZip-split [] x rest (z ∷ zs) h =
       record { above = []; here = z; below = zs; whole = refl; above_says = tt; says = h.0; below_says = h.1 }
-  zip_cut (w ∷ front) x rest (z ∷ zs) h =
-      let k = zip_cut front x rest zs h.1 in
+  AllZip-split (w ∷ front) x rest (z ∷ zs) h =
+      let k = AllZip-split front x rest zs h.1 in
       record {
         above = z ∷ k.above;
         here = k.here;
@@ -54,4 +56,4 @@ module _ {X Y : Type 0} (R : X → Y → Type 0) where
         says = k.says;
         below_says = k.below_says;
       }
-  zip_cut front x rest zs h = absurd h
+  AllZip-split front x rest zs h = absurd h

@@ -68,7 +68,7 @@ module _ {Syntax Stmt : Type 0} (grammar : Grammar Syntax Stmt) where
       pub read : ReadOn (AllZip (ParsesCell grammar) (cells_texts cells)) (names_in grammar) (λ names. map (draft_cell names))
           before column.cells after
       pub few : length (statements read.syntax) ≤ grammar.language.most
-      pub once : IsDuplicateFree (labels_of read.syntax)
+      pub without_duplicates : IsDuplicateFree (labels_of read.syntax)
       pub leads : MapsLabelsAs column.labels read.syntax
       pub counted : column.count ≡ length (statements read.syntax)
       pub room : length after ≤ most_locations

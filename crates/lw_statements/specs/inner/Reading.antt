@@ -43,7 +43,7 @@ pub record LabelsRead (tokens : List Token) (to : ℕ) (labels : LabelMap) (next
   pub two_each : next ≡ 2 * length names
   pub says : Labels (token_texts (take next tokens)) names []
   pub made : (n : Bytes) → target_by after n ≡ (if contains_name names n then Some to else target_by labels n)
-  pub once : (known : List Bytes) → HasExactlyLabels labels known → IsDuplicateFree known → IsDuplicateFree (known ++ names)
+  pub without_duplicates : (known : List Bytes) → HasExactlyLabels labels known → IsDuplicateFree known → IsDuplicateFree (known ++ names)
 
 -- These are all labels of the cell: the rest begins with no label.
 pub record LabelsTaken (tokens : List Token) (to : ℕ) (labels : LabelMap) (next : ℕ) (after : LabelMap) : Type 0 where
@@ -57,18 +57,18 @@ pub record LabelsFit (labels : LabelMap) (ts : TokenList) (names : List Bytes) :
   pub rest : TokenList
   pub says : Labels ts names rest
   pub stops : BeginsWithLabel rest → ⊥
-  pub once : IsDuplicateFree (known ++ names)
+  pub without_duplicates : IsDuplicateFree (known ++ names)
 
 -- A token in the place of a label is at this place of a cell, after labels of which none is a duplicate.
 pub record IsAtLabel (tokens : List Token) (labels : LabelMap) (at : ℕ) : Type 0 where
   pub names : List Bytes
   pub place : ℕ
   pub token : Token
-  pub is : slice_get tokens place ≡ Some token
+  pub token_at : slice_get tokens place ≡ Some token
   pub begins : token.at ≡ at
   pub says : Labels (token_texts (take place tokens)) names []
   pub colon : slice_get (token_texts tokens) (place + 1) ≡ Some (codes ":")
-  pub once : (known : List Bytes) → HasExactlyLabels labels known → IsDuplicateFree known → IsDuplicateFree (known ++ names)
+  pub without_duplicates : (known : List Bytes) → HasExactlyLabels labels known → IsDuplicateFree known → IsDuplicateFree (known ++ names)
 
 -- A label that its thread has already is at this place of a cell.
 abbrev pub HasDuplicateLabelAt : List Token → LabelMap → ℕ → Type 0
@@ -109,7 +109,7 @@ pub record LabelLost (labels : LabelMap) (number : ℕ) (tokens : List Token) (l
   pub index : ℕ
   pub token : Token
   pub labelled : label ≡ Some index
-  pub is : slice_get tokens index ≡ Some token
+  pub token_at : slice_get tokens index ≡ Some token
   pub begins : token.at ≡ fault.at
   pub because : JumpCause labels number token.text.now fault.cause
 
@@ -124,7 +124,7 @@ module _ {Form Stmt : Type 0} (make : Form → Operands → Option Stmt) where
   -- This statement, at the index `number`, results from the draft, and the draft's label, if it has one, leads forward.
   pub record IsResolved (labels : LabelMap) (number : ℕ) (tokens : List Token) (draft : Draft Form) (stmt : Stmt) : Type 0 where
     pub to : Option ℕ
-    pub led : LedForward labels number tokens draft.label to
+    pub leads_forward : LedForward labels number tokens draft.label to
     pub made : make draft.form (with_target to draft.operands) ≡ Some stmt
 
   -- The statement of a cell, if it has one, is resolved and appended to those before.
@@ -151,7 +151,7 @@ module _ {Syntax Stmt : Type 0} (grammar : Grammar Syntax Stmt) where
   pub record HasMisfitIn (tokens : List Token) (names : NameTable) (at : ℕ) (cause : CellCause) : Type 0 where
     pub place : ℕ
     pub token : Token
-    pub is : slice_get tokens place ≡ Some token
+    pub token_at : slice_get tokens place ≡ Some token
     pub begins : token.at ≡ at
     pub begun : place ≢ 0 → BeginsFitting grammar names (token_texts (take place tokens))
     pub none : BeginsStatement grammar (token_texts (take place tokens) ++ token.text.now ∷ []) → ⊥
@@ -167,7 +167,7 @@ module _ {Syntax Stmt : Type 0} (grammar : Grammar Syntax Stmt) where
   pub record HasOverflowIn (tokens : List Token) (names : NameTable) (at : ℕ) : Type 0 where
     pub place : ℕ
     pub token : Token
-    pub is : slice_get tokens place ≡ Some token
+    pub token_at : slice_get tokens place ≡ Some token
     pub begun : place ≢ 0 → BeginsFitting grammar names (token_texts (take place tokens))
     pub location : IsLocationAfter grammar (token_texts (take place tokens)) token.text.now
     pub ninth : IsOverflowName names token at

@@ -1,10 +1,12 @@
-use Rattle.lw_statements.proofs.api.Faults.{faults_one, test_faultless}
+-- Law: at most one fault of cells is true, and none of the cells of a source test. Both are laws of all
+-- languages (`CellFaultIsTrue-unique`, `no_CellFault-of_test`), applied to the source grammar.
+use Rattle.lw_statements.proofs.api.Faults.{CellFaultIsTrue-unique, no_CellFault-of_test}
 use Rattle.lw_source.specs.Grammar.{source_grammar}
-use Rattle.lw_source.proofs.SourceLaws.{source_lawful}
+use Rattle.lw_source.proofs.SourceLaws.{source_grammar_is_lawful}
 use Rattle.lw_source.proofs.read.source_cells_have_one_fault.Goals as goal
 
 pub returns-clause-one : goal.returns-clause-one
-returns-clause-one c = faults_one source_grammar source_lawful
+returns-clause-one c = CellFaultIsTrue-unique source_grammar source_grammar_is_lawful
 
 pub returns-clause-none : goal.returns-clause-none
-returns-clause-none c = test_faultless source_grammar source_lawful
+returns-clause-none c = no_CellFault-of_test source_grammar source_grammar_is_lawful

@@ -1,3 +1,5 @@
+-- `jump_target` promises the target of a statement's label, if it has one, or that the label is lost. The
+-- label is the token at this index, and `target` says whether a later statement has it.
 use Rattle.lw_statements.proofs.Common.{refl, sym, slice_get_read, Err-clause_known}
 use Rattle.lw_statements.proofs.column.jump_target.Goals as goal
 
@@ -16,7 +18,7 @@ returns-in_err-target-in-Some g c = Err-clause_known _ _ _ c.from_residual.ensur
   index = c.in-Some.index;
   token = _;
   labelled = c.in-Some.is;
-  is = slice_get_read c.args.tokens.now _ c.in-Some.index _ refl (rw c.in-Some.is at c.requires) c.index-tokens-index.is;
+  token_at = slice_get_read c.args.tokens.now _ c.in-Some.index _ refl (rw c.in-Some.is at c.requires) c.index-tokens-index.is;
   begins = sym c.in_err-target-in-Some.ensures.place;
   because = c.in_err-target-in-Some.ensures.cause;
 })

@@ -1,3 +1,5 @@
+-- `push` promises that the item is appended, or that memory ran out. The one goal by hand turns the refused
+-- allocation into a fault at offset 0 (`out_of_memory`).
 use Rattle.lw_statements.proofs.Exits.{out_of_memory}
 use Rattle.lw_statements.proofs.column.push.Goals as goal
 

@@ -1,14 +1,18 @@
+-- `read_cells` promises the thread's statements, or that the thread is refused. Each round drafts one more
+-- cell; after the last the drafts are resolved. A refused cell is split off as cells before, this one, and
+-- cells after (`take-item-drop`).
 use Rattle.lw_statements.proofs.Common.{take, drop, suc, subst, take_all, MatchResult-weaker, ColumnDrafted}
 use Rattle.lw_statements.proofs.Common.{grammar_of, draft_of, Err-clause_known}
-use Rattle.lw_statements.proofs.Drafts.{draft_none, few_drafted}
-use Rattle.lw_statements.proofs.Elements.{cut_there, take_further}
+use Rattle.lw_statements.proofs.Drafts.{ColumnDrafted-none, column_count_at_most}
+use Rattle.lw_statements.proofs.Elements.{take-item-drop, take_further}
 use Rattle.lw_statements.proofs.column.read_cells.Goals as goal
 
 pub loop-cell-init : goal.loop-cell-init
-loop-cell-init g c = draft_none _ (draft_of g.L.StatementReader.spelling) _ _ c.requires.fresh c.len-known.ensures.table.few
+loop-cell-init g c =
+    ColumnDrafted-none _ (draft_of g.L.StatementReader.spelling) _ _ c.requires.fresh c.len-known.ensures.table.few
 
 pub read_cell-requires-clause-few : goal.read_cell-requires-clause-few
-read_cell-requires-clause-few g c lifetimes lives = few_drafted _ _ _ _ _ _ c.loop-cell.invariant
+read_cell-requires-clause-few g c lifetimes lives = column_count_at_most _ _ _ _ _ _ c.loop-cell.invariant
 
 pub loop-cell-preserved : goal.loop-cell-preserved
 loop-cell-preserved g c =
@@ -17,7 +21,7 @@ loop-cell-preserved g c =
 
 pub returns-in_err-read_cell : goal.returns-in_err-read_cell
 returns-in_err-read_cell g c =
-    let whole = cut_there c.args.cells.now _ c.cell-item.result c.loop-cell-test.true c.cell-item.is in
+    let whole = take-item-drop c.args.cells.now _ c.cell-item.result c.loop-cell-test.true c.cell-item.is in
     Err-clause_known _ _ _ c.from_residual.ensures.1
     (rw whole
     (c.in_err-read_cell.ensures (take c.loop-cell.cell-index c.args.cells.now)

@@ -1,3 +1,5 @@
+-- At each round the cells before the index are drafted: their labels and statements are in `column`, their
+-- locations in the table.
 use Rattle.lw_statements.proofs.Common.{take, ColumnDrafted, grammar_of, draft_of}
 use Rattle.lw_statements.proofs.column.read_cells.Given as goal
 

@@ -1,6 +1,9 @@
+-- `resolve` promises the statements of a drafted thread, with the targets of their jumps, or that the thread
+-- is refused. Each round resolves one cell (`resolved_further`); if a label is missing or earlier, no reading
+-- of the thread exists (`row_refused`).
 use Rattle.lw_statements.proofs.Common.{length, ap, arith, subst, take_all, Err-clause_known}
-use Rattle.lw_statements.proofs.Resolved.{Resolved, as_many_rows, column_found, start_within, resolvable}
-use Rattle.lw_statements.proofs.Resolved.{resolved_none, resolved_further, row_refused}
+use Rattle.lw_statements.proofs.Resolved.{Resolved, as_many_rows, column_found, start_within}
+use Rattle.lw_statements.proofs.Resolved.{IsResolvable-of_draft, Resolved-none, resolved_further, row_refused}
 use Rattle.lw_statements.proofs.column.resolve.Goals as goal
 
 pub bounds-drafts-row : goal.bounds-drafts-row
@@ -22,8 +25,8 @@ resolve_cell-requires-clause-start g c lifetimes lives =
 pub resolve_cell-requires-clause-resolvable : goal.resolve_cell-requires-clause-resolvable
 resolve_cell-requires-clause-resolvable g c lifetimes lives =
     let is = rw c.as_slice-drafts.ensures at c.index-drafts-row.is in
-    resolvable g.L.StatementReader.spelling g.L.StatementReader.made c.requires.lawful _ _ _ _ c.requires.read.2 c.loop-row.row _
-    c.loop-row-test.true c.index-cells-row.is _ is
+    IsResolvable-of_draft g.L.StatementReader.spelling g.L.StatementReader.made c.requires.lawful _ _ _ _ c.requires.read.2
+    c.loop-row.row _ c.loop-row-test.true c.index-cells-row.is _ is
 
 pub returns-in_err-resolve_cell : goal.returns-in_err-resolve_cell
 returns-in_err-resolve_cell g c =
@@ -35,7 +38,7 @@ returns-in_err-resolve_cell g c =
 
 pub loop-row-init : goal.loop-row-init
 loop-row-init g c before after drafted =
-    rw c.new-code.ensures (resolved_none g.L.StatementReader.spelling after drafted.read.syntax)
+    rw c.new-code.ensures (Resolved-none g.L.StatementReader.spelling after drafted.read.syntax)
 
 pub loop-row-preserved : goal.loop-row-preserved
 loop-row-preserved g c before after drafted =

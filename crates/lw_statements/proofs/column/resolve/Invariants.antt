@@ -1,3 +1,5 @@
+-- At each round `code` has the resolved statements of the cells before the index, for every way in which the
+-- column can have been drafted.
 use Rattle.lw_statements.proofs.Common.{take, NameTable, ColumnDrafted, grammar_of, draft_of}
 use Rattle.lw_statements.proofs.Resolved.{Resolved}
 use Rattle.lw_statements.proofs.column.resolve.Given as goal

@@ -1,3 +1,6 @@
+-- `resolve_cell` promises that a cell's statement is resolved and appended, or that it is not resolvable. The
+-- goals by hand go from the cell's tokens to those after its labels, and from the index in the thread to the
+-- length of `code`.
 use Rattle.lw_statements.proofs.Common.{inl, inr, MatchResult-weaker, Err-clause_known}
 use Rattle.lw_statements.proofs.column.resolve_cell.Goals as goal
 

@@ -1,9 +1,13 @@
+-- `read_labels` promises the labels at the start of a cell, or that they are refused. Each round takes a name
+-- and its `:` (`LabelsRead-one_more`). A token before a `:` that is no name, or that is a label already, refuses the
+-- cell: every reading of it takes this token as a label (`Labels-continue`, `labels_twice`).
 use Rattle.lw_statements.proofs.Common.{ℕ, ◌+◌, ◌-◌, ◌<◌, ◌≤◌, sym, ap, ◌∙◌, arith, true≢false, is_some}
 use Rattle.lw_statements.proofs.Common.{btree_map_updates_str, refl, slice_get_read, subst}
-use Rattle.lw_statements.proofs.Causes.{wrong_tells, memory_tells, twice_tells, refused_memory}
+use Rattle.lw_statements.proofs.Causes.{FaultClaim-wrong, FaultClaim-Memory, FaultClaim-Twice, refusal-Memory}
 use Rattle.lw_statements.proofs.Exits.{out_of_memory}
-use Rattle.lw_statements.proofs.FrontLabels.{get_behind, next_within, labels_start, labels_more, labels_on}
-use Rattle.lw_statements.proofs.FrontLabels.{at_label, labels_twice, twice_in}
+use Rattle.lw_statements.proofs.FrontLabels.{get-of_drop, next_within, labels_start, LabelsRead-one_more}
+use Rattle.lw_statements.proofs.FrontLabels.{Labels-continue, IsAtLabel-of_token, labels_twice}
+use Rattle.lw_statements.proofs.FrontLabels.{HasDuplicateLabelAt-of_token}
 use Rattle.lw_statements.proofs.labels.read_labels.Goals as goal
 
 -- Two tokens further, fewer remain.
@@ -25,7 +29,7 @@ pub loop-token-preserved : goal.loop-token-preserved
 loop-token-preserved g c =
     let colon = c.stands_at.ensures.0 c.loop-token-test.true in
     let within = next_within c.args.tokens.now c.loop-token.next _ colon in
-    labels_more _ _ _ _ _ c.loop-token.invariant _
+    LabelsRead-one_more _ _ _ _ _ c.loop-token.invariant _
     (slice_get_read c.args.tokens.now _ c.loop-token.next _ refl (omega arith) c.index-tokens-next.is) colon _
     (c.is_location.ensures.0 c.if-not-is_location.false)
     (ap is_some (sym c.in_ok-insert.ensures.old) ∙ sym c.is_some.ensures ∙ c.if-is_some.false)
@@ -38,11 +42,11 @@ returns-then-not-is_location g c =
     let token = slice_get_read c.args.tokens.now _ c.loop-token.next _ refl (omega arith) c.index-tokens-next.is in
     record {
       none = λ known ks fit.
-          true≢false (sym (c.is_location.ensures.1 (labels_on _ _ _ _ _ c.loop-token.invariant _ token colon ks _ fit.says
+          true≢false (sym (c.is_location.ensures.1 (Labels-continue _ _ _ _ _ c.loop-token.invariant _ token colon ks _ fit.says
           fit.stops).2)
           ∙ c.if-not-is_location.true);
-      cause = rw c.misfit.ensures.place (wrong_tells _ c.misfit.result.cause c.misfit.ensures.cause (
-        at_label _ _ _ _ _ c.loop-token.invariant _ token colon,
+      cause = rw c.misfit.ensures.place (FaultClaim-wrong _ c.misfit.result.cause c.misfit.ensures.cause (
+        IsAtLabel-of_token _ _ _ _ _ c.loop-token.invariant _ token colon,
         (λ loc. true≢false (sym (c.is_location.ensures.1 loc) ∙ c.if-not-is_location.true)),
         c.misfit.ensures.cause,
       ));
@@ -59,17 +63,17 @@ returns-then-is_some g c =
     let led = ap is_some (sym c.in_ok-insert.ensures.old) ∙ sym c.is_some.ensures ∙ c.if-is_some.true in
     record {
       none = λ known. labels_twice _ _ _ _ _ c.loop-token.invariant _ token colon led;
-      cause = twice_tells (twice_in _ _ _ _ _ c.loop-token.invariant _ token colon led);
+      cause = FaultClaim-Twice (HasDuplicateLabelAt-of_token _ _ _ _ _ c.loop-token.invariant _ token colon led);
       place = λ len lies. subst (λ t. t.at ≤ len) (sym c.index-tokens-next.is) (lies c.loop-token.next _ (omega arith));
     }
 
 pub returns-in_err-insert : goal.returns-in_err-insert
-returns-in_err-insert g c = out_of_memory _ _ _ c.from_residual.ensures.1 (λ f. refused_memory f (λ at. memory_tells))
+returns-in_err-insert g c = out_of_memory _ _ _ c.from_residual.ensures.1 (λ f. refusal-Memory f (λ at. FaultClaim-Memory))
 
 pub returns : goal.returns
 returns g c = record {
   read = c.loop-token.invariant;
   stops = λ at.
-      true≢false (sym (c.stands_at.ensures.1 (sym (get_behind c.args.tokens.now c.loop-token.next 1) ∙ at))
+      true≢false (sym (c.stands_at.ensures.1 (sym (get-of_drop c.args.tokens.now c.loop-token.next 1) ∙ at))
       ∙ c.loop-token-test.false);
 }

@@ -1,3 +1,5 @@
+-- At each round the labels before the token at `next` have been read and are in the map, with this statement
+-- as their target. Fewer tokens remain.
 use Rattle.lw_statements.proofs.Common.{◌-◌, length, LabelsRead}
 use Rattle.lw_statements.proofs.labels.read_labels.Given as goal
 

@@ -1,14 +1,17 @@
+-- Law: of a language whose spelling is lawful, at most one fault of cells is true, and none of the cells of a
+-- test. Both hold for every grammar that satisfies the rule of cells (`CellFaultIsTrue-unique`, `no_CellFault-of_test`), which
+-- that of a lawful spelling does (`is_grammar`).
 use Rattle.lw_statements.proofs.Common.{grammar_of}
-use Rattle.lw_statements.proofs.api.Faults.{faults_one, test_faultless}
+use Rattle.lw_statements.proofs.api.Faults.{CellFaultIsTrue-unique, no_CellFault-of_test}
 use Rattle.lw_statements.proofs.api.Forms.{is_grammar}
 use Rattle.lw_statements.proofs.read.cells_have_one_fault.Goals as goal
 
 pub returns-clause-one : goal.returns-clause-one
 returns-clause-one g c =
     let spelling = g.L.StatementReader.spelling in
-    faults_one (grammar_of spelling) (is_grammar spelling g.L.StatementReader.made c.requires.lawful)
+    CellFaultIsTrue-unique (grammar_of spelling) (is_grammar spelling g.L.StatementReader.made c.requires.lawful)
 
 pub returns-clause-none : goal.returns-clause-none
 returns-clause-none g c =
     let spelling = g.L.StatementReader.spelling in
-    test_faultless (grammar_of spelling) (is_grammar spelling g.L.StatementReader.made c.requires.lawful)
+    no_CellFault-of_test (grammar_of spelling) (is_grammar spelling g.L.StatementReader.made c.requires.lawful)

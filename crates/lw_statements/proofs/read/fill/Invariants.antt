@@ -1,3 +1,4 @@
+-- At each round as many zeros have been appended as the index says.
 use Rattle.lw_statements.proofs.Common.{◌≡◌, ◌++◌, replicate}
 use Rattle.lw_statements.proofs.read.fill.Given as goal
 

@@ -1,5 +1,8 @@
+-- `read_columns` promises the statements of all threads, or a refusal. Each round reads one thread, with the
+-- table that the threads before it left (`ColumnsRead-one_more`); a refused thread refuses all (`ColumnsRefused-ColumnRefused`).
 use Rattle.lw_statements.proofs.Common.{refl, [], take_all, grammar_of, Err-clause_known}
-use Rattle.lw_statements.proofs.Threads.{columns_out_of_memory, threads_more, threads_refused}
+use Rattle.lw_statements.proofs.Threads.{columns_out_of_memory, ColumnsRead-one_more}
+use Rattle.lw_statements.proofs.Threads.{ColumnsRefused-ColumnRefused}
 use Rattle.lw_statements.proofs.api.Forms.{is_grammar}
 use Rattle.lw_statements.proofs.read.read_columns.Goals as goal
 
@@ -10,15 +13,16 @@ pub returns-in_err-stmts : goal.returns-in_err-stmts
 returns-in_err-stmts g c =
     let spelling = g.L.StatementReader.spelling in
     Err-clause_known _ _ _ c.from_residual.ensures.1
-    (threads_refused (grammar_of spelling) c.args.columns.now c.loop-column.column-index c.column-item.result
+    (ColumnsRefused-ColumnRefused (grammar_of spelling) c.args.columns.now c.loop-column.column-index c.column-item.result
     c.loop-column-test.true c.column-item.is _ _ _ c.loop-column.invariant
     (is_grammar spelling g.L.StatementReader.made c.requires.lawful) _ (rw c.as_slice.ensures at c.in_err-stmts.ensures))
 
 pub loop-column-preserved : goal.loop-column-preserved
 loop-column-preserved g c =
     rw c.in_ok-push.ensures
-    (threads_more (grammar_of g.L.StatementReader.spelling) c.args.columns.now c.loop-column.column-index c.column-item.result
-    c.loop-column-test.true c.column-item.is _ _ _ c.loop-column.invariant _ _ (rw c.as_slice.ensures at c.in_ok-stmts.ensures))
+    (ColumnsRead-one_more (grammar_of g.L.StatementReader.spelling) c.args.columns.now c.loop-column.column-index
+    c.column-item.result c.loop-column-test.true c.column-item.is _ _ _ c.loop-column.invariant _ _
+    (rw c.as_slice.ensures at c.in_ok-stmts.ensures))
 
 pub returns-in_err-push : goal.returns-in_err-push
 returns-in_err-push g c =

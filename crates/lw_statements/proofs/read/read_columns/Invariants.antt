@@ -1,3 +1,5 @@
+-- At each round `threads` has the statements of the columns before the index, and the table has their
+-- locations.
 use Rattle.lw_statements.proofs.Common.{take, all_texts, ColumnsRead, grammar_of}
 use Rattle.lw_statements.proofs.read.read_columns.Given as goal
 

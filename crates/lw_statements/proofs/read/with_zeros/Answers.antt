@@ -1,3 +1,5 @@
+-- `with_zeros` promises that each location without an initial word starts with 0, or passes on the fault.
+-- Success is what `fill` ensures; the other fault is that memory ran out.
 use Rattle.lw_statements.proofs.Common.{inl, inr, ap, ◌∙◌, ◌++◌, ◌-◌, length, refl, replicate}
 use Rattle.lw_statements.proofs.Common.{Err-clause_known}
 use Rattle.lw_statements.proofs.Exits.{out_of_memory}

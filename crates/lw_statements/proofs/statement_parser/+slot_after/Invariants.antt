@@ -1,3 +1,4 @@
+-- There is no loop: the recursion ends since each call has one slot fewer.
 use Rattle.lw_statements.proofs.Common.{length}
 use Rattle.lw_statements.proofs.statement_parser.+slot_after.Given as goal
 

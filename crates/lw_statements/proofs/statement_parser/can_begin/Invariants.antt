@@ -1,3 +1,4 @@
+-- At each round no form before the index begins with the token.
 use Rattle.lw_statements.proofs.Common.{All, take}
 use Rattle.lw_statements.proofs.SlotTokens.{BeginsOtherwise}
 use Rattle.lw_statements.proofs.statement_parser.can_begin.Given as goal

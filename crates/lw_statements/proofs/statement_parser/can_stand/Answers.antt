@@ -1,3 +1,5 @@
+-- `can_stand` promises to be true exactly if the slot accepts the token. It is so if and only if binding the
+-- token succeeds (`can_stand_alone`).
 use Rattle.lw_statements.proofs.SlotTokens.{can_stand_alone}
 use Rattle.lw_statements.proofs.statement_parser.can_stand.Goals as goal
 

@@ -1,3 +1,5 @@
+-- `draft` promises the draft of the statement that these bindings make, or that its location has no room. The
+-- token of the location is that at the found index, which is in range and a name by the contract's premise.
 use Rattle.lw_statements.proofs.Common.{refl, slice_get_read, Err-clause_known}
 use Rattle.lw_statements.proofs.statement_parser.draft.Goals as goal
 
@@ -16,7 +18,7 @@ returns-in_err-loc g c =
       index = c.in-Some.index;
       name = c.in-Some.is;
       token = _;
-      is = slice_get_read c.args.tokens.now _ c.in-Some.index _ refl name.0 c.index-tokens-index.is;
+      token_at = slice_get_read c.args.tokens.now _ c.in-Some.index _ refl name.0 c.index-tokens-index.is;
       refused = c.in_err-loc.ensures;
     })
 

@@ -1,6 +1,9 @@
+-- `first_rejected` promises the fault of the first token after which no statement is possible, or of the
+-- cell's end. This token follows the longest accepted prefix. The interesting part is its cause: a name is a
+-- missing register only where a register may follow (`name_iff-fact_known`, `other-fact_not_known`).
 use Rattle.lw_statements.proofs.Common.{refl, sym, ◌∙◌, inr, true≢false, slice_get_read}
-use Rattle.lw_statements.proofs.Causes.{misfit_same}
-use Rattle.lw_statements.proofs.Fronts.{known_before, known_not_before}
+use Rattle.lw_statements.proofs.Causes.{IsMisfitCause-iff}
+use Rattle.lw_statements.proofs.Fronts.{name_iff-fact_known, other-fact_not_known}
 use Rattle.lw_statements.proofs.statement_parser.first_rejected.Goals as goal
 
 pub returns-then-wants_register : goal.returns-then-wants_register
@@ -14,7 +17,8 @@ returns-then-wants_register g c =
       longest = c.longest_accepted_prefix-front.ensures.longest;
       is = rw token (
         c.no_register.ensures.place,
-        misfit_same c.no_register.result.cause (known_before before).0 (known_before before).1 c.no_register.ensures.cause,
+        IsMisfitCause-iff c.no_register.result.cause (name_iff-fact_known before).0 (name_iff-fact_known before).1
+            c.no_register.ensures.cause,
       );
     }
 
@@ -28,8 +32,8 @@ returns g c =
       longest = c.longest_accepted_prefix-front.ensures.longest;
       is = rw token (
         c.misfit.ensures.place,
-        misfit_same c.misfit.result.cause inr
-            (known_not_before (λ before. true≢false (sym (c.wants_register.ensures.1 before) ∙ c.if-wants_register.false)))
+        IsMisfitCause-iff c.misfit.result.cause inr
+            (other-fact_not_known (λ before. true≢false (sym (c.wants_register.ensures.1 before) ∙ c.if-wants_register.false)))
             c.misfit.ensures.cause,
       );
     }

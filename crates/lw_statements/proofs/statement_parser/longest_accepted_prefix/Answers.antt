@@ -1,8 +1,10 @@
+-- `longest_accepted_prefix` promises the greatest length of a prefix that some form accepts. Each round takes
+-- the maximum with one more form (`longer_reached`); at the end no form accepts more (`All-take_all`).
 use Rattle.lw_statements.proofs.Common.{◌≡◌, ◌∙◌, max, sym, inl, take, refl, arith, length-map, All-weaker}
 use Rattle.lw_statements.proofs.Common.{token_texts}
 use Rattle.lw_statements.proofs.Fronts.{longer_reached}
-use Rattle.lw_statements.proofs.SlotTokens.{ReachesTo, form_more, forms_all, reach_within}
-use Rattle.lw_statements.proofs.api.Greater.{greater_is}
+use Rattle.lw_statements.proofs.SlotTokens.{ReachesTo, All-take_suc, All-take_all, IsReach-in_range}
+use Rattle.lw_statements.proofs.api.Greater.{ord_max-is_max}
 use Rattle.lw_statements.proofs.statement_parser.longest_accepted_prefix.Goals as goal
 
 pub loop-form-init : goal.loop-form-init
@@ -12,7 +14,7 @@ pub returns-clause-longest : goal.returns-clause-longest
 returns-clause-longest g c = record {
   reached = c.loop-form.invariant.2;
   front = λ form there.
-      forms_all (ReachesTo g.L.StatementReader.spelling (token_texts c.args.tokens.now) c.loop-form.longest)
+      All-take_all (ReachesTo g.L.StatementReader.spelling (token_texts c.args.tokens.now) c.loop-form.longest)
       g.L.StatementReader.spelling.forms _ (rw c.forms-form-items.ensures at c.loop-form-test.false) c.loop-form.invariant.1 form
       there;
 }
@@ -23,8 +25,8 @@ loop-form-preserved g c =
     let tokens = token_texts c.args.tokens.now in
     let longest = c.loop-form.longest in
     let longer : c.max-longest.result ≡ max longest c.accepted_prefix_len.result =
-    c.max-longest.ensures ∙ greater_is longest c.accepted_prefix_len.result in
-    let within = (reach_within spelling _ _ _ c.accepted_prefix_len.ensures).1 in
+    c.max-longest.ensures ∙ ord_max-is_max longest c.accepted_prefix_len.result in
+    let within = (IsReach-in_range spelling _ _ _ c.accepted_prefix_len.ensures).1 in
     let here = rw c.forms-form-items.ensures at c.loop-form-test.true in
     let item = rw c.forms-form-items.ensures at c.form-item.is in
     let reach = rw c.slots.ensures at c.accepted_prefix_len.ensures in
@@ -33,7 +35,7 @@ loop-form-preserved g c =
     (λ form reaches. (reaches.0, reaches.1, omega (arith, longer, reaches.2))) (take c.loop-form.form-index spelling.forms)
     c.loop-form.invariant.1 in (
       omega (arith, longer, within, c.loop-form.invariant.0, length-map c.args.tokens.now (λ t. t.text.now)),
-      form_more (ReachesTo spelling tokens c.max-longest.result) spelling.forms c.loop-form.form-index c.form-item.result here
+      All-take_suc (ReachesTo spelling tokens c.max-longest.result) spelling.forms c.loop-form.form-index c.form-item.result here
           item before (c.accepted_prefix_len.result, reach, omega (arith, longer)),
       longer_reached spelling tokens longest c.accepted_prefix_len.result c.max-longest.result c.form-item.result
           (c.loop-form.form-index, here, sym item) reach c.loop-form.invariant.2 longer,

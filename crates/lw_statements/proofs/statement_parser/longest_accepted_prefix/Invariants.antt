@@ -1,3 +1,5 @@
+-- At each round `longest` is at most the number of tokens, no form before the index accepts more, and some
+-- form accepts so many, or it is 0.
 use Rattle.lw_statements.proofs.Common.{◌≤◌, All, length, take, token_texts}
 use Rattle.lw_statements.proofs.Fronts.{IsReached}
 use Rattle.lw_statements.proofs.SlotTokens.{ReachesTo}

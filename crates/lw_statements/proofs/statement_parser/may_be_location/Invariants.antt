@@ -1,3 +1,4 @@
+-- At each round no form before the index has a location after the tokens.
 use Rattle.lw_statements.proofs.Common.{All, take, token_texts, IsLocationSlot}
 use Rattle.lw_statements.proofs.Fronts.{HasNone}
 use Rattle.lw_statements.proofs.statement_parser.may_be_location.Given as goal

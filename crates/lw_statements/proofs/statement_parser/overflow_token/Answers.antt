@@ -1,5 +1,7 @@
+-- `overflow_token` promises the first index at which a token names a ninth location, or that there is none.
+-- The loop has passed the others (`no_match_before`).
 use Rattle.lw_statements.proofs.Common.{◌∙◌, ap, arith, Some, refl, sym, true≢false, at_index, slice_get_read}
-use Rattle.lw_statements.proofs.Fronts.{none_so_far}
+use Rattle.lw_statements.proofs.Fronts.{no_match_before}
 use Rattle.lw_statements.proofs.statement_parser.overflow_token.Goals as goal
 
 pub bounds-slots-index : goal.bounds-slots-index
@@ -15,7 +17,7 @@ returns-then-overflows g c =
       before = c.loop-index-test.true;
       slot = at_index c.args.slots.now c.loop-index.index _ (omega (arith, c.requires.0, c.loop-index-test.true)) ∙ ap Some is.0;
       token = _;
-      is =
+      token_at =
           slice_get_read c.args.tokens.now _ c.loop-index.index _ refl (omega (arith, c.requires.1, c.loop-index-test.true))
           c.index-tokens-index.is;
       full = is.1;
@@ -30,7 +32,7 @@ loop-index-preserved g c =
     let token =
     slice_get_read c.args.tokens.now _ c.loop-index.index _ refl (omega (arith, c.requires.1, c.loop-index-test.true))
     c.index-tokens-index.is in
-    none_so_far c.args.slots.now c.args.tokens.now c.args.front c.args.locs.now c.loop-index.index _ _ slot token
+    no_match_before c.args.slots.now c.args.tokens.now c.args.front c.args.locs.now c.loop-index.index _ _ slot token
     (λ overflow. true≢false (sym (c.overflows.ensures.1 overflow) ∙ c.if-overflows.false)) c.loop-index.invariant
 
 pub returns : goal.returns

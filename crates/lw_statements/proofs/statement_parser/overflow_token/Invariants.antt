@@ -1,3 +1,4 @@
+-- At each round no token before the index names a ninth location.
 use Rattle.lw_statements.proofs.Common.{ℕ, ◌<◌, IsOverflowSlot}
 use Rattle.lw_statements.proofs.statement_parser.overflow_token.Given as goal
 

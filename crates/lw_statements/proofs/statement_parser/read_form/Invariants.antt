@@ -1,3 +1,4 @@
+-- At each round the tokens fill no form before the index.
 use Rattle.lw_statements.proofs.Common.{All, take, token_texts}
 use Rattle.lw_statements.proofs.SlotTokens.{IsOther}
 use Rattle.lw_statements.proofs.statement_parser.read_form.Given as goal

@@ -1,32 +1,38 @@
+-- `refusal` promises the true fault of tokens that are no statement. A ninth location comes first, at the
+-- first form that has one (`HasOverflowIn-IsOverflowSlot`); at the loop's end no form has one, so the fault is that of the first
+-- rejected token (`statement_wrong`).
 use Rattle.lw_statements.proofs.Common.{◌≡◌, sym, arith, slice_get_within, length-map, Memory, Token, TooMany}
-use Rattle.lw_statements.proofs.Causes.{many_tells}
+use Rattle.lw_statements.proofs.Causes.{FaultClaim-TooMany}
 use Rattle.lw_statements.proofs.Fronts.{HasRoom, rejected_within, statement_wrong}
-use Rattle.lw_statements.proofs.SlotTokens.{form_more, forms_all, reach_within}
-use Rattle.lw_statements.proofs.StatementsRead.{ninth_in}
+use Rattle.lw_statements.proofs.SlotTokens.{All-take_suc, All-take_all, IsReach-in_range}
+use Rattle.lw_statements.proofs.StatementsRead.{HasOverflowIn-IsOverflowSlot}
 use Rattle.lw_statements.proofs.statement_parser.refusal.Goals as goal
 
 pub overflow_token-requires : goal.overflow_token-requires
 overflow_token-requires g c =
-    let r = reach_within g.L.StatementReader.spelling _ _ _ c.accepted_prefix_len-front.ensures in
+    let r = IsReach-in_range g.L.StatementReader.spelling _ _ _ c.accepted_prefix_len-front.ensures in
     (r.0, omega (arith, r.1, length-map c.args.phrase.now.tokens.now (λ (t : Token). t.text.now)))
 
 pub returns-in-Some : goal.returns-in-Some
 returns-in-Some g c =
     let within = rw c.forms-form-items.ensures at c.loop-form-test.true in
     let n = rw (c.in-Some.is, c.slots-slots.ensures) at c.overflow_token.ensures in (
-      many_tells (ninth_in _ g.L.StatementReader.made c.requires.lawful c.form-item.result
+      FaultClaim-TooMany (HasOverflowIn-IsOverflowSlot _ g.L.StatementReader.made c.requires.lawful c.form-item.result
           (c.loop-form.form-index, within, sym (rw c.forms-form-items.ensures at c.form-item.is)) _ c.args.locs.now
           c.len-known.ensures.table c.accepted_prefix_len-front.result c.in-Some.index _
           (rw c.slots-slots.ensures at c.accepted_prefix_len-front.ensures) n),
-      λ len lies. lies.0 c.in-Some.index _ (slice_get_within _ c.in-Some.index n.token n.is),
+      λ len lies. lies.0 c.in-Some.index _ (slice_get_within _ c.in-Some.index n.token n.token_at),
     )
 
 pub bounds-phrase-index : goal.bounds-phrase-index
-bounds-phrase-index g c = slice_get_within _ c.in-Some.index c.in-Some.ensures.token c.in-Some.ensures.is
+bounds-phrase-index g c = slice_get_within _ c.in-Some.index c.in-Some.ensures.token c.in-Some.ensures.token_at
 
 pub offset_bounds-phrase-index : goal.offset_bounds-phrase-index
 offset_bounds-phrase-index g c =
-    omega (arith, slice_get_within c.args.phrase.now.tokens.now c.in-Some.index c.in-Some.ensures.token c.in-Some.ensures.is)
+    omega (
+      arith,
+      slice_get_within c.args.phrase.now.tokens.now c.in-Some.index c.in-Some.ensures.token c.in-Some.ensures.token_at,
+    )
 
 -- The cause `TooMany` differs from `Memory`.
 other : TooMany ≡ Memory → ⊥
@@ -38,7 +44,7 @@ invariant_of-result g c = record { memory = λ e. absurd (other e) }
 pub loop-form-preserved : goal.loop-form-preserved
 loop-form-preserved g c =
     let none = rw (c.in_default.is, c.slots-slots.ensures) at c.overflow_token.ensures in
-    form_more (HasRoom g.L.StatementReader.spelling c.args.phrase.now.tokens.now c.args.locs.now) _ _ _
+    All-take_suc (HasRoom g.L.StatementReader.spelling c.args.phrase.now.tokens.now c.args.locs.now) _ _ _
     (rw c.forms-form-items.ensures at c.loop-form-test.true) (rw c.forms-form-items.ensures at c.form-item.is)
     c.loop-form.invariant
     (c.accepted_prefix_len-front.result, rw c.slots-slots.ensures at c.accepted_prefix_len-front.ensures, none)
@@ -48,7 +54,7 @@ returns g c =
     let spelling = g.L.StatementReader.spelling in
     let phrase = c.args.phrase.now in (
       statement_wrong spelling phrase.tokens.now phrase.end c.args.locs.now c.len-known.ensures.table
-          (forms_all (HasRoom spelling phrase.tokens.now c.args.locs.now) spelling.forms c.loop-form.form-index
+          (All-take_all (HasRoom spelling phrase.tokens.now c.args.locs.now) spelling.forms c.loop-form.form-index
           (rw c.forms-form-items.ensures at c.loop-form-test.false) c.loop-form.invariant) c.requires.none _
           c.first_rejected.ensures,
       λ len lies. rejected_within spelling phrase.tokens.now phrase.end _ c.first_rejected.ensures len lies.0 lies.1,

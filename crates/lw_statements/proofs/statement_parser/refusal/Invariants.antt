@@ -1,3 +1,4 @@
+-- At each round no form before the index has a ninth location among the tokens that it accepts.
 use Rattle.lw_statements.proofs.Common.{All, take}
 use Rattle.lw_statements.proofs.Fronts.{HasRoom}
 use Rattle.lw_statements.proofs.statement_parser.refusal.Given as goal

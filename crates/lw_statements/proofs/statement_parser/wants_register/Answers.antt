@@ -1,3 +1,6 @@
+-- `wants_register` promises to be true exactly if a register may follow, and no location may. If a location
+-- may follow, the claim is false (`not_before_register`); otherwise the answer is that of `may_be_register`
+-- (`before_register`, `register_after`).
 use Rattle.lw_statements.proofs.Common.{sym, true≢false, ◌∙◌}
 use Rattle.lw_statements.proofs.Beginnings.{before_register, not_before_register, register_after}
 use Rattle.lw_statements.proofs.statement_parser.wants_register.Goals as goal

@@ -1,3 +1,5 @@
+-- `with_token` promises the bindings with this token, or that its slot does not accept it. One goal for each
+-- kind of slot, from what its callee ensures.
 use Rattle.lw_statements.proofs.SlotTokens.{taken_name}
 use Rattle.lw_statements.proofs.statement_parser.with_token.Goals as goal
 

@@ -1,8 +1,10 @@
+-- `location` promises the index of the token's location, or that there is no room for it. If the table has no
+-- room, it is full and does not have the name (`is_ninth`); a refused allocation has no place.
 use Rattle.lw_statements.proofs.Common.{◌≡◌, ◌<◌, ◌≤◌, [], ◌∷◌, length, length-append, refl, sym, ap, arith}
 use Rattle.lw_statements.proofs.Common.{Contains, slice_get_read, insert_name, Bytes, NameTable}
 use Rattle.lw_statements.proofs.Common.{insert_name-there, insert_name-new}
 use Rattle.lw_statements.proofs.Exits.{out_of_memory}
-use Rattle.lw_statements.proofs.Causes.{memory_tells, many_tells, refused_memory}
+use Rattle.lw_statements.proofs.Causes.{FaultClaim-Memory, FaultClaim-TooMany, refusal-Memory}
 use Rattle.lw_statements.proofs.token.location.Goals as goal
 
 -- The table is full and does not have the name.
@@ -29,9 +31,9 @@ returns-in-None g c =
     let n = is_ninth _ _ c.len-known.ensures.table.few full in
     record {
       none = λ known (loc, few). omega (arith, few, full);
-      cause = many_tells (refl, c.requires, n.0, n.1);
+      cause = FaultClaim-TooMany (refl, c.requires, n.0, n.1);
       place = λ len within. within;
     }
 
 pub returns-in_err-loc : goal.returns-in_err-loc
-returns-in_err-loc g c = out_of_memory _ _ _ c.from_residual.ensures.1 (λ f. refused_memory f (λ at. memory_tells))
+returns-in_err-loc g c = out_of_memory _ _ _ c.from_residual.ensures.1 (λ f. refusal-Memory f (λ at. FaultClaim-Memory))

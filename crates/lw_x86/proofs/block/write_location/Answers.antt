@@ -1,3 +1,5 @@
+-- `write_location` promises the initializer of a location. The text is that of `writeln!`, with the name and
+-- the word of this index put in; the bounds are the contract's premises.
 use Rattle.lw_x86.proofs.Common.{[], ap, append_assoc, arith, get_or_from_slice_get, length}
 use Rattle.lw_x86.proofs.block.write_location.Goals as goal
 

@@ -1,7 +1,10 @@
+-- `write_locations` promises the initializers of all locations. The loop goes through the first items of
+-- `Loc::all()`, so the item at an index is that index (`is_index`). Each round takes one text from those that
+-- remain (`numbers_written-push`), and at the end none remains (`numbers_written-all`).
 use Rattle.lw_x86.proofs.Common.{◌<◌, ◌≤◌, ◌∙◌, ◌++◌, length, ap, refl, sym, arith, length-take, string_bytes}
-use Rattle.lw_x86.proofs.Common.{head_of, is_index, numbers_more, numbers_all, ℕ, ◌≡◌, List, get_or}
-use Rattle.lw_x86.proofs.Common.{range_with_len, take}
-use Rattle.lw_x86.proofs.BlockTexts.{location_initializer, locations_are}
+use Rattle.lw_x86.proofs.Common.{head_of, is_index, numbers_written-push, numbers_written-all, ℕ, ◌≡◌, List}
+use Rattle.lw_x86.proofs.Common.{get_or, range_with_len, take}
+use Rattle.lw_x86.proofs.BlockTexts.{location_initializer, initializer_texts-locations}
 use Rattle.lw_x86.proofs.block.write_locations.Goals as goal
 
 -- The location's index is below the number of locations.
@@ -19,8 +22,8 @@ loop-loc-preserved g c =
     let is = is_index 8 _ c.all.ensures refl c.loop-loc-test.true c.loc-item.is in
     let within : c.loop-loc.loc-index < names =
     omega (arith, c.loop-loc-test.true, length-take c.len.result c.all.result, c.len.ensures.len) in
-    numbers_more (location_initializer (head_of c.args.head.now)) names c.loop-loc.loc-index _ _ c.loop-loc.invariant _ within
-    (rw is at c.in_ok-write_location.ensures)
+    numbers_written-push (location_initializer (head_of c.args.head.now)) names c.loop-loc.loc-index _ _ c.loop-loc.invariant _
+    within (rw is at c.in_ok-write_location.ensures)
 
 pub returns : goal.returns
 returns g c =
@@ -34,8 +37,8 @@ returns g c =
       c.len.ensures.len,
       c.requires.table.few,
     ) in
-    numbers_all (location_initializer head) names c.loop-loc.loc-index _ _ c.loop-loc.invariant whole
-    ∙ ap (λ t. string_bytes c.args.out.now ++ t) (sym (locations_are head names))
+    numbers_written-all (location_initializer head) names c.loop-loc.loc-index _ _ c.loop-loc.invariant whole
+    ∙ ap (λ t. string_bytes c.args.out.now ++ t) (sym (initializer_texts-locations head names))
 
 pub write_location-requires-clause-name : goal.write_location-requires-clause-name
 write_location-requires-clause-name g c =

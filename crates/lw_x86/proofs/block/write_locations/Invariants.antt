@@ -1,3 +1,5 @@
+-- At each round `out`, followed by the initializers of the locations from the index on, is what it had at the
+-- start, followed by all initializers.
 use Rattle.lw_x86.proofs.Common.{◌≡◌, ◌++◌, drop, length, flat_map, string_bytes, range_with_len, head_of}
 use Rattle.lw_x86.proofs.BlockTexts.{location_initializer}
 use Rattle.lw_x86.proofs.block.write_locations.Given as goal

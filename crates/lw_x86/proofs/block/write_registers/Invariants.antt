@@ -1,3 +1,5 @@
+-- At each round `out`, followed by the initializers of the threads from `thread` on, is what it had at the
+-- start, followed by those of all threads.
 use Rattle.lw_x86.proofs.Common.{◌≡◌, ◌++◌, drop, flat_map, string_bytes, range_with_len, head_of}
 use Rattle.lw_x86.proofs.BlockTexts.{thread_initializers}
 use Rattle.lw_x86.proofs.block.write_registers.Given as goal

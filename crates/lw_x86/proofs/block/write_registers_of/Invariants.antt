@@ -1,3 +1,5 @@
+-- At each round `out`, followed by the initializers of the registers from the index on, is what it had at the
+-- start, followed by all six.
 use Rattle.lw_x86.proofs.Common.{◌≡◌, ◌++◌, drop, flat_map, string_bytes, range_with_len, head_of}
 use Rattle.lw_x86.proofs.BlockTexts.{initializer_of}
 use Rattle.lw_x86.proofs.block.write_registers_of.Given as goal

@@ -1,3 +1,5 @@
+-- `write_element` promises an element of the list of names, with its `;`. One goal for each kind of site: the
+-- text of `write!`, with the register's or the location's name put in.
 use Rattle.lw_x86.proofs.Common.{[], append_assoc, get_or_from_slice_get}
 use Rattle.lw_x86.proofs.canonical.write_element.Goals as goal
 

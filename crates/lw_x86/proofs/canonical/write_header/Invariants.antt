@@ -1,3 +1,5 @@
+-- At each round `out` has, after what it had before the loop, the names of the threads before the index,
+-- joined by bars.
 use Rattle.lw_x86.proofs.Common.{◌≡◌, ◌++◌, map, take, codes, string_bytes, range_with_len, joined}
 use Rattle.lw_x86.proofs.Common.{thread_name}
 use Rattle.lw_x86.proofs.canonical.write_header.Given as goal

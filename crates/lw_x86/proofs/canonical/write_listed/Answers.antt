@@ -1,8 +1,11 @@
+-- `write_listed` promises the line of the list of names, or nothing if the test has none. Each round writes a
+-- separator and an element (`joined_prefix-one_more`); the interesting case is the empty list, which has no line
+-- (`listed_is`).
 use Rattle.lw_x86.proofs.Common.{◌≡◌, ◌++◌, ◌==◌, List, [], ◌∷◌, length, map, codes, refl, ap, ◌∙◌, false}
 use Rattle.lw_x86.proofs.Common.{sym, arith, length-map, All-from_recursion, slice_get-map, slice_get_read}
-use Rattle.lw_x86.proofs.Common.{option_map, joined, NameTable, Seen, both_written, written_as, element_text}
-use Rattle.lw_x86.proofs.Common.{listed_text}
-use Rattle.lw_x86.proofs.SeparatedTexts.{parts_more, parts_all, line_written}
+use Rattle.lw_x86.proofs.Common.{option_map, joined, NameTable, Seen, written-append, written-equal_text}
+use Rattle.lw_x86.proofs.Common.{element_text, listed_text}
+use Rattle.lw_x86.proofs.SeparatedTexts.{joined_prefix-one_more, joined_prefix-whole, line_written}
 use Rattle.lw_x86.proofs.canonical.write_listed.Goals as goal
 
 -- The list of names is not empty.
@@ -25,21 +28,21 @@ loop-number-preserved g c =
     let k = c.loop-number.number in
     let is = rw c.as_slice-listed.ensures at c.index-listed-number.is in
     let lt = rw c.as_slice-listed.ensures at c.loop-number-test.true in
-    parts_more (codes " ") _ k _ _ c.loop-number.invariant _ _
+    joined_prefix-one_more (codes " ") _ k _ _ c.loop-number.invariant _ _
     (slice_get-map (element_text head.locs) head.listed k
     ∙ ap (option_map (element_text head.locs)) (slice_get_read head.listed _ k _ refl lt is))
-    (both_written _ _ _ _ _ c.in_ok-write_separator.ensures c.in_ok-write_element.ensures)
+    (written-append _ _ _ _ _ c.in_ok-write_separator.ensures c.in_ok-write_element.ensures)
 
 pub returns : goal.returns
 returns g c =
     let head = c.args.head.now in
     let parts = map (element_text head.locs) head.listed in
-    let elements = parts_all (codes " ") parts c.loop-number.number _ _ c.loop-number.invariant (omega (
+    let elements = joined_prefix-whole (codes " ") parts c.loop-number.number _ _ c.loop-number.invariant (omega (
       arith,
       length-map head.listed (element_text head.locs),
       ap length c.as_slice-listed.ensures,
       c.loop-number-test.false,
     )) in
     let some = rw c.as_slice-listed.ensures at (sym c.is_empty.ensures ∙ c.if-is_empty.false) in
-    written_as _ _ _ _ _ (listed_is head.locs head.listed some)
+    written-equal_text _ _ _ _ _ (listed_is head.locs head.listed some)
     (line_written c.push_str-2.result _ _ _ (codes "]\n") c.in_ok-push_str.ensures.bytes elements c.push_str-2.ensures.bytes)

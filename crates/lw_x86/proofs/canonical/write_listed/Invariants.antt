@@ -1,3 +1,5 @@
+-- At each round `out` has, after what it had before the loop, the elements before the index, joined by
+-- spaces.
 use Rattle.lw_x86.proofs.Common.{◌≡◌, ◌++◌, map, take, codes, string_bytes, joined, element_text}
 use Rattle.lw_x86.proofs.canonical.write_listed.Given as goal
 

@@ -1,3 +1,5 @@
+-- `write_load` promises the text of a load. It is that of `write!`, with the names of the register and the
+-- location put in.
 use Rattle.lw_x86.proofs.Common.{[], get_or_from_slice_get}
 use Rattle.lw_x86.proofs.instruction_text.write_load.Goals as goal
 

@@ -1,9 +1,12 @@
+-- `read_program` promises the x86 test of the frame, or a true fault of a cell. It is what `read_test`
+-- ensures for the language of x86, whose forms are distinguishable and whose statements are made from their
+-- operands (`x86_forms_are_spelled`).
 use Rattle.lw_x86.proofs.Common.{Err-clause_propagated}
-use Rattle.lw_x86.proofs.X86Laws.{x86_spelled}
+use Rattle.lw_x86.proofs.X86Laws.{x86_forms_are_spelled}
 use Rattle.lw_x86.proofs.read.read_program.Goals as goal
 
 pub read_test-requires : goal.read_test-requires
-read_test-requires g c = (λ a there. there, (λ a there. there, (c.requires, x86_spelled)))
+read_test-requires g c = (λ a there. there, (λ a there. there, (c.requires, x86_forms_are_spelled)))
 
 pub returns-in_err-parts-clause-fault : goal.returns-in_err-parts-clause-fault
 returns-in_err-parts-clause-fault g c = Err-clause_propagated _ _ c.from_residual.ensures.1 c.in_err-parts.ensures.fault

@@ -1,17 +1,20 @@
+-- `height` promises the greatest number of cells of a thread. Each round takes the maximum with one more
+-- thread (`max_cell_count-one_more`), whose number of cells is what `count_cells` returns (`cells_of-length`).
 use Rattle.lw_x86.proofs.Common.{◌<◌, length, arith, ap, cells_of, take_all}
-use Rattle.lw_x86.proofs.CellLists.{count_is, longest_more}
+use Rattle.lw_x86.proofs.CellLists.{cells_of-length, max_cell_count-one_more}
 use Rattle.lw_x86.proofs.rows.height.Goals as goal
 
 pub loop-code-preserved : goal.loop-code-preserved
 loop-code-preserved g c =
     let program = c.args.program.now in
     let counted =
-    rw c.as_slice.ensures at (count_is program.head.locs c.as_slice.result.now c.count_cells.result c.count_cells.ensures) in
+    rw c.as_slice.ensures at
+    (cells_of-length program.head.locs c.as_slice.result.now c.count_cells.result c.count_cells.ensures) in
     let lt : c.loop-code.code-index < length program.threads =
     omega (arith, c.loop-code-test.true, ap length c.as_slice-code-items.ensures) in
     let is = rw c.as_slice-code-items.ensures at c.code-item.is in
-    longest_more (cells_of program.head.locs) program.threads c.loop-code.code-index lt is c.loop-code.invariant counted
-    c.max-height.ensures
+    max_cell_count-one_more (cells_of program.head.locs) program.threads c.loop-code.code-index lt is c.loop-code.invariant
+    counted c.max-height.ensures
 
 pub returns : goal.returns
 returns g c =

@@ -1,3 +1,4 @@
+-- At each round `height` is the greatest number of cells of the threads before the index.
 use Rattle.lw_x86.proofs.Common.{◌≡◌, map, take, cells_of, max_cell_count}
 use Rattle.lw_x86.proofs.rows.height.Given as goal
 

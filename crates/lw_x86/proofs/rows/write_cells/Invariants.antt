@@ -1,3 +1,5 @@
+-- At each round `out` has, after what it had at the start, the row's cells of the threads before the index,
+-- joined by bars.
 use Rattle.lw_x86.proofs.Common.{◌≡◌, ◌++◌, map, take, codes, string_bytes, joined, cells_of, row_at}
 use Rattle.lw_x86.proofs.rows.write_cells.Given as goal
 

@@ -1,3 +1,5 @@
+-- `write_row` promises the text of one row: a space, the cells, and the end of the line. The cells are what
+-- `write_cells` ensures (`line_written`); that each thread is well-formed is the program's invariant.
 use Rattle.lw_x86.proofs.Common.{codes}
 use Rattle.lw_x86.proofs.SeparatedTexts.{line_written}
 use Rattle.lw_x86.proofs.rows.write_row.Goals as goal

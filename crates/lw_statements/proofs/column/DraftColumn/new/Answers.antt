@@ -1,3 +1,5 @@
+-- `new` promises a column of no cells: no drafts, no labels, and count 0. Immediate from what the two empty
+-- collections ensure.
 use Rattle.lw_statements.proofs.Common.{refl}
 use Rattle.lw_statements.proofs.column.DraftColumn.new.Goals as goal
 

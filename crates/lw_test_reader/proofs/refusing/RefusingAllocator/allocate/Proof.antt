@@ -1,4 +1,7 @@
--- It counts the growth, and refuses it, or returns the inner allocator's result. Assumes `Logic`.
+-- The proof by hand of `Refusing::allocate`, against the contract that the trait `Allocator` states for every
+-- allocator. `walk` goes through the body: it calls `refuse_next`, and then either returns `Err` (`Post-null`)
+-- or calls the inner allocator, whose block and its token become those of the whole (`Post-block`). Assumes
+-- `Logic`.
 use Rattle.lw_test_reader.proofs.Steps.{ℕ, ◌^◌, ◌<◌, ◌≡◌, Bool, true, false, List, [], ◌∷◌, Ok, Err, refl, w64, Bor, Ura}
 use Rattle.lw_test_reader.proofs.Steps.{Ty, Fn, a_type, dnil, dcons, Val, vint, vptr, vbool, inst_fn, SProp, ent}
 use Rattle.lw_test_reader.proofs.Steps.{Lft, Share, ftrue, flft, froom, Memory, size, align, capped, Routine, WpFn, Tables, Logic}
@@ -22,18 +25,23 @@ use Rattle.lw_test_reader.proofs.refusing.RefusingAllocator.allocate.Statement a
 use Rattle.lw_test_reader.proofs.refusing.RefusingAllocator.allocate.Code as code
 
 module _ (Z : Al) where
+  -- The function's code, at these types.
   abbrev here : Fn
   here = inst_fn (bounded (a_type ∷ []) (Z.row, tt) (dcons Z.d (dcons Z.drops dnil))) code.function
 
+  -- The parameter `self`: a `&` to the allocator.
   abbrev self : Slot 2
   self = RefOf (0 ∷ []) tt (plain (λ _. Whole Z)) (λ _. tt)
 
+  -- A parameter of type `usize`.
   abbrev number : Slot 2
   number = plain (λ _. usize)
 
+  -- The function's signature, and what it keeps until its end.
   abbrev ended : Ended
   ended = f.ended Z.row Z.g Z.d Z.drops
 
+  -- Each parameter is dropped at the end.
   abbrev stayed : Stays ended.signature.params ended.kept
   stayed = (stay_dropped self yes, (stay_dropped number yes, (stay_dropped number yes, tt)))
 
@@ -42,32 +50,41 @@ module _ (Z : Al) {M : Type 1} {𝓤 : Ura M} (𝓛 : Logic 𝓤) (at_mem : Memo
     (refuses : Triple 𝓤 (𝓣.C counting.name) (Refuses 𝓛 at_mem run)) where
   open 𝓛 use {H}
 
+  -- The clauses that the trait states for the function.
   abbrev clauses : Clauses 𝓤 (ended Z)
   clauses = f.clauses Z.row Z.g Z.d Z.drops 𝓛 at_mem run
 
   module _ (κ ρ : Lft) (q s : Share) (within : κ ⊑ ρ) (r : Bor (Whole Z).Denot) (n a : ℕ) (τ : Ty) where
+    -- What a call is bound to: lifetimes with their shares, the arguments, and their values.
     abbrev bound : (walk_of 𝓛 (ended Z) (stayed Z) clauses).Ghost
     bound =
         (((κ, (ρ, tt)), (q, (s, tt)), (within, tt), (r, (n, (a, tt))), (shr_vals r, (uint_vals w64 n, (uint_vals w64 a, tt)))), τ)
 
+    -- The values of the arguments.
     abbrev passed : List Val
     passed = vptr r.ref_ptr.0 r.ref_ptr.1 ∷ vint w64 n ∷ vint w64 a ∷ []
 
+    -- The postcondition of the call.
     abbrev Post : Val → SProp 𝓤
     Post = (walk_of 𝓛 (ended Z) (stayed Z) clauses).post bound
 
+    -- What the clauses ensure of a result.
     abbrev left : Answer.Denot → SProp 𝓤
     left answer = (clauses bound.0.0 bound.0.3).ensures τ answer (at_exit (ended Z) bound.0.0 bound.0.3 (tt, (tt, (tt, tt))))
 
+    -- The size and the alignment passed are those of the type τ.
     abbrev Asked : Type 0
     Asked = (capped (size τ) ≡ n) × (capped (align τ) ≡ a)
 
+    -- The allocator inside.
     abbrev h : Z.row.Denot
     h = r.now.inner
 
+    -- The tokens of the lifetimes.
     abbrev tokens : Item 𝓤
     tokens = ‵ (flft κ q) ⊛ ‵ (flft ρ s) ⊛ ‵ ftrue
 
+    -- A result with what the clauses ensure of it, and the tokens, satisfy the postcondition.
     leave : (v : Val) (answer : Answer.Denot) → ent 𝓤 (⋆ 𝓛 (‵ (Answer.own_val answer (v ∷ [])) ∷ raw (left answer) ∷ tokens ∷ [])) (Post v)
     leave v answer =
         qed 𝓛 (‵ (Answer.own_val answer (v ∷ [])) ∷ raw (left answer) ∷ tokens ∷ []) ∵
@@ -76,19 +93,22 @@ module _ (Z : Al) {M : Type 1} {𝓤 : Ura M} (𝓛 : Logic 𝓤) (at_mem : Memo
         move ! (3 ∷ 0 ∷ 1 ∷ 2 ∷ []) $
         by ! (leaves 𝓛 (ended Z) (stayed Z) clauses bound v answer (tt, (tt, (tt, tt))) (tt, (tt, (tt, tt))))
 
-    refused : ent 𝓤 (⋆ 𝓛 (tokens ∷ [])) (Post (answer_val false 0 0))
-    refused =
+    -- The result `Err` satisfies the postcondition.
+    Post-null : ent 𝓤 (⋆ 𝓛 (tokens ∷ [])) (Post (answer_val false 0 0))
+    Post-null =
         qed 𝓛 (tokens ∷ []) ∵
         nothing ! $ use0 𝓛 (‵ (Answer.own_val (Err (record {})) (answer_val false 0 0 ∷ []))) (Answer-err 𝓛) $
         by ! (leave (answer_val false 0 0) (Err (record {})))
 
-    granted : (b o : ℕ) → ent 𝓤 (⋆ 𝓛 (tokens ∷ ‵ (froom τ b o) ∷ ‵ (token Z h τ (block_ptr b o)) ∷ [])) (Post (answer_val true b o))
-    granted b o =
+    -- A block from the allocator inside, with its token, satisfies the postcondition.
+    Post-block : (b o : ℕ) → ent 𝓤 (⋆ 𝓛 (tokens ∷ ‵ (froom τ b o) ∷ ‵ (token Z h τ (block_ptr b o)) ∷ [])) (Post (answer_val true b o))
+    Post-block b o =
         qed 𝓛 (tokens ∷ ‵ (froom τ b o) ∷ ‵ (token Z h τ (block_ptr b o)) ∷ []) ∵
         move ! (1 ∷ 2 ∷ []) $ fjoin ! $
         use0 𝓛 (‵ (Answer.own_val (Ok (block_ptr b o)) (answer_val true b o ∷ []))) (Answer-Ok 𝓛 b o) $
         by ! (leave (answer_val true b o) (Ok (block_ptr b o)))
 
+    -- The body, run from the precondition, ends with the postcondition.
     walk : n < 2 ^ 64
         → a < 2 ^ 64
         → ent 𝓤 ((walk_of 𝓛 (ended Z) (stayed Z) clauses).pre bound) (WpFn 𝓤 H 𝓣.C 𝓣.Λ (here Z) passed Post)
@@ -119,7 +139,7 @@ module _ (Z : Al) {M : Type 1} {𝓤 : Ura M} (𝓛 : Logic 𝓤) (at_mem : Memo
         (λ is_refused. sets ! (agg ! (no_more !)) refl (tt, tt) $
         sets ! (agg ! (and_then ! (lit ! tt) (and_then ! (get ! refl) (no_more !)))) refl (Answer-typed false 0 0) $
         returns_within ! Post refl (look_at ! 0 refl) $ free_all ! refl $
-        move ! (0 ∷ 2 ∷ []) $ join ! $ keep ! (0 ∷ []) $ by ! refused)
+        move ! (0 ∷ 2 ∷ []) $ join ! $ keep ! (0 ∷ []) $ by ! Post-null)
         (λ is_granted. skips ! $
         exec ! 𝓣.C 𝓣.Λ (env (here Z).locals l) (after 3 (here Z).body) (at_ret (env (here Z).locals l) Post) $
         sets ! (addr ! (through ! refl (fld ! refl (stop !)))) refl (tt, tt) $
@@ -132,10 +152,11 @@ module _ (Z : Al) {M : Type 1} {𝓤 : Ura M} (𝓛 : Logic 𝓤) (at_mem : Memo
         -- [the result; the token of κ; the token of ρ]
         answers Z ! at_mem run h τ v
         (λ b o ok. lands_as ! ok refl (Answer-typed true b o) $ returns ! (look_at ! 0 refl) $ free_all ! refl $
-        move ! (2 ∷ 3 ∷ []) $ join ! $ by ! (granted b o))
+        move ! (2 ∷ 3 ∷ []) $ join ! $ by ! (Post-block b o))
         (λ none. lands_as ! none refl (Answer-typed false 0 0) $ returns ! (look_at ! 0 refl) $ free_all ! refl $
-        join ! $ by ! refused)))))))))
+        join ! $ by ! Post-null)))))))))
 
+-- `allocate` satisfies its contract.
 pub allocate_spec : {M : Type 1} → stated.statement M
 unfolding tables_of
 allocate_spec 𝓤 𝓛 𝓜 𝓡 wired Y L g d d' met _ =

@@ -1,4 +1,6 @@
--- It gives the block back to the inner allocator. Assumes `Logic`.
+-- The proof by hand of `Refusing::deallocate`, against the contract that the trait `Allocator` states for
+-- every allocator. `walk` goes through the body: the block and its token go to the inner allocator, and
+-- nothing is counted. The null pointer never comes here, for no token belongs to it. Assumes `Logic`.
 use Rattle.lw_test_reader.proofs.Steps.{◌≡◌, ℕ, ◌^◌, ◌<◌, List, [], ◌∷◌, refl, w64, Bor, Ura, Ty, Fn, a_type, dnil, dcons, Val}
 use Rattle.lw_test_reader.proofs.Steps.{vint, vptr, vunit, inst_fn, SProp, ent, never_e, Lft, Share, Fml, ftrue, ffalse}
 use Rattle.lw_test_reader.proofs.Steps.{fsep, flft, froom, Memory, size, align, capped, Routine, WpFn, Tables, Logic, Item, ⋆}
@@ -19,21 +21,27 @@ use Rattle.lw_test_reader.proofs.refusing.RefusingAllocator.deallocate.Statement
 use Rattle.lw_test_reader.proofs.refusing.RefusingAllocator.deallocate.Code as code
 
 module _ (Z : Al) where
+  -- The function's code, at these types.
   abbrev here : Fn
   here = inst_fn (bounded (a_type ∷ []) (Z.row, tt) (dcons Z.d (dcons Z.drops dnil))) code.function
 
+  -- The parameter `self`: a `&` to the allocator.
   abbrev self : Slot 2
   self = RefOf (0 ∷ []) tt (plain (λ _. Whole Z)) (λ _. tt)
 
+  -- A parameter of type `usize`.
   abbrev number : Slot 2
   number = plain (λ _. usize)
 
+  -- The parameter that is a pointer.
   abbrev pointer : Slot 2
   pointer = plain (λ _. RawPtr)
 
+  -- The function's signature, and what it keeps until its end.
   abbrev ended : Ended
   ended = f.ended Z.row Z.g Z.d Z.drops
 
+  -- Each parameter is dropped at the end.
   abbrev stayed : Stays ended.signature.params ended.kept
   stayed = (stay_dropped self yes, (stay_dropped pointer yes, (stay_dropped number yes, (stay_dropped number yes, tt))))
 
@@ -41,10 +49,12 @@ module _ (Z : Al) {M : Type 1} {𝓤 : Ura M} (𝓛 : Logic 𝓤) (at_mem : Memo
     (gives : Triple 𝓤 (𝓣.C (gives_key Z)) (Gives Z 𝓛 at_mem run)) where
   open 𝓛 use {H}
 
+  -- The clauses that the trait states for the function.
   abbrev clauses : Clauses 𝓤 (ended Z)
   clauses = f.clauses Z.row Z.g Z.d Z.drops 𝓛 at_mem run
 
   module _ (κ ρ : Lft) (q s : Share) (within : κ ⊑ ρ) (r : Bor (Whole Z).Denot) (n a : ℕ) (τ : Ty) where
+    -- What a call is bound to: lifetimes with their shares, the arguments, and their values.
     abbrev bound : Ptr → (walk_of 𝓛 (ended Z) (stayed Z) clauses).Ghost
     bound x = (
       (
@@ -57,25 +67,32 @@ module _ (Z : Al) {M : Type 1} {𝓤 : Ura M} (𝓛 : Logic 𝓤) (at_mem : Memo
       τ,
     )
 
+    -- The values of the arguments.
     abbrev passed : Ptr → List Val
     passed x = vptr r.ref_ptr.0 r.ref_ptr.1 ∷ ptr_val x ∷ vint w64 n ∷ vint w64 a ∷ []
 
+    -- The postcondition of the call.
     abbrev Post : Ptr → Val → SProp 𝓤
     Post x = (walk_of 𝓛 (ended Z) (stayed Z) clauses).post (bound x)
 
+    -- The size and the alignment passed are those of the type τ.
     abbrev Asked : Type 0
     Asked = (capped (size τ) ≡ n) × (capped (align τ) ≡ a)
 
+    -- The allocator inside.
     abbrev h : Z.row.Denot
     h = r.now.inner
 
+    -- The tokens of the lifetimes.
     abbrev tokens : Item 𝓤
     tokens = ‵ (flft κ q) ⊛ ‵ (flft ρ s) ⊛ ‵ ftrue
 
+    -- What the call gets: the tokens, the arguments, and what its precondition gives.
     abbrev entry : Ptr → Fml → List (Item 𝓤)
     entry x block = (tokens ⊛ ‵ (owns (types_at (ended Z).signature.params (bound x).0.0) (bound x).0.3 (bound x).0.4))
         ∷ (raw (fact 𝓤 (ρ ⊑ Z.row.lives)) ⊛ raw (fact 𝓤 Asked) ⊛ ‵ block) ∷ []
 
+    -- After the block is given back, the tokens satisfy the postcondition.
     given_back : (x : Ptr) → ent 𝓤 (⋆ 𝓛 (tokens ∷ [])) (Post x vunit)
     given_back x =
         qed 𝓛 (tokens ∷ []) ∵ nothing ! $ feq_i ! (List Val) (vunit ∷ []) (vunit ∷ []) refl $
@@ -84,6 +101,7 @@ module _ (Z : Al) {M : Type 1} {𝓤 : Ura M} (𝓛 : Logic 𝓤) (at_mem : Memo
         move ! (3 ∷ 0 ∷ 1 ∷ 2 ∷ []) $
         by ! (leaves 𝓛 (ended Z) (stayed Z) clauses (bound x) vunit tt (tt, (tt, (tt, (tt, tt)))) (tt, (tt, (tt, (tt, tt)))))
 
+    -- The body, run from the precondition, ends with the postcondition.
     walk : n < 2 ^ 64
         → a < 2 ^ 64
         → (x : Ptr)
@@ -115,6 +133,7 @@ module _ (Z : Al) {M : Type 1} {𝓤 : Ura M} (𝓛 : Logic 𝓤) (at_mem : Memo
         sets ! (of_opd ! (unit_lit !)) refl (tt, tt) $ returns ! (look_at ! 0 refl) $ free_all ! refl $
         join ! $ by ! (given_back x))))))
 
+-- `deallocate` satisfies its contract.
 pub deallocate_spec : {M : Type 1} → stated.statement M
 unfolding tables_of
 deallocate_spec 𝓤 𝓛 𝓜 𝓡 wired Y L g d d' met _ =

@@ -1,4 +1,6 @@
--- It returns the inner allocator's result. Assumes `Logic`.
+-- The proof by hand of `Refusing::shrink`, against the contract that the trait `Allocator` states for every
+-- allocator. `walk` goes through the body: it calls the inner allocator, whose result is returned as it is
+-- (`leave`), for a shrink is no growth and is not counted. Assumes `Logic`.
 use Rattle.lw_test_reader.proofs.Steps.{◌≡◌, ℕ, ◌^◌, ◌<◌, Bool, List, [], ◌∷◌, refl, sym, subst, T, w64, Bor, Ura, Fn, a_type}
 use Rattle.lw_test_reader.proofs.Steps.{dnil, dcons, Val, vint, vptr, has_ty, WT, inst_fn, SProp, ent, never_e, Lft, Share, Fml}
 use Rattle.lw_test_reader.proofs.Steps.{ftrue, flft, Memory, Routine, WpFn, Tables, Logic, Item, ⋆, ‵, raw, ◌⊛◌, some, later}
@@ -21,21 +23,27 @@ use Rattle.lw_test_reader.proofs.refusing.RefusingAllocator.shrink.Statement as 
 use Rattle.lw_test_reader.proofs.refusing.RefusingAllocator.shrink.Code as code
 
 module _ (Z : Al) (X : RattleType) where
+  -- The function's code, at these types.
   abbrev here : Fn
   here = inst_fn (bounded (a_type ∷ a_type ∷ []) (Z.row, (X, tt)) (dcons Z.d (dcons Z.drops dnil))) code.function
 
+  -- The parameter `self`: a `&` to the allocator.
   abbrev self : Slot 3
   self = RefOf (0 ∷ []) tt (plain (λ _. Whole Z)) (λ _. tt)
 
+  -- A parameter of type `usize`.
   abbrev number : Slot 3
   number = plain (λ _. usize)
 
+  -- The parameter that is a pointer.
   abbrev pointer : Slot 3
   pointer = plain (λ _. RawPtr)
 
+  -- The function's signature, and what it keeps until its end.
   abbrev ended : Ended
   ended = f.ended Z.row X Z.g Z.d Z.drops
 
+  -- Each parameter is dropped at the end.
   abbrev stayed : Stays ended.signature.params ended.kept
   stayed = (
     stay_dropped self yes,
@@ -46,13 +54,16 @@ module _ (Z : Al) (X : RattleType) {M : Type 1} {𝓤 : Ura M} (𝓛 : Logic �
     (𝓣 : Tables 𝓤 𝓛.H) (resizes : Triple 𝓤 (𝓣.C (resize_key Z X 3)) (Resizes Z X (Shrinks X) 𝓛 at_mem run)) where
   open 𝓛 use {H}
 
+  -- The clauses that the trait states for the function.
   abbrev clauses : Clauses 𝓤 (ended Z X)
   clauses = f.clauses Z.row X Z.g Z.d Z.drops 𝓛 at_mem run
 
+  -- The contract of the call of the allocator inside.
   abbrev Called : Contract 𝓤
   Called = Resizes Z X (Shrinks X) 𝓛 at_mem run
 
   module _ (κ ρ κT : Lft) (q s qT : Share) (within : κ ⊑ ρ) (r : Bor (Whole Z).Denot) (len old new : ℕ) (xs : List X.Denot) where
+    -- What a call is bound to: lifetimes with their shares, the arguments, and their values.
     abbrev bound : Ptr → (walk_of 𝓛 (ended Z X) (stayed Z X) clauses).Ghost
     bound x = (
       (
@@ -65,29 +76,37 @@ module _ (Z : Al) (X : RattleType) {M : Type 1} {𝓤 : Ura M} (𝓛 : Logic �
       xs,
     )
 
+    -- The values of the arguments.
     abbrev passed : Ptr → List Val
     passed x = vptr r.ref_ptr.0 r.ref_ptr.1 ∷ ptr_val x ∷ vint w64 len ∷ vint w64 old ∷ vint w64 new ∷ []
 
+    -- The postcondition of the call.
     abbrev Post : Ptr → Val → SProp 𝓤
     Post x = (walk_of 𝓛 (ended Z X) (stayed Z X) clauses).post (bound x)
 
+    -- The allocator inside.
     abbrev h : Z.row.Denot
     h = r.now.inner
 
+    -- The block with its items, at the old length.
     abbrev block : Ptr → Fml
     block x = block_with_items (token Z h) (param 1 X) x len old xs
 
+    -- The tokens of the lifetimes.
     abbrev tokens : Item 𝓤
     tokens = ‵ (flft κ q) ⊛ ‵ (flft ρ s) ⊛ ‵ (flft κT qT) ⊛ ‵ ftrue
 
+    -- What the call gets: the tokens, the arguments, and what its precondition gives.
     abbrev entry : Ptr → List (Item 𝓤)
     entry x = (tokens ⊛ ‵ (owns (types_at (ended Z X).signature.params (bound x).0.0) (bound x).0.3 (bound x).0.4))
         ∷ raw (asked 𝓛 (ρ ⊑ Z.row.lives) (κT ⊑ X.lives) (Shrinks X len old new) (block x)) ∷ []
 
     module _ (b o : ℕ) where
+      -- What the call of the allocator inside leaves with a result.
       abbrev left : Answer.Denot → Fml
       left = left_by Z X (Shrinks X) 𝓛 at_mem run κ κT q qT (inner_at Z r.ref_ptr) h b o len old new xs
 
+      -- The result of the call inside, and what comes with it, satisfy the postcondition.
       leave : (v : Val) (c : Bool × (ℕ × ℕ)) → v ≡ answer_val c.0 c.1.0 c.1.1
           → ent 𝓤 (⋆ 𝓛 (tokens ∷ ‵ (left (result_of c.0 c.1.0 c.1.1)) ∷ [])) (Post (block_ptr b o) v)
       leave v c is =
@@ -100,6 +119,7 @@ module _ (Z : Al) (X : RattleType) {M : Type 1} {𝓤 : Ura M} (𝓛 : Logic �
           move ! (3 ∷ 0 ∷ 1 ∷ 2 ∷ []) $ by ! (leaves 𝓛 (ended Z X) (stayed Z X) clauses (bound (block_ptr b o)) v answer
           (tt, (tt, (tt, (tt, (tt, tt))))) (tt, (tt, (tt, (tt, (tt, tt))))))
 
+    -- The body, run from the precondition, ends with the postcondition.
     walk : len < 2 ^ 64
         → old < 2 ^ 64
         → new < 2 ^ 64
@@ -140,6 +160,7 @@ module _ (Z : Al) (X : RattleType) {M : Type 1} {𝓤 : Ura M} (𝓛 : Logic �
         nothing ! $ move ! (3 ∷ 0 ∷ []) $ join ! $ move ! (3 ∷ 0 ∷ []) $ join ! $ move ! (2 ∷ 0 ∷ []) $ join ! $
         by ! (leave b o v c is))))))
 
+-- `shrink` satisfies its contract.
 pub shrink_spec : {M : Type 1} → stated.statement M
 unfolding tables_of
 shrink_spec 𝓤 𝓛 𝓜 𝓡 wired Y X LY LX g d d' met _ =
