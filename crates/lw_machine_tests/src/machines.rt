@@ -4,7 +4,7 @@ ghost use Rattle.lw_mesi.specs.CacheLines.{coherent_words};
 
 use lw_base::{Cpu, End, Event, Loc, Reg, Stop};
 use lw_litmus::Program;
-use lw_mesi::{Mesi, ProtocolType, SnoopingCaches, empty_caches_are_kept};
+use lw_mesi::{Mesi, ProtocolType, SnoopingCaches, empty_caches_are_coherent};
 use lw_test_reader::program_of;
 use lw_tso::Machine;
 use std::alloc::Global;
@@ -18,7 +18,7 @@ pub(crate) fn caches_of<P: ProtocolType>(
     ensures threads { IfSome result (λ m. length program.now.threads ≤ m.cpus) }
     ensures words { IfSome result (λ m. coherent_words m ≡ program.now.head.init_words) }
 {
-    empty_caches_are_kept();
+    empty_caches_are_coherent();
     let head = &program.head;
     match SnoopingCaches::new(alloc, head.threads, head.init_words.as_slice()) {
         Ok(caches) => Some(caches),

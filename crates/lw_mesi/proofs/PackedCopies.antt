@@ -1,4 +1,5 @@
--- The copies that a packed cache line represents, one by one; and, of all together, the content and whether some cache holds the line.
+-- The copies that a packed cache line represents, one by one; and, of all together, the content and whether
+-- some cache holds the line. Each call on a packed line is proved by these (`PackedReads`, `PackedWrites`).
 use Rattle.lw_mesi.proofs.Common.{◌≡◌, ℕ, zero, suc, ◌<◌, Option, Some, None, Bool, true, false, inl, inr}
 use Rattle.lw_mesi.proofs.Common.{List, [], ◌∷◌, refl, sym, ap, ap₂, ◌∙◌, subst, arith, if◌then◌else◌}
 use Rattle.lw_mesi.proofs.Common.{slice_index_or, eqb-true, eq-eqb, cases_lt, or_left, or_right, get_or_past}
@@ -6,145 +7,157 @@ use Rattle.lw_mesi.proofs.Common.{most_threads, S, is_held, Copy, Owned, Shared,
 use Rattle.lw_mesi.proofs.Common.{copy_state, copy_word, coherent_word, is_owner, is_held_anywhere}
 use Rattle.lw_mesi.proofs.Common.{IsOnlyCopy, IsDirty, copy_in, clean, dirty, Inside, IsPacked, owner_copy}
 use Rattle.lw_mesi.proofs.Common.{sharer_copy, copy_at, unpacked}
-use Rattle.lw_mesi.proofs.IndexLemmas.{at_each_long, at_each_get}
+use Rattle.lw_mesi.proofs.IndexLemmas.{length-at_each, get_or-at_each}
 
 -- ---- one processor's copy
 
 -- The copy of a processor, from four bits: the processor is the owner, the owner is dirty, the owner is in O, the processor is a sharer.
-abbrev pub copy_by : Bool → Bool → Bool → Bool → ℕ → Copy
-copy_by own d b s w = if own then owner_copy d b w else sharer_copy s w
+abbrev pub copy_of_bits : Bool → Bool → Bool → Bool → ℕ → Copy
+copy_of_bits own d b s w = if own then owner_copy d b w else sharer_copy s w
 
 -- A processor's copy in the unpacked cache line is the copy that the packed line represents.
-pub copy_there : (p : Inside) (t : ℕ) → t < most_threads → copy_of (unpacked p) t ≡ copy_at p t
-copy_there p t lt = at_each_get (copy_at p) t Invalid lt
+pub copy_of-unpacked : (p : Inside) (t : ℕ) → t < most_threads → copy_of (unpacked p) t ≡ copy_at p t
+copy_of-unpacked p t lt = get_or-at_each (copy_at p) t Invalid lt
 
 -- `is_owner` is true of the owner.
-pub own_true : (owner : Option ℕ) (o : ℕ) → owner ≡ Some o → is_owner owner o ≡ true
-own_true owner o own = ap (λ (x : Option ℕ). is_owner x o) own ∙ eq-eqb o o refl
+pub is_owner-true : (owner : Option ℕ) (o : ℕ) → owner ≡ Some o → is_owner owner o ≡ true
+is_owner-true owner o own = ap (λ (x : Option ℕ). is_owner x o) own ∙ eq-eqb o o refl
 
 -- A processor for which `is_owner` is true is the owner.
-pub own_is : (owner : Option ℕ) (t : ℕ) → is_owner owner t ≡ true → owner ≡ Some t
-own_is None t h = cc
-own_is (Some o) t h = ap (λ (x : ℕ). Some x) (eqb-true o t h)
+pub is_owner-sound : (owner : Option ℕ) (t : ℕ) → is_owner owner t ≡ true → owner ≡ Some t
+is_owner-sound None t h = cc
+is_owner-sound (Some o) t h = ap (λ (x : ℕ). Some x) (eqb-true o t h)
 
 -- A processor without a copy is not the owner.
-pub not_held : (own d b s : Bool) (w : ℕ) → copy_by own d b s w ≡ Invalid → own ≡ false
-not_held true true true s w e = cc
-not_held true true false s w e = cc
-not_held true false b s w e = cc
-not_held false d b s w e = refl
+pub not_owner-if_invalid : (own d b s : Bool) (w : ℕ) → copy_of_bits own d b s w ≡ Invalid → own ≡ false
+not_owner-if_invalid true true true s w e = cc
+not_owner-if_invalid true true false s w e = cc
+not_owner-if_invalid true false b s w e = cc
+not_owner-if_invalid false d b s w e = refl
 
 -- A processor whose copy is in S is not the owner.
-pub not_shared : (own d b s : Bool) (w : ℕ) → copy_state (copy_by own d b s w) ≡ S → own ≡ false
-not_shared true true true s w e = cc
-not_shared true true false s w e = cc
-not_shared true false b s w e = cc
-not_shared false d b s w e = refl
+pub not_owner-if_shared : (own d b s : Bool) (w : ℕ) → copy_state (copy_of_bits own d b s w) ≡ S → own ≡ false
+not_owner-if_shared true true true s w e = cc
+not_owner-if_shared true true false s w e = cc
+not_owner-if_shared true false b s w e = cc
+not_owner-if_shared false d b s w e = refl
 
 -- A processor with a dirty copy is the owner, and the packed line is marked dirty.
-pub dirty_owner : (own d b s : Bool) (w : ℕ) → IsDirty (copy_by own d b s w) → (own ≡ true) × (d ≡ true)
-dirty_owner true true b s w h = (refl, refl)
-dirty_owner true false b s w h = absurd h
-dirty_owner false d b true w h = absurd h
-dirty_owner false d b false w h = absurd h
+pub is_owner-of_dirty_copy : (own d b s : Bool) (w : ℕ) → IsDirty (copy_of_bits own d b s w) → (own ≡ true) × (d ≡ true)
+is_owner-of_dirty_copy true true b s w h = (refl, refl)
+is_owner-of_dirty_copy true false b s w h = absurd h
+is_owner-of_dirty_copy false d b true w h = absurd h
+is_owner-of_dirty_copy false d b false w h = absurd h
 
 -- A processor whose copy is in M or E is the owner, and the packed line is not marked as in O.
-pub only_owner : (own d b s : Bool) (w : ℕ)
+pub is_owner-of_only_copy : (own d b s : Bool) (w : ℕ)
     → (d ≡ false → b ≡ false)
-    → IsOnlyCopy (copy_by own d b s w)
+    → IsOnlyCopy (copy_of_bits own d b s w)
     → (own ≡ true) × (b ≡ false)
-only_owner true true true s w h only = absurd only
-only_owner true true false s w h only = (refl, refl)
-only_owner true false b s w h only = (refl, h refl)
-only_owner false d b true w h only = absurd only
-only_owner false d b false w h only = absurd only
+is_owner-of_only_copy true true true s w h only = absurd only
+is_owner-of_only_copy true true false s w h only = (refl, refl)
+is_owner-of_only_copy true false b s w h only = (refl, h refl)
+is_owner-of_only_copy false d b true w h only = absurd only
+is_owner-of_only_copy false d b false w h only = absurd only
 
 -- A sharer that is not the owner has a copy in S.
-pub sharer_is : (own d b s : Bool) (w : ℕ) → own ≡ false → s ≡ true → copy_by own d b s w ≡ Shared w
-sharer_is own d b s w e f = ap₂ (λ (x y : Bool). copy_by x d b y w) e f
+pub copy_of_bits-sharer : (own d b s : Bool) (w : ℕ) → own ≡ false → s ≡ true → copy_of_bits own d b s w ≡ Shared w
+copy_of_bits-sharer own d b s w e f = ap₂ (λ (x y : Bool). copy_of_bits x d b y w) e f
 
 -- The owner holds the cache line, whatever its state.
-pub owner_held : (d b : Bool) (w : ℕ) → is_held (copy_state (owner_copy d b w)) ≡ true
-owner_held true true w = refl
-owner_held true false w = refl
-owner_held false b w = refl
+pub is_held-owner_copy : (d b : Bool) (w : ℕ) → is_held (copy_state (owner_copy d b w)) ≡ true
+is_held-owner_copy true true w = refl
+is_held-owner_copy true false w = refl
+is_held-owner_copy false b w = refl
 
 -- A dirty owner's copy is dirty: it is in M or in O.
-pub owner_dirty : (b : Bool) (w : ℕ) → IsDirty (owner_copy true b w)
-owner_dirty true w = tt
-owner_dirty false w = tt
+pub IsDirty-owner_copy : (b : Bool) (w : ℕ) → IsDirty (owner_copy true b w)
+IsDirty-owner_copy true w = tt
+IsDirty-owner_copy false w = tt
 
 -- A dirty owner's copy has the cache line's word.
-pub owner_word : (b : Bool) (w : ℕ) → copy_word (owner_copy true b w) ≡ Some w
-owner_word true w = refl
-owner_word false w = refl
+pub copy_word-dirty_owner : (b : Bool) (w : ℕ) → copy_word (owner_copy true b w) ≡ Some w
+copy_word-dirty_owner true w = refl
+copy_word-dirty_owner false w = refl
 
 -- Every copy has the cache line's word.
-pub has_word : (own d b s : Bool) (w v : ℕ) → copy_word (copy_by own d b s w) ≡ Some v → Some w ≡ Some v
-has_word true true true s w v h = h
-has_word true true false s w v h = h
-has_word true false b s w v h = h
-has_word false d b true w v h = h
-has_word false d b false w v h = cc
+pub copy_word-is_line_word : (own d b s : Bool) (w v : ℕ) → copy_word (copy_of_bits own d b s w) ≡ Some v → Some w ≡ Some v
+copy_word-is_line_word true true true s w v h = h
+copy_word-is_line_word true true false s w v h = h
+copy_word-is_line_word true false b s w v h = h
+copy_word-is_line_word false d b true w v h = h
+copy_word-is_line_word false d b false w v h = cc
 
 -- ---- the cache line
 
 -- In the unpacked cache line the owner has the owner's copy.
-pub owner_at : (p : Inside) (o : ℕ)
+pub copy_of-unpacked_owner : (p : Inside) (o : ℕ)
     → o < most_threads
     → p.owner ≡ Some o
     → copy_of (unpacked p) o ≡ owner_copy p.is_dirty p.is_owned p.word
-owner_at p o lt own =
-    copy_there p o lt
-    ∙ ap (λ (x : Bool). copy_by x p.is_dirty p.is_owned (slice_index_or p.sharers o false) p.word) (own_true p.owner o own)
+copy_of-unpacked_owner p o lt own =
+    copy_of-unpacked p o lt
+    ∙ ap (λ (x : Bool). copy_of_bits x p.is_dirty p.is_owned (slice_index_or p.sharers o false) p.word)
+    (is_owner-true p.owner o own)
 
 -- In the unpacked cache line a dirty owner in O has a copy in O with the line's word.
-pub owned_at : (p : Inside) (o : ℕ)
+pub copy_of-unpacked_owned : (p : Inside) (o : ℕ)
     → o < most_threads
     → p.owner ≡ Some o
     → p.is_dirty ≡ true
     → p.is_owned ≡ true
     → copy_of (unpacked p) o ≡ Owned p.word
-owned_at p o lt own d b = owner_at p o lt own ∙ ap₂ (λ (x y : Bool). owner_copy x y p.word) d b
+copy_of-unpacked_owned p o lt own d b = copy_of-unpacked_owner p o lt own ∙ ap₂ (λ (x y : Bool). owner_copy x y p.word) d b
 
 -- A processor with a dirty copy in the unpacked line is the owner, and the packed line is marked dirty.
-pub dirty_at : (p : Inside) (t : ℕ) → IsDirty (copy_in (unpacked p).copies t) → (is_owner p.owner t ≡ true) × (p.is_dirty ≡ true)
-dirty_at p t h = elim (cases_lt t most_threads) [
-  | inl lt ↦ dirty_owner _ p.is_dirty p.is_owned _ p.word (subst IsDirty (copy_there p t lt) h)
-  | inr past ↦ absurd (subst IsDirty (get_or_past (unpacked p).copies t Invalid (omega (arith, at_each_long (copy_at p)))) h)
+pub is_owner-if_dirty : (p : Inside) (t : ℕ)
+    → IsDirty (copy_in (unpacked p).copies t)
+    → (is_owner p.owner t ≡ true) × (p.is_dirty ≡ true)
+is_owner-if_dirty p t h = elim (cases_lt t most_threads) [
+  | inl lt ↦ is_owner-of_dirty_copy _ p.is_dirty p.is_owned _ p.word (subst IsDirty (copy_of-unpacked p t lt) h)
+  | inr past ↦ absurd (subst IsDirty (get_or_past (unpacked p).copies t Invalid (omega (arith, length-at_each (copy_at p)))) h)
 ]
 
 -- The content of the unpacked cache line is the packed line's word.
-pub content_is : (p : Inside) → IsPacked p → coherent_word (unpacked p) ≡ p.word
-content_is p ok = go p.is_dirty refl p.owner refl
+pub coherent_word-unpacked : (p : Inside) → IsPacked p → coherent_word (unpacked p) ≡ p.word
+coherent_word-unpacked p ok = go p.is_dirty refl p.owner refl
   where
     go : (d : Bool) → p.is_dirty ≡ d → (owner : Option ℕ) → p.owner ≡ owner → coherent_word (unpacked p) ≡ p.word
-    go false ed owner eo = clean _ (unpacked p).copies (λ t h. let k = (dirty_at p t h).1 in cc) ∙ ok.clean ed
+    go false ed owner eo = clean _ (unpacked p).copies (λ t h. let k = (is_owner-if_dirty p t h).1 in cc) ∙ ok.clean ed
     go true ed None eo = absurd (let k = ok.unowned eo in cc)
     go true ed (Some o) eo =
-        let at = owner_at p o (ok.in_range o eo) eo ∙ ap (λ (x : Bool). owner_copy x p.is_owned p.word) ed in
-        dirty p.memory p.word (unpacked p).copies o (subst IsDirty (sym at) (owner_dirty p.is_owned p.word))
-        (ap copy_word at ∙ owner_word p.is_owned p.word)
-        (λ u ne h. let e : p.owner ≡ Some u = own_is p.owner u (dirty_at p u h).0 in ne (let same : o ≡ u = cc in same))
+        let at = copy_of-unpacked_owner p o (ok.in_range o eo) eo ∙ ap (λ (x : Bool). owner_copy x p.is_owned p.word) ed in
+        dirty p.memory p.word (unpacked p).copies o (subst IsDirty (sym at) (IsDirty-owner_copy p.is_owned p.word))
+        (ap copy_word at ∙ copy_word-dirty_owner p.is_owned p.word) (λ u ne h.
+        let e : p.owner ≡ Some u = is_owner-sound p.owner u (is_owner-if_dirty p u h).0 in ne (let same : o ≡ u = cc in same))
 
 -- If a processor holds the cache line, `is_held_anywhere` is true.
-pub held_somewhere : (copies : List Copy) (t : ℕ)
+pub is_held_anywhere-if_one_holds : (copies : List Copy) (t : ℕ)
     → is_held (copy_state (copy_in copies t)) ≡ true
     → is_held_anywhere copies ≡ true
-held_somewhere [] t h = cc
-held_somewhere (c ∷ copies) zero h = or_left (is_held (copy_state c)) (is_held_anywhere copies) h
-held_somewhere (c ∷ copies) (suc t) h = or_right _ (is_held_anywhere copies) (held_somewhere copies t h)
+is_held_anywhere-if_one_holds [] t h = cc
+is_held_anywhere-if_one_holds (c ∷ copies) zero h = or_left (is_held (copy_state c)) (is_held_anywhere copies) h
+is_held_anywhere-if_one_holds (c ∷ copies) (suc t) h =
+    or_right _ (is_held_anywhere copies) (is_held_anywhere-if_one_holds copies t h)
 
 -- If the packed line has an owner, `is_held_anywhere` is true of the unpacked copies.
-pub held_by : (p : Inside) (o : ℕ) → o < most_threads → p.owner ≡ Some o → is_held_anywhere (unpacked p).copies ≡ true
-held_by p o lt own =
-    held_somewhere (unpacked p).copies o
-    (ap (λ (c : Copy). is_held (copy_state c)) (owner_at p o lt own) ∙ owner_held p.is_dirty p.is_owned p.word)
+pub is_held_anywhere-if_owned : (p : Inside) (o : ℕ)
+    → o < most_threads
+    → p.owner ≡ Some o
+    → is_held_anywhere (unpacked p).copies ≡ true
+is_held_anywhere-if_owned p o lt own =
+    is_held_anywhere-if_one_holds (unpacked p).copies o
+    (ap (λ (c : Copy). is_held (copy_state c)) (copy_of-unpacked_owner p o lt own)
+    ∙ is_held-owner_copy p.is_dirty p.is_owned p.word)
 
 -- Builds a cache line from the copies and memory's word.
 abbrev pub cache_line_of : List Copy → ℕ → CacheLine
 cache_line_of copies memory = record { copies = copies; memory = memory }
 
 -- A processor without a copy in the unpacked cache line is not its owner.
-pub not_owner : (p : Inside) (t : ℕ) → t < most_threads → copy_of (unpacked p) t ≡ Invalid → is_owner p.owner t ≡ false
-not_owner p t lt free = not_held _ p.is_dirty p.is_owned _ p.word (sym (copy_there p t lt) ∙ free)
+pub is_owner-false_if_invalid : (p : Inside) (t : ℕ)
+    → t < most_threads
+    → copy_of (unpacked p) t ≡ Invalid
+    → is_owner p.owner t ≡ false
+is_owner-false_if_invalid p t lt free =
+    not_owner-if_invalid _ p.is_dirty p.is_owned _ p.word (sym (copy_of-unpacked p t lt) ∙ free)

@@ -1,4 +1,5 @@
--- Each call preserves the protocol's invariant, cache line by cache line.
+-- Each call preserves the protocol's invariant, cache line by cache line. A call of the caches borrows one
+-- line; these lemmas lift what the line promises to all caches.
 use Rattle.lw_mesi.proofs.Common.{Vec, vec_len, map, Option, get_or-map, HasProtocolStates, cache_line_at}
 use Rattle.lw_mesi.proofs.Common.{ProtocolTable, ProtocolTransition, answer_to, cache_line_after_access}
 use Rattle.lw_mesi.proofs.Common.{Access, Ask, ◌≡◌, ℕ, suc, zero, ◌<◌, ◌≤◌, List, [], ◌∷◌, length, set}
@@ -9,18 +10,18 @@ use Rattle.lw_mesi.proofs.Common.{coherent_word, coherent_words, cache_line_evic
 use Rattle.lw_mesi.proofs.Common.{SatisfiesProtocol, set_kept, kept_cache_line, evict_kept}
 
 -- At an index in range, a list's item does not depend on the default.
-any_default : {A : Type 0} (xs : List A) (i : ℕ) (c d : A) → i < length xs → get_or xs i c ≡ get_or xs i d
-any_default [] i c d lt = absurd (omega arith)
-any_default (x ∷ xs) zero c d lt = refl
-any_default (x ∷ xs) (suc i) c d lt = any_default xs i c d (omega arith)
+get_or-any_default : {A : Type 0} (xs : List A) (i : ℕ) (c d : A) → i < length xs → get_or xs i c ≡ get_or xs i d
+get_or-any_default [] i c d lt = absurd (omega arith)
+get_or-any_default (x ∷ xs) zero c d lt = refl
+get_or-any_default (x ∷ xs) (suc i) c d lt = get_or-any_default xs i c d (omega arith)
 
 -- A location x of the caches `now`, and its index i among the cache lines in memory.
 module _ {Z : Type 0} (now : Caches) (cpus : ℕ) (lines : Vec CacheLine Z) (x i : ℕ)
     (same : (let m : Caches = record { cpus = cpus; cache_lines = lines.items } in m) ≡ now) (index : i ≡ x)
     (loc : x < length (coherent_words now)) where
   -- The index is in range.
-  pub line_there : i < vec_len lines
-  line_there =
+  pub index_in_range : i < vec_len lines
+  index_in_range =
       omega (
         arith,
         loc,
@@ -31,37 +32,38 @@ module _ {Z : Type 0} (now : Caches) (cpus : ℕ) (lines : Vec CacheLine Z) (x i
       )
 
   -- A function of the cache line at the index has the same value on the cache line of the location.
-  pub line_is : {Y : Type 0} (f : CacheLine → Y) (line : CacheLine)
+  pub cache_line_value-same : {Y : Type 0} (f : CacheLine → Y) (line : CacheLine)
       → line ≡ get_or lines.items i line
       → f line ≡ f (cache_line_at now.cache_lines x)
-  line_is f line found =
-      let there : i < length lines.items = omega (arith, line_there, lines.ok.0) in
+  cache_line_value-same f line found =
+      let there : i < length lines.items = omega (arith, index_in_range, lines.ok.0) in
       let whole = ap (λ (m : Caches). cache_line_at m.cache_lines x) same in
-      ap f (found ∙ any_default lines.items i line (unheld_cache_line 0) there ∙ rw index whole)
+      ap f (found ∙ get_or-any_default lines.items i line (unheld_cache_line 0) there ∙ rw index whole)
 
   -- The word that a function reads in the cache line at the index is the location's among the words that it reads in all lines.
-  pub word_is : (word : CacheLine → ℕ) (line : CacheLine)
+  pub read_word-same : (word : CacheLine → ℕ) (line : CacheLine)
       → line ≡ get_or lines.items i line
       → word line ≡ get_or (map word now.cache_lines) x 0
-  word_is word line found =
-      line_is word line found
+  read_word-same word line found =
+      cache_line_value-same word line found
       ∙ sym (get_or-map word now.cache_lines x (unheld_cache_line 0) 0
       (omega (arith, loc, length-map now.cache_lines coherent_word)))
 
 -- The caches m, equal to `now`, satisfy a protocol, and a processor t in range borrows the cache line of location x, at the index i: it is
 -- `before`.
-pub record Borrowed (p : Protocol) (m now : Caches) (t x i : ℕ) (before : CacheLine) : Type 0 where
+pub record IsBorrowedLine (p : Protocol) (m now : Caches) (t x i : ℕ) (before : CacheLine) : Type 0 where
   pub same : m ≡ now
   pub kept : SatisfiesProtocol p m
-  pub few : length m.cache_lines ≤ most_locations
+  pub within_line_limit : length m.cache_lines ≤ most_locations
   pub cpu : t < now.cpus
   pub loc : x < length (coherent_words now)
   pub index : i ≡ x
   pub found : before ≡ get_or m.cache_lines i before
 
-module _ (p : Protocol) (m now : Caches) (t x i : ℕ) (before : CacheLine) (borrowed : Borrowed p m now t x i before) where
-  index_there : i < length m.cache_lines
-  index_there = omega (
+module _ (p : Protocol) (m now : Caches) (t x i : ℕ) (before : CacheLine) (borrowed : IsBorrowedLine p m now t x i before) where
+  -- The index is that of a cache line.
+  index_lt_line_count : i < length m.cache_lines
+  index_lt_line_count = omega (
     arith,
     borrowed.loc,
     borrowed.index,
@@ -69,44 +71,46 @@ module _ (p : Protocol) (m now : Caches) (t x i : ℕ) (before : CacheLine) (bor
     length-map m.cache_lines coherent_word,
   )
 
-  cpu_there : t < most_threads
-  cpu_there = omega (arith, borrowed.cpu, borrowed.kept.coherent.few, ap (λ (k : Caches). k.cpus) borrowed.same)
+  -- The processor is one of the most that there may be.
+  cpu_lt_most_threads : t < most_threads
+  cpu_lt_most_threads = omega (arith, borrowed.cpu, borrowed.kept.coherent.few, ap (λ (k : Caches). k.cpus) borrowed.same)
 
   -- The borrowed cache line satisfies the protocol.
-  before_kept : LineSatisfiesProtocol p before
-  before_kept =
-      subst (LineSatisfiesProtocol p) (any_default m.cache_lines i (unheld_cache_line 0) before index_there ∙ sym borrowed.found)
-      (kept_cache_line p m i borrowed.kept index_there)
+  LineSatisfiesProtocol-borrowed : LineSatisfiesProtocol p before
+  LineSatisfiesProtocol-borrowed =
+      subst (LineSatisfiesProtocol p)
+      (get_or-any_default m.cache_lines i (unheld_cache_line 0) before index_lt_line_count ∙ sym borrowed.found)
+      (kept_cache_line p m i borrowed.kept index_lt_line_count)
 
   -- The borrowed cache line's states belong to the protocol.
   pub before_states : HasProtocolStates p before
-  before_states = before_kept.states
+  before_states = LineSatisfiesProtocol-borrowed.states
 
   -- If an access changes the borrowed cache line as the table says, the caches make the protocol's transition for that access.
-  pub served : (table : ProtocolTable) (access : Access) (a : Option ℕ) (after : CacheLine)
+  pub ProtocolTransition-borrowed : (table : ProtocolTable) (access : Access) (a : Option ℕ) (after : CacheLine)
       → a ≡ answer_to table t access before
       → after ≡ cache_line_after_access table t access before
       → ProtocolTransition table now (Ask t x access) a (record { cpus = m.cpus; cache_lines = set m.cache_lines i after })
-  served table access a after answers is =
+  ProtocolTransition-borrowed table access a after answers is =
       let was : before ≡ cache_line_at now.cache_lines x =
       borrowed.found
-      ∙ any_default m.cache_lines i before (unheld_cache_line 0) index_there
+      ∙ get_or-any_default m.cache_lines i before (unheld_cache_line 0) index_lt_line_count
       ∙ rw (borrowed.index, borrowed.same) refl in
       record {
-        there = (borrowed.cpu, omega (arith, borrowed.loc, length-map now.cache_lines coherent_word));
+        request_in_range = (borrowed.cpu, omega (arith, borrowed.loc, length-map now.cache_lines coherent_word));
         possible = tt;
         answer = answers ∙ ap (answer_to table t access) was;
         cache_lines = rw (is, was, borrowed.index, borrowed.same) refl;
       }
 
   -- If the changed cache line satisfies the protocol, so do the caches with that line at the index.
-  pub still_kept : (after : CacheLine)
+  pub SatisfiesProtocol-set_line : (after : CacheLine)
       → (t < most_threads → LineSatisfiesProtocol p before → LineSatisfiesProtocol p after)
       → (length (set m.cache_lines i after) ≤ most_locations)
       × SatisfiesProtocol p (record { cpus = m.cpus; cache_lines = set m.cache_lines i after })
-  still_kept after keeps = (
-    omega (arith, length-set m.cache_lines i after, borrowed.few),
-    set_kept p m i after borrowed.kept index_there (keeps cpu_there before_kept),
+  SatisfiesProtocol-set_line after keeps = (
+    omega (arith, length-set m.cache_lines i after, borrowed.within_line_limit),
+    set_kept p m i after borrowed.kept index_lt_line_count (keeps cpu_lt_most_threads LineSatisfiesProtocol-borrowed),
   )
 
 -- The result r of an eviction: it succeeds if processor t holds the line, and then t's copy is gone; otherwise the line is unchanged.
@@ -116,11 +120,11 @@ pub record EvictedIfHeld {E : Type 0} (r : Result (Unit {0}) E) (t : ℕ) (befor
   pub err : OnErr r (after ≡ before)
 
 -- A cache line that satisfies a protocol satisfies it after an eviction, whether that succeeds or fails.
-pub still_evicted : {E : Type 0} (p : Protocol) (r : Result (Unit {0}) E) (t : ℕ) (before after : CacheLine)
+pub LineSatisfiesProtocol-evicted : {E : Type 0} (p : Protocol) (r : Result (Unit {0}) E) (t : ℕ) (before after : CacheLine)
     → t < most_threads
     → LineSatisfiesProtocol p before
     → EvictedIfHeld r t before after
     → LineSatisfiesProtocol p after
-still_evicted p (Ok a) t before after lt s evicted =
+LineSatisfiesProtocol-evicted p (Ok a) t before after lt s evicted =
     subst (LineSatisfiesProtocol p) (sym evicted.ok) (evict_kept p t before lt s (sym evicted.held))
-still_evicted p (Err e) t before after lt s evicted = subst (LineSatisfiesProtocol p) (sym evicted.err) s
+LineSatisfiesProtocol-evicted p (Err e) t before after lt s evicted = subst (LineSatisfiesProtocol p) (sym evicted.err) s

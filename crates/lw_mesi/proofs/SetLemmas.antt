@@ -1,33 +1,35 @@
--- Sets of processors, represented by bits.
+-- Sets of processors, represented by bits. Lemmas for `cpu_set.rt`.
 use Rattle.lw_mesi.proofs.Common.{and_le_l, ◌≡◌, ℕ, ◌-◌, ◌*◌, ◌/◌, ◌%◌, ◌^◌, ◌<◌, true, false, eqb, set}
 use Rattle.lw_mesi.proofs.Common.{get_or, bit_and, bit_or, ap, ◌∙◌, sym, arith, w8, bit_at, or_lt, pow_below}
 use Rattle.lw_mesi.proofs.Common.{shr_and_one, bit_at_set_same, bit_at_set_other, bit_at_clear_same}
 use Rattle.lw_mesi.proofs.Common.{bit_at_clear_other, most_threads, cpu_set_of_bits}
-use Rattle.lw_mesi.proofs.IndexLemmas.{at_each_set, at_each_get}
+use Rattle.lw_mesi.proofs.IndexLemmas.{at_each-differs_at_one, get_or-at_each}
 
 -- The test of a processor's bit says whether the processor is in the set.
-pub bit_is_member : (n t : ℕ) → t < most_threads → eqb (bit_and (n / 2 ^ t) 1) 1 ≡ get_or (cpu_set_of_bits n) t false
-bit_is_member n t lt = ap (λ b. eqb b 1) (shr_and_one n t) ∙ sym (at_each_get (λ i. eqb (bit_at n i) 1) t false lt)
+pub get_or-cpu_set_of_bits : (n t : ℕ) → t < most_threads → eqb (bit_and (n / 2 ^ t) 1) 1 ≡ get_or (cpu_set_of_bits n) t false
+get_or-cpu_set_of_bits n t lt = ap (λ b. eqb b 1) (shr_and_one n t) ∙ sym (get_or-at_each (λ i. eqb (bit_at n i) 1) t false lt)
 
 -- To set a processor's bit is to add the processor to the set.
-pub members_with : (n t : ℕ) → t < most_threads → cpu_set_of_bits (bit_or n (1 * 2 ^ t % 256)) ≡ set (cpu_set_of_bits n) t true
-members_with n t lt =
-    at_each_set (λ i. eqb (bit_at (bit_or n (1 * 2 ^ t % 256)) i) 1) (λ i. eqb (bit_at n i) 1) t true lt
+pub cpu_set_of_bits-insert : (n t : ℕ)
+    → t < most_threads
+    → cpu_set_of_bits (bit_or n (1 * 2 ^ t % 256)) ≡ set (cpu_set_of_bits n) t true
+cpu_set_of_bits-insert n t lt =
+    at_each-differs_at_one (λ i. eqb (bit_at (bit_or n (1 * 2 ^ t % 256)) i) 1) (λ i. eqb (bit_at n i) 1) t true lt
     (ap (λ b. eqb b 1) (bit_at_set_same w8 n t (omega arith)))
     (λ u lu ne. ap (λ b. eqb b 1) (bit_at_set_other w8 n t (omega arith) u ne))
 
 -- To clear a processor's bit is to remove the processor from the set.
-pub members_without : (n t : ℕ)
+pub cpu_set_of_bits-remove : (n t : ℕ)
     → t < most_threads
     → cpu_set_of_bits (bit_and n (255 - 1 * 2 ^ t % 256)) ≡ set (cpu_set_of_bits n) t false
-members_without n t lt =
-    at_each_set _ _ t false lt (ap (λ b. eqb b 1) (bit_at_clear_same w8 n t (omega arith)))
+cpu_set_of_bits-remove n t lt =
+    at_each-differs_at_one _ _ t false lt (ap (λ b. eqb b 1) (bit_at_clear_same w8 n t (omega arith)))
     (λ u lu ne. ap (λ b. eqb b 1) (bit_at_clear_other w8 n t (omega arith) u (omega arith) ne))
 
 -- A set with one more processor still fits into `most_threads` bits.
-pub with_below : (n t : ℕ) → n < 2 ^ most_threads → t < most_threads → bit_or n (1 * 2 ^ t % 256) < 2 ^ most_threads
-with_below n t lt l = or_lt most_threads n (1 * 2 ^ t % 256) lt (omega (arith, (pow_below t most_threads l)))
+pub bit_or-fits : (n t : ℕ) → n < 2 ^ most_threads → t < most_threads → bit_or n (1 * 2 ^ t % 256) < 2 ^ most_threads
+bit_or-fits n t lt l = or_lt most_threads n (1 * 2 ^ t % 256) lt (omega (arith, (pow_below t most_threads l)))
 
 -- A set without some of its processors still fits into `most_threads` bits.
-pub without_below : (n others : ℕ) → n < 2 ^ most_threads → bit_and n others < 2 ^ most_threads
-without_below n others lt = omega (arith, and_le_l n others)
+pub bit_and-fits : (n others : ℕ) → n < 2 ^ most_threads → bit_and n others < 2 ^ most_threads
+bit_and-fits n others lt = omega (arith, and_le_l n others)

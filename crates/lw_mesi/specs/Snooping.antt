@@ -106,7 +106,7 @@ caches_after table r m =
 
 -- The transition relation of a protocol: the lines, an enabled request, its result, and the lines after it.
 pub record ProtocolTransition (table : ProtocolTable) (m : Caches) (r : Request) (a : Option ℕ) (n : Caches) : Type 0 where
-  pub there : IsInRange m.cpus (length m.cache_lines) r
+  pub request_in_range : IsInRange m.cpus (length m.cache_lines) r
   pub possible : IsEnabled (line_state m) r
   pub answer : a ≡ answer_from table r (cache_line_at m.cache_lines (request_location r))
   pub cache_lines : n ≡ caches_after table r m

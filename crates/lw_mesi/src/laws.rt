@@ -10,7 +10,7 @@ ghost use Rattle.lw_mesi.specs.Protocols.{table_of};
 ghost use Rattle.lw_mesi.specs.Coherence.{SatisfiesProtocol};
 
 /// States that empty caches are coherent, in states of each protocol, and that their coherent words are memory's.
-pub fn empty_caches_are_kept()
+pub fn empty_caches_are_coherent()
     ensures kept { (p : Protocol) (cpus : ℕ) (words : List ℕ) → cpus ≤ most_threads → SatisfiesProtocol p (empty_caches cpus words) }
     ensures content { (cpus : ℕ) (words : List ℕ) → coherent_words (empty_caches cpus words) ≡ words }
 {}
@@ -19,7 +19,7 @@ pub fn empty_caches_are_kept()
 /// coherence, in each protocol. If there is a copy in M or E, there is no other; at most one copy is in M or O; every
 /// copy holds the coherent word, which is the same before and after an eviction or a load; and the copies are in
 /// states of the protocol.
-pub fn requests_keep_coherence()
+pub fn requests_preserve_coherence()
     ensures { (p : Protocol) (m n : Caches) (r : Request) (a : Option ℕ)
         → SatisfiesProtocol p m → ProtocolTransition (table_of p) m r a n → SatisfiesProtocol p n }
 {}

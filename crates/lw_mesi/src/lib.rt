@@ -9,5 +9,5 @@ mod laws;
 mod protocol;
 
 pub use caches::{Mesi, Moesi, SnoopingCaches};
-pub use laws::{empty_caches_are_kept, requests_keep_coherence};
+pub use laws::{empty_caches_are_coherent, requests_preserve_coherence};
 pub use protocol::{MesiProtocol, MoesiProtocol, Protocol, ProtocolType};

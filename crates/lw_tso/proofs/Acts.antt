@@ -1,4 +1,6 @@
--- The state after an effect and after an event: a refused one changes nothing, and over a lawful memory each preserves sizes.
+-- The state after an effect and after an event: a refused one changes nothing, and over a lawful memory each
+-- preserves sizes. Used for the clauses of `Machine::step`, and wherever a run is followed over a lawful
+-- memory.
 use Rattle.lw_tso.proofs.Common.{◌≡◌, ℕ, Bool, true, false, List, length, Ok, Err, Option, Some, None, refl}
 use Rattle.lw_tso.proofs.Common.{sym, ap, ◌∙◌, subst, slice_get, slice_set, length-set, OnErr, Event, Stop}
 use Rattle.lw_tso.proofs.Common.{Request, content_after_request, Memory, IsLawful, RequestEffect, Invariant}
@@ -26,56 +28,66 @@ module _ {M : Type 0} (mem : Memory M) (inv : Invariant M) where
     pub locations : length (mem.content n) ≡ length (mem.content m)
     pub sound : inv.sound n
 
-  unchanged : {m n : M} → inv.sound m → n ≡ m → PreservesMemorySize m n
-  unchanged sound same = record {
+  -- An unchanged memory has the same size, and satisfies its invariant.
+  PreservesMemorySize-unchanged : {m n : M} → inv.sound m → n ≡ m → PreservesMemorySize m n
+  PreservesMemorySize-unchanged sound same = record {
     cpus = ap inv.cpus same;
     locations = ap (λ (l : M). length (mem.content l)) same;
     sound = subst inv.sound (sym same) sound;
   }
 
-  served : IsLawful mem inv → (m n : M) {r : Request} {a : Option ℕ} → inv.sound m → mem.serves m r a n → PreservesMemorySize m n
-  served laws m n {r = r} {a = a} sound serves =
+  -- A request that a lawful memory serves preserves the memory's size and its invariant.
+  PreservesMemorySize-request : IsLawful mem inv
+      → (m n : M) {r : Request} {a : Option ℕ}
+      → inv.sound m
+      → mem.serves m r a n
+      → PreservesMemorySize m n
+  PreservesMemorySize-request laws m n {r = r} {a = a} sound serves =
       let s : RequestEffect mem inv m r a n = laws.served m r a n sound serves in
       record { cpus = s.cpus; locations = ap length s.content ∙ length-content_after_request (mem.content m) r; sound = s.sound }
 
-  evicted : IsLawful mem inv
+  -- An eviction, carried out or refused, preserves the size of a lawful memory and its invariant.
+  PreservesMemorySize-eviction : IsLawful mem inv
       → (held : Bool) (t x : ℕ) (p q : Processor) (m n : M) (answer : EventResult)
       → inv.sound m
       → EvictionTransition mem held t x p m answer q n
       → PreservesMemorySize m n
-  evicted laws false t x p q m n answer sound done = unchanged sound done.2
-  evicted laws true t x p q m n answer sound done = served laws m n sound done.2
+  PreservesMemorySize-eviction laws false t x p q m n answer sound done = PreservesMemorySize-unchanged sound done.2
+  PreservesMemorySize-eviction laws true t x p q m n answer sound done = PreservesMemorySize-request laws m n sound done.2
 
   -- Over a lawful memory, an effect preserves the memory's size and its invariant.
-  pub act_kept : IsLawful mem inv
+  pub PreservesMemorySize-effect : IsLawful mem inv
       → (t : ℕ) (act : EventEffect) (p q : Processor) (m n : M) (answer : EventResult)
       → inv.sound m
       → EffectTransition mem t act p m answer q n
       → PreservesMemorySize m n
-  act_kept laws t (MemoryAccess x access next) p q m n answer sound done = served laws m n sound done.3
-  act_kept laws t (Eviction x) p q m n answer sound done = evicted laws _ t x p q m n answer sound done
-  act_kept laws t _ p q m n answer sound done = unchanged sound done.2
+  PreservesMemorySize-effect laws t (MemoryAccess x access next) p q m n answer sound done =
+      PreservesMemorySize-request laws m n sound done.3
+  PreservesMemorySize-effect laws t (Eviction x) p q m n answer sound done =
+      PreservesMemorySize-eviction laws _ t x p q m n answer sound done
+  PreservesMemorySize-effect laws t _ p q m n answer sound done = PreservesMemorySize-unchanged sound done.2
 
-  eviction_refused : (held : Bool) (t x : ℕ) (p q : Processor) (m n : M) (stop : Stop)
+  -- A refused eviction changes neither the processor nor the memory.
+  state_same-eviction_refused : (held : Bool) (t x : ℕ) (p q : Processor) (m n : M) (stop : Stop)
       → EvictionTransition mem held t x p m (Err stop) q n
       → (q ≡ p) × (n ≡ m)
-  eviction_refused false t x p q m n stop done = (done.1, done.2)
-  eviction_refused true t x p q m n stop done = absurd (let e = done.0 in cc)
+  state_same-eviction_refused false t x p q m n stop done = (done.1, done.2)
+  state_same-eviction_refused true t x p q m n stop done = absurd (let e = done.0 in cc)
 
   -- A refused effect changes nothing.
-  pub act_refused : (t : ℕ) (act : EventEffect) (p q : Processor) (m n : M) (stop : Stop)
+  pub state_same-effect_refused : (t : ℕ) (act : EventEffect) (p q : Processor) (m n : M) (stop : Stop)
       → EffectTransition mem t act p m (Err stop) q n
       → (q ≡ p) × (n ≡ m)
-  act_refused t (Refused stop') p q m n stop done = (done.1, done.2)
-  act_refused t (LocalStep next) p q m n stop done = absurd (let e = done.0 in cc)
-  act_refused t (Eviction x) p q m n stop done = eviction_refused _ t x p q m n stop done
-  act_refused t _ p q m n stop done = absurd (let e : ◌≡◌ {A = EventResult} (Err stop) (Ok tt) = done.1 in cc)
+  state_same-effect_refused t (Refused stop') p q m n stop done = (done.1, done.2)
+  state_same-effect_refused t (LocalStep next) p q m n stop done = absurd (let e = done.0 in cc)
+  state_same-effect_refused t (Eviction x) p q m n stop done = state_same-eviction_refused _ t x p q m n stop done
+  state_same-effect_refused t _ p q m n stop done = absurd (let e : ◌≡◌ {A = EventResult} (Err stop) (Ok tt) = done.1 in cc)
 
   -- A refused event changes nothing.
-  pub event_refused : (program : List (List Instr)) (e : Event) (s after : MachineState M) (stop : Stop)
+  pub state_same-event_refused : (program : List (List Instr)) (e : Event) (s after : MachineState M) (stop : Stop)
       → MachineTransition mem program e s (Err stop) after
       → after ≡ s
-  event_refused program e s after stop = go (slice_get s.processors (cpu_of e)) refl
+  state_same-event_refused program e s after stop = go (slice_get s.processors (cpu_of e)) refl
     where
       go : (o : Option Processor)
           → slice_get s.processors (cpu_of e) ≡ o
@@ -83,7 +95,7 @@ module _ {M : Type 0} (mem : Memory M) (inv : Invariant M) where
           → after ≡ s
       go None at done = done.1
       go (Some p) at done =
-          let same = act_refused (cpu_of e) _ p done.0 s.memory done.1 stop done.2 in
+          let same = state_same-effect_refused (cpu_of e) _ p done.0 s.memory done.1 stop done.2 in
           let processors = ap (slice_set s.processors (cpu_of e)) same.0 ∙ set-get_same _ (cpu_of e) p at in
           done.3 ∙ rw (processors, same.1) refl
 
@@ -94,17 +106,17 @@ module _ {M : Type 0} (mem : Memory M) (inv : Invariant M) where
     pub sound : inv.sound end.memory
 
   -- Over a lawful memory, an event preserves the numbers of processors and locations, and the memory's invariant.
-  pub event_kept : IsLawful mem inv
+  pub IsSameSize-event : IsLawful mem inv
       → (program : List (List Instr)) (e : Event) (s after : MachineState M) (answer : EventResult)
       → inv.sound s.memory
       → MachineTransition mem program e s answer after
       → IsSameSize s after
-  event_kept laws program e s after answer sound = go (slice_get s.processors (cpu_of e))
+  IsSameSize-event laws program e s after answer sound = go (slice_get s.processors (cpu_of e))
     where
       go : (o : Option Processor) → ProcessorTransition mem o program e s answer after → IsSameSize s after
       go None done = subst (IsSameSize s) (sym done.1) (record { processors = refl; locations = refl; sound = sound })
       go (Some p) done =
-          let kept = act_kept laws (cpu_of e) _ p done.0 s.memory done.1 answer sound done.2 in
+          let kept = PreservesMemorySize-effect laws (cpu_of e) _ p done.0 s.memory done.1 answer sound done.2 in
           subst (IsSameSize s) (sym done.3)
           (record { processors = length-set s.processors (cpu_of e) done.0; locations = kept.locations; sound = kept.sound })
 
@@ -115,15 +127,15 @@ module _ {M : Type 0} (mem : Memory M) (inv : Invariant M) where
     pub words : length (mem.content after.state.memory) ≡ length (mem.content before.state.memory)
 
   -- A call that executes an event on a running machine, and preserves its program and initial state, satisfies `IsLeft`.
-  pub left : IsLawful mem inv
+  pub IsLeft-event : IsLawful mem inv
       → (e : Event) (before after : MachineRun M) (answer : EventResult)
       → inv.sound before.state.memory
       → after.program ≡ before.program
       → after.initial ≡ before.initial
       → MachineTransition mem before.program e before.state answer after.state
       → IsLeft before answer after
-  left laws e before after answer sound program initial done =
-      let kept = event_kept laws before.program e before.state after.state answer sound done in
+  IsLeft-event laws e before after answer sound program initial done =
+      let kept = IsSameSize-event laws before.program e before.state after.state answer sound done in
       record { err = go answer done; processors = kept.processors; words = kept.locations }
     where
       go : (a : EventResult) → MachineTransition mem before.program e before.state a after.state → OnErr a (after ≡ before)
@@ -133,5 +145,5 @@ module _ {M : Type 0} (mem : Memory M) (inv : Invariant M) where
           record { program = after.program; initial = after.initial; state = after.state } in
           r)
           ≡ record { program = before.program; initial = before.initial; state = before.state } =
-          rw (program, initial, (event_refused before.program e before.state after.state stop done)) refl in
+          rw (program, initial, (state_same-event_refused before.program e before.state after.state stop done)) refl in
           running

@@ -26,10 +26,12 @@ pub use Rattle.std.specs.Option.{ForSome, option_or}
 pub use Rattle.lw_base.proofs.Common.{FinalState, HasOutcomeShape, IsEvent, IsTestName, IsWellFormedHead}
 pub use Rattle.lw_base.proofs.Common.{NameTable, TestHead, changed_word, most_threads, operand_value}
 pub use Rattle.lw_base.proofs.Common.{registers, thread_code, wrapping_sum}
-pub use Rattle.lw_base.proofs.api.Lists.{at_index, each_after, fellows_after, get-set_other, get-set_same}
-pub use Rattle.lw_base.proofs.api.Lists.{get_some, length-set_word_if_some, set-get_same}
+pub use Rattle.lw_base.proofs.api.Lists.{AtEach-set, OfFellows-set_both, at_index, get-set_other}
+pub use Rattle.lw_base.proofs.api.Lists.{get-set_same, length-set_word_if_some, set-get_same}
+pub use Rattle.lw_base.proofs.api.Lists.{slice_get-in_range}
 pub use Rattle.lw_base.proofs.api.Replays.{RunsTo-append, RunsTo-more}
-pub use Rattle.lw_base.proofs.api.Zips.{get-map, same_maps, zip_pass, zip_passes}
+pub use Rattle.lw_base.proofs.api.Zips.{get-map, list_all_zip-at_index, list_all_zip-of_each}
+pub use Rattle.lw_base.proofs.api.Zips.{maps_equal-at_each_index}
 pub use Rattle.lw_base.specs.declared.change.Change.{Change}
 pub use Rattle.lw_base.specs.declared.event.Event.{Event}
 pub use Rattle.lw_base.specs.declared.event.Event.TheVariants.{Drain, Evict, Step}
@@ -41,7 +43,7 @@ pub use Rattle.lw_litmus.proofs.Common.{IsWellFormedStatement, IsWellFormedThrea
 pub use Rattle.lw_litmus.proofs.Common.{IsWellScopedThread, X86Test, branch_target, falls_through}
 pub use Rattle.lw_litmus.proofs.Common.{guard_holds, is_fence, is_locked, is_store, location_of}
 pub use Rattle.lw_litmus.proofs.Common.{needs_empty_buffer, x86_language, x86_operation}
-pub use Rattle.lw_litmus.proofs.api.Kinds.{locked_no_store}
+pub use Rattle.lw_litmus.proofs.api.Kinds.{is_store-false_if_locked}
 pub use Rattle.lw_litmus.proofs.api.WellScoped.{IsWellScopedThread-well_formed}
 pub use Rattle.lw_litmus.specs.declared.instr.Instr.{Instr}
 pub use Rattle.lw_litmus.specs.declared.instr.Instr.TheVariants.{Je, Jmp, Jne, Mfence}

@@ -1,4 +1,6 @@
--- Effects over flat memory that commute: those that do not conflict, and a step with a drain that it commutes with.
+-- Effects over flat memory that commute: those that do not conflict, and a step with a drain that it commutes
+-- with. It is the core of the law that independent events commute, which `api/Neighbours` lifts from effects
+-- to events.
 use Rattle.lw_tso.proofs.Common.{◌≡◌, ◌≢◌, ℕ, Bool, true, false, if◌then◌else◌, List, ◌∷◌, Option, Some, None}
 use Rattle.lw_tso.proofs.Common.{refl, sym, ap, ◌∙◌, subst, slice_set, slice_index, ne_eqb, true≢false}
 use Rattle.lw_tso.proofs.Common.{get_or-set_other, option_or, set_comm, same_Some, unwrap_or, Operation, Load}
@@ -12,62 +14,62 @@ use Rattle.lw_memory.specs.declared.request.Access.TheVariants as to
 -- ---- two effects
 
 -- An access returns the same word if its location has the same word.
-answer_same : (m n : List ℕ) (x : ℕ) (access : Access)
+value_returned-same_word : (m n : List ℕ) (x : ℕ) (access : Access)
     → slice_index m x ≡ slice_index n x
     → value_returned m x access ≡ value_returned n x access
-answer_same m n x (to.Store w) same = refl
-answer_same m n x _ same = ap Some same
+value_returned-same_word m n x (to.Store w) same = refl
+value_returned-same_word m n x _ same = ap Some same
 
 -- An access of y preserves the word at x, if x is another location or the access does not write.
-words_other : (m : List ℕ) (y : ℕ) (access : Access) (x : ℕ)
+words_after-other_location : (m : List ℕ) (y : ℕ) (access : Access) (x : ℕ)
     → (y ≡ x → is_write access ≡ false)
     → slice_index (words_after m y access) x ≡ slice_index m x
-words_other m y to.Load x free = refl
-words_other m y _ x free = get_or-set_other m y x _ 0 (λ e. true≢false (free (sym e)))
+words_after-other_location m y to.Load x free = refl
+words_after-other_location m y _ x free = get_or-set_other m y x _ 0 (λ e. true≢false (free (sym e)))
 
 -- Writing x before or after an access of another location y gives the same words.
-words_beside : (m : List ℕ) (y : ℕ) (access : Access) (x w : ℕ)
+words_after-slice_set_other : (m : List ℕ) (y : ℕ) (access : Access) (x w : ℕ)
     → y ≢ x
     → slice_set (words_after m y access) x w ≡ words_after (slice_set m x w) y access
-words_beside m y to.Load x w ne = refl
-words_beside m y (to.Store v) x w ne = set_comm m y x v w ne
-words_beside m y (to.Update change) x w ne =
+words_after-slice_set_other m y to.Load x w ne = refl
+words_after-slice_set_other m y (to.Store v) x w ne = set_comm m y x v w ne
+words_after-slice_set_other m y (to.Update change) x w ne =
     set_comm m y x _ w ne ∙ ap (λ k. slice_set (slice_set m x w) y (changed_word change k)) (sym (get_or-set_other m x y w 0 ne))
 
 -- An effect preserves the word at a location that it does not write.
-word_kept : (act : EventEffect) (m n : List ℕ) (q : Processor) (x : ℕ)
+slice_index-effect_elsewhere : (act : EventEffect) (m n : List ℕ) (q : Processor) (x : ℕ)
     → EffectLeadsTo m act q n
     → (accessed_location act ≡ Some x → event_writes act ≡ false)
     → slice_index n x ≡ slice_index m x
-word_kept (LocalStep next) m n q x d free = ap (λ k. slice_index k x) d.1
-word_kept (MemoryAccess y access next) m n q x d free =
-    ap (λ k. slice_index k x) d.1 ∙ words_other m y access x (λ e. free (ap Some e))
-word_kept _ m n q x d free = absurd d
+slice_index-effect_elsewhere (LocalStep next) m n q x d free = ap (λ k. slice_index k x) d.1
+slice_index-effect_elsewhere (MemoryAccess y access next) m n q x d free =
+    ap (λ k. slice_index k x) d.1 ∙ words_after-other_location m y access x (λ e. free (ap Some e))
+slice_index-effect_elsewhere _ m n q x d free = absurd d
 
 -- An effect does not depend on the word at a location that it does not access.
-does_beside : (act : EventEffect) (m n : List ℕ) (q : Processor) (x w : ℕ)
+EffectLeadsTo-slice_set_other : (act : EventEffect) (m n : List ℕ) (q : Processor) (x w : ℕ)
     → EffectLeadsTo m act q n
     → (accessed_location act ≡ Some x → ⊥)
     → EffectLeadsTo (slice_set m x w) act q (slice_set n x w)
-does_beside (LocalStep next) m n q x w d free = (d.0, ap (λ k. slice_set k x w) d.1)
-does_beside (MemoryAccess y access next) m n q x w d free =
+EffectLeadsTo-slice_set_other (LocalStep next) m n q x w d free = (d.0, ap (λ k. slice_set k x w) d.1)
+EffectLeadsTo-slice_set_other (MemoryAccess y access next) m n q x w d free =
     let ne : y ≢ x = λ e. free (ap Some e) in
-    let answer = answer_same m (slice_set m x w) y access (sym (get_or-set_other m x y w 0 ne)) in
-    (d.0 ∙ ap (λ a. next (unwrap_or a 0)) answer, ap (λ k. slice_set k x w) d.1 ∙ words_beside m y access x w ne)
-does_beside _ m n q x w d free = absurd d
+    let answer = value_returned-same_word m (slice_set m x w) y access (sym (get_or-set_other m x y w 0 ne)) in
+    (d.0 ∙ ap (λ a. next (unwrap_or a 0)) answer, ap (λ k. slice_set k x w) d.1 ∙ words_after-slice_set_other m y access x w ne)
+EffectLeadsTo-slice_set_other _ m n q x w d free = absurd d
 
 -- An effect that preserves the word at x is the same after an access of x, if that does not write or the effect does not access x.
-does_behind : (act : EventEffect) (m n : List ℕ) (q : Processor) (x : ℕ) (access : Access)
+EffectLeadsTo-after_access : (act : EventEffect) (m n : List ℕ) (q : Processor) (x : ℕ) (access : Access)
     → EffectLeadsTo m act q n
     → (is_write access ≡ true → accessed_location act ≡ Some x → ⊥)
     → slice_index n x ≡ slice_index m x
     → EffectLeadsTo (words_after m x access) act q (words_after n x access)
-does_behind act m n q x to.Load d free same = d
-does_behind act m n q x (to.Store w) d free same = does_beside act m n q x w d (free refl)
-does_behind act m n q x (to.Update change) d free same =
+EffectLeadsTo-after_access act m n q x to.Load d free same = d
+EffectLeadsTo-after_access act m n q x (to.Store w) d free same = EffectLeadsTo-slice_set_other act m n q x w d (free refl)
+EffectLeadsTo-after_access act m n q x (to.Update change) d free same =
     let word = changed_word change (slice_index m x) in
     subst (λ w. EffectLeadsTo (slice_set m x word) act q (slice_set n x (changed_word change w))) (sym same)
-    (does_beside act m n q x word d (free refl))
+    (EffectLeadsTo-slice_set_other act m n q x word d (free refl))
 
 -- Two effects in sequence lead from the words m to the words n: a leads to the processor p, and then b to q.
 pub record DoneInTurn (a b : EventEffect) (p q : Processor) (m n : List ℕ) : Type 0 where
@@ -76,24 +78,24 @@ pub record DoneInTurn (a b : EventEffect) (p q : Processor) (m n : List ℕ) : T
   pub second : EffectLeadsTo between b q n
 
 -- Effects that do not conflict lead to the same state in either order.
-pub acts_exchange : (a b : EventEffect) (p q : Processor) (m n : List ℕ)
+pub DoneInTurn-swap : (a b : EventEffect) (p q : Processor) (m n : List ℕ)
     → DoNotConflict a b
     → DoneInTurn a b p q m n
     → DoneInTurn b a q p m n
-acts_exchange a (LocalStep next) p q m n free done =
+DoneInTurn-swap a (LocalStep next) p q m n free done =
     record { between = m; first = (done.second.0, refl); second = subst (EffectLeadsTo m a p) (sym done.second.1) done.first }
-acts_exchange a (MemoryAccess x access next) p q m n free done =
-    let same = word_kept a m done.between p x done.first (λ at. (free x at refl).0) in
+DoneInTurn-swap a (MemoryAccess x access next) p q m n free done =
+    let same = slice_index-effect_elsewhere a m done.between p x done.first (λ at. (free x at refl).0) in
     let apart : is_write access ≡ true → accessed_location a ≡ Some x → ⊥ =
     λ writes at. true≢false (sym writes ∙ (free x at refl).1) in
     record {
       between = words_after m x access;
-      first = (done.second.0 ∙ ap (λ w. next (unwrap_or w 0)) (answer_same done.between m x access same), refl);
+      first = (done.second.0 ∙ ap (λ w. next (unwrap_or w 0)) (value_returned-same_word done.between m x access same), refl);
       second =
           subst (EffectLeadsTo (words_after m x access) a p) (sym done.second.1)
-          (does_behind a m done.between p x access done.first apart same);
+          (EffectLeadsTo-after_access a m done.between p x access done.first apart same);
     }
-acts_exchange a _ p q m n free done = absurd done.second
+DoneInTurn-swap a _ p q m n free done = absurd done.second
 
 -- ---- a step, with one more entry
 
@@ -102,55 +104,58 @@ abbrev pub with_oldest : ℕ × ℕ → Processor → Processor
 with_oldest entry p = record p { buffer = entry ∷ p.buffer }
 
 -- The effect of a processor that has this entry too, as its oldest, and keeps it.
-abbrev pub keeping : ℕ × ℕ → EventEffect → EventEffect
-keeping entry (Refused stop) = Refused stop
-keeping entry (LocalStep next) = LocalStep (with_oldest entry next)
-keeping entry (MemoryAccess x access next) = MemoryAccess x access (λ w. with_oldest entry (next w))
-keeping entry (Eviction x) = Eviction x
+abbrev pub effect_keeping_oldest : ℕ × ℕ → EventEffect → EventEffect
+effect_keeping_oldest entry (Refused stop) = Refused stop
+effect_keeping_oldest entry (LocalStep next) = LocalStep (with_oldest entry next)
+effect_keeping_oldest entry (MemoryAccess x access next) = MemoryAccess x access (λ w. with_oldest entry (next w))
+effect_keeping_oldest entry (Eviction x) = Eviction x
 
 -- An effect is the same with one more entry, which is kept.
-pub keeping_does : (entry : ℕ × ℕ) (act : EventEffect) (m n : List ℕ) (q : Processor)
+pub EffectLeadsTo-keeping_oldest : (entry : ℕ × ℕ) (act : EventEffect) (m n : List ℕ) (q : Processor)
     → EffectLeadsTo m act q n
-    → EffectLeadsTo m (keeping entry act) (with_oldest entry q) n
-keeping_does entry (Refused stop) m n q d = absurd d
-keeping_does entry (Eviction x) m n q d = absurd d
-keeping_does entry _ m n q d = (ap (with_oldest entry) d.0, d.1)
+    → EffectLeadsTo m (effect_keeping_oldest entry act) (with_oldest entry q) n
+EffectLeadsTo-keeping_oldest entry (Refused stop) m n q d = absurd d
+EffectLeadsTo-keeping_oldest entry (Eviction x) m n q d = absurd d
+EffectLeadsTo-keeping_oldest entry _ m n q d = (ap (with_oldest entry) d.0, d.1)
 
 -- An effect with an entry that is kept is the same without it.
-pub does_kept : (entry : ℕ × ℕ) (act : EventEffect) (m n : List ℕ) (q : Processor)
-    → EffectLeadsTo m (keeping entry act) q n
+pub EffectLeadsTo-without_oldest : (entry : ℕ × ℕ) (act : EventEffect) (m n : List ℕ) (q : Processor)
+    → EffectLeadsTo m (effect_keeping_oldest entry act) q n
     → (new : Processor) × (q ≡ with_oldest entry new) × EffectLeadsTo m act new n
-does_kept entry (LocalStep next) m n q d = (next, d.0, (refl, d.1))
-does_kept entry (MemoryAccess x access next) m n q d = (next (unwrap_or (value_returned m x access) 0), d.0, (refl, d.1))
-does_kept entry _ m n q d = absurd d
+EffectLeadsTo-without_oldest entry (LocalStep next) m n q d = (next, d.0, (refl, d.1))
+EffectLeadsTo-without_oldest entry (MemoryAccess x access next) m n q d =
+    (next (unwrap_or (value_returned m x access) 0), d.0, (refl, d.1))
+EffectLeadsTo-without_oldest entry _ m n q d = absurd d
 
 -- The effect `with_entry`, of a processor with this entry as its oldest, is `act` with the entry kept, and does not access its location.
 pub record LeavesAlone (entry : ℕ × ℕ) (act with_entry : EventEffect) : Type 0 where
-  pub same : with_entry ≡ keeping entry act
+  pub same : with_entry ≡ effect_keeping_oldest entry act
   pub free : accessed_location act ≡ Some entry.0 → ⊥
 
 -- An effect without a memory access does not access the entry's location.
-alone : (entry : ℕ × ℕ) (next : Processor) → LeavesAlone entry (LocalStep next) (LocalStep (with_oldest entry next))
-alone entry next = record { same = refl; free = λ e. cc }
+LeavesAlone-local_step : (entry : ℕ × ℕ) (next : Processor)
+    → LeavesAlone entry (LocalStep next) (LocalStep (with_oldest entry next))
+LeavesAlone-local_step entry next = record { same = refl; free = λ e. cc }
 
 -- A load of another location does not access the entry's location, whether it is forwarded or from memory.
-load_alone : (entry : ℕ × ℕ) (o : Option ℕ) (here : Bool) (y : ℕ) (next : ℕ → Processor)
+LeavesAlone-load : (entry : ℕ × ℕ) (o : Option ℕ) (here : Bool) (y : ℕ) (next : ℕ → Processor)
     → here ≡ false
     → entry.0 ≢ y
     → LeavesAlone entry (load_effect o y next)
     (load_effect (option_or o (if here then Some entry.1 else None)) y (λ w. with_oldest entry (next w)))
-load_alone entry (Some w) here y next not ne = alone entry (next w)
-load_alone entry None true y next not ne = absurd (true≢false not)
-load_alone entry None _ y next not ne = record { same = refl; free = λ e. ne (sym (same_Some y entry.0 e)) }
+LeavesAlone-load entry (Some w) here y next not ne = LeavesAlone-local_step entry (next w)
+LeavesAlone-load entry None true y next not ne = absurd (true≢false not)
+LeavesAlone-load entry None _ y next not ne = record { same = refl; free = λ e. ne (sym (same_Some y entry.0 e)) }
 
 -- An operation that commutes with the drain of the entry does not access its location.
-pub operation_alone : (entry : ℕ × ℕ) (o : Operation) (p : Processor)
+pub LeavesAlone-operation : (entry : ℕ × ℕ) (o : Operation) (p : Processor)
     → CommutesWithDrain entry.0 o
     → LeavesAlone entry (operation_effect o p) (operation_effect o (with_oldest entry p))
-operation_alone entry (Load d y) p may = load_alone entry (newest_buffered p.buffer y) _ y _ (ne_eqb entry.0 y may) may
-operation_alone entry (Set d v) p may = alone entry _
-operation_alone entry (Sum d a v) p may = alone entry _
-operation_alone entry (Compare a v) p may = alone entry _
-operation_alone entry (Store y v) p may = alone entry _
-operation_alone entry (Branch c k) p may = alone entry _
-operation_alone entry _ p may = absurd (true≢false may)
+LeavesAlone-operation entry (Load d y) p may =
+    LeavesAlone-load entry (newest_buffered p.buffer y) _ y _ (ne_eqb entry.0 y may) may
+LeavesAlone-operation entry (Set d v) p may = LeavesAlone-local_step entry _
+LeavesAlone-operation entry (Sum d a v) p may = LeavesAlone-local_step entry _
+LeavesAlone-operation entry (Compare a v) p may = LeavesAlone-local_step entry _
+LeavesAlone-operation entry (Store y v) p may = LeavesAlone-local_step entry _
+LeavesAlone-operation entry (Branch c k) p may = LeavesAlone-local_step entry _
+LeavesAlone-operation entry _ p may = absurd (true≢false may)

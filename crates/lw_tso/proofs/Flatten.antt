@@ -1,4 +1,5 @@
--- A run over a lawful memory is, without its evictions, a run over flat memory.
+-- A run over a lawful memory is, without its evictions, a run over flat memory. One direction of the law that
+-- outcomes are flat; the other is in `api/FlatSimulation`.
 use Rattle.lw_tso.proofs.Common.{◌≡◌, ℕ, Bool, true, false, if◌then◌else◌, List, [], ◌∷◌, length, Ok, Option}
 use Rattle.lw_tso.proofs.Common.{Some, None, refl, ap, ap₂, ◌∙◌, subst, slice_get, slice_set, FinalState}
 use Rattle.lw_tso.proofs.Common.{Event, Step, Drain, Evict, NoLocation, flat_memory, Memory, is_held}
@@ -7,64 +8,69 @@ use Rattle.lw_tso.proofs.Common.{Refused, MemoryAccess, Eviction, cpu_of, event_
 use Rattle.lw_tso.proofs.Common.{EventResult, over_flat_memory, EffectTransition, EvictionTransition}
 use Rattle.lw_tso.proofs.Common.{ProcessorTransition, MachineTransition, MachineRunsTo, ReplaysTo}
 use Rattle.lw_tso.proofs.Common.{initial_machine_state, without_evictions}
-use Rattle.lw_tso.proofs.Acts.{event_kept}
-use Rattle.lw_tso.proofs.EventActs.{IsNoEviction, EventComes, event_comes}
+use Rattle.lw_tso.proofs.Acts.{IsSameSize-event}
+use Rattle.lw_tso.proofs.EventActs.{IsNoEviction, EventComes, EventComes-event}
 use Rattle.lw_memory.specs.declared.request.Request.TheVariants as request
 
 module _ {M : Type 0} (mem : Memory M) (inv : Invariant M) (laws : IsLawful mem inv) where
   -- An effect that is no eviction is the same over flat memory.
-  act_flat : (t : ℕ) (act : EventEffect) (p q : Processor) (m n : M) (answer : EventResult)
+  EffectTransition-flat : (t : ℕ) (act : EventEffect) (p q : Processor) (m n : M) (answer : EventResult)
       → inv.sound m
       → ((x : ℕ) → act ≡ Eviction x → ⊥)
       → EffectTransition mem t act p m answer q n
       → EffectTransition flat_memory t act p (mem.content m) answer q (mem.content n)
-  act_flat t (MemoryAccess x access next) p q m n answer sound none done =
+  EffectTransition-flat t (MemoryAccess x access next) p q m n answer sound none done =
       let s = laws.served m (request.Ask t x access) done.0 n sound done.3 in (done.0, done.1, done.2, (s.answer, s.content))
-  act_flat t (Eviction x) p q m n answer sound none done = absurd (none x refl)
-  act_flat t _ p q m n answer sound none done = (done.0, done.1, ap mem.content done.2)
+  EffectTransition-flat t (Eviction x) p q m n answer sound none done = absurd (none x refl)
+  EffectTransition-flat t _ p q m n answer sound none done = (done.0, done.1, ap mem.content done.2)
 
-  by_flat : (o : Option Processor) (program : List (List Instr)) (e : Event) (s after : MachineState M) (answer : EventResult)
+  -- If an event is no eviction, its transition by the optional processor is the same over flat memory with the same content.
+  ProcessorTransition-flat : (o : Option Processor) (program : List (List Instr)) (e : Event) (s after : MachineState M)
+      (answer : EventResult)
       → inv.sound s.memory
       → IsNoEviction e
       → ProcessorTransition mem o program e s answer after
       → ProcessorTransition flat_memory o program e (over_flat_memory mem s) answer (over_flat_memory mem after)
-  by_flat None program e s after answer sound none done = (done.0, ap (over_flat_memory mem) done.1)
-  by_flat (Some p) program e s after answer sound none done =
+  ProcessorTransition-flat None program e s after answer sound none done = (done.0, ap (over_flat_memory mem) done.1)
+  ProcessorTransition-flat (Some p) program e s after answer sound none done =
       let l = length (mem.content s.memory) in
       let keeps = λ (x : ℕ) (is : event_effect program l e p ≡ Eviction x).
-      subst (EventComes program l e p) is (event_comes program l e p none) in
-      (done.0, mem.content done.1, act_flat _ _ p _ _ _ answer sound keeps done.2, ap (over_flat_memory mem) done.3)
+      subst (EventComes program l e p) is (EventComes-event program l e p none) in
+      (done.0, mem.content done.1, EffectTransition-flat _ _ p _ _ _ answer sound keeps done.2, ap (over_flat_memory mem) done.3)
 
   -- An event other than an eviction has the same result over flat memory with the same content.
-  pub event_flat : (program : List (List Instr)) (e : Event) (s after : MachineState M) (answer : EventResult)
+  pub MachineTransition-flat : (program : List (List Instr)) (e : Event) (s after : MachineState M) (answer : EventResult)
       → inv.sound s.memory
       → IsNoEviction e
       → MachineTransition mem program e s answer after
       → MachineTransition flat_memory program e (over_flat_memory mem s) answer (over_flat_memory mem after)
-  event_flat program e s = by_flat (slice_get s.processors (cpu_of e)) program e s
+  MachineTransition-flat program e s = ProcessorTransition-flat (slice_get s.processors (cpu_of e)) program e s
 
-  evicted_flat : (held : Bool) (t x : ℕ) (p q : Processor) (m n : M)
+  -- An eviction that is carried out changes neither the processor nor the content.
+  content_same-eviction : (held : Bool) (t x : ℕ) (p q : Processor) (m n : M)
       → inv.sound m
       → EvictionTransition mem held t x p m (Ok tt) q n
       → (q ≡ p) × (mem.content n ≡ mem.content m)
-  evicted_flat false t x p q m n sound done = (done.1, ap mem.content done.2)
-  evicted_flat _ t x p q m n sound done = (done.1, (laws.served m (request.Evict t x) None n sound done.2).content)
+  content_same-eviction false t x p q m n sound done = (done.1, ap mem.content done.2)
+  content_same-eviction _ t x p q m n sound done = (done.1, (laws.served m (request.Evict t x) None n sound done.2).content)
 
-  evict_flat : (there : Bool) (t x : ℕ) (p q : Processor) (m n : M)
+  -- The effect of an eviction event that is carried out changes neither the processor nor the content.
+  content_same-evict_effect : (there : Bool) (t x : ℕ) (p q : Processor) (m n : M)
       → inv.sound m
       → EffectTransition mem t (if there then Eviction x else Refused NoLocation) p m (Ok tt) q n
       → (q ≡ p) × (mem.content n ≡ mem.content m)
-  evict_flat true t x p q m n sound done = evicted_flat (is_held (mem.state m t x)) t x p q m n sound done
-  evict_flat false t x p q m n sound done = (done.1, ap mem.content done.2)
+  content_same-evict_effect true t x p q m n sound done = content_same-eviction (is_held (mem.state m t x)) t x p q m n sound done
+  content_same-evict_effect false t x p q m n sound done = (done.1, ap mem.content done.2)
 
-  eviction_flat : (o : Option Processor) (program : List (List Instr)) (t x : ℕ) (s after : MachineState M)
+  -- An eviction event that is carried out does not change the machine over flat memory with the same content.
+  content_same-evict_event : (o : Option Processor) (program : List (List Instr)) (t x : ℕ) (s after : MachineState M)
       → inv.sound s.memory
       → slice_get s.processors t ≡ o
       → ProcessorTransition mem o program (Evict t x) s (Ok tt) after
       → over_flat_memory mem after ≡ over_flat_memory mem s
-  eviction_flat None program t x s after sound at done = ap (over_flat_memory mem) done.1
-  eviction_flat (Some p) program t x s after sound at done =
-      let same = evict_flat _ t x p done.0 s.memory done.1 sound done.2 in
+  content_same-evict_event None program t x s after sound at done = ap (over_flat_memory mem) done.1
+  content_same-evict_event (Some p) program t x s after sound at done =
+      let same = content_same-evict_effect _ t x p done.0 s.memory done.1 sound done.2 in
       let processors = ap (slice_set s.processors t) same.0 ∙ set-get_same s.processors t p at in
       ap (over_flat_memory mem) done.3
       ∙ ap₂
@@ -72,34 +78,35 @@ module _ {M : Type 0} (mem : Memory M) (inv : Invariant M) (laws : IsLawful mem 
       processors same.1
 
   -- A run over any lawful memory is, without its evictions, one over flat memory.
-  pub run_flat : (program : List (List Instr)) (es : List Event) (s end : MachineState M)
+  pub MachineRunsTo-flat : (program : List (List Instr)) (es : List Event) (s end : MachineState M)
       → inv.sound s.memory
       → MachineRunsTo mem program es s end
       → MachineRunsTo flat_memory program (without_evictions es) (over_flat_memory mem s) (over_flat_memory mem end)
-  run_flat program [] s end sound ran = ap (over_flat_memory mem) ran
-  run_flat program (Step t ∷ es) s end sound ran = (
+  MachineRunsTo-flat program [] s end sound ran = ap (over_flat_memory mem) ran
+  MachineRunsTo-flat program (Step t ∷ es) s end sound ran = (
     over_flat_memory mem ran.0,
-    event_flat program (Step t) s ran.0 (Ok tt) sound refl ran.1,
-    run_flat program es _ end (event_kept mem inv laws program (Step t) s ran.0 _ sound ran.1).sound ran.2,
+    MachineTransition-flat program (Step t) s ran.0 (Ok tt) sound refl ran.1,
+    MachineRunsTo-flat program es _ end (IsSameSize-event mem inv laws program (Step t) s ran.0 _ sound ran.1).sound ran.2,
   )
-  run_flat program (Drain t ∷ es) s end sound ran = (
+  MachineRunsTo-flat program (Drain t ∷ es) s end sound ran = (
     over_flat_memory mem ran.0,
-    event_flat program (Drain t) s ran.0 (Ok tt) sound refl ran.1,
-    run_flat program es _ end (event_kept mem inv laws program (Drain t) s ran.0 _ sound ran.1).sound ran.2,
+    MachineTransition-flat program (Drain t) s ran.0 (Ok tt) sound refl ran.1,
+    MachineRunsTo-flat program es _ end (IsSameSize-event mem inv laws program (Drain t) s ran.0 _ sound ran.1).sound ran.2,
   )
-  run_flat program (Evict t x ∷ es) s end sound ran =
+  MachineRunsTo-flat program (Evict t x ∷ es) s end sound ran =
       subst (λ a. MachineRunsTo flat_memory program (without_evictions es) a (over_flat_memory mem end))
-      (eviction_flat (slice_get s.processors t) program t x s ran.0 sound refl ran.1)
-      (run_flat program es ran.0 end (event_kept mem inv laws program (Evict t x) s ran.0 (Ok tt) sound ran.1).sound ran.2)
+      (content_same-evict_event (slice_get s.processors t) program t x s ran.0 sound refl ran.1)
+      (MachineRunsTo-flat program es ran.0 end
+      (IsSameSize-event mem inv laws program (Evict t x) s ran.0 (Ok tt) sound ran.1).sound ran.2)
 
   -- A replay over any lawful memory is, without its evictions, one over flat memory.
-  pub replays_flat : (test : X86Test) (m : M) (es : List Event) (o : FinalState)
+  pub ReplaysTo-flat : (test : X86Test) (m : M) (es : List Event) (o : FinalState)
       → inv.sound m
       → ReplaysTo mem test m es o
       → ReplaysTo flat_memory test (mem.content m) (without_evictions es) o
-  replays_flat test m es o sound r = record {
+  ReplaysTo-flat test m es o sound r = record {
     end = over_flat_memory mem r.end;
-    ran = run_flat test.threads es (initial_machine_state test m) r.end sound r.ran;
+    ran = MachineRunsTo-flat test.threads es (initial_machine_state test m) r.end sound r.ran;
     final = r.final;
-    is = r.is;
+    outcome_is = r.outcome_is;
   }

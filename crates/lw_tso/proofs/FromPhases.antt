@@ -1,6 +1,6 @@
--- A run with the phases of locked instructions is a run of the machine over flat memory: a locked instruction happens at the
--- drain of its write. Until then the machine stands before the instruction, and what was read is still what it would read, since
--- nobody else drains.
+-- A run with the phases of locked instructions is a run of the machine over flat memory: a locked instruction happens at the drain of its
+-- write. Until then the machine is before the instruction, and what was read is still what it would read, since nobody else drains. One
+-- direction of the law that phases of locked instructions change no outcome; IntoPhases has the other.
 use Rattle.lw_tso.proofs.Common.{IsWellScopedThread, ◌≡◌, ◌≢◌, ℕ, ◌<◌, List, [], ◌∷◌, ◌++◌, length, Ok, Some}
 use Rattle.lw_tso.proofs.Common.{refl, sym, ap, ◌∙◌, subst, arith, slice_get, slice_set, slice_index, set-set}
 use Rattle.lw_tso.proofs.Common.{set_comm, same_Some, get-set_same, get-set_other, thread_code, Event, Step}
@@ -11,16 +11,17 @@ use Rattle.lw_tso.proofs.Common.{HeldBy, PhasedState, PhasedEvent, Steps, Drains
 use Rattle.lw_tso.proofs.Common.{Unlocks, IsNotBlocked, Locked, with_empty_buffer, read_value, having_written}
 use Rattle.lw_tso.proofs.Common.{locked_next, IsAtLocked, PhasedStep, PhasedTransition, PhasedRunsTo}
 use Rattle.lw_tso.proofs.Common.{unlocked}
-use Rattle.lw_tso.proofs.LockedSteps.{locked_does, locked_within, plain_memory, Drained, drained}
-use Rattle.lw_tso.proofs.LockedSteps.{seen_drained, does_sized, step_empty}
-use Rattle.lw_tso.proofs.IntoPhases.{buffer_at}
+use Rattle.lw_tso.proofs.LockedSteps.{DoesAs-locked, location_in_range-of_locked, memory_same-plain_operation}
+use Rattle.lw_tso.proofs.LockedSteps.{DrainParts, DrainParts-of_drain, read_value-after_drain}
+use Rattle.lw_tso.proofs.LockedSteps.{length_memory-effect, buffer_empty-after_locked_step}
+use Rattle.lw_tso.proofs.IntoPhases.{buffer_of-in_range}
 use Rattle.lw_tso.proofs.api.Effects.{state, EffectLeadsTo, EventOccurrence, MachineTransition-deterministic}
-use Rattle.lw_tso.proofs.api.Effects.{event_of_effect, effect_of_event}
+use Rattle.lw_tso.proofs.api.Effects.{MachineTransition-of_effect, EventOccurrence-of_event}
 
--- a list with an item behind it is not empty
-not_empty : {X : Type 0} (xs : List X) (x : X) → xs ++ x ∷ [] ≡ [] → ⊥
-not_empty [] x e = cc
-not_empty (y ∷ xs) x e = cc
+-- A list that ends with an item is not empty.
+append_last-ne_nil : {X : Type 0} (xs : List X) (x : X) → xs ++ x ∷ [] ≡ [] → ⊥
+append_last-ne_nil [] x e = cc
+append_last-ne_nil (y ∷ xs) x e = cc
 
 module _ (program : List (List Instr)) where
   -- What the lock's holder has read is what it would read now.
@@ -41,63 +42,80 @@ module _ (program : List (List Instr)) where
     was : slice_get m.processors cpu ≡ Some (record from { buffer = older })
     next : locked_next program cpu from ≡ Some locked
     read : read_value older m.memory locked.location ≡ word
-    is : s.machine ≡ state (slice_set m.processors cpu (having_written locked word older)) m.memory
+    machine_is : s.machine ≡ state (slice_set m.processors cpu (having_written locked word older)) m.memory
 
-  -- Where the machine stands beside a state with phases.
+  -- The machine's state that corresponds to a state with phases.
   data Follows (s : PhasedState) (m : MachineState (List ℕ)) : Type 0 where
     Same : s.machine ≡ m → IsStillRead s.lock m → Follows s m
     Before : IsPending s m → Follows s m
 
-  -- a plain step leaves the memory as it is
-  step_memory : (t : ℕ) (s after : PhasedState) (st : PhasedStep program t s after)
+  -- A plain step leaves the memory unchanged.
+  memory_same-plain_step : (t : ℕ) (s after : PhasedState) (st : PhasedStep program t s after)
       (d : EventOccurrence program (Step t) s.machine after.machine)
       → d.words ≡ s.machine.memory
-  step_memory t s after st d =
-      let same = same_Some d.from st.processor (sym d.was ∙ st.is) in
+  memory_same-plain_step t s after st d =
+      let same = same_Some d.from st.processor (sym d.was ∙ st.processor_at) in
       let next = ap (λ (p : Processor). slice_get (thread_code program t) p.position) same ∙ st.next in
-      plain_memory (x86_operation st.instr) d.from d.to s.machine.memory d.words st.plain
+      memory_same-plain_operation (x86_operation st.instr) d.from d.to s.machine.memory d.words st.plain
       (subst (λ o. EffectLeadsTo s.machine.memory (step_effect o d.from) d.to d.words) next d.does)
 
-  -- there are as many words after an event
-  event_sized : (e : Event) (s after : MachineState (List ℕ))
+  -- An event does not change the number of words.
+  length_memory-event : (e : Event) (s after : MachineState (List ℕ))
       → MachineTransition flat_memory program e s (Ok tt) after
       → length after.memory ≡ length s.memory
-  event_sized e s after done =
-      let d = effect_of_event program e s after done in
-      ap (λ (z : MachineState (List ℕ)). length z.memory) d.is
-      ∙ does_sized s.memory (event_effect program (length s.memory) e d.from) d.to d.words d.does
+  length_memory-event e s after done =
+      let d = EventOccurrence-of_event program e s after done in
+      ap (λ (z : MachineState (List ℕ)). length z.memory) d.state_is
+      ∙ length_memory-effect s.memory (event_effect program (length s.memory) e d.from) d.to d.words d.does
 
   module _ (locs : ℕ) (threads : All (IsWellScopedThread x86_language locs) program) where
-    -- the machine follows by some events
-    record Followed (after : PhasedState) (m : MachineState (List ℕ)) : Type 0 where
+    -- The machine follows by some events.
+    record MachineFollowsPhases (after : PhasedState) (m : MachineState (List ℕ)) : Type 0 where
       events : List Event
       end : MachineState (List ℕ)
       ran : MachineRunsTo flat_memory program events m end
       follows : Follows after end
       sized : length end.memory ≡ locs
 
-    by_none : (after : PhasedState) (m : MachineState (List ℕ)) → length m.memory ≡ locs → Follows after m → Followed after m
-    by_none after m sized follows = record { events = []; end = m; ran = refl; follows = follows; sized = sized }
+    -- If the machine's state already corresponds to the state with phases, the machine follows without an event.
+    MachineFollowsPhases-no_event : (after : PhasedState) (m : MachineState (List ℕ))
+        → length m.memory ≡ locs
+        → Follows after m
+        → MachineFollowsPhases after m
+    MachineFollowsPhases-no_event after m sized follows =
+        record { events = []; end = m; ran = refl; follows = follows; sized = sized }
 
-    by_one : (after : PhasedState) (e : Event) (m n : MachineState (List ℕ))
+    -- If one event leads the machine to a corresponding state, the machine follows by this event.
+    MachineFollowsPhases-one_event : (after : PhasedState) (e : Event) (m n : MachineState (List ℕ))
         → length m.memory ≡ locs
         → MachineTransition flat_memory program e m (Ok tt) n
         → Follows after n
-        → Followed after m
-    by_one after e m n sized done follows =
-        record { events = e ∷ []; end = n; ran = (n, done, refl); follows = follows; sized = event_sized e m n done ∙ sized }
+        → MachineFollowsPhases after m
+    MachineFollowsPhases-one_event after e m n sized done follows = record {
+      events = e ∷ [];
+      end = n;
+      ran = (n, done, refl);
+      follows = follows;
+      sized = length_memory-event e m n done ∙ sized;
+    }
 
     -- ---- the machine is at the same state
 
     module _ (s after : PhasedState) (sized : length s.machine.memory ≡ locs) where
-      same_step : (t : ℕ) → IsStillRead s.lock s.machine → PhasedStep program t s after → Followed after s.machine
-      same_step t read st = by_one after (Step t) s.machine after.machine sized st.done (Same refl still)
+      -- The step of a plain instruction is a step of the machine. It leaves memory and the lock holder's processor unchanged, so a word
+      -- that was read is still what would be read.
+      MachineFollowsPhases-step : (t : ℕ)
+          → IsStillRead s.lock s.machine
+          → PhasedStep program t s after
+          → MachineFollowsPhases after s.machine
+      MachineFollowsPhases-step t read st =
+          MachineFollowsPhases-one_event after (Step t) s.machine after.machine sized st.done (Same refl still)
         where
           d : EventOccurrence program (Step t) s.machine after.machine
-          d = effect_of_event program (Step t) s.machine after.machine st.done
+          d = EventOccurrence-of_event program (Step t) s.machine after.machine st.done
 
           memory : after.machine.memory ≡ s.machine.memory
-          memory = ap (λ (z : MachineState (List ℕ)). z.memory) d.is ∙ step_memory t s after st d
+          memory = ap (λ (z : MachineState (List ℕ)). z.memory) d.state_is ∙ memory_same-plain_step t s after st d
 
           kept : (lock : Lock)
               → ((phase : Phase) → lock ≢ HeldBy t phase)
@@ -107,115 +125,130 @@ module _ (program : List (List Instr)) where
               let ne : t ≢ u = λ e. outside (HasRead w) (ap (λ v. HeldBy v (HasRead w)) (sym e)) in
               let there =
               sym (get-set_other s.machine.processors t u d.to ne)
-              ∙ ap (λ (z : MachineState (List ℕ)). slice_get z.processors u) (sym d.is)
-              ∙ at.is in
-              ap (λ words. read_value p.buffer words l.location) memory ∙ was p l (record { is = there; locked = at.locked })
+              ∙ ap (λ (z : MachineState (List ℕ)). slice_get z.processors u) (sym d.state_is)
+              ∙ at.processor_at in
+              ap (λ words. read_value p.buffer words l.location) memory
+              ∙ was p l (record { processor_at = there; locked = at.locked })
           kept _ outside was = tt
 
           still : IsStillRead after.lock after.machine
           still = subst (λ lock. IsStillRead lock after.machine) (sym st.lock) (kept s.lock st.outside read)
 
-      same_drain : (t : ℕ) → IsStillRead s.lock s.machine → PhasedTransition program (Drains t) s after → Followed after s.machine
-      same_drain t read done = by_one after (Drain t) s.machine after.machine sized done.1 (Same refl still)
+      -- A drain is a drain of the machine. While a thread holds the lock only this thread drains, and its own drain does not change the
+      -- word that it would read.
+      MachineFollowsPhases-drain : (t : ℕ)
+          → IsStillRead s.lock s.machine
+          → PhasedTransition program (Drains t) s after
+          → MachineFollowsPhases after s.machine
+      MachineFollowsPhases-drain t read done =
+          MachineFollowsPhases-one_event after (Drain t) s.machine after.machine sized done.1 (Same refl still)
         where
           d : EventOccurrence program (Drain t) s.machine after.machine
-          d = effect_of_event program (Drain t) s.machine after.machine done.1
+          d = EventOccurrence-of_event program (Drain t) s.machine after.machine done.1
 
-          drain : Drained s.machine.memory d.from d.to d.words
-          drain = drained s.machine.memory d.from d.to d.words d.does
+          drain : DrainParts s.machine.memory d.from d.to d.words
+          drain = DrainParts-of_drain s.machine.memory d.from d.to d.words d.does
 
           kept : (lock : Lock) → IsNotBlocked lock t → IsStillRead lock s.machine → IsStillRead lock after.machine
           kept (HeldBy u (HasRead w)) own was = λ p l at.
               let now : slice_get after.machine.processors t ≡ Some d.to =
-              ap (λ (z : MachineState (List ℕ)). slice_get z.processors t) d.is
+              ap (λ (z : MachineState (List ℕ)). slice_get z.processors t) d.state_is
               ∙ get-set_same s.machine.processors t d.to d.from d.was in
               let here : slice_get after.machine.processors t ≡ Some p =
-              subst (λ v. slice_get after.machine.processors v ≡ Some p) own at.is in
-              let is : p ≡ record d.from { buffer = drain.newer } = same_Some p d.to (sym here ∙ now) ∙ drain.is in
+              subst (λ v. slice_get after.machine.processors v ≡ Some p) own at.processor_at in
+              let is : p ≡ record d.from { buffer = drain.newer } = same_Some p d.to (sym here ∙ now) ∙ drain.processor_is in
               let locked : locked_next program t d.from ≡ Some l =
               subst (λ v. locked_next program v d.from ≡ Some l) own
               (subst (λ q. locked_next program u q ≡ Some l) is at.locked) in
               let lt : l.location < length s.machine.memory =
-              omega (arith, locked_within program locs threads t d.from l locked, sized) in
+              omega (arith, location_in_range-of_locked program locs threads t d.from l locked, sized) in
               let before : read_value d.from.buffer s.machine.memory l.location ≡ w = was d.from l (record {
-                is = subst (λ v. slice_get s.machine.processors v ≡ Some d.from) (sym own) d.was;
+                processor_at = subst (λ v. slice_get s.machine.processors v ≡ Some d.from) (sym own) d.was;
                 locked = subst (λ v. locked_next program v d.from ≡ Some l) (sym own) locked;
               }) in
               ap (λ (q : Processor). read_value q.buffer after.machine.memory l.location) is
               ∙ ap (λ words. read_value drain.newer words l.location)
-              (ap (λ (z : MachineState (List ℕ)). z.memory) d.is ∙ drain.words)
-              ∙ seen_drained s.machine.memory drain.entry drain.newer l.location lt
-              ∙ ap (λ b. read_value b s.machine.memory l.location) (sym drain.full)
+              (ap (λ (z : MachineState (List ℕ)). z.memory) d.state_is ∙ drain.words)
+              ∙ read_value-after_drain s.machine.memory drain.entry drain.newer l.location lt
+              ∙ ap (λ b. read_value b s.machine.memory l.location) (sym drain.buffer_is)
               ∙ before
           kept _ own was = tt
 
           still : IsStillRead after.lock after.machine
           still = subst (λ lock. IsStillRead lock after.machine) (sym done.2) (kept s.lock done.0 read)
 
-      same_follows : (lock : Lock)
+      -- An event that changes only the lock needs no event of the machine.
+      MachineFollowsPhases-lock_only : (lock : Lock)
           → after ≡ record { machine = s.machine; lock = lock }
           → IsStillRead lock s.machine
-          → Followed after s.machine
-      same_follows lock is read =
-          by_none after s.machine sized (subst (λ (z : PhasedState). Follows z s.machine) (sym is) (Same refl read))
+          → MachineFollowsPhases after s.machine
+      MachineFollowsPhases-lock_only lock is read =
+          MachineFollowsPhases-no_event after s.machine sized
+          (subst (λ (z : PhasedState). Follows z s.machine) (sym is) (Same refl read))
 
-      same_reads : (t : ℕ) → PhasedTransition program (Reads t) s after → Followed after s.machine
-      same_reads t done =
-          same_follows (HeldBy t (HasRead (read_value done.0.buffer s.machine.memory done.1.location))) done.4 (λ p l at.
-          let same : done.0 ≡ p = same_Some done.0 p (sym done.2.is ∙ at.is) in
+      -- The read of a locked instruction needs no event of the machine: the lock records the word that its processor would read.
+      MachineFollowsPhases-read : (t : ℕ) → PhasedTransition program (Reads t) s after → MachineFollowsPhases after s.machine
+      MachineFollowsPhases-read t done =
+          MachineFollowsPhases-lock_only (HeldBy t (HasRead (read_value done.0.buffer s.machine.memory done.1.location))) done.4
+          (λ p l at.
+          let same : done.0 ≡ p = same_Some done.0 p (sym done.2.processor_at ∙ at.processor_at) in
           let one : done.1 ≡ l = same_Some done.1 l (sym done.2.locked ∙ ap (locked_next program t) same ∙ at.locked) in
           ap (λ (q : Processor). read_value q.buffer s.machine.memory l.location) (sym same)
           ∙ ap (λ (k : Locked). read_value done.0.buffer s.machine.memory k.location) (sym one))
 
-      same_writes : (t : ℕ)
+      -- The write of a locked instruction needs no event of the machine, which is from now on before the instruction, with the write
+      -- pending.
+      MachineFollowsPhases-write : (t : ℕ)
           → IsStillRead s.lock s.machine
           → PhasedTransition program (Writes t) s after
-          → Followed after s.machine
-      same_writes t read done = by_none after s.machine sized (Before (record {
+          → MachineFollowsPhases after s.machine
+      MachineFollowsPhases-write t read done = MachineFollowsPhases-no_event after s.machine sized (Before (record {
         cpu = t;
         from = done.0;
         older = done.0.buffer;
         locked = done.1;
         word = done.2;
         lock = ap (λ (z : PhasedState). z.lock) done.5;
-        was = done.3.is;
+        was = done.3.processor_at;
         next = done.3.locked;
         read = subst (λ lock. IsStillRead lock s.machine) done.4 read done.0 done.1 done.3;
-        is = ap (λ (z : PhasedState). z.machine) done.5;
+        machine_is = ap (λ (z : PhasedState). z.machine) done.5;
       }))
 
-      same_follow : (e : PhasedEvent)
+      -- If the machine is at the same state, it follows each event with phases.
+      MachineFollowsPhases-still_read : (e : PhasedEvent)
           → IsStillRead s.lock s.machine
           → PhasedTransition program e s after
-          → Followed after s.machine
-      same_follow (Steps t) read done = same_step t read done
-      same_follow (Drains t) read done = same_drain t read done
-      same_follow (Locks t) read done = same_follows (HeldBy t Begun) done.4 tt
-      same_follow (Reads t) read done = same_reads t done
-      same_follow (Writes t) read done = same_writes t read done
-      same_follow (Unlocks t) read done = same_follows Free done.2 tt
+          → MachineFollowsPhases after s.machine
+      MachineFollowsPhases-still_read (Steps t) read done = MachineFollowsPhases-step t read done
+      MachineFollowsPhases-still_read (Drains t) read done = MachineFollowsPhases-drain t read done
+      MachineFollowsPhases-still_read (Locks t) read done = MachineFollowsPhases-lock_only (HeldBy t Begun) done.4 tt
+      MachineFollowsPhases-still_read (Reads t) read done = MachineFollowsPhases-read t done
+      MachineFollowsPhases-still_read (Writes t) read done = MachineFollowsPhases-write t read done
+      MachineFollowsPhases-still_read (Unlocks t) read done = MachineFollowsPhases-lock_only Free done.2 tt
 
     -- ---- the machine stands before the locked instruction
 
     module _ (s after : PhasedState) (m : MachineState (List ℕ)) (sized : length m.memory ≡ locs) (pending : IsPending s m) where
       open pending use {cpu, from, older, locked, word}
 
-      before_step : (t : ℕ) → PhasedStep program t s after → Followed after m
-      before_step t st = by_one after (Step t) m n sized way (Before still)
+      -- The machine follows the step of another thread by the same step, and the write of the lock's holder is still pending.
+      before_step : (t : ℕ) → PhasedStep program t s after → MachineFollowsPhases after m
+      before_step t st = MachineFollowsPhases-one_event after (Step t) m n sized way (Before still)
         where
-          ne : cpu ≢ t
-          ne = λ e. st.outside HasWritten (pending.lock ∙ ap (λ u. HeldBy u HasWritten) e)
+          other_cpu : cpu ≢ t
+          other_cpu = λ e. st.outside HasWritten (pending.lock ∙ ap (λ u. HeldBy u HasWritten) e)
 
           d : EventOccurrence program (Step t) s.machine after.machine
-          d = effect_of_event program (Step t) s.machine after.machine st.done
+          d = EventOccurrence-of_event program (Step t) s.machine after.machine st.done
 
           memory : s.machine.memory ≡ m.memory
-          memory = ap (λ (z : MachineState (List ℕ)). z.memory) pending.is
+          memory = ap (λ (z : MachineState (List ℕ)). z.memory) pending.machine_is
 
           there : slice_get m.processors t ≡ Some d.from
           there =
-              sym (get-set_other m.processors cpu t (having_written locked word older) ne)
-              ∙ ap (λ (z : MachineState (List ℕ)). slice_get z.processors t) (sym pending.is)
+              sym (get-set_other m.processors cpu t (having_written locked word older) other_cpu)
+              ∙ ap (λ (z : MachineState (List ℕ)). slice_get z.processors t) (sym pending.machine_is)
               ∙ d.was
 
           n : MachineState (List ℕ)
@@ -223,7 +256,7 @@ module _ (program : List (List Instr)) where
 
           way : MachineTransition flat_memory program (Step t) m (Ok tt) n
           way =
-              event_of_effect program (Step t) m.processors d.from d.to m.memory d.words there
+              MachineTransition-of_effect program (Step t) m.processors d.from d.to m.memory d.words there
               (subst
               (λ words. EffectLeadsTo words (step_effect (slice_get (thread_code program t) d.from.position) d.from) d.to d.words)
               memory d.does)
@@ -236,29 +269,33 @@ module _ (program : List (List Instr)) where
             locked = locked;
             word = word;
             lock = st.lock ∙ pending.lock;
-            was = get-set_other m.processors t cpu d.to (λ e. ne (sym e)) ∙ pending.was;
+            was = get-set_other m.processors t cpu d.to (λ e. other_cpu (sym e)) ∙ pending.was;
             next = pending.next;
-            read = ap (λ words. read_value older words locked.location) (step_memory t s after st d ∙ memory) ∙ pending.read;
-            is =
-                d.is
-                ∙ ap (λ (z : MachineState (List ℕ)). state (slice_set z.processors t d.to) d.words) pending.is
-                ∙ ap (λ ps. state ps d.words) (set_comm m.processors cpu t (having_written locked word older) d.to ne);
+            read =
+                ap (λ words. read_value older words locked.location) (memory_same-plain_step t s after st d ∙ memory)
+                ∙ pending.read;
+            machine_is =
+                d.state_is
+                ∙ ap (λ (z : MachineState (List ℕ)). state (slice_set z.processors t d.to) d.words) pending.machine_is
+                ∙ ap (λ ps. state ps d.words) (set_comm m.processors cpu t (having_written locked word older) d.to other_cpu);
           }
 
-      -- the drain of an older entry, and that of the write itself
+      -- The drain of an older entry, and that of the write itself.
       module _ (lock : after.lock ≡ HeldBy cpu HasWritten) where
         abbrev HasBuffer : List (ℕ × ℕ) → Type 0
         HasBuffer buffer = slice_get m.processors cpu ≡ Some (record from { buffer = buffer })
 
+        -- The machine of the state with phases, if the locked instruction has read the word w, and its write follows the entries `buffer`.
         abbrev writing : List (ℕ × ℕ) → ℕ → MachineState (List ℕ)
         writing buffer w = state (slice_set m.processors cpu (having_written locked w buffer)) m.memory
 
+        -- If an entry before the write is drained, the machine drains it too, and the write is still pending.
         drain_older : (entry : ℕ × ℕ) (newer : List (ℕ × ℕ))
             → HasBuffer (entry ∷ newer)
             → read_value (entry ∷ newer) m.memory locked.location ≡ word
             → MachineTransition flat_memory program (Drain cpu) (writing (entry ∷ newer) word) (Ok tt) after.machine
-            → Followed after m
-        drain_older entry newer was read done = by_one after (Drain cpu) m n sized way (Before still)
+            → MachineFollowsPhases after m
+        drain_older entry newer was read done = MachineFollowsPhases-one_event after (Drain cpu) m n sized way (Before still)
           where
             words : List ℕ
             words = slice_set m.memory entry.0 entry.1
@@ -277,17 +314,18 @@ module _ (program : List (List Instr)) where
 
             way : MachineTransition flat_memory program (Drain cpu) m (Ok tt) n
             way =
-                event_of_effect program (Drain cpu) m.processors (record from { buffer = entry ∷ newer }) drained_from m.memory
-                words was (refl, refl)
+                MachineTransition-of_effect program (Drain cpu) m.processors (record from { buffer = entry ∷ newer }) drained_from
+                m.memory words was (refl, refl)
 
             expected : MachineTransition flat_memory program (Drain cpu) (writing (entry ∷ newer) word) (Ok tt)
                 (state (slice_set (slice_set m.processors cpu full) cpu fewer) words)
             expected =
-                event_of_effect program (Drain cpu) (slice_set m.processors cpu full) full fewer m.memory words
+                MachineTransition-of_effect program (Drain cpu) (slice_set m.processors cpu full) full fewer m.memory words
                 (get-set_same m.processors cpu full (record from { buffer = entry ∷ newer }) was) (refl, refl)
 
-            lt : locked.location < length m.memory
-            lt = omega (arith, locked_within program locs threads cpu from locked pending.next, sized)
+            location_in_range : locked.location < length m.memory
+            location_in_range =
+                omega (arith, location_in_range-of_locked program locs threads cpu from locked pending.next, sized)
 
             still : IsPending after n
             still = record {
@@ -299,19 +337,20 @@ module _ (program : List (List Instr)) where
               lock = lock;
               was = get-set_same m.processors cpu drained_from (record from { buffer = entry ∷ newer }) was;
               next = pending.next;
-              read = seen_drained m.memory entry newer locked.location lt ∙ read;
-              is =
+              read = read_value-after_drain m.memory entry newer locked.location location_in_range ∙ read;
+              machine_is =
                   (MachineTransition-deterministic program (Drain cpu) (writing (entry ∷ newer) word) after.machine _ (Ok tt)
                   (Ok tt) done expected).1
                   ∙ ap (λ ps. state ps words)
                   (set-set m.processors cpu full fewer ∙ sym (set-set m.processors cpu drained_from fewer));
             }
 
+        -- If the write itself is drained, the machine executes the locked instruction in one step, and reaches the same state.
         drain_write : HasBuffer []
             → MachineTransition flat_memory program (Drain cpu) (writing [] (slice_index m.memory locked.location)) (Ok tt)
             after.machine
-            → Followed after m
-        drain_write was done = by_one after (Step cpu) m n sized way (Same is still)
+            → MachineFollowsPhases after m
+        drain_write was done = MachineFollowsPhases-one_event after (Step cpu) m n sized way (Same machine_eq still)
           where
             w : ℕ
             w = slice_index m.memory locked.location
@@ -330,23 +369,25 @@ module _ (program : List (List Instr)) where
 
             way : MachineTransition flat_memory program (Step cpu) m (Ok tt) n
             way =
-                event_of_effect program (Step cpu) m.processors (with_empty_buffer from) (locked.next w) m.memory words was
-                (locked_does m.memory (step_effect (slice_get (thread_code program cpu) from.position) (with_empty_buffer from))
+                MachineTransition-of_effect program (Step cpu) m.processors (with_empty_buffer from) (locked.next w) m.memory
+                words was
+                (DoesAs-locked m.memory (step_effect (slice_get (thread_code program cpu) from.position) (with_empty_buffer from))
                 locked pending.next)
 
             expected : MachineTransition flat_memory program (Drain cpu) (writing [] w) (Ok tt)
                 (state (slice_set (slice_set m.processors cpu full) cpu behind) words)
             expected =
-                event_of_effect program (Drain cpu) (slice_set m.processors cpu full) full behind m.memory words
+                MachineTransition-of_effect program (Drain cpu) (slice_set m.processors cpu full) full behind m.memory words
                 (get-set_same m.processors cpu full (with_empty_buffer from) was) (refl, refl)
 
             same_processor : behind ≡ locked.next w
             same_processor =
                 ap (λ b. record (locked.next w) { buffer = b })
-                (sym (step_empty (slice_get (thread_code program cpu) from.position) from locked w pending.next))
+                (sym (buffer_empty-after_locked_step (slice_get (thread_code program cpu) from.position) from locked w
+                pending.next))
 
-            is : after.machine ≡ n
-            is =
+            machine_eq : after.machine ≡ n
+            machine_eq =
                 (MachineTransition-deterministic program (Drain cpu) (writing [] w) after.machine _ (Ok tt) (Ok tt) done
                 expected).1
                 ∙ ap (λ ps. state ps words)
@@ -355,39 +396,44 @@ module _ (program : List (List Instr)) where
             still : IsStillRead after.lock n
             still = subst (λ k. IsStillRead k n) (sym lock) tt
 
-        by_buffer : (buffer : List (ℕ × ℕ))
+        -- The machine follows a drain of the lock's holder: of the oldest entry before the write, or of the write if there is none.
+        MachineFollowsPhases-drain_of_write : (buffer : List (ℕ × ℕ))
             → HasBuffer buffer
             → read_value buffer m.memory locked.location ≡ word
             → MachineTransition flat_memory program (Drain cpu) (writing buffer word) (Ok tt) after.machine
-            → Followed after m
-        by_buffer [] was read done =
+            → MachineFollowsPhases after m
+        MachineFollowsPhases-drain_of_write [] was read done =
             drain_write was
             (subst (λ w. MachineTransition flat_memory program (Drain cpu) (writing [] w) (Ok tt) after.machine) (sym read) done)
-        by_buffer (entry ∷ newer) was read done = drain_older entry newer was read done
+        MachineFollowsPhases-drain_of_write (entry ∷ newer) was read done = drain_older entry newer was read done
 
-      before_drain : (t : ℕ) → PhasedTransition program (Drains t) s after → Followed after m
+      -- The machine follows a drain while a write is pending, since nobody drains but the lock's holder.
+      before_drain : (t : ℕ) → PhasedTransition program (Drains t) s after → MachineFollowsPhases after m
       before_drain t done =
           let own : cpu ≡ t = subst (λ lock. IsNotBlocked lock t) pending.lock done.0 in
-          by_buffer (done.2 ∙ pending.lock) older pending.was pending.read
-          (subst (λ z. MachineTransition flat_memory program (Drain cpu) z (Ok tt) after.machine) pending.is
+          MachineFollowsPhases-drain_of_write (done.2 ∙ pending.lock) older pending.was pending.read
+          (subst (λ z. MachineTransition flat_memory program (Drain cpu) z (Ok tt) after.machine) pending.machine_is
           (subst (λ u. MachineTransition flat_memory program (Drain u) s.machine (Ok tt) after.machine) (sym own) done.1))
 
-      -- it can't give the lock back, since its write is in the buffer
-      before_unlock : (t : ℕ) → PhasedTransition program (Unlocks t) s after → Followed after m
+      -- It can't release the lock, since its write is in the buffer.
+      before_unlock : (t : ℕ) → PhasedTransition program (Unlocks t) s after → MachineFollowsPhases after m
       before_unlock t done =
           let held : HeldBy cpu HasWritten ≡ HeldBy t HasWritten = sym pending.lock ∙ done.0 in
           let own : cpu ≡ t = cc in
           let full = having_written locked word older in
           let there : slice_get s.machine.processors cpu ≡ Some full =
-          ap (λ (z : MachineState (List ℕ)). slice_get z.processors cpu) pending.is
+          ap (λ (z : MachineState (List ℕ)). slice_get z.processors cpu) pending.machine_is
           ∙ get-set_same m.processors cpu full (record from { buffer = older }) pending.was in
           let none : buffer_of s.machine cpu ≡ [] = subst (λ u. buffer_of s.machine u ≡ []) (sym own) done.1 in
-          absurd (not_empty older (locked.location, locked.leaves word) (sym (buffer_at s.machine cpu full there) ∙ none))
+          absurd (append_last-ne_nil older (locked.location, locked.leaves word)
+          (sym (buffer_of-in_range s.machine cpu full there) ∙ none))
 
+      -- While a write is pending, the lock's holder has written. So no event is enabled that needs another phase.
       other_phase : {X : Type 0} (lock : Lock) → s.lock ≡ lock → (HeldBy cpu HasWritten ≡ lock → ⊥) → X
       other_phase lock is not = absurd (not (sym pending.lock ∙ is))
 
-      before_follow : (e : PhasedEvent) → PhasedTransition program e s after → Followed after m
+      -- If a write is pending, the machine follows each event with phases.
+      before_follow : (e : PhasedEvent) → PhasedTransition program e s after → MachineFollowsPhases after m
       before_follow (Steps t) done = before_step t done
       before_follow (Drains t) done = before_drain t done
       before_follow (Locks t) done = other_phase Free done.3 (λ e. cc)
@@ -397,20 +443,23 @@ module _ (program : List (List Instr)) where
 
     -- ---- a run
 
-    follow : (e : PhasedEvent) (s after : PhasedState) (m : MachineState (List ℕ))
+    -- The machine follows an event with phases from any corresponding state.
+    MachineFollowsPhases-any_event : (e : PhasedEvent) (s after : PhasedState) (m : MachineState (List ℕ))
         → length m.memory ≡ locs
         → Follows s m
         → PhasedTransition program e s after
-        → Followed after m
-    follow e s after m sized (Same is read) done =
+        → MachineFollowsPhases after m
+    MachineFollowsPhases-any_event e s after m sized (Same is read) done =
         let sized' : length s.machine.memory ≡ locs = ap (λ (z : MachineState (List ℕ)). length z.memory) is ∙ sized in
-        subst (Followed after) is (same_follow s after sized' e (subst (IsStillRead s.lock) (sym is) read) done)
-    follow e s after m sized (Before pending) done = before_follow s after m sized pending e done
+        subst (MachineFollowsPhases after) is
+        (MachineFollowsPhases-still_read s after sized' e (subst (IsStillRead s.lock) (sym is) read) done)
+    MachineFollowsPhases-any_event e s after m sized (Before pending) done = before_follow s after m sized pending e done
 
-    followed_then : (after end : PhasedState) (m : MachineState (List ℕ)) (first : Followed after m)
-        → Followed end first.end
-        → Followed end m
-    followed_then after end m first more = record {
+    -- If the machine follows to one state, and from there to another, its events in sequence follow to the other.
+    MachineFollowsPhases-trans : (after end : PhasedState) (m : MachineState (List ℕ)) (first : MachineFollowsPhases after m)
+        → MachineFollowsPhases end first.end
+        → MachineFollowsPhases end m
+    MachineFollowsPhases-trans after end m first more = record {
       events = first.events ++ more.events;
       end = more.end;
       ran =
@@ -419,25 +468,32 @@ module _ (program : List (List Instr)) where
       sized = more.sized;
     }
 
-    follow_run : (es : List PhasedEvent) (s end : PhasedState) (m : MachineState (List ℕ))
+    -- The machine follows a run with phases from any corresponding state.
+    MachineFollowsPhases-run : (es : List PhasedEvent) (s end : PhasedState) (m : MachineState (List ℕ))
         → length m.memory ≡ locs
         → Follows s m
         → PhasedRunsTo program es s end
-        → Followed end m
-    follow_run [] s end m sized follows ran = subst (λ z. Followed z m) (sym ran) (by_none s m sized follows)
-    follow_run (e ∷ es) s end m sized follows ran =
-        let first = follow e s ran.0 m sized follows ran.1 in
-        followed_then ran.0 end m first (follow_run es ran.0 end first.end first.sized first.follows ran.2)
+        → MachineFollowsPhases end m
+    MachineFollowsPhases-run [] s end m sized follows ran =
+        subst (λ z. MachineFollowsPhases z m) (sym ran) (MachineFollowsPhases-no_event s m sized follows)
+    MachineFollowsPhases-run (e ∷ es) s end m sized follows ran =
+        let first = MachineFollowsPhases-any_event e s ran.0 m sized follows ran.1 in
+        MachineFollowsPhases-trans ran.0 end m first
+        (MachineFollowsPhases-run es ran.0 end first.end first.sized first.follows ran.2)
 
-    at_end : (end m : MachineState (List ℕ)) → Follows (unlocked end) m → end ≡ m
-    at_end end m (Same is read) = is
-    at_end end m (Before pending) = absurd (let e : Free ≡ HeldBy pending.cpu HasWritten = pending.lock in cc)
+    -- If nobody holds the lock, the corresponding state of the machine is that of the state with phases.
+    machine_eq-unlocked : (end m : MachineState (List ℕ)) → Follows (unlocked end) m → end ≡ m
+    machine_eq-unlocked end m (Same is read) = is
+    machine_eq-unlocked end m (Before pending) = absurd (let e : Free ≡ HeldBy pending.cpu HasWritten = pending.lock in cc)
 
-    -- where nobody holds the lock at its ends, it leads where some events of the machine lead
-    pub run_follows : (es : List PhasedEvent) (s end : MachineState (List ℕ))
+    -- If nobody holds the lock at either end, the run ends where some events of the machine end.
+    pub MachineRunsTo-of_phases : (es : List PhasedEvent) (s end : MachineState (List ℕ))
         → length s.memory ≡ locs
         → PhasedRunsTo program es (unlocked s) (unlocked end)
         → (events : List Event) × MachineRunsTo flat_memory program events s end
-    run_follows es s end sized ran =
-        let all = follow_run es (unlocked s) (unlocked end) s sized (Same refl tt) ran in
-        (all.events, subst (λ z. MachineRunsTo flat_memory program all.events s z) (sym (at_end end all.end all.follows)) all.ran)
+    MachineRunsTo-of_phases es s end sized ran =
+        let all = MachineFollowsPhases-run es (unlocked s) (unlocked end) s sized (Same refl tt) ran in (
+          all.events,
+          subst (λ z. MachineRunsTo flat_memory program all.events s z) (sym (machine_eq-unlocked end all.end all.follows))
+              all.ran,
+        )

@@ -1,4 +1,5 @@
--- A list xs that is overwritten item by item, until f of its items equals g of another list's items, ys.
+-- A list xs that is overwritten item by item, until f of its items equals g of another list's items, ys. For
+-- the loops of `machine.rt` that write into lists of the right length and allocate nothing.
 use Rattle.lw_tso.proofs.Common.{◌≡◌, ℕ, ◌+◌, ◌<◌, ◌≤◌, List, [], ◌∷◌, ◌++◌, length, map, set, take, get_or}
 use Rattle.lw_tso.proofs.Common.{Some, refl, sym, ap, ap₂, ◌∙◌, arith, slice_get, get_or-take, length-take}
 use Rattle.lw_tso.proofs.Common.{take_all, map-append, map-set, map_more, take_more, take_more_set}
@@ -7,43 +8,43 @@ use Rattle.lw_tso.proofs.Common.{get_or-range_with_len, range_with_len, set-get_
 -- Before index i, f of xs' items equals g of those of ys, and both lists have an item at i.
 pub record RefilledUpTo {X Y Z : Type 0} (f : X → Z) (g : Y → Z) (xs : List X) (ys : List Y) (i : ℕ) : Type 0 where
   pub so_far : map f (take i xs) ≡ map g (take i ys)
-  pub within : i < length xs
-  pub there : i < length ys
+  pub first_in_range : i < length xs
+  pub second_in_range : i < length ys
 
 -- Overwriting the item at i of xs with one of the same image extends the property to `i + 1`.
-pub refilled : {X Y Z : Type 0} (f : X → Z) (g : Y → Z) (xs : List X) (ys : List Y) (i : ℕ) (x : X) (d : Y)
+pub RefilledUpTo-suc : {X Y Z : Type 0} (f : X → Z) (g : Y → Z) (xs : List X) (ys : List Y) (i : ℕ) (x : X) (d : Y)
     → RefilledUpTo f g xs ys i
     → f x ≡ g (get_or ys i d)
     → map f (take (i + 1) (set xs i x)) ≡ map g (take (i + 1) ys)
-refilled f g xs ys i x d upto is =
-    ap (map f) (take_more_set xs i x upto.within)
+RefilledUpTo-suc f g xs ys i x d upto is =
+    ap (map f) (take_more_set xs i x upto.first_in_range)
     ∙ map-append f (take i xs) (x ∷ [])
     ∙ rw (upto.so_far, is) refl
-    ∙ sym (map_more g ys i d upto.there)
+    ∙ sym (map_more g ys i d upto.second_in_range)
 
 -- If the property holds up to k, and both lists have the same length, at most k, it holds of all items.
-pub refilled_all : {X Y Z : Type 0} (f : X → Z) (g : Y → Z) (xs : List X) (ys : List Y) {k : ℕ}
+pub RefilledUpTo-all : {X Y Z : Type 0} (f : X → Z) (g : Y → Z) (xs : List X) (ys : List Y) {k : ℕ}
     → map f (take k xs) ≡ map g (take k ys)
     → length xs ≡ length ys
     → length ys ≤ k
     → map f xs ≡ map g ys
-refilled_all f g xs ys {k = k} so_far many past =
+RefilledUpTo-all f g xs ys {k = k} so_far many past =
     ap (map f) (sym (take_all k xs (omega arith))) ∙ so_far ∙ ap (map g) (take_all k ys past)
 
 -- Overwriting an item with one of the same image preserves the list of images.
-pub kept_in_place : {X Y : Type 0} (f : X → Y) (xs : List X) (i : ℕ) (x y : X)
+pub map-set_same_image : {X Y : Type 0} (f : X → Y) (xs : List X) (i : ℕ) (x y : X)
     → slice_get xs i ≡ Some y
     → f x ≡ f y
     → map f (set xs i x) ≡ map f xs
-kept_in_place f xs i x y at same = map-set f xs i x ∙ rw same (sym (map-set f xs i y) ∙ ap (map f) (set-get_same xs i y at))
+map-set_same_image f xs i x y at same = map-set f xs i x ∙ rw same (sym (map-set f xs i y) ∙ ap (map f) (set-get_same xs i y at))
 
 -- In the list of all locations, or of its first n, the item at index i is i.
-pub location_at : (n i l : ℕ) {all : List ℕ}
+pub all_locations-at : (n i l : ℕ) {all : List ℕ}
     → all ≡ range_with_len 0 8
     → i < length (take n all)
     → l ≡ get_or (take n all) i l
     → l ≡ i
-location_at n i l {all = all} are within is =
+all_locations-at n i l {all = all} are within is =
     let inside = length-take n all in
     is
     ∙ get_or-take n all i l (omega (arith, within, inside))
@@ -52,14 +53,14 @@ location_at n i l {all = all} are within is =
     ∙ (omega arith)
 
 -- Writing the next word of ys at i extends the equal prefix of xs and ys to `i + 1`.
-pub written_on : (xs ys : List ℕ) (i : ℕ) {j : ℕ} (w : ℕ)
+pub take-set_next : (xs ys : List ℕ) (i : ℕ) {j : ℕ} (w : ℕ)
     → j ≡ i
     → i < length xs
     → i < length ys
     → take i xs ≡ take i ys
     → w ≡ get_or ys i 0
     → take (i + 1) (set xs j w) ≡ take (i + 1) ys
-written_on xs ys i w index within there so_far is =
+take-set_next xs ys i w index within there so_far is =
     ap (λ k. take (i + 1) (set xs k w)) index
     ∙ take_more_set xs i w within
     ∙ ap₂ (λ zs z. zs ++ z ∷ []) so_far is

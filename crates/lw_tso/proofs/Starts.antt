@@ -1,4 +1,5 @@
--- Processors in their initial states, and a machine of them.
+-- Processors in their initial states, and a machine of them. Lemmas for `Machine::new` and `restart`: the
+-- machine's invariant holds at the start.
 use Rattle.lw_tso.proofs.Common.{◌≡◌, ℕ, suc, ◌+◌, ◌<◌, ◌≤◌, List, [], ◌∷◌, ◌++◌, length, map, take, get_or}
 use Rattle.lw_tso.proofs.Common.{Option, Some, None, refl, sym, ap, ◌∙◌, subst, arith, slice_get, inl, inr}
 use Rattle.lw_tso.proofs.Common.{◌⊎◌, option_map, take-suc, length-take-le, cases_eq, map-append, length-map}
@@ -8,14 +9,14 @@ use Rattle.lw_tso.proofs.Common.{stores_from, HasRoom, IsReachableMachine, proce
 use Rattle.lw_tso.specs.declared.processor.Processor.{Processor as ProcessorInMemory}
 
 -- What holds at each index of a list and of one more item holds at each index with the item appended.
-more_indices : {X : Type 0} (P : ℕ → X → Type 0) (xs : List X) {ys : List X} (x : X)
+each_index-push : {X : Type 0} (P : ℕ → X → Type 0) (xs : List X) {ys : List X} (x : X)
     → ys ≡ xs ++ x ∷ []
     → ((t : ℕ) (y : X) → slice_get xs t ≡ Some y → P t y)
     → P (length xs) x
     → (t : ℕ) (y : X)
     → slice_get ys t ≡ Some y
     → P t y
-more_indices P xs x is before here t y at = go (cases_eq t (length xs))
+each_index-push P xs x is before here t y at = go (cases_eq t (length xs))
   where
     there : slice_get (xs ++ x ∷ []) t ≡ Some y
     there = ap (λ zs. slice_get zs t) (sym is) ∙ at
@@ -33,18 +34,18 @@ module _ {A : Type 0} (program : List (List Instr)) (regs : List (List ℕ)) whe
         → stores_from 0 (thread_code program t) ≤ p.buffer.room
 
   -- Before the first thread there is no processor.
-  pub none_started : AreStarted 0 []
-  none_started = record { start = refl; rooms = λ t p at. absurd (omega (arith, slice_get_within [] t p at)) }
+  pub AreStarted-none : AreStarted 0 []
+  AreStarted-none = record { start = refl; rooms = λ t p at. absurd (omega (arith, slice_get_within [] t p at)) }
 
   -- The next thread's processor, appended to the others, is in its initial state and has room for its stores.
-  pub one_more : (n : ℕ) (processors next : List (ProcessorInMemory A)) (p : ProcessorInMemory A)
+  pub AreStarted-push : (n : ℕ) (processors next : List (ProcessorInMemory A)) (p : ProcessorInMemory A)
       → AreStarted n processors
       → n < length regs
       → next ≡ processors ++ p ∷ []
       → processor_of p ≡ initial_processor (get_or regs n [])
       → stores_from 0 (thread_code program n) ≤ p.buffer.room
       → AreStarted (n + 1) next
-  one_more n processors next p so_far within is started roomy =
+  AreStarted-push n processors next p so_far within is started roomy =
       let more : take (suc n) regs ≡ take n regs ++ get_or regs n [] ∷ [] = take-suc regs n [] within in
       let last : suc n ≡ n + 1 = omega arith in
       let many : length processors ≡ n =
@@ -57,17 +58,17 @@ module _ {A : Type 0} (program : List (List Instr)) (regs : List (List ℕ)) whe
             ap (map processor_of) is
             ∙ map-append processor_of processors (p ∷ [])
             ∙ rw (so_far.start, started, ← last, more) (sym (map-append initial_processor (take n regs) (get_or regs n [] ∷ [])));
-        rooms = more_indices _ processors p is so_far.rooms (rw many roomy);
+        rooms = each_index-push _ processors p is so_far.rooms (rw many roomy);
       }
 
   -- Processors with the same rooms have room for their codes too.
-  pub still_roomy : (before now : List (ProcessorInMemory A))
+  pub stores_fit-same_rooms : (before now : List (ProcessorInMemory A))
       → map (λ (p : ProcessorInMemory A). p.buffer.room) now ≡ map (λ (p : ProcessorInMemory A). p.buffer.room) before
       → ((t : ℕ) (p : ProcessorInMemory A) → slice_get before t ≡ Some p → stores_from 0 (thread_code program t) ≤ p.buffer.room)
       → (t : ℕ) (p : ProcessorInMemory A)
       → slice_get now t ≡ Some p
       → stores_from 0 (thread_code program t) ≤ p.buffer.room
-  still_roomy before now same roomy t p at = go (slice_get before t) refl
+  stores_fit-same_rooms before now same roomy t p at = go (slice_get before t) refl
     where
       room : ProcessorInMemory A → ℕ
       room q = q.buffer.room
@@ -86,6 +87,7 @@ module _ {A : Type 0} (program : List (List Instr)) (regs : List (List ℕ)) whe
           (same_Some (room q) (room p) (subst (λ o. option_map room o ≡ Some (room p)) e seen)) (roomy t q e)
 
   module _ {M : Type 0} (mem : Memory M) (inv : Invariant M) (locs : ℕ) (m : M) (processors : List (ProcessorInMemory A)) where
+    -- A processor that exists at the start is the initial one of some registers.
     starts_with : (t : ℕ) (p : ProcessorInMemory A) (o : Option (List ℕ))
         → Some (processor_of p) ≡ option_map initial_processor o
         → (r : List ℕ) × (processor_of p ≡ initial_processor r)
@@ -93,7 +95,7 @@ module _ {A : Type 0} (program : List (List Instr)) (regs : List (List ℕ)) whe
     starts_with t p (Some r) e = (r, same_Some (processor_of p) (initial_processor r) e)
 
     -- The parts of a machine in its initial state.
-    pub machine_made : inv.sound m
+    pub IsReachableMachine-start : inv.sound m
         → length (mem.content m) ≡ locs
         → length program ≤ inv.cpus m
         → length regs ≡ length program
@@ -102,7 +104,7 @@ module _ {A : Type 0} (program : List (List Instr)) (regs : List (List ℕ)) whe
         → slice_get processors t ≡ Some p
         → stores_from 0 (thread_code program t) ≤ p.buffer.room)
         → IsReachableMachine mem inv program locs m processors
-    machine_made sound locations cpus many started roomy =
+    IsReachableMachine-start sound locations cpus many started roomy =
         let as_many = sym (length-map processors _) ∙ ap length started ∙ length-map regs initial_processor ∙ many in
         record {
           sound = sound;
@@ -116,6 +118,6 @@ module _ {A : Type 0} (program : List (List Instr)) (regs : List (List ℕ)) whe
               ∙ slice_get-map initial_processor regs t in
               let first = starts_with t p (slice_get regs t) seen in
               subst (λ q. HasRoom locs (thread_code program t) q p.buffer.room) (sym first.1)
-              (record { fits = omega (arith, roomy t p at); there = All-nil _ });
+              (record { fits = omega (arith, roomy t p at); entries_in_range = All-nil _ });
           whole = roomy;
         }

@@ -1,7 +1,7 @@
 -- x86 tests with MFENCEs inserted. Such a code consists of blocks: each of its instructions after the MFENCEs that were inserted before it,
 -- if any, and at the end the MFENCEs after all instructions, if any. A jump to an instruction becomes a jump to any index of that
 -- instruction's block, to one of its MFENCEs or past them; a jump to the end becomes one to any index of the last block. So if an MFENCE is
--- removed, a jump to it targets what follows it, as in tools/fences.py. The law `fences_can_be_left_out` states that any MFENCEs of any
+-- removed, a jump to it targets what follows it, as in tools/fences.py. The law `fences_can_be_removed` states that any MFENCEs of any
 -- code can be inserted ones.
 use Rattle.std.specs.Prelude.{◌≡◌, ◌⊎◌, ℕ, ◌+◌, ◌<◌, ◌≤◌, Bool, true, false, not, Some, List, [], ◌∷◌, length, map}
 use Rattle.std.specs.Prelude.{take, slice_get}

@@ -86,7 +86,7 @@ module _ (program : List (List Instr)) where
 
   -- Processor t is p, and this locked instruction is its next.
   pub record IsAtLocked (s : MachineState (List ℕ)) (t : ℕ) (p : Processor) (l : Locked) : Type 0 where
-    pub is : slice_get s.processors t ≡ Some p
+    pub processor_at : slice_get s.processors t ≡ Some p
     pub locked : locked_next t p ≡ Some l
 
   -- One step of EventEffects: the next instruction of a processor, which is not locked. The processor does not hold the lock, for then it
@@ -94,7 +94,7 @@ module _ (program : List (List Instr)) where
   pub record PhasedStep (t : ℕ) (s after : PhasedState) : Type 0 where
     pub processor : Processor
     pub instr : Instr
-    pub is : slice_get s.machine.processors t ≡ Some processor
+    pub processor_at : slice_get s.machine.processors t ≡ Some processor
     pub next : slice_get (thread_code program t) processor.position ≡ Some instr
     pub plain : is_locked (x86_operation instr) ≡ false
     pub outside : (phase : Phase) → s.lock ≢ HeldBy t phase
@@ -145,7 +145,7 @@ pub record ReplaysInPhases (test : X86Test) (events : List PhasedEvent) (o : Fin
   pub end : MachineState (List ℕ)
   pub ran : PhasedRunsTo test.threads events (unlocked (initial_machine_state test test.head.init_words)) (unlocked end)
   pub final : IsTrue (is_final test.threads end)
-  pub is : o ≡ machine_outcome flat_memory end
+  pub outcome_is : o ≡ machine_outcome flat_memory end
 
 -- Some list of events leads from the initial state of the test to the outcome.
 abbrev pub OutcomeInPhases : X86Test → FinalState → Type 0

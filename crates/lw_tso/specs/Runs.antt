@@ -42,7 +42,7 @@ module _ {M : Type 0} (mem : Memory M) where
     pub end : MachineState M
     pub ran : MachineRunsTo test.threads events (initial_machine_state test m) end
     pub final : IsTrue (is_final test.threads end)
-    pub is : o ≡ machine_outcome end
+    pub outcome_is : o ≡ machine_outcome end
 
   -- Some list of events leads from the initial state to the outcome.
   abbrev pub IsMachineOutcome : X86Test → M → FinalState → Type 0

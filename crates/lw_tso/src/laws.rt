@@ -85,20 +85,20 @@ pub fn flat_events_are_determined()
 
 /// States, for readers, that adjacent independent events of the flat machine commute: the state after both is the
 /// same, and each step executes the same position.
-pub fn independent_events_can_be_exchanged()
+pub fn independent_events_commute()
     ensures { (program : List (List Instr)) (e f : Event) (s : MachineState (List ℕ)) → AreIndependent program e f s
         → EventsCommute program e f s }
 {}
 
 /// States, for readers, that fences only remove outcomes: every outcome of a test with MFENCEs inserted, at any
 /// indices, is an outcome of the test.
-pub fn fences_only_take_outcomes_away()
+pub fn fences_only_remove_outcomes()
     ensures { (test fenced : X86Test) (o : FinalState) → IsFencedTest test fenced
         → IsMachineOutcome flat_memory fenced fenced.head.init_words o → IsMachineOutcome flat_memory test test.head.init_words o }
 {}
 
 /// States that fences only remove outcomes over every memory system too.
-pub fn fences_only_take_outcomes_away_over_every_memory<M: MemorySystem>()
+pub fn fences_only_remove_outcomes_over_every_memory<M: MemorySystem>()
     ensures { (test fenced : X86Test) (m n : M) (o : FinalState) → IsWellScopedProgram fenced → IsFencedTest test fenced
         → IsInitialMemory (memory_of M.content M.state M.serves) (invariant_of M.cpus M.sound) test m
         → IsInitialMemory (memory_of M.content M.state M.serves) (invariant_of M.cpus M.sound) fenced n
@@ -106,7 +106,7 @@ pub fn fences_only_take_outcomes_away_over_every_memory<M: MemorySystem>()
         → IsMachineOutcome (memory_of M.content M.state M.serves) test m o }
 {
     outcomes_are_flat::<M>();
-    fences_only_take_outcomes_away();
+    fences_only_remove_outcomes();
     tests_without_fences_are_well_formed();
 }
 
@@ -119,7 +119,7 @@ pub fn tests_without_fences_are_well_formed()
 {}
 
 /// States that any MFENCEs of a code can be removed: inserting them again gives the code.
-pub fn fences_can_be_left_out()
+pub fn fences_can_be_removed()
     ensures { (left_out : List Bool) (code : List Instr) → MarksAreFences left_out code
         → IsFencedCode (code_without left_out code) code }
 {}

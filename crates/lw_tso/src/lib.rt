@@ -11,10 +11,10 @@ mod machine;
 mod processor;
 
 pub use laws::{
-    events_are_flat, every_run_ends, fences_can_be_left_out, fences_only_take_outcomes_away,
-    fences_only_take_outcomes_away_over_every_memory, flat_events_are_determined,
-    independent_events_can_be_exchanged, outcomes_are_flat, replays_are_flat,
-    replays_are_of_their_test, tests_without_fences_are_well_formed,
+    events_are_flat, every_run_ends, fences_can_be_removed, fences_only_remove_outcomes,
+    fences_only_remove_outcomes_over_every_memory, flat_events_are_determined,
+    independent_events_commute, outcomes_are_flat, replays_are_flat, replays_are_of_their_test,
+    tests_without_fences_are_well_formed,
 };
 pub use lock_laws::lock_phases_change_no_outcome;
 pub use machine::Machine;

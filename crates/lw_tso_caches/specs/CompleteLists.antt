@@ -1,7 +1,7 @@
 -- Complete lists: the content of a test's list, by whatever algorithm it is made.
-use Rattle.std.specs.Prelude.{◌↔◌, ℕ, All, Contains, List}
+use Rattle.std.specs.Prelude.{◌↔◌, ℕ, All, Contains, List, length}
 use Rattle.lw_base.specs.ListedOutcomes.{IsListedOutcome}
-use Rattle.lw_base.specs.Outcomes.{FinalState}
+use Rattle.lw_base.specs.Outcomes.{FinalState, HasOutcomeShape}
 use Rattle.lw_fence.specs.Compiling.{IsCompiled}
 use Rattle.lw_mesi.specs.declared.protocol.Protocol.{Protocol}
 use Rattle.lw_litmus.specs.Tests.{SourceTest, X86Test}
@@ -17,10 +17,16 @@ pub record ListsMachine (test : SourceTest) (entries : OutcomeEntries) : Type 0 
   pub outcomes : (protocol : Protocol) (o : FinalState) → Contains (outcomes_of entries) o ↔ OutcomeOverCaches protocol program o
   pub replays : (protocol : Protocol) → All (λ e. ReplaysToOverCaches protocol program e.1 e.0) entries
 
--- The list has exactly the outcomes of which Has holds; these are those of a program over caches of each protocol, where its schedules
--- replay to them. For the crates that make lists; no public call cites it.
+-- The outcomes are exactly those of which Has holds; these are those of a program over caches of each protocol, and have its threads and
+-- locations. For the crates that make lists; no public call cites it.
+pub record AreAllOutcomes (Has : FinalState → Type 0) (program : X86Test) (outcomes : List FinalState) : Type 0 where
+  pub exactly : (o : FinalState) → Contains outcomes o ↔ Has o
+  pub over_caches : (protocol : Protocol) (o : FinalState) → Contains outcomes o ↔ OutcomeOverCaches protocol program o
+  pub shapes : All (HasOutcomeShape program.head.threads (length program.head.locs)) outcomes
+
+-- The list has all these outcomes, and its schedules replay to them over caches of each protocol. For the crates that make lists; no public
+-- call cites it.
 pub record IsComplete (Has : FinalState → Type 0) (program : X86Test) (entries : OutcomeEntries) : Type 0 where
-  pub exactly : (o : FinalState) → Contains (outcomes_of entries) o ↔ Has o
-  pub over_caches : (protocol : Protocol) (o : FinalState) → Contains (outcomes_of entries) o ↔ OutcomeOverCaches protocol program o
+  pub all : AreAllOutcomes Has program (outcomes_of entries)
   pub replays : (protocol : Protocol) → All (λ e. ReplaysToOverCaches protocol program e.1 e.0) entries
   pub of_program : All (IsListedOutcome program.head) entries

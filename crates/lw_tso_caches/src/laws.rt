@@ -13,7 +13,7 @@ ghost use Rattle.lw_litmus.specs.Tests.{X86Test};
 ghost use Rattle.lw_base.specs.ListedOutcomes.{IsListedOutcome};
 ghost use Rattle.lw_tso_caches.specs.OverCaches.{FitsCaches, ReplaysToOverCaches, OutcomeOverCaches};
 
-use lw_mesi::empty_caches_are_kept;
+use lw_mesi::empty_caches_are_coherent;
 
 /// States that an x86 test has the same outcomes over caches of each protocol that it fits, empty at the start, as over
 /// flat memory.
@@ -21,7 +21,7 @@ pub fn outcomes_over_caches_are_flat()
     ensures { (protocol : Protocol) (test : X86Test) (o : FinalState) → IsWellScopedProgram test → FitsCaches test
         → OutcomeOverCaches protocol test o ↔ IsMachineOutcome flat_memory test test.head.init_words o }
 {
-    empty_caches_are_kept();
+    empty_caches_are_coherent();
 }
 
 /// States that a list of steps and drains replays to an outcome over caches of each protocol that the test fits, empty
@@ -34,5 +34,5 @@ pub fn replays_over_caches_are_flat()
     ensures of_test { (protocol : Protocol) (test : X86Test) (events : List Event) (o : FinalState) → IsWellScopedProgram test
         → FitsCaches test → ReplaysToOverCaches protocol test events o → IsListedOutcome test.head (o, events) }
 {
-    empty_caches_are_kept();
+    empty_caches_are_coherent();
 }

@@ -50,11 +50,13 @@ content_kept Mesi line states =
 content_kept Moesi line states = shared_content line.memory line.copies
 
 module _ (p : Protocol) (t : ℕ) (line : CacheLine) (lt : t < most_threads) (sound : IsCoherentCacheLine line) (states : HasProtocolStates p line) where
+  -- Whatever the copy of t was, a write finds that only t has a copy, with the coherent word.
   to_write : (c : Copy) → copy_of line t ≡ c → ToWrite t line lt sound (on_write c t line)
   to_write (Modified w) e = hit_to_write t line lt sound (Modified w) w e refl tt
   to_write (Exclusive w) e = hit_to_write t line lt sound (Exclusive w) w e refl tt
   to_write _ e = get_m_to_write t line lt sound
 
+  -- Another cache's GetS preserves the words of the copies, leaves none in M or E, and makes none dirty.
   shares : SharesOthers (table_of p).on_other_get_s line
   shares = record {
     invalid = shared_invalid p;
@@ -63,6 +65,7 @@ module _ (p : Protocol) (t : ℕ) (line : CacheLine) (lt : t < most_threads) (so
     dirty = λ u. (shared_copy p (copy_of line u)).2;
   }
 
+  -- Whatever the copy of t was, a load preserves the coherent word and the coherence of the line, and t then has a copy with this word.
   loaded : (c : Copy) → copy_of line t ≡ c → Loaded t line lt sound (on_load (table_of p) c t line)
   loaded (Modified w) e = hit_loaded t line lt sound (Modified w) w e refl
   loaded (Owned w) e = hit_loaded t line lt sound (Owned w) w e refl
@@ -72,6 +75,7 @@ module _ (p : Protocol) (t : ℕ) (line : CacheLine) (lt : t < most_threads) (so
       get_s_loaded t line lt sound (table_of p).on_other_get_s ((table_of p).memory_after_get_s line) shares (content_kept p line states)
       e (is_held_anywhere line.copies) (λ none. none)
 
+  -- The eviction of a copy that is held preserves the coherent word and the coherence of the line.
   evicted : (c : Copy) → copy_of line t ≡ c → is_held (copy_state c) ≡ true → LineAfterRequest (coherent_word line) (on_evict c t line)
   evicted (Modified w) e h = written_back t line lt sound (Modified w) w e refl tt
   evicted (Owned w) e h = written_back t line lt sound (Owned w) w e refl tt
@@ -115,6 +119,7 @@ map_state : (p : Protocol) (f : Copy → Copy) (copies : List Copy)
 map_state p f copies invalid keeps states u = subst (IsProtocolState p) (sym (copy_map f copies u invalid)) (keeps (copy_in copies u) (states u))
 
 module _ (p : Protocol) (line : CacheLine) (states : HasProtocolStates p line) where
+  -- A load preserves that all copies are in states of the protocol.
   load_states : (c : Copy) (t : ℕ) → HasProtocolStates p (on_load (table_of p) c t line)
   load_states Invalid t =
       put_state p (map (table_of p).on_other_get_s line.copies) t (copy_from (is_held_anywhere line.copies) (coherent_word line))
@@ -122,16 +127,19 @@ module _ (p : Protocol) (line : CacheLine) (states : HasProtocolStates p line) w
       (map_state p (table_of p).on_other_get_s line.copies (shared_invalid p) (shared_state p) states)
   load_states _ t = states
 
+  -- A GetM preserves that all copies are in states of the protocol.
   get_m_states : (t : ℕ) → HasProtocolStates p (get_m t line)
   get_m_states t =
       put_state p (map (λ c. Invalid) line.copies) t (Modified (coherent_word line)) (modified_state p (coherent_word line))
       (map_state p (λ c. Invalid) line.copies refl (λ c s. invalid_state p) states)
 
+  -- A write preserves that all copies are in states of the protocol.
   write_states : (c : Copy) (t : ℕ) → HasProtocolStates p (on_write c t line)
   write_states (Modified w) t = states
   write_states (Exclusive w) t = states
   write_states _ t = get_m_states t
 
+  -- An eviction preserves that all copies are in states of the protocol.
   evict_states : (c : Copy) (t : ℕ) → HasProtocolStates p (on_evict c t line)
   evict_states Invalid t = states
   evict_states _ t = put_state p line.copies t Invalid (invalid_state p) states

@@ -101,9 +101,11 @@ module _ (p : Protocol) (m : Caches) (ok : SatisfiesProtocol p m) where
     abbrev line : CacheLine
     line = cache_line_at m.cache_lines x
 
+    -- The processor is one of the most that there may be.
     lt : t < most_threads
     lt = omega (arith, ok.coherent.few, cpu)
 
+    -- The line of location x satisfies the protocol.
     kept : LineSatisfiesProtocol p line
     kept = kept_cache_line p m x ok loc
 
@@ -111,15 +113,19 @@ module _ (p : Protocol) (m : Caches) (ok : SatisfiesProtocol p m) where
     abbrev writes : ℕ → Caches
     writes v = record { cpus = m.cpus; cache_lines = set m.cache_lines x (cache_line_written t v line) }
 
+    -- A write of v sets the coherent word of location x to v, and preserves those of the others.
     written_content : (v : ℕ) → map coherent_word (set m.cache_lines x (cache_line_written t v line)) ≡ slice_set (map coherent_word m.cache_lines) x v
     written_content v = contents_set m.cache_lines x _ ∙ ap (slice_set (map coherent_word m.cache_lines) x) (write_after p t line lt kept v).content
 
+    -- The caches after a write satisfy the protocol.
     written_kept : (v : ℕ) → SatisfiesProtocol p (writes v)
     written_kept v = set_kept p m x _ ok loc (write_kept p t line lt kept v)
 
+    -- Before a write the processor's copy has the coherent word of location x, once it has been fetched.
     old_word : copy_word (copy_of (cache_line_to_write t line) t) ≡ Some (slice_index (map coherent_word m.cache_lines) x)
     old_word = write_word p t line lt kept ∙ ap Some (contents_at m.cache_lines x)
 
+  -- Each enabled request is served as a lawful memory serves it.
   case_served : (r : Request) → IsInRange m.cpus (length m.cache_lines) r → IsEnabled (line_state m) r → IsServed r
   case_served (Ask t x Load) (cpu, loc) possible = record {
     possible = tt;
@@ -151,10 +157,10 @@ pub protocol_lawful : (p : Protocol) → IsLawful (caches_by p) (caches_invarian
 protocol_lawful p = record {
   served = λ m r a n ok s.
       subst (λ k. RequestEffect (caches_by p) (caches_invariant p) m r a k) (sym s.cache_lines)
-      (subst (λ b. RequestEffect (caches_by p) (caches_invariant p) m r b (caches_after (table_of p) r m)) (sym s.answer) (case_served p m ok r s.there s.possible));
+      (subst (λ b. RequestEffect (caches_by p) (caches_invariant p) m r b (caches_after (table_of p) r m)) (sym s.answer) (case_served p m ok r s.request_in_range s.possible));
   serves = λ m r ok there possible.
       let inside : IsInRange m.cpus (length m.cache_lines) r = subst (λ k. IsInRange m.cpus k r) (length-map m.cache_lines coherent_word) there in (
         caches_after (table_of p) r m,
-        record { there = inside; possible = possible; answer = sym (case_served p m ok r inside possible).answer; cache_lines = refl },
+        record { request_in_range = inside; possible = possible; answer = sym (case_served p m ok r inside possible).answer; cache_lines = refl },
       );
 }

@@ -1,4 +1,5 @@
--- The effects of events over flat memory.
+-- The effects of events over flat memory. An enabled event is an effect of its processor on the memory, and
+-- changes no other processor; most proofs about runs over flat memory begin with this.
 use Rattle.lw_tso.proofs.Common.{◌≡◌, ℕ, List, length, Ok, Option, Some, None, Bool, true, false, refl, sym}
 use Rattle.lw_tso.proofs.Common.{ap, ap₂, ◌∙◌, subst, nat_lt, if◌then◌else◌, slice_get, slice_set, unwrap_or}
 use Rattle.lw_tso.proofs.Common.{value_returned, words_after, Event, Evict, NoLocation, flat_memory, Instr}
@@ -20,13 +21,13 @@ record ActDid (t : ℕ) (act : EventEffect) (p : Processor) (m : List ℕ) : Typ
   done : EffectTransition flat_memory t act p m answer to words
 
 -- Over flat memory an effect has a unique result, processor and memory.
-act_once : (t : ℕ) (act : EventEffect) (p : Processor) (m : List ℕ) (x y : ActDid t act p m)
+effect-deterministic : (t : ℕ) (act : EventEffect) (p : Processor) (m : List ℕ) (x y : ActDid t act p m)
     → (x.answer ≡ y.answer) × (x.to ≡ y.to) × (x.words ≡ y.words)
-act_once t (MemoryAccess l access next) p m x y =
+effect-deterministic t (MemoryAccess l access next) p m x y =
     let d = x.done in
     let e = y.done in
     (d.1 ∙ sym e.1, d.2 ∙ ap (λ w. next (unwrap_or w 0)) (d.3.0 ∙ sym e.3.0) ∙ sym e.2, d.3.1 ∙ sym e.3.1)
-act_once t _ p m x y =
+effect-deterministic t _ p m x y =
     let d = x.done in
     let e = y.done in
     (d.0 ∙ sym e.0, d.1 ∙ sym e.1, d.2 ∙ sym e.2)
@@ -46,7 +47,7 @@ MachineTransition-deterministic program e s after other a b = go (slice_get s.pr
     go None d f = (d.0 ∙ sym f.0, d.1 ∙ sym f.1)
     go (Some p) d f =
         let same =
-        act_once (cpu_of e) _ p s.memory (record { answer = a; to = d.0; words = d.1; done = d.2 })
+        effect-deterministic (cpu_of e) _ p s.memory (record { answer = a; to = d.0; words = d.1; done = d.2 })
         (record { answer = b; to = f.0; words = f.1; done = f.2 }) in
         (same.0, d.3 ∙ ap₂ (λ q n. state (slice_set s.processors (cpu_of e) q) n) same.1 same.2 ∙ sym f.3)
 
@@ -69,33 +70,33 @@ abbrev pub EffectLeadsTo : List ℕ → EventEffect → Processor → List ℕ �
 EffectLeadsTo m act q n = Leaves (act_after act m) q n
 
 -- An enabled effect succeeds.
-pub does_done : (t : ℕ) (act : EventEffect) (p q : Processor) (m n : List ℕ)
+pub EffectTransition-if_enabled : (t : ℕ) (act : EventEffect) (p q : Processor) (m n : List ℕ)
     → EffectLeadsTo m act q n
     → EffectTransition flat_memory t act p m (Ok tt) q n
-does_done t (LocalStep next) p q m n d = (refl, d.0, d.1)
-does_done t (MemoryAccess x access next) p q m n d = (value_returned m x access, refl, d.0, (refl, d.1))
-does_done t _ p q m n d = absurd d
+EffectTransition-if_enabled t (LocalStep next) p q m n d = (refl, d.0, d.1)
+EffectTransition-if_enabled t (MemoryAccess x access next) p q m n d = (value_returned m x access, refl, d.0, (refl, d.1))
+EffectTransition-if_enabled t _ p q m n d = absurd d
 
 -- An effect that succeeds is enabled, and leads to the processor and the words of `EffectLeadsTo`.
-pub done_does : (t : ℕ) (act : EventEffect) (p q : Processor) (m n : List ℕ)
+pub EffectLeadsTo-if_done : (t : ℕ) (act : EventEffect) (p q : Processor) (m n : List ℕ)
     → EffectTransition flat_memory t act p m (Ok tt) q n
     → EffectLeadsTo m act q n
-done_does t (LocalStep next) p q m n d = (d.1, d.2)
-done_does t (MemoryAccess x access next) p q m n d = (d.2 ∙ ap (λ w. next (unwrap_or w 0)) d.3.0, d.3.1)
-done_does t _ p q m n d = absurd (let e = d.0 in cc)
+EffectLeadsTo-if_done t (LocalStep next) p q m n d = (d.1, d.2)
+EffectLeadsTo-if_done t (MemoryAccess x access next) p q m n d = (d.2 ∙ ap (λ w. next (unwrap_or w 0)) d.3.0, d.3.1)
+EffectLeadsTo-if_done t _ p q m n d = absurd (let e = d.0 in cc)
 
 -- Over flat memory no eviction is enabled.
-evicts_none : (m : List ℕ) (x : ℕ) (q : Processor) (n : List ℕ) (there : Bool)
+not-EffectLeadsTo-eviction : (m : List ℕ) (x : ℕ) (q : Processor) (n : List ℕ) (there : Bool)
     → EffectLeadsTo m (if there then Eviction x else Refused NoLocation) q n
     → ⊥
-evicts_none m x q n true d = d
-evicts_none m x q n false d = d
+not-EffectLeadsTo-eviction m x q n true d = d
+not-EffectLeadsTo-eviction m x q n false d = d
 
 -- On the flat machine no eviction is enabled: no cache holds a line.
-pub no_eviction : (program : List (List Instr)) (locs t x : ℕ) (p q : Processor) (m n : List ℕ)
+pub not-EffectLeadsTo-evict_event : (program : List (List Instr)) (locs t x : ℕ) (p q : Processor) (m n : List ℕ)
     → EffectLeadsTo m (event_effect program locs (Evict t x) p) q n
     → ⊥
-no_eviction program locs t x p q m n d = evicts_none m x q n (nat_lt x locs) d
+not-EffectLeadsTo-evict_event program locs t x p q m n d = not-EffectLeadsTo-eviction m x q n (nat_lt x locs) d
 
 -- An event of a run: its processor before and after it, and the words of memory after it.
 pub record EventOccurrence (program : List (List Instr)) (e : Event) (s mid : MachineState (List ℕ)) : Type 0 where
@@ -104,24 +105,24 @@ pub record EventOccurrence (program : List (List Instr)) (e : Event) (s mid : Ma
   pub words : List ℕ
   pub was : slice_get s.processors (cpu_of e) ≡ Some from
   pub does : EffectLeadsTo s.memory (event_effect program (length s.memory) e from) to words
-  pub is : mid ≡ state (slice_set s.processors (cpu_of e) to) words
+  pub state_is : mid ≡ state (slice_set s.processors (cpu_of e) to) words
 
 module _ (program : List (List Instr)) where
   -- The effect of an event is that of the event in the whole machine.
-  pub event_of_effect : (e : Event) (processors : List Processor) (p q : Processor) (m n : List ℕ)
+  pub MachineTransition-of_effect : (e : Event) (processors : List Processor) (p q : Processor) (m n : List ℕ)
       → slice_get processors (cpu_of e) ≡ Some p
       → EffectLeadsTo m (event_effect program (length m) e p) q n
       → MachineTransition flat_memory program e (state processors m) (Ok tt) (state (slice_set processors (cpu_of e) q) n)
-  event_of_effect e processors p q m n was d =
+  MachineTransition-of_effect e processors p q m n was d =
       subst (λ o.
       ProcessorTransition flat_memory o program e (state processors m) (Ok tt) (state (slice_set processors (cpu_of e) q) n))
-      (sym was) (q, n, does_done (cpu_of e) (event_effect program (length m) e p) p q m n d, refl)
+      (sym was) (q, n, EffectTransition-if_enabled (cpu_of e) (event_effect program (length m) e p) p q m n d, refl)
 
   -- An event that succeeds is an effect of its processor, and changes no other.
-  pub effect_of_event : (e : Event) (s mid : MachineState (List ℕ))
+  pub EventOccurrence-of_event : (e : Event) (s mid : MachineState (List ℕ))
       → MachineTransition flat_memory program e s (Ok tt) mid
       → EventOccurrence program e s mid
-  effect_of_event e s mid done = go (slice_get s.processors (cpu_of e)) refl done
+  EventOccurrence-of_event e s mid done = go (slice_get s.processors (cpu_of e)) refl done
     where
       go : (o : Option Processor)
           → slice_get s.processors (cpu_of e) ≡ o
@@ -133,6 +134,6 @@ module _ (program : List (List Instr)) where
         to = d.0;
         words = d.1;
         was = was;
-        does = done_does (cpu_of e) (event_effect program (length s.memory) e p) p d.0 s.memory d.1 d.2;
-        is = d.3;
+        does = EffectLeadsTo-if_done (cpu_of e) (event_effect program (length s.memory) e p) p d.0 s.memory d.1 d.2;
+        state_is = d.3;
       }

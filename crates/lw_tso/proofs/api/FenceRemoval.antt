@@ -1,38 +1,41 @@
--- A code is obtained from the code without its marked MFENCEs by inserting these.
+-- A code is obtained from the code without its marked MFENCEs by inserting these. So the laws about inserted
+-- fences apply to a program from which fences were removed.
 use Rattle.lw_tso.proofs.Common.{◌≡◌, ℕ, zero, suc, ◌+◌, ◌≤◌, Bool, true, false, List, [], ◌∷◌, ◌++◌, length}
 use Rattle.lw_tso.proofs.Common.{map, take, cond, Some, ◌⊎◌, inl, inr, refl, sym, ap, ◌∙◌, subst, arith}
 use Rattle.lw_tso.proofs.Common.{slice_get, same_Some, sum_by-cons, Instr, Mfence, retarget_to_blocks}
 use Rattle.lw_tso.proofs.Common.{IsFencedCode, unmarked_count_before, kept, code_without, MarksAreFences, not}
 
 -- Before index 0 no instruction is kept.
-pub kept_first : (marks : List Bool) → unmarked_count_before marks 0 ≡ 0
-kept_first [] = refl
-kept_first (mark ∷ marks) = refl
+pub unmarked_count_before-zero : (marks : List Bool) → unmarked_count_before marks 0 ≡ 0
+unmarked_count_before-zero [] = refl
+unmarked_count_before-zero (mark ∷ marks) = refl
 
 -- Before a later index are kept the first instruction, if it is not marked, and those of the others before the index less one.
-pub kept_on : (mark : Bool) (marks : List Bool) (index : ℕ)
+pub unmarked_count_before-cons : (mark : Bool) (marks : List Bool) (index : ℕ)
     → unmarked_count_before (mark ∷ marks) (suc index) ≡ cond (not mark) 1 0 + unmarked_count_before marks index
-kept_on mark marks index = sum_by-cons (λ (m : Bool). cond (not m) 1 0) mark (take index marks)
+unmarked_count_before-cons mark marks index = sum_by-cons (λ (m : Bool). cond (not m) 1 0) mark (take index marks)
 
 -- What is kept of a concatenation is what is kept of its parts.
-pub kept_append : (marks others : List Bool) (code more : List Instr)
+pub kept-append : (marks others : List Bool) (code more : List Instr)
     → MarksAreFences marks code
     → kept (marks ++ others) (code ++ more) ≡ kept marks code ++ kept others more
-kept_append [] others [] more fences = refl
-kept_append (true ∷ marks) others (i ∷ code) more fences = kept_append marks others code more fences.1
-kept_append (false ∷ marks) others (i ∷ code) more fences =
-    ap (λ (is : List Instr). i ∷ is) (kept_append marks others code more fences)
-kept_append _ others _ more fences = absurd fences
+kept-append [] others [] more fences = refl
+kept-append (true ∷ marks) others (i ∷ code) more fences = kept-append marks others code more fences.1
+kept-append (false ∷ marks) others (i ∷ code) more fences =
+    ap (λ (is : List Instr). i ∷ is) (kept-append marks others code more fences)
+kept-append _ others _ more fences = absurd fences
 
 -- If only MFENCEs are marked in two codes, so are they in the concatenation.
-pub fences_append : (marks others : List Bool) (code more : List Instr)
+pub MarksAreFences-append : (marks others : List Bool) (code more : List Instr)
     → MarksAreFences marks code
     → MarksAreFences others more
     → MarksAreFences (marks ++ others) (code ++ more)
-fences_append [] others [] more fences rest = rest
-fences_append (true ∷ marks) others (i ∷ code) more fences rest = (fences.0, fences_append marks others code more fences.1 rest)
-fences_append (false ∷ marks) others (i ∷ code) more fences rest = fences_append marks others code more fences rest
-fences_append _ others _ more fences rest = absurd fences
+MarksAreFences-append [] others [] more fences rest = rest
+MarksAreFences-append (true ∷ marks) others (i ∷ code) more fences rest =
+    (fences.0, MarksAreFences-append marks others code more fences.1 rest)
+MarksAreFences-append (false ∷ marks) others (i ∷ code) more fences rest =
+    MarksAreFences-append marks others code more fences rest
+MarksAreFences-append _ others _ more fences rest = absurd fences
 
 module _ (lead : Instr → Instr) where
   -- The instruction at an index is left out, or is the next one kept.
@@ -42,80 +45,98 @@ module _ (lead : Instr → Instr) where
       ⊎ ((slice_get (map lead (kept marks code)) (unmarked_count_before marks index) ≡ Some (lead i))
       × (unmarked_count_before marks (index + 1) ≡ unmarked_count_before marks index + 1))
 
-  behind_out : (marks : List Bool) (code : List Instr) (j i : Instr) (index : ℕ)
+  -- If the claim holds of a code at an index, it holds at the next one after a marked instruction is put before the code.
+  IsEither-cons_marked : (marks : List Bool) (code : List Instr) (j i : Instr) (index : ℕ)
       → IsEither marks code index i
       → IsEither (true ∷ marks) (j ∷ code) (suc index) i
-  behind_out marks code j i index = go
+  IsEither-cons_marked marks code j i index = go
     where
-      next : unmarked_count_before (true ∷ marks) (suc index + 1) ≡ unmarked_count_before marks (index + 1)
-      next =
+      count_after_next : unmarked_count_before (true ∷ marks) (suc index + 1) ≡ unmarked_count_before marks (index + 1)
+      count_after_next =
           let further : suc index + 1 ≡ suc (index + 1) = omega arith in
-          ap (unmarked_count_before (true ∷ marks)) further ∙ kept_on true marks (index + 1) ∙ omega arith
+          ap (unmarked_count_before (true ∷ marks)) further ∙ unmarked_count_before-cons true marks (index + 1) ∙ omega arith
 
-      here : unmarked_count_before (true ∷ marks) (suc index) ≡ unmarked_count_before marks index
-      here = kept_on true marks index ∙ omega arith
+      count_here : unmarked_count_before (true ∷ marks) (suc index) ≡ unmarked_count_before marks index
+      count_here = unmarked_count_before-cons true marks index ∙ omega arith
 
       go : IsEither marks code index i → IsEither (true ∷ marks) (j ∷ code) (suc index) i
-      go (inl out) = inl (out.0, next ∙ out.1 ∙ sym here)
+      go (inl out) = inl (out.0, count_after_next ∙ out.1 ∙ sym count_here)
       go (inr stays) = inr (
-        subst (λ k. slice_get (map lead (kept marks code)) k ≡ Some (lead i)) (sym here) stays.0,
-        omega (arith, next, here, stays.1),
+        subst (λ k. slice_get (map lead (kept marks code)) k ≡ Some (lead i)) (sym count_here) stays.0,
+        omega (arith, count_after_next, count_here, stays.1),
       )
 
-  behind_kept : (marks : List Bool) (code : List Instr) (j i : Instr) (index : ℕ)
+  -- If the claim holds of a code at an index, it holds at the next one after an unmarked instruction is put before the code.
+  IsEither-cons_kept : (marks : List Bool) (code : List Instr) (j i : Instr) (index : ℕ)
       → IsEither marks code index i
       → IsEither (false ∷ marks) (j ∷ code) (suc index) i
-  behind_kept marks code j i index = go
+  IsEither-cons_kept marks code j i index = go
     where
-      next : unmarked_count_before (false ∷ marks) (suc index + 1) ≡ suc (unmarked_count_before marks (index + 1))
-      next =
+      count_after_next : unmarked_count_before (false ∷ marks) (suc index + 1) ≡ suc (unmarked_count_before marks (index + 1))
+      count_after_next =
           let further : suc index + 1 ≡ suc (index + 1) = omega arith in
-          ap (unmarked_count_before (false ∷ marks)) further ∙ kept_on false marks (index + 1) ∙ omega arith
+          ap (unmarked_count_before (false ∷ marks)) further ∙ unmarked_count_before-cons false marks (index + 1) ∙ omega arith
 
-      here : unmarked_count_before (false ∷ marks) (suc index) ≡ suc (unmarked_count_before marks index)
-      here = kept_on false marks index ∙ omega arith
+      count_here : unmarked_count_before (false ∷ marks) (suc index) ≡ suc (unmarked_count_before marks index)
+      count_here = unmarked_count_before-cons false marks index ∙ omega arith
 
       go : IsEither marks code index i → IsEither (false ∷ marks) (j ∷ code) (suc index) i
-      go (inl out) = inl (out.0, next ∙ ap suc out.1 ∙ sym here)
+      go (inl out) = inl (out.0, count_after_next ∙ ap suc out.1 ∙ sym count_here)
       go (inr stays) = inr (
-        subst (λ k. slice_get (lead j ∷ map lead (kept marks code)) k ≡ Some (lead i)) (sym here) stays.0,
-        omega (arith, next, here, stays.1),
+        subst (λ k. slice_get (lead j ∷ map lead (kept marks code)) k ≡ Some (lead i)) (sym count_here) stays.0,
+        omega (arith, count_after_next, count_here, stays.1),
       )
 
-  each : (marks : List Bool) (code : List Instr)
+  -- If only MFENCEs are marked, the claim holds at each index of the code.
+  IsEither-at_each : (marks : List Bool) (code : List Instr)
       → MarksAreFences marks code
       → (index : ℕ) (i : Instr)
       → slice_get code index ≡ Some i
       → IsEither marks code index i
-  each [] [] fences index i at = absurd cc
-  each (true ∷ marks) (j ∷ code) fences zero i at =
-      inl (same_Some i j (sym at) ∙ fences.0, omega (arith, kept_on true marks 0, kept_first marks))
-  each (true ∷ marks) (j ∷ code) fences (suc index) i at = behind_out marks code j i index (each marks code fences.1 index i at)
-  each (false ∷ marks) (j ∷ code) fences zero i at =
-      inr (ap (λ (k : Instr). Some (lead k)) (same_Some j i at), omega (arith, kept_on false marks 0, kept_first marks))
-  each (false ∷ marks) (j ∷ code) fences (suc index) i at = behind_kept marks code j i index (each marks code fences index i at)
-  each _ _ fences index i at = absurd fences
+  IsEither-at_each [] [] fences index i at = absurd cc
+  IsEither-at_each (true ∷ marks) (j ∷ code) fences zero i at = inl (
+    same_Some i j (sym at) ∙ fences.0,
+    omega (arith, unmarked_count_before-cons true marks 0, unmarked_count_before-zero marks),
+  )
+  IsEither-at_each (true ∷ marks) (j ∷ code) fences (suc index) i at =
+      IsEither-cons_marked marks code j i index (IsEither-at_each marks code fences.1 index i at)
+  IsEither-at_each (false ∷ marks) (j ∷ code) fences zero i at = inr (
+    ap (λ (k : Instr). Some (lead k)) (same_Some j i at),
+    omega (arith, unmarked_count_before-cons false marks 0, unmarked_count_before-zero marks),
+  )
+  IsEither-at_each (false ∷ marks) (j ∷ code) fences (suc index) i at =
+      IsEither-cons_kept marks code j i index (IsEither-at_each marks code fences index i at)
+  IsEither-at_each _ _ fences index i at = absurd fences
 
-  last : (marks : List Bool) (code : List Instr)
+  -- Past the end of the code, the number of unmarked instructions is the length of the code that is kept.
+  unmarked_count_before-end : (marks : List Bool) (code : List Instr)
       → MarksAreFences marks code
       → (index : ℕ)
       → length code ≤ index
       → unmarked_count_before marks index ≡ length (map lead (kept marks code))
-  last [] [] fences zero past = refl
-  last [] [] fences (suc index) past = refl
-  last (true ∷ marks) (j ∷ code) fences zero past = absurd (omega arith)
-  last (true ∷ marks) (j ∷ code) fences (suc index) past =
-      omega (arith, kept_on true marks index, last marks code fences.1 index (omega (arith, past)))
-  last (false ∷ marks) (j ∷ code) fences zero past = absurd (omega arith)
-  last (false ∷ marks) (j ∷ code) fences (suc index) past =
-      omega (arith, kept_on false marks index, last marks code fences index (omega (arith, past)))
-  last _ _ fences index past = absurd fences
+  unmarked_count_before-end [] [] fences zero past = refl
+  unmarked_count_before-end [] [] fences (suc index) past = refl
+  unmarked_count_before-end (true ∷ marks) (j ∷ code) fences zero past = absurd (omega arith)
+  unmarked_count_before-end (true ∷ marks) (j ∷ code) fences (suc index) past = omega (
+    arith,
+    unmarked_count_before-cons true marks index,
+    unmarked_count_before-end marks code fences.1 index (omega (arith, past)),
+  )
+  unmarked_count_before-end (false ∷ marks) (j ∷ code) fences zero past = absurd (omega arith)
+  unmarked_count_before-end (false ∷ marks) (j ∷ code) fences (suc index) past = omega (
+    arith,
+    unmarked_count_before-cons false marks index,
+    unmarked_count_before-end marks code fences index (omega (arith, past)),
+  )
+  unmarked_count_before-end _ _ fences index past = absurd fences
 
 -- A code is what is left of it, with the marked MFENCEs inserted.
-pub left_out : (marks : List Bool) (code : List Instr) → MarksAreFences marks code → IsFencedCode (code_without marks code) code
-left_out marks code fences = record {
+pub IsFencedCode-code_without : (marks : List Bool) (code : List Instr)
+    → MarksAreFences marks code
+    → IsFencedCode (code_without marks code) code
+IsFencedCode-code_without marks code fences = record {
   block = unmarked_count_before marks;
-  first = kept_first marks;
-  each = each (retarget_to_blocks (unmarked_count_before marks)) marks code fences;
-  last = last (retarget_to_blocks (unmarked_count_before marks)) marks code fences;
+  first = unmarked_count_before-zero marks;
+  each = IsEither-at_each (retarget_to_blocks (unmarked_count_before marks)) marks code fences;
+  last = unmarked_count_before-end (retarget_to_blocks (unmarked_count_before marks)) marks code fences;
 }

@@ -23,7 +23,7 @@ stores_from k code = count_by makes_entry (drop k code)
 -- The buffer has room for the stores that remain, and its entries are for locations of the test.
 pub record HasRoom (locs : ℕ) (code : List Instr) (p : Processor) (room : ℕ) : Type 0 where
   pub fits : length p.buffer + stores_from p.position code ≤ room
-  pub there : All (λ entry. entry.0 < locs) p.buffer
+  pub entries_in_range : All (λ entry. entry.0 < locs) p.buffer
 
 module _ {M A : Type 0} (mem : Memory M) (inv : Invariant M) where
   -- The invariant of the parts of a machine in memory: there is a processor for each thread, which the memory system has too, the memory

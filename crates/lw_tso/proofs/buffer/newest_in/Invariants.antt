@@ -1,3 +1,4 @@
+-- At each round no entry from `index` on is for the location.
 use Rattle.lw_tso.proofs.Common.{◌≡◌, ◌≤◌, drop, length, None, newest_buffered}
 use Rattle.lw_tso.proofs.buffer.newest_in.Given as goal
 

@@ -1,15 +1,18 @@
-use Rattle.lw_tso.proofs.FromPhases.{run_follows}
-use Rattle.lw_tso.proofs.IntoPhases.{run_phases}
+-- Of the law that the machine with locked instructions in phases has the outcomes of the machine in which
+-- each is one step. `MachineRunsTo-of_phases` turns a run in phases into one of single steps, and `InPhases-run` the
+-- reverse; both end in the same state.
+use Rattle.lw_tso.proofs.FromPhases.{MachineRunsTo-of_phases}
+use Rattle.lw_tso.proofs.IntoPhases.{InPhases-run}
 use Rattle.lw_tso.proofs.lock_laws.lock_phases_change_no_outcome.Goals as goal
 
 pub returns : goal.returns
 returns c test o ok = (
   (λ a.
       let r = a.1 in
-      let one = run_follows test.threads _ ok.code a.0 _ r.end ok.head.words r.ran in
-      (one.0, record { end = r.end; ran = one.1; final = r.final; is = r.is })),
+      let one = MachineRunsTo-of_phases test.threads _ ok.code a.0 _ r.end ok.head.words r.ran in
+      (one.0, record { end = r.end; ran = one.1; final = r.final; outcome_is = r.outcome_is })),
   (λ a.
       let r = a.1 in
-      let phases = run_phases test.threads a.0 _ r.end r.ran in
-      (phases.0, record { end = r.end; ran = phases.1; final = r.final; is = r.is })),
+      let phases = InPhases-run test.threads a.0 _ r.end r.ran in
+      (phases.0, record { end = r.end; ran = phases.1; final = r.final; outcome_is = r.outcome_is })),
 )

@@ -1,3 +1,4 @@
+-- At each round `words` are the words of the first locations.
 use Rattle.lw_tso.proofs.Common.{◌≡◌, take}
 use Rattle.lw_tso.proofs.machine.content_of.Given as goal
 

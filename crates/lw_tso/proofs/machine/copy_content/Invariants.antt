@@ -1,3 +1,4 @@
+-- At each round the words of the first locations are the memory's, and the length of the list is unchanged.
 use Rattle.lw_tso.proofs.Common.{◌≡◌, length, take}
 use Rattle.lw_tso.proofs.machine.copy_content.Given as goal
 

@@ -1,3 +1,5 @@
+-- At each round the first `thread` rows are the registers of the first processors, and the length of the list
+-- is unchanged.
 use Rattle.lw_tso.proofs.Common.{◌≡◌, length, map, take}
 use Rattle.lw_tso.specs.declared.processor.Processor.{Processor as ProcessorInMemory}
 use Rattle.lw_tso.proofs.machine.copy_registers.Given as goal

@@ -1,5 +1,7 @@
+-- Of `instr_at`, which returns the instruction at a position of a thread, or `None` at its end. The thread
+-- exists, so its code can be read.
 use Rattle.lw_tso.proofs.Common.{[], ◌∙◌, arith, get_or_from_slice_get}
-use Rattle.lw_tso.proofs.Events.{read}
+use Rattle.lw_tso.proofs.Events.{slice_get-of_read}
 use Rattle.lw_tso.proofs.machine.instr_at.Goals as goal
 
 pub bounds-as_slice-index : goal.bounds-as_slice-index
@@ -11,6 +13,6 @@ offset_bounds-as_slice-index g c = omega (arith, bounds-as_slice-index g c)
 pub returns : goal.returns
 returns g c =
     let at =
-    read c.args.program.now.threads _ _ c.args.cpu _ c.as_slice.ensures c.index.ensures.value c.requires
+    slice_get-of_read c.args.program.now.threads _ _ c.args.cpu _ c.as_slice.ensures c.index.ensures.value c.requires
     c.index-as_slice-index.is in
     rw (get_or_from_slice_get _ c.args.cpu _ [] at) (c.copied.ensures ∙ c.get.ensures)

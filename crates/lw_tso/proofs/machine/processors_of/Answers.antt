@@ -1,8 +1,11 @@
+-- Of `processors_of`, which creates the initial processors of a program, each with room for all stores of its
+-- thread. `AreStarted-push` appends the next one. There is a code for each thread with registers, since the program
+-- is well-formed.
 use Rattle.lw_tso.proofs.Common.{◌≡◌, ◌<◌, ◌≤◌, [], get_or, length, map, arith, ap, sym, refl, ◌∙◌, take_all}
 use Rattle.lw_tso.proofs.Common.{get_or_from_slice_get, thread_code, stores_from, initial_processor}
 use Rattle.lw_tso.proofs.Common.{processor_of}
-use Rattle.lw_tso.proofs.Events.{read}
-use Rattle.lw_tso.proofs.Starts.{none_started, one_more}
+use Rattle.lw_tso.proofs.Events.{slice_get-of_read}
+use Rattle.lw_tso.proofs.Starts.{AreStarted-none, AreStarted-push}
 use Rattle.lw_tso.proofs.machine.processors_of.Goals as goal
 
 pub loop-thread-preserved : goal.loop-thread-preserved
@@ -12,14 +15,14 @@ loop-thread-preserved g c =
     omega (arith, ap length c.as_slice-regs-items.ensures) in
     let there : c.loop-thread.thread < length c.args.program.now.threads =
     omega (arith, within, known.head.regs, known.as_many) in
-    let code = read _ _ _ c.loop-thread.thread _ c.as_slice.ensures refl there c.index-as_slice-thread.is in
+    let code = slice_get-of_read _ _ _ c.loop-thread.thread _ c.as_slice.ensures refl there c.index-as_slice-thread.is in
     let of = get_or_from_slice_get _ c.loop-thread.thread _ [] code ∙ sym c.as_slice-in-loop-thread.ensures in
     let started : processor_of c.in_ok-new.field-0
     ≡ initial_processor (get_or c.args.program.now.head.init_regs c.loop-thread.thread []) =
     rw (← c.as_slice-regs-items.ensures) c.in_ok-new.ensures.processor in
     let roomy : stores_from 0 (thread_code c.args.program.now.threads c.loop-thread.thread) ≤ c.in_ok-new.field-0.buffer.room =
     rw of (omega (arith, c.in_ok-new.ensures.room)) in
-    one_more _ _ _ _ _ _ c.loop-thread.invariant within c.in_ok-push.ensures.items started roomy
+    AreStarted-push _ _ _ _ _ _ c.loop-thread.invariant within c.in_ok-push.ensures.items started roomy
 
 pub bounds-as_slice-thread : goal.bounds-as_slice-thread
 bounds-as_slice-thread g c =
@@ -47,7 +50,7 @@ bounds-regs-items-thread g c = c.loop-thread-test.true
 
 pub loop-thread-init : goal.loop-thread-init
 loop-thread-init g c =
-    rw c.new-processors.ensures.items (none_started c.args.program.now.threads c.args.program.now.head.init_regs)
+    rw c.new-processors.ensures.items (AreStarted-none c.args.program.now.threads c.args.program.now.head.init_regs)
 
 pub offset_bounds-as_slice-thread : goal.offset_bounds-as_slice-thread
 offset_bounds-as_slice-thread g c =

@@ -1,3 +1,4 @@
+-- At each round the first `thread` processors are created, in their initial states and with room enough.
 use Rattle.lw_tso.proofs.Starts.{AreStarted}
 use Rattle.lw_tso.proofs.machine.processors_of.Given as goal
 

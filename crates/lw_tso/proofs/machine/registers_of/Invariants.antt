@@ -1,3 +1,4 @@
+-- At each round `regs` are the registers of the first processors.
 use Rattle.lw_tso.proofs.Common.{◌≡◌, map, take}
 use Rattle.lw_tso.proofs.machine.registers_of.Given as goal
 

@@ -1,7 +1,9 @@
+-- Of `restart_all`, which resets all processors and keeps the rooms of their buffers. `RefilledUpTo-suc` extends the
+-- part that is reset by one processor, and `map-set_same_image` says that its room is unchanged.
 use Rattle.lw_tso.proofs.Common.{◌<◌, arith, length, length-set, [], refl, ◌∙◌, initial_processor}
 use Rattle.lw_tso.proofs.Common.{processor_of}
-use Rattle.lw_tso.proofs.Events.{read}
-use Rattle.lw_tso.proofs.Refilled.{refilled, refilled_all, kept_in_place}
+use Rattle.lw_tso.proofs.Events.{slice_get-of_read}
+use Rattle.lw_tso.proofs.Refilled.{RefilledUpTo-suc, RefilledUpTo-all, map-set_same_image}
 use Rattle.lw_tso.proofs.machine.restart_all.Goals as goal
 
 pub loop-thread-preserved : goal.loop-thread-preserved
@@ -12,11 +14,11 @@ loop-thread-preserved g c =
     record {
       many = length-set before t c.restart.new.self ∙ c.loop-thread.invariant.many;
       start =
-          refilled processor_of initial_processor before c.args.init_regs.now t c.restart.new.self []
-          (record { so_far = c.loop-thread.invariant.start; within = within; there = c.loop-thread-test.true })
+          RefilledUpTo-suc processor_of initial_processor before c.args.init_regs.now t c.restart.new.self []
+          (record { so_far = c.loop-thread.invariant.start; first_in_range = within; second_in_range = c.loop-thread-test.true })
           c.restart.ensures.processor;
       rooms =
-          kept_in_place _ _ t _ _ (read before before t t _ refl refl within c.index-processors-thread.is)
+          map-set_same_image _ _ t _ _ (slice_get-of_read before before t t _ refl refl within c.index-processors-thread.is)
           (rw c.index-processors-thread.is c.restart.ensures.room)
           ∙ c.loop-thread.invariant.rooms;
     }
@@ -26,7 +28,7 @@ bounds-processors-thread g c = omega (arith, c.loop-thread-test.true, c.loop-thr
 
 pub returns-clause-start : goal.returns-clause-start
 returns-clause-start g c =
-    refilled_all processor_of initial_processor _ _ c.loop-thread.invariant.start
+    RefilledUpTo-all processor_of initial_processor _ _ c.loop-thread.invariant.start
     (omega (arith, c.loop-thread.invariant.many, c.requires)) c.loop-thread-test.false
 
 pub returns-clause-rooms : goal.returns-clause-rooms

@@ -1,3 +1,5 @@
+-- At each round the first `thread` processors are in their initial states, and all buffers have the rooms
+-- that they had.
 use Rattle.lw_tso.proofs.Common.{◌≡◌, length, map, take, initial_processor, processor_of}
 use Rattle.lw_tso.specs.declared.processor.Processor.{Processor as ProcessorInMemory}
 use Rattle.lw_tso.proofs.machine.restart_all.Given as goal

@@ -1,3 +1,4 @@
+-- At each round the lines created so far, followed by empty ones for the remaining words, are all lines.
 use Rattle.lw_mesi.proofs.Common.{◌≡◌, ◌++◌, drop, map, unheld_cache_line}
 use Rattle.lw_mesi.proofs.caches.SnoopingCaches.new.Given as goal
 

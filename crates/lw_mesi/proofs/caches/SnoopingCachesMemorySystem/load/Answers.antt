@@ -1,6 +1,9 @@
+-- Of `load` of the caches, which is the protocol's transition for a load. `ProtocolTransition-borrowed` lifts the change of the
+-- borrowed line to all caches, and `SatisfiesProtocol-set_line` says that they satisfy the protocol afterwards.
 use Rattle.lw_mesi.proofs.Common.{ap, sym, ◌∙◌, subst, cache_line_to_read, table_of, LineSatisfiesProtocol}
 use Rattle.lw_mesi.proofs.Common.{load_kept, Caches, Load}
-use Rattle.lw_mesi.proofs.ProtocolInvariant.{Borrowed, before_states, line_there, served, still_kept}
+use Rattle.lw_mesi.proofs.ProtocolInvariant.{IsBorrowedLine, before_states, index_in_range}
+use Rattle.lw_mesi.proofs.ProtocolInvariant.{ProtocolTransition-borrowed, SatisfiesProtocol-set_line}
 use Rattle.lw_mesi.proofs.caches.SnoopingCachesMemorySystem.load.Given.{Over}
 use Rattle.lw_mesi.proofs.caches.SnoopingCachesMemorySystem.load.Goals.{After-index_mut-line}
 use Rattle.lw_mesi.proofs.caches.SnoopingCachesMemorySystem.load.Goals as goal
@@ -8,11 +11,11 @@ use Rattle.lw_mesi.proofs.caches.SnoopingCachesMemorySystem.load.Goals as goal
 -- The cache line, before the load.
 borrowed : (g : Over) (c : After-index_mut-line g)
     → (let m : Caches = record { cpus = c.self.inside.cpus; cache_lines = c.self.inside.cache_lines.items } in
-    Borrowed g.P.ProtocolType.protocol m c.args.self.now c.args.cpu c.args.loc c.index.result c.index_mut-line.result.now)
+    IsBorrowedLine g.P.ProtocolType.protocol m c.args.self.now c.args.cpu c.args.loc c.index.result c.index_mut-line.result.now)
 borrowed g c = record {
   same = c.self.view_is;
   kept = c.self.invariant.1;
-  few = c.self.invariant.0;
+  within_line_limit = c.self.invariant.0;
   cpu = c.requires.cpu;
   loc = c.requires.loc;
   index = c.index.ensures.value;
@@ -20,7 +23,7 @@ borrowed g c = record {
 }
 
 pub index_mut-line-requires : goal.index_mut-line-requires
-index_mut-line-requires g c = line_there _ _ c.self.inside.cache_lines _ _ c.self.view_is c.index.ensures.value c.requires.loc
+index_mut-line-requires g c = index_in_range _ _ c.self.inside.cache_lines _ _ c.self.view_is c.index.ensures.value c.requires.loc
 
 pub load-requires-clause-states : goal.load-requires-clause-states
 load-requires-clause-states g c =
@@ -29,8 +32,8 @@ load-requires-clause-states g c =
 
 pub invariant_of-self : goal.invariant_of-self
 invariant_of-self g c =
-    still_kept g.P.ProtocolType.protocol _ _ c.args.cpu _ _ _ (borrowed g (goal.at.invariant_of-self g c).After-index_mut-line) _
-    (λ lt s.
+    SatisfiesProtocol-set_line g.P.ProtocolType.protocol _ _ c.args.cpu _ _ _
+    (borrowed g (goal.at.invariant_of-self g c).After-index_mut-line) _ (λ lt s.
     subst (LineSatisfiesProtocol g.P.ProtocolType.protocol)
     (sym (c.load.ensures.line
     ∙ ap (λ p. cache_line_to_read (table_of p) c.args.cpu c.index_mut-line.result.now) c.protocol.ensures))
@@ -38,6 +41,6 @@ invariant_of-self g c =
 
 pub returns-clause-served : goal.returns-clause-served
 returns-clause-served g c =
-    served g.P.ProtocolType.protocol _ _ c.args.cpu _ _ _ (borrowed g (goal.at.returns-clause-served g c).After-index_mut-line)
-    (table_of g.P.ProtocolType.protocol) Load _ _ (rw c.protocol.ensures at c.load.ensures.word)
-    (rw c.protocol.ensures at c.load.ensures.line)
+    ProtocolTransition-borrowed g.P.ProtocolType.protocol _ _ c.args.cpu _ _ _
+    (borrowed g (goal.at.returns-clause-served g c).After-index_mut-line) (table_of g.P.ProtocolType.protocol) Load _ _
+    (rw c.protocol.ensures at c.load.ensures.word) (rw c.protocol.ensures at c.load.ensures.line)

@@ -1,12 +1,14 @@
+-- Of `restart` of the caches, which empties them and writes the initial words to memory. After the loop all
+-- lines are overwritten, since there are as many words as lines (`caches_empty-after_loop`).
 use Rattle.lw_mesi.proofs.Common.{◌≡◌, ◌≤◌, ◌<◌, ◌∙◌, ℕ, List, arith, length, length-set, map, take, refl}
 use Rattle.lw_mesi.proofs.Common.{sym, ap, subst, take_all, length-map, map_more, take_more_set, most_threads}
 use Rattle.lw_mesi.proofs.Common.{Caches, CacheLine, unheld_cache_line, empty_caches, coherent_word}
 use Rattle.lw_mesi.proofs.Common.{coherent_words, SatisfiesProtocol}
-use Rattle.lw_mesi.proofs.Start.{empty_content, empty_kept}
+use Rattle.lw_mesi.proofs.Start.{coherent_words-empty_caches, SatisfiesProtocol-empty_caches}
 use Rattle.lw_mesi.proofs.caches.SnoopingCachesMemorySystem.restart.Goals as goal
 
 -- After the last cache line is emptied, the caches are the empty caches over the words.
-emptied : (before : Caches) (cache_lines old : List CacheLine) (cpus was k : ℕ) (words : List ℕ)
+caches_empty-after_loop : (before : Caches) (cache_lines old : List CacheLine) (cpus was k : ℕ) (words : List ℕ)
     → (let m : Caches = record { cpus = was; cache_lines = old } in m) ≡ before
     → cpus ≡ was
     → length cache_lines ≡ length old
@@ -14,7 +16,7 @@ emptied : (before : Caches) (cache_lines old : List CacheLine) (cpus was k : ℕ
     → length words ≤ k
     → length words ≡ length (coherent_words before)
     → (let m : Caches = record { cpus = cpus; cache_lines = cache_lines } in m) ≡ empty_caches before.cpus words
-emptied before cache_lines old cpus was k words is same many each past as_many =
+caches_empty-after_loop before cache_lines old cpus was k words is same many each past as_many =
     let olds = sym (length-map old coherent_word) ∙ ap (λ m. length (coherent_words m)) is ∙ sym as_many in
     let all : cache_lines ≡ map unheld_cache_line words =
     sym (take_all k cache_lines (omega (arith, many, olds))) ∙ each ∙ ap (map unheld_cache_line) (take_all k words past) in
@@ -41,17 +43,18 @@ loop-index-preserved g c =
 
 pub returns-clause-start : goal.returns-clause-start
 returns-clause-start g c =
-    emptied c.args.self.now _ _ _ _ _ c.args.words.now c.self.view_is c.loop-index.invariant.cpus c.loop-index.invariant.many
-    c.loop-index.invariant.cache_lines c.loop-index-test.false c.requires
+    caches_empty-after_loop c.args.self.now _ _ _ _ _ c.args.words.now c.self.view_is c.loop-index.invariant.cpus
+    c.loop-index.invariant.many c.loop-index.invariant.cache_lines c.loop-index-test.false c.requires
 
 pub returns-clause-words : goal.returns-clause-words
-returns-clause-words g c = ap coherent_words (returns-clause-start g c) ∙ empty_content c.args.self.now.cpus _
+returns-clause-words g c = ap coherent_words (returns-clause-start g c) ∙ coherent_words-empty_caches c.args.self.now.cpus _
 
 pub returns-clause-sound : goal.returns-clause-sound
 returns-clause-sound g c =
     let few : c.args.self.now.cpus ≤ most_threads =
     omega (arith, ap (λ (m : Caches). m.cpus) c.self.view_is, c.self.invariant.1.coherent.few) in
-    subst (SatisfiesProtocol g.P.ProtocolType.protocol) (sym (returns-clause-start g c)) (empty_kept _ _ _ few)
+    subst (SatisfiesProtocol g.P.ProtocolType.protocol) (sym (returns-clause-start g c))
+    (SatisfiesProtocol-empty_caches _ _ _ few)
 
 pub invariant_of-self : goal.invariant_of-self
 invariant_of-self g c = (omega (arith, c.loop-index.invariant.many, c.self.invariant.0), returns-clause-sound g c)

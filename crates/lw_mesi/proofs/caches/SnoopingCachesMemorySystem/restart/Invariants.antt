@@ -1,3 +1,5 @@
+-- At each round the lines before the index have no copies, and have their words; the numbers of processors
+-- and lines are unchanged.
 use Rattle.lw_mesi.proofs.Common.{◌≡◌, length, map, take, unheld_cache_line}
 use Rattle.lw_mesi.proofs.caches.SnoopingCachesMemorySystem.restart.Given as goal
 

@@ -1,5 +1,8 @@
+-- Of `update` of the caches, which is the protocol's transition for an atomic change. As for `store`; the
+-- word written is the change of the coherent word, which the transaction brings.
 use Rattle.lw_mesi.proofs.Common.{sym, subst, LineSatisfiesProtocol, write_kept, Caches, table_of, Update}
-use Rattle.lw_mesi.proofs.ProtocolInvariant.{Borrowed, line_there, served, still_kept}
+use Rattle.lw_mesi.proofs.ProtocolInvariant.{IsBorrowedLine, index_in_range, ProtocolTransition-borrowed}
+use Rattle.lw_mesi.proofs.ProtocolInvariant.{SatisfiesProtocol-set_line}
 use Rattle.lw_mesi.proofs.caches.SnoopingCachesMemorySystem.update.Given.{Over}
 use Rattle.lw_mesi.proofs.caches.SnoopingCachesMemorySystem.update.Goals.{After-index_mut-line}
 use Rattle.lw_mesi.proofs.caches.SnoopingCachesMemorySystem.update.Goals as goal
@@ -7,11 +10,11 @@ use Rattle.lw_mesi.proofs.caches.SnoopingCachesMemorySystem.update.Goals as goal
 -- The cache line, before the update.
 borrowed : (g : Over) (c : After-index_mut-line g)
     → (let m : Caches = record { cpus = c.self.inside.cpus; cache_lines = c.self.inside.cache_lines.items } in
-    Borrowed g.P.ProtocolType.protocol m c.args.self.now c.args.cpu c.args.loc c.index.result c.index_mut-line.result.now)
+    IsBorrowedLine g.P.ProtocolType.protocol m c.args.self.now c.args.cpu c.args.loc c.index.result c.index_mut-line.result.now)
 borrowed g c = record {
   same = c.self.view_is;
   kept = c.self.invariant.1;
-  few = c.self.invariant.0;
+  within_line_limit = c.self.invariant.0;
   cpu = c.requires.cpu;
   loc = c.requires.loc;
   index = c.index.ensures.value;
@@ -19,15 +22,16 @@ borrowed g c = record {
 }
 
 pub index_mut-line-requires : goal.index_mut-line-requires
-index_mut-line-requires g c = line_there _ _ c.self.inside.cache_lines _ _ c.self.view_is c.index.ensures.value c.requires.loc
+index_mut-line-requires g c = index_in_range _ _ c.self.inside.cache_lines _ _ c.self.view_is c.index.ensures.value c.requires.loc
 
 pub invariant_of-self : goal.invariant_of-self
 invariant_of-self g c =
-    still_kept g.P.ProtocolType.protocol _ _ c.args.cpu _ _ _ (borrowed g (goal.at.invariant_of-self g c).After-index_mut-line) _
-    (λ lt s.
+    SatisfiesProtocol-set_line g.P.ProtocolType.protocol _ _ c.args.cpu _ _ _
+    (borrowed g (goal.at.invariant_of-self g c).After-index_mut-line) _ (λ lt s.
     subst (LineSatisfiesProtocol g.P.ProtocolType.protocol) (sym c.write.ensures.line) (write_kept _ c.args.cpu _ lt s _))
 
 pub returns-clause-served : goal.returns-clause-served
 returns-clause-served g c =
-    served g.P.ProtocolType.protocol _ _ c.args.cpu _ _ _ (borrowed g (goal.at.returns-clause-served g c).After-index_mut-line)
-    (table_of g.P.ProtocolType.protocol) (Update c.args.change) _ _ c.write.ensures.word (cc)
+    ProtocolTransition-borrowed g.P.ProtocolType.protocol _ _ c.args.cpu _ _ _
+    (borrowed g (goal.at.returns-clause-served g c).After-index_mut-line) (table_of g.P.ProtocolType.protocol)
+    (Update c.args.change) _ _ c.write.ensures.word (cc)

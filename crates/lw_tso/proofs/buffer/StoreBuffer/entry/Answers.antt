@@ -1,5 +1,7 @@
+-- Of `StoreBuffer::entry`, which returns the entry at an index. The index is below the number of entries, so
+-- the ring has an item there (`IsSome-index_in_range`), and `unwrap` cannot panic.
 use Rattle.lw_tso.proofs.Common.{◌<◌, ◌∙◌, ap, length, option_copied, slice_get, subst, sym}
-use Rattle.lw_tso.proofs.Newest.{found_within}
+use Rattle.lw_tso.proofs.Newest.{IsSome-index_in_range}
 use Rattle.lw_tso.proofs.buffer.StoreBuffer.entry.Goals as goal
 
 pub returns : goal.returns
@@ -8,4 +10,4 @@ returns g c =
 
 pub unwrap-requires : goal.unwrap-requires
 unwrap-requires g c =
-    found_within _ _ _ c.get.ensures (subst (λ b. c.args.index < length b.entries) (sym c.self.view_is) c.requires)
+    IsSome-index_in_range _ _ _ c.get.ensures (subst (λ b. c.args.index < length b.entries) (sym c.self.view_is) c.requires)

@@ -1,5 +1,7 @@
+-- Of `Machine::new`, which creates a machine in the initial state. Its invariant holds: initial processors
+-- are reachable, and each buffer has room for all stores of its thread (`IsReachableMachine-start`).
 use Rattle.lw_tso.proofs.Common.{ap, sym, length, ◌∙◌, invariant_of, memory_of}
-use Rattle.lw_tso.proofs.Starts.{machine_made}
+use Rattle.lw_tso.proofs.Starts.{IsReachableMachine-start}
 use Rattle.lw_tso.proofs.machine.Machine.new.Goals as goal
 
 pub invariant_of-result : goal.invariant_of-result
@@ -8,5 +10,5 @@ invariant_of-result g c =
     let inv = invariant_of g.M.MemorySystem.cpus g.M.MemorySystem.sound in
     let known = c.args.program.now.well_formed in
     let locations = ap length c.requires.words ∙ known.head.words in
-    machine_made _ _ mem inv _ c.args.memory _ c.cpu_count-cpus.ensures.sound locations c.requires.threads
+    IsReachableMachine-start _ _ mem inv _ c.args.memory _ c.cpu_count-cpus.ensures.sound locations c.requires.threads
     (known.head.regs ∙ sym known.as_many) c.in-Ok.ensures.start c.in-Ok.ensures.rooms

@@ -1,19 +1,23 @@
+-- Of `Machine::restart`, which resets the machine to its initial state. The invariant holds again: all
+-- processors are overwritten (`take-overwritten`), in the buffers that they had, which have room for all stores of
+-- their threads.
 use Rattle.lw_tso.proofs.Common.{◌≡◌, ◌≤◌, ◌++◌, ℕ, List, ap, ap₂, arith, drop, length, map, subst, sym, take}
 use Rattle.lw_tso.proofs.Common.{◌∙◌, append-nil, take_all, drop_all, invariant_of, memory_of, Processor}
 use Rattle.lw_tso.proofs.Common.{initial_processor, MachineState, IsReachableMachine}
-use Rattle.lw_tso.proofs.Starts.{machine_made, still_roomy}
+use Rattle.lw_tso.proofs.Starts.{IsReachableMachine-start, stores_fit-same_rooms}
 use Rattle.lw_tso.proofs.machine.Machine.restart.Goals as goal
 
 -- Overwriting a whole list gives the new items.
-all_written : {X : Type 0} (xs ys : List X) {n : ℕ}
+take-overwritten : {X : Type 0} (xs ys : List X) {n : ℕ}
     → length xs ≡ length ys
     → n ≡ length ys
     → take n (xs ++ drop (length xs) ys) ≡ xs
-all_written xs ys {n = n} many is =
+take-overwritten xs ys {n = n} many is =
     ap (λ (zs : List _). take n (xs ++ zs)) (drop_all (length xs) ys (omega arith))
     ∙ ap (take n) (append-nil xs)
     ∙ take_all n xs (omega arith)
 
+-- The state of these processors over this memory.
 abbrev state_of : {M : Type 0} → List Processor → M → MachineState M
 state_of processors memory = record { processors = processors; memory = memory }
 
@@ -31,12 +35,12 @@ invariant_of-self g c =
     let cpus : length program ≤ inv.cpus m =
     omega (arith, c.restart.ensures.cpus, c.self.invariant.cpus, c.self.invariant.as_many) in
     let rooms = c.restart_all.ensures.rooms ∙ ap (map (λ p. p.buffer.room)) c.deref_mut.ensures.value in
-    let roomy = still_roomy program regs c.self.inside.processors.items now rooms c.self.invariant.whole in
+    let roomy = stores_fit-same_rooms program regs c.self.inside.processors.items now rooms c.self.invariant.whole in
     let made =
-    machine_made _ regs mem inv locs m now c.restart.ensures.sound locations cpus (known.head.regs ∙ sym known.as_many)
-    (c.restart_all.ensures.start ∙ ap (map initial_processor) c.as_slice.ensures) roomy in
+    IsReachableMachine-start _ regs mem inv locs m now c.restart.ensures.sound locations cpus
+    (known.head.regs ∙ sym known.as_many) (c.restart_all.ensures.start ∙ ap (map initial_processor) c.as_slice.ensures) roomy in
     let many = c.restart_all.auto.processors ∙ ap length c.deref_mut.ensures.value in
-    subst (IsReachableMachine mem inv program locs m) (sym (all_written now _ many c.self.inside.processors.ok.0)) made
+    subst (IsReachableMachine mem inv program locs m) (sym (take-overwritten now _ many c.self.inside.processors.ok.0)) made
 
 pub restart_all-requires : goal.restart_all-requires
 restart_all-requires g c =
@@ -59,7 +63,7 @@ returns-clause-state g c =
     let before = c.self.inside.processors.items in
     let now = c.restart_all.new.processors in
     let many = c.restart_all.auto.processors ∙ ap length c.deref_mut.ensures.value in
-    rw (all_written now before many c.self.inside.processors.ok.0, ← c.self.view_is)
+    rw (take-overwritten now before many c.self.inside.processors.ok.0, ← c.self.view_is)
     (ap₂ state_of (c.restart_all.ensures.start ∙ ap (map initial_processor) c.as_slice.ensures)
     (c.restart.ensures.start ∙ ap (g.M.MemorySystem.start (g.M.MemorySystem.cpus c.self.inside.memory)) c.as_slice-2.ensures))
 

@@ -1,3 +1,4 @@
+-- At each round the first `done` events were carried out; program, initial state and sizes are unchanged.
 use Rattle.lw_tso.proofs.Common.{◌≡◌, length, take, memory_of, MachineRunsTo}
 use Rattle.lw_tso.proofs.machine.Machine.run.Given as goal
 

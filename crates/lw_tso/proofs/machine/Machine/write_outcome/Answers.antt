@@ -1,6 +1,8 @@
+-- Of `Machine::write_outcome`, which writes the current registers and content into an outcome of the same
+-- size. The sizes fit, as both copies require, and `machine_outcome-of_registers` puts the two lists together.
 use Rattle.lw_tso.proofs.Common.{ap, arith, length, map, sym, ◌∙◌, length-map, FinalState, memory_of}
 use Rattle.lw_tso.proofs.Common.{MachineRun, processor_of}
-use Rattle.lw_tso.proofs.Events.{outcome_is}
+use Rattle.lw_tso.proofs.Events.{machine_outcome-of_registers}
 use Rattle.lw_tso.proofs.machine.Machine.write_outcome.Goals as goal
 
 pub copy_registers-requires : goal.copy_registers-requires
@@ -22,4 +24,4 @@ pub returns : goal.returns
 returns g c =
     let mem = memory_of g.M.MemorySystem.content g.M.MemorySystem.state g.M.MemorySystem.serves in
     let listed = c.copy_registers.ensures ∙ ap (map (λ p. p.regs)) c.as_slice.ensures.value in
-    outcome_is mem _ _ _ c.self.view_is listed c.copy_content.ensures
+    machine_outcome-of_registers mem _ _ _ c.self.view_is listed c.copy_content.ensures

@@ -1,8 +1,0 @@
-use Rattle.lw_tso.proofs.laws.fences_only_take_outcomes_away_over_every_memory.Goals as goal
-
-pub returns : goal.returns
-returns g c = λ test fenced m n o ok inserted start fenced_start outcome.
-    let test_ok = c.tests_without_fences_are_well_formed.ensures.well_scoped test fenced ok inserted in
-    let flat_outcome = (c.outcomes_are_flat.ensures fenced n o ok fenced_start).0 outcome in
-    let fewer = c.fences_only_take_outcomes_away.ensures test fenced o inserted flat_outcome in
-    (c.outcomes_are_flat.ensures test m o test_ok start).1 fewer
