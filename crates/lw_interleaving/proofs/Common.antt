@@ -23,7 +23,7 @@ pub use Rattle.lw_litmus.proofs.Common.{IsFlowSuccessor, IsSuccessor, IsWellForm
 pub use Rattle.lw_litmus.proofs.Common.{IsWellFormedThread, guard_holds, is_same_location, location_of}
 pub use Rattle.lw_litmus.proofs.Common.{operations_conflict, source_language, source_operation, writes}
 pub use Rattle.lw_litmus.proofs.Common.{written_change}
-pub use Rattle.lw_litmus.proofs.api.Kinds.{no_change}
+pub use Rattle.lw_litmus.proofs.api.Kinds.{written_change-none}
 pub use Rattle.lw_litmus.specs.declared.operation.Guard.TheVariants.{Always}
 pub use Rattle.lw_litmus.specs.declared.operation.Operation.{Operation}
 pub use Rattle.lw_litmus.specs.declared.operation.Operation.TheVariants.{Branch}

@@ -77,7 +77,7 @@ pub record InterleavesTo (s : SourceTest) (order : List ℕ) (o : FinalState) : 
   pub end : State
   pub ran : SourceRunsTo s.threads (map Step order) (initial_state s) end
   pub final : IsTrue (is_source_final s.threads end)
-  pub is : o ≡ source_outcome end
+  pub outcome_is : o ≡ source_outcome end
 
 -- Some sequence of steps leads from the initial state to the outcome.
 abbrev pub SourceOutcome : SourceTest → FinalState → Type 0

@@ -9,7 +9,7 @@ ghost use Rattle.lw_litmus.specs.Sources.{source_language};
 
 /// States, for readers, that adjacent steps of two threads commute if their statements do not conflict: the state
 /// after both is the same.
-pub fn steps_can_be_exchanged()
+pub fn independent_steps_commute()
     ensures { (program : List (List Stmt)) (t u : ℕ) (s : State) → t ≢ u
         → operations_conflict source_language (next_statement program s t) (next_statement program s u) ≡ false → StepsCommute program t u s }
 {}
@@ -21,7 +21,7 @@ pub fn a_step_follows_the_flow()
 {}
 
 /// States, for readers, that a step does not change another thread's position.
-pub fn a_step_moves_one_thread()
+pub fn a_step_changes_one_thread()
     ensures { (program : List (List Stmt)) (t u : ℕ) (s next : State) → t ≢ u
         → source_step program t s ≡ Ok next → thread_position next u ≡ thread_position s u }
 {}

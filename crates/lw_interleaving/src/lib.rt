@@ -8,6 +8,6 @@ mod laws;
 mod run;
 mod thread;
 
-pub use laws::{a_step_follows_the_flow, a_step_moves_one_thread, steps_can_be_exchanged};
+pub use laws::{a_step_changes_one_thread, a_step_follows_the_flow, independent_steps_commute};
 pub use run::SourceRun;
 pub use thread::Thread;

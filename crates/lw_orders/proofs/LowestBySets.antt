@@ -1,4 +1,5 @@
--- The lowest order as the code computes it with sets of bits: in each turn it searches for the lowest minimal item. Then the tables used.
+-- The lowest order as the code computes it with sets of bits: in each turn it searches for the lowest minimal
+-- item. Then the tables used. Lemmas for `greedy.rt` and `adjacency.rt`.
 use Rattle.lw_orders.proofs.Common.{most_items, ℕ, zero, suc, ◌≡◌, ◌+◌, ◌-◌, ◌^◌, ◌<◌, ◌≤◌, List, [], ◌∷◌}
 use Rattle.lw_orders.proofs.Common.{◌++◌, length, get_or, set, take, ap, sym, ◌∙◌, refl, subst, inl, inr}
 use Rattle.lw_orders.proofs.Common.{arith, Bool, true, false, not, ◌&&◌, ◌||◌, eqb, ltb, Option, Some, None}
@@ -11,11 +12,12 @@ use Rattle.lw_orders.proofs.Common.{option_map_id, bit_at-zero, Walk, without, i
 use Rattle.lw_orders.proofs.Common.{lowest_order, indices, has, are_disjoint, has_edge, ArePredecessors}
 use Rattle.lw_orders.proofs.Common.{reaches_in, AreGraphTables, IsBlocked, Narrowed, IsFound}
 use Rattle.lw_orders.proofs.LowestOrder.{is_in}
-use Rattle.lw_orders.proofs.Walks.{joins_gives, joins_from, closes_step}
-use Rattle.lw_orders.proofs.Bits.{not_both, none_both}
+use Rattle.lw_orders.proofs.Walks.{has_edge-inv, has_edge-of_member, closure-edge}
+use Rattle.lw_orders.proofs.Bits.{not-both_if_disjoint, bit_and-zero}
 
 -- ---- the numbers from k up that satisfy p
 module _ (p : ℕ → Bool) where
+  -- A number in the range is in the list if it satisfies p.
   is_in-indices : (k n i : ℕ) → k ≤ i → i < k + n → is_in (filter p (indices k n)) i ≡ p i
   is_in-indices k zero i a b = absurd (omega arith)
   is_in-indices k (suc n) i a b = elim (cases_eq k i) [
@@ -25,14 +27,17 @@ module _ (p : ℕ → Bool) where
     | inr ne ↦ grind (arith, nat_tests, is_in-indices (suc k) n i)
   ]
     where
+      -- A number below the range is not in the list.
       not_below : (k n i : ℕ) → i < k → is_in (filter p (indices k n)) i ≡ false
       not_below k zero i l = refl
       not_below k (suc n) i l = grind (arith, nat_tests, not_below (suc k) n i)
 
+  -- If all numbers of the range satisfy p, the list is the whole range.
   filter_all : (k n : ℕ) → ((i : ℕ) → k ≤ i → i < k + n → p i ≡ true) → filter p (indices k n) ≡ indices k n
   filter_all k zero all = refl
   filter_all k (suc n) all = grind (arith, all k, filter_all (suc k) n (λ i a b. all i (omega arith) (omega arith)))
 
+  -- If q and p have the same value on the range, the lists are the same.
   filter_same : (q : ℕ → Bool) (k n : ℕ)
       → ((i : ℕ) → k ≤ i → i < k + n → q i ≡ p i)
       → filter q (indices k n) ≡ filter p (indices k n)
@@ -51,57 +56,58 @@ module _ (p : ℕ → Bool) where
   ]
 
   -- The first number of the list that passes a test, if no lower one passes it.
-  find_lowest : (test : ℕ → Bool) (k n i : ℕ)
+  find-lowest_passing : (test : ℕ → Bool) (k n i : ℕ)
       → k ≤ i
       → i < k + n
       → p i ≡ true
       → test i ≡ true
       → ((j : ℕ) → j < i → p j ≡ true → test j ≡ false)
       → find test (filter p (indices k n)) ≡ Some i
-  find_lowest test k zero i a b pi ti none = absurd (omega arith)
-  find_lowest test k (suc n) i a b pi ti none = grind (arith, cases_eq k i, none k, find_lowest test (suc k) n i)
+  find-lowest_passing test k zero i a b pi ti none = absurd (omega arith)
+  find-lowest_passing test k (suc n) i a b pi ti none = grind (arith, cases_eq k i, none k, find-lowest_passing test (suc k) n i)
 
-  find_none : (test : ℕ → Bool) (k n : ℕ)
+  -- If no number with p passes a test, none is found.
+  find-none_passing : (test : ℕ → Bool) (k n : ℕ)
       → ((j : ℕ) → j < k + n → p j ≡ true → test j ≡ false)
       → find test (filter p (indices k n)) ≡ None
-  find_none test k zero none = refl
-  find_none test k (suc n) none = grind (arith, none k, find_none test (suc k) n (λ j l. none j (omega arith)))
+  find-none_passing test k zero none = refl
+  find-none_passing test k (suc n) none = grind (arith, none k, find-none_passing test (suc k) n (λ j l. none j (omega arith)))
 
 -- ---- the candidates: what a blocked candidate reaches is no longer a candidate
 module _ {len : ℕ} {predecessors reach : List ℕ} {left old mid : ℕ} (new item : ℕ) (few : len ≤ most_items) (l : item < len)
-    (n : Narrowed len predecessors reach left old mid) (there : has mid item ≡ true)
+    (narrowed : Narrowed len predecessors reach left old mid) (there : has mid item ≡ true)
     (says : (k : ℕ) → k < most_items → has new k ≡ (has mid k && not (has (get_or reach item 0) k))) where
   -- If the candidate `item` is blocked, it may be dropped from the candidates together with all that it reaches.
   pub Narrowed-more : IsBlocked predecessors left item → Narrowed len predecessors reach left old new
   Narrowed-more w = record {
-    kept = λ k lk h. n.kept k lk (grind (arith, says k lk));
+    kept = λ k lk h. narrowed.kept k lk (grind (arith, says k lk));
     dropped = λ k lk was gone. elim (cases_Bool (has mid k)) [
-      | inl e ↦ (item, l, n.kept item (omega (arith, l, few)) there, w, grind (arith, says k lk))
-      | inr a ↦ n.dropped k lk was a
+      | inl e ↦ (item, l, narrowed.kept item (omega (arith, l, few)) there, w, grind (arith, says k lk))
+      | inr a ↦ narrowed.dropped k lk was a
     ];
   }
 
   -- The next lowest candidate is higher than `item`, since that reaches itself and was dropped: so the search ends.
-  pub lowest_rises : (next width : ℕ)
+  pub lowest-increases : (next width : ℕ)
       → len ≤ width
       → ((k : ℕ) → k < item → has mid k ≡ false)
       → reaches_in reach item item ≡ true
       → (next < width → has new next ≡ true)
       → item < next
-  lowest_rises next width wide below itself lowest = grind (arith, below next, says next)
+  lowest-increases next width wide below itself lowest = grind (arith, below next, says next)
 
 -- ---- the items of a set
 
 -- The items of a set below a bound, in ascending order.
-abbrev pub members : ℕ → ℕ → List ℕ
-members len left = filter (has left) (indices 0 len)
+abbrev pub items_below : ℕ → ℕ → List ℕ
+items_below len left = filter (has left) (indices 0 len)
 
 -- The loop's invariant: `items` starts with the items taken, one for each turn, in sequence, and `left` has the rest. Every item left is a
 -- candidate or blocked; and every item that an item left reaches is left.
 pub record Searching (pairs : List (ℕ × ℕ)) (len : ℕ) (predecessors reach items : List ℕ)
     (left candidates turn : ℕ) : Type 0 where
   pub so_far : lowest_order len pairs
-      ≡ option_map (λ xs. take turn items ++ xs) (greedy_order (len - turn) pairs (members len left))
+      ≡ option_map (λ xs. take turn items ++ xs) (greedy_order (len - turn) pairs (items_below len left))
   pub inside : (k : ℕ) → k < most_items → has candidates k ≡ true → has left k ≡ true
   pub waiting : (k : ℕ) → k < len → has left k ≡ true → has candidates k ≡ false → IsBlocked predecessors left k
   pub closed : (i j : ℕ) → i < len → j < len → has left i ≡ true → reaches_in reach i j ≡ true → has left j ≡ true
@@ -111,8 +117,8 @@ pub Searching-start : {len : ℕ} {predecessors reach items : List ℕ} (pairs :
     → len ≤ most_items
     → ((k : ℕ) → k < most_items → has left k ≡ ltb k len)
     → Searching pairs len predecessors reach items left left 0
-Searching-start {len = len} pairs left few below =
-    let all : members len left ≡ indices 0 len =
+Searching-start {len = len} pairs left len_le below =
+    let all : items_below len left ≡ indices 0 len =
     filter_all (has left) 0 len (λ k a b. below k (omega arith) ∙ lt-ltb k len (omega arith)) in
     record {
       so_far =
@@ -123,178 +129,198 @@ Searching-start {len = len} pairs left few below =
     }
 
 -- To put x before a list and `front` before both is to put `front ++ [x]` before the list.
-pushed : (front : List ℕ) (x : ℕ) (more : List ℕ) (o : Option (List ℕ))
+option_map-push : (front : List ℕ) (x : ℕ) (more : List ℕ) (o : Option (List ℕ))
     → more ≡ front ++ x ∷ []
     → option_map (λ xs. front ++ xs) (option_map (λ xs. x ∷ xs) o) ≡ option_map (λ xs. more ++ xs) o
-pushed front x more None e = refl
-pushed front x more (Some xs) e = ap Some (sym (ap (λ ys. ys ++ xs) e ∙ append_assoc front (x ∷ []) xs))
+option_map-push front x more None e = refl
+option_map-push front x more (Some xs) e = ap Some (sym (ap (λ ys. ys ++ xs) e ∙ append_assoc front (x ∷ []) xs))
 
 module _ {pairs : List (ℕ × ℕ)} {len : ℕ} {predecessors reach neighbours items : List ℕ} {left candidates turn : ℕ}
     (few : len ≤ most_items) (fits : left < 2 ^ most_items) (l : turn < len)
-    (d : AreGraphTables len pairs predecessors reach neighbours)
+    (tables : AreGraphTables len pairs predecessors reach neighbours)
     (so : Searching pairs len predecessors reach items left candidates turn) where
   -- No item that is left is a predecessor of i: i is minimal.
   abbrev NoneLeads : ℕ → Type 0
   NoneLeads i = (j : ℕ) → j < len → Contains pairs (j, i) → has left j ≡ true → ⊥
 
-  apart_tells : (i : ℕ) → i < len → Decides (are_disjoint (get_or predecessors i 0) left) (NoneLeads i)
-  apart_tells i li = (
+  -- The code's test of predecessors decides whether the item i is minimal.
+  Decides-are_disjoint : (i : ℕ) → i < len → Decides (are_disjoint (get_or predecessors i 0) left) (NoneLeads i)
+  Decides-are_disjoint i li = (
     λ e j lj c h.
-        not_both (get_or predecessors i 0) left j (eqb-true _ 0 e)
-        (d.are i j li (omega (arith, lj, few)) ∙ joins_from pairs j i c) h,
-    λ none. eq-eqb _ 0 (none_both (get_or predecessors i 0) left fits (λ j lj hr hl.
-        (let c = joins_gives pairs j i (sym (d.are i j li lj) ∙ hr) in none j (closes_step d.closes j i c).0 c hl))),
+        not-both_if_disjoint (get_or predecessors i 0) left j (eqb-true _ 0 e)
+        (tables.sets_are_predecessors i j li (omega (arith, lj, few)) ∙ has_edge-of_member pairs j i c) h,
+    λ none. eq-eqb _ 0 (bit_and-zero (get_or predecessors i 0) left fits (λ j lj hr hl.
+        (let c = has_edge-inv pairs j i (sym (tables.sets_are_predecessors i j li lj) ∙ hr) in
+        none j (closure-edge tables.closes j i c).0 c hl))),
   )
 
+  -- Tests that a pair is not from an item left to the item i.
   abbrev is_kept : ℕ → ℕ × ℕ → Bool
-  is_kept i p = not (eqb p.1 i && is_in (members len left) p.0)
+  is_kept i p = not (eqb p.1 i && is_in (items_below len left) p.0)
 
-  free_tells : (i : ℕ) → Decides (is_minimal pairs (members len left) i) (NoneLeads i)
-  free_tells i = (
+  -- The definition's test `is_minimal` decides the same.
+  Decides-is_minimal : (i : ℕ) → Decides (is_minimal pairs (items_below len left) i) (NoneLeads i)
+  Decides-is_minimal i = (
     λ e j lj c h.
         (let t : is_kept i (j, i) ≡ true =
         All-contains (λ p. is_kept i p ≡ true) pairs (j, i) (AllPass-from_list_all (is_kept i) pairs e) c in
         grind (arith, nat_tests, is_in-indices (has left) 0 len j)),
     λ none.
         list_all-from_AllPass (is_kept i) pairs
-        (λ k z lk. passes (get_or pairs k z) (λ j. none j) (Contains-get_or pairs k z lk)),
+        (λ k z lk. NoneLeads-passes (get_or pairs k z) (λ j. none j) (Contains-get_or pairs k z lk)),
   )
     where
-      passes : (p : ℕ × ℕ) → NoneLeads i → Contains pairs p → is_kept i p ≡ true
-      passes p none c = elim (cases_eq p.1 i) [
+      -- A pair to i does not keep i back, if its first item is not left.
+      NoneLeads-passes : (p : ℕ × ℕ) → NoneLeads i → Contains pairs p → is_kept i p ≡ true
+      NoneLeads-passes p none is_member = elim (cases_eq p.1 i) [
         | inl e ↦
-            (let lp = (closes_step d.closes p.0 p.1 c).0 in
-            let out = false_from_ne_true (has left p.0) (none p.0 lp (subst (λ i. Contains pairs (p.0, i)) e c)) in
+            (let lp = (closure-edge tables.closes p.0 p.1 is_member).0 in
+            let out = false_from_ne_true (has left p.0) (none p.0 lp (subst (λ i. Contains pairs (p.0, i)) e is_member)) in
             grind (arith, nat_tests, is_in-indices (has left) 0 len p.0))
         | inr ne ↦ grind (arith, nat_tests)
       ]
 
-  free_is_apart : (i : ℕ) → i < len → is_minimal pairs (members len left) i ≡ are_disjoint (get_or predecessors i 0) left
-  free_is_apart i li = same_from_decides _ _ (free_tells i) (apart_tells i li)
+  -- So the two tests have the same value.
+  is_minimal-are_disjoint : (i : ℕ)
+      → i < len
+      → is_minimal pairs (items_below len left) i ≡ are_disjoint (get_or predecessors i 0) left
+  is_minimal-are_disjoint i li = same_from_decides _ _ (Decides-is_minimal i) (Decides-are_disjoint i li)
 
   -- An item that another item left reaches is blocked; so is one that a blocked item reaches.
-  waits_behind : (m i k : ℕ)
+  IsBlocked-reached : (m i k : ℕ)
       → i < len
       → Walk pairs m i k
       → has left i ≡ true
       → (i ≡ k → IsBlocked predecessors left k)
       → IsBlocked predecessors left k
-  waits_behind zero i k li e there w = w e
-  waits_behind (suc m) i k li (h, c, walk) there w =
-      let (_, lh, on, _) = closes_step d.closes i h c in
-      waits_behind m h k lh walk (so.closed i h li lh there on)
+  IsBlocked-reached zero i k li e there w = w e
+  IsBlocked-reached (suc m) i k li (h, c, walk) there w =
+      let (_, lh, on, _) = closure-edge tables.closes i h c in
+      IsBlocked-reached m h k lh walk (so.closed i h li lh there on)
       (λ e.
       subst (IsBlocked predecessors left) e
-      (false_from_ne_true (are_disjoint (get_or predecessors h 0) left) (λ a. (apart_tells h lh).0 a i li c there)))
+      (false_from_ne_true (are_disjoint (get_or predecessors h 0) left) (λ a. (Decides-are_disjoint h lh).0 a i li c there)))
 
   module _ {narrow : ℕ} (narrowed : Narrowed len predecessors reach left candidates narrow) where
     -- An item left that is no candidate is still blocked.
-    waits_still : (k : ℕ) → k < len → has left k ≡ true → has narrow k ≡ false → IsBlocked predecessors left k
-    waits_still k lk there gone = elim (cases_Bool (has candidates k)) [
+    IsBlocked-no_candidate : (k : ℕ) → k < len → has left k ≡ true → has narrow k ≡ false → IsBlocked predecessors left k
+    IsBlocked-no_candidate k lk there gone = elim (cases_Bool (has candidates k)) [
       | inl e ↦
           (let (i, li, was, w, r) = narrowed.dropped k (omega (arith, lk, few)) e gone in
-          let (m, walk) = (d.closes.walks i k li lk).0 r in
-          waits_behind m i k li walk (so.inside i (omega (arith, li, few)) was) (λ e. subst (IsBlocked predecessors left) e w))
+          let (m, walk) = (tables.closes.walks i k li lk).0 r in
+          IsBlocked-reached m i k li walk (so.inside i (omega (arith, li, few)) was)
+          (λ e. subst (IsBlocked predecessors left) e w))
       | inr n ↦ so.waiting k lk there n
     ]
 
-    one_turn : (o : Option ℕ)
-        → find (is_minimal pairs (members len left)) (members len left) ≡ o
+    -- The lowest order is made of the items taken, the minimal item that is found in this turn, and the order of the others; it is `None`
+    -- if no item is found.
+    lowest_order-turn : (o : Option ℕ)
+        → find (is_minimal pairs (items_below len left)) (items_below len left) ≡ o
         → lowest_order len pairs
         ≡ option_map (λ xs. take turn items ++ xs)
-        (option_and_then (λ x. option_map (λ xs. x ∷ xs) (greedy_order (len - (turn + 1)) pairs (without (members len left) x)))
-        o)
-    one_turn o e =
+        (option_and_then
+        (λ x. option_map (λ xs. x ∷ xs) (greedy_order (len - (turn + 1)) pairs (without (items_below len left) x))) o)
+    lowest_order-turn o e =
         so.so_far
-        ∙ (ap (λ n. option_map (λ xs. take turn items ++ xs) (greedy_order n pairs (members len left)))
+        ∙ (ap (λ n. option_map (λ xs. take turn items ++ xs) (greedy_order n pairs (items_below len left)))
         (let q : len - turn ≡ suc (len - (turn + 1)) = omega arith in q)
         ∙ ap (λ f.
         option_map (λ xs. take turn items ++ xs)
-        (option_and_then (λ x. option_map (λ xs. x ∷ xs) (greedy_order (len - (turn + 1)) pairs (without (members len left) x)))
-        f)) e)
+        (option_and_then
+        (λ x. option_map (λ xs. x ∷ xs) (greedy_order (len - (turn + 1)) pairs (without (items_below len left) x))) f)) e)
 
     -- If no candidate is found, no item is minimal, so there is no order.
     pub Searching-none : IsFound len predecessors left narrow None → lowest_order len pairs ≡ None
-    Searching-none none = one_turn None (find_none (has left) (is_minimal pairs (members len left)) 0 len
-        (λ k lk there. free_is_apart k (omega arith) ∙ waits_still k (omega arith) there (none k (omega arith))))
+    Searching-none none =
+        lowest_order-turn None (find-none_passing (has left) (is_minimal pairs (items_below len left)) 0 len (λ k lk there.
+        is_minimal-are_disjoint k (omega arith) ∙ IsBlocked-no_candidate k (omega arith) there (none k (omega arith))))
 
     -- If a candidate is found, it is the lowest minimal item, and the turn takes it.
     module _ (item : ℕ) (found : IsFound len predecessors left narrow (Some item)) (room : length items ≡ most_items) (next : ℕ)
         (cleared : (k : ℕ) → k < most_items → has next k ≡ (not (eqb k item) && has left k)) where
-      there : has left item ≡ true
-      there = so.inside item (omega (arith, found.0, few)) (narrowed.kept item (omega (arith, found.0, few)) found.1)
+      -- The item that is found is left.
+      item_is_left : has left item ≡ true
+      item_is_left = so.inside item (omega (arith, found.0, few)) (narrowed.kept item (omega (arith, found.0, few)) found.1)
 
-      so_far_next : lowest_order len pairs
+      -- After the turn, the lowest order is made of the items taken, with this one, and of the order of the items then left.
+      lowest_order-so_far_next : lowest_order len pairs
           ≡ option_map (λ xs. take (turn + 1) (set items turn item) ++ xs)
-          (greedy_order (len - (turn + 1)) pairs (members len next))
-      so_far_next =
-          one_turn (Some item)
-          (find_lowest (has left) (is_minimal pairs (members len left)) 0 len item (omega arith) (omega (arith, found.0)) there
-          (free_is_apart item found.0 ∙ found.2)
-          (λ k lk e. free_is_apart k (omega (arith, lk, found.0)) ∙ waits_still k (omega (arith, lk, found.0)) e (found.3 k lk)))
-          ∙ (pushed (take turn items) item (take (turn + 1) (set items turn item))
-          (greedy_order (len - (turn + 1)) pairs (without (members len left) item))
+          (greedy_order (len - (turn + 1)) pairs (items_below len next))
+      lowest_order-so_far_next =
+          lowest_order-turn (Some item)
+          (find-lowest_passing (has left) (is_minimal pairs (items_below len left)) 0 len item (omega arith)
+          (omega (arith, found.0)) item_is_left (is_minimal-are_disjoint item found.0 ∙ found.2) (λ k lk e.
+          is_minimal-are_disjoint k (omega (arith, lk, found.0))
+          ∙ IsBlocked-no_candidate k (omega (arith, lk, found.0)) e (found.3 k lk)))
+          ∙ (option_map-push (take turn items) item (take (turn + 1) (set items turn item))
+          (greedy_order (len - (turn + 1)) pairs (without (items_below len left) item))
           (take_more_set items turn item (omega (arith, room, l, few)))
           ∙ ap (λ xs. option_map (λ ys. take (turn + 1) (set items turn item) ++ ys) (greedy_order (len - (turn + 1)) pairs xs))
-          (sym (filter-without (has left) (has next) item 0 len there (λ k a b. cleared k (omega (arith, b, few))))))
+          (sym (filter-without (has left) (has next) item 0 len item_is_left (λ k a b. cleared k (omega (arith, b, few))))))
 
       -- An item that is no neighbour of the item taken is still blocked.
-      waits_on : (k : ℕ)
+      IsBlocked-after_turn : (k : ℕ)
           → k < len
           → IsBlocked predecessors left k
           → reaches_in neighbours item k ≡ false
           → IsBlocked predecessors next k
-      waits_on k lk w away =
+      IsBlocked-after_turn k lk w away =
           false_from_ne_true (are_disjoint (get_or predecessors k 0) next)
           (λ e.
           both_ways (are_disjoint (get_or predecessors k 0) left) w
-          (eq-eqb _ 0 (none_both (get_or predecessors k 0) left fits (λ j lj hr hl. elim (cases_eq j item) [
+          (eq-eqb _ 0 (bit_and-zero (get_or predecessors k 0) left fits (λ j lj hr hl. elim (cases_eq j item) [
             | inl q ↦
-                (let c = joins_gives pairs j k (sym (d.are k j lk lj) ∙ hr) in
+                (let c = has_edge-inv pairs j k (sym (tables.sets_are_predecessors k j lk lj) ∙ hr) in
                 both_ways (reaches_in neighbours item k) away
-                (rw (← q) (All-contains (λ p. reaches_in neighbours p.0 p.1 ≡ true) pairs (j, k) d.into c)))
-            | inr ne ↦ not_both (get_or predecessors k 0) next j (eqb-true _ 0 e) hr (grind (arith, nat_tests, cleared j lj))
+                (rw (← q) (All-contains (λ p. reaches_in neighbours p.0 p.1 ≡ true) pairs (j, k) tables.pairs_are_edges c)))
+            | inr ne ↦
+                not-both_if_disjoint (get_or predecessors k 0) next j (eqb-true _ 0 e) hr (grind (arith, nat_tests, cleared j lj))
           ]))))
 
+      -- The invariant holds in the next turn. Candidates are then those left over, and the neighbours of the item taken that are left.
       pub Searching-more : (more : ℕ)
           → ((k : ℕ) → k < most_items → has more k ≡ ((has narrow k || reaches_in neighbours item k) && has next k))
           → Searching pairs len predecessors reach (set items turn item) next more (turn + 1)
       Searching-more more says = record {
-        so_far = so_far_next;
+        so_far = lowest_order-so_far_next;
         inside = λ k lk h. grind (arith, says k lk);
         waiting = λ k lk h gone.
             (let s = says k (omega (arith, lk, few)) in
             let c = cleared k (omega (arith, lk, few)) in
-            waits_on k lk (waits_still k lk (grind arith) (grind arith)) (grind arith));
+            IsBlocked-after_turn k lk (IsBlocked-no_candidate k lk (grind arith) (grind arith)) (grind arith));
         closed = λ i j li lj h r.
             (let c = cleared i (omega (arith, li, few)) in
             let there' : has left i ≡ true = grind arith in
-            let (m, walk) = (d.closes.walks i j li lj).0 r in
+            let (m, walk) = (tables.closes.walks i j li lj).0 r in
             let other : j ≡ item → ⊥ = λ q.
             both_ways (are_disjoint (get_or predecessors item 0) left)
-            (waits_behind m i item li (subst (Walk pairs m i) q walk) there' (λ e. absurd (grind (arith, nat_tests)))) found.2 in
+            (IsBlocked-reached m i item li (subst (Walk pairs m i) q walk) there' (λ e. absurd (grind (arith, nat_tests))))
+            found.2 in
             let still = so.closed i j li lj there' r in
             grind (arith, nat_tests, cleared j (omega (arith, lj, few))));
       }
 
 -- If each predecessor set is joined with the predecessors by further pairs, the sets are those of both lists of pairs.
-pub sets_with : (n : ℕ) (first second : List ℕ) (xs ys : List (ℕ × ℕ))
+pub ArePredecessors-append : (n : ℕ) (first second : List ℕ) (xs ys : List (ℕ × ℕ))
     → ArePredecessors n xs first
     → ((i j : ℕ) → i < n → j < most_items → has (get_or second i 0) j ≡ (has (get_or first i 0) j || has_edge ys j i))
     → ArePredecessors n (xs ++ ys) second
-sets_with n first second xs ys are more i j li lj =
+ArePredecessors-append n first second xs ys are more i j li lj =
     more i j li lj ∙ (ap (λ x. x || has_edge ys j i) (are i j li lj) ∙ sym (list_any-append (λ p. eqb p.0 j && eqb p.1 i) xs ys))
 
 -- Empty sets are the predecessor sets of no pairs.
-pub no_sets : (none : List ℕ) → ((i : ℕ) → i < most_items → get_or none i 0 ≡ 0) → ArePredecessors most_items [] none
-no_sets none zero' i j li lj = ap (λ n. has n j) (zero' i li) ∙ ap (λ n. eqb n 1) (bit_at-zero j)
+pub ArePredecessors-empty : (none : List ℕ)
+    → ((i : ℕ) → i < most_items → get_or none i 0 ≡ 0)
+    → ArePredecessors most_items [] none
+ArePredecessors-empty none zero' i j li lj = ap (λ n. has n j) (zero' i li) ∙ ap (λ n. eqb n 1) (bit_at-zero j)
 
 -- A set copied to the front of a table is read at its index.
-pub copied_set : (len i : ℕ) (before front behind : List ℕ)
+pub get_or-copied_set : (len i : ℕ) (before front behind : List ℕ)
     → i < len
     → len ≤ length before
     → front ≡ take len before
     → get_or (front ++ behind) i 0 ≡ get_or before i 0
-copied_set len i before front behind l long e =
+get_or-copied_set len i before front behind l long e =
     ap (λ xs. get_or (xs ++ behind) i 0) e
     ∙ (get_or_append_left (take len before) behind 0 i (omega (arith, length-take len before)) ∙ get_or-take len before i 0 l)

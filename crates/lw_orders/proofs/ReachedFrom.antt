@@ -1,10 +1,11 @@
--- The items that an item reaches, from those that its successors reach.
+-- The items that an item reaches, from those that its successors reach. Lemmas for the loops of `reached` and
+-- `reached_from`, which go from the highest item down.
 use Rattle.lw_orders.proofs.Common.{most_items, ℕ, zero, suc, ◌≡◌, ◌<◌, ◌≤◌, List, sym, ◌∙◌, inl, inr, ◌⊎◌}
 use Rattle.lw_orders.proofs.Common.{arith, or_left, or_right, and_parts, ne_eqb, eq-eqb, refl, true, false}
 use Rattle.lw_orders.proofs.Common.{not, ◌&&◌, ◌||◌, eqb, Decides, cases_eq, or_cases, nat_tests}
 use Rattle.lw_orders.proofs.Common.{All-contains, AreAscending, Walk, has, has_edge, reaches_in}
 use Rattle.lw_orders.proofs.Common.{IsReachedFrom}
-use Rattle.lw_orders.proofs.Walks.{joins_gives, joins_from}
+use Rattle.lw_orders.proofs.Walks.{has_edge-inv, has_edge-of_member}
 
 -- The invariant of the loop that computes what an item reaches: `set` has what was found so far. The item's successors in `left` are still
 -- to be visited; the lowest of them is `next`.
@@ -20,23 +21,23 @@ pub record IsReaching (item len steps : ℕ) (sets : List ℕ) (set left next : 
       → j < most_items
       → has set j ≡ true
       → (item ≡ j) ⊎ ((k : ℕ) × (k < len) × (has steps k ≡ true) × (reaches_in sets k j ≡ true))
-  pub within : (k : ℕ) → k < most_items → has left k ≡ true → has steps k ≡ true
+  pub left_are_steps : (k : ℕ) → k < most_items → has left k ≡ true → has steps k ≡ true
   pub below : (k : ℕ) → k < next → has left k ≡ false
   pub lowest : next < most_items → has left next ≡ true
 
 -- Before the first successor, the set has only the item itself, and every successor is still to be visited.
-pub reaching_start : {len steps : ℕ} {sets : List ℕ} (item set none next : ℕ)
+pub IsReaching-start : {len steps : ℕ} {sets : List ℕ} (item set none next : ℕ)
     → item < most_items
     → ((k : ℕ) → k < most_items → has set k ≡ (eqb k item || has none k))
     → ((k : ℕ) → k < most_items → has none k ≡ false)
     → ((k : ℕ) → k < next → has steps k ≡ false)
     → (next < most_items → has steps next ≡ true)
     → IsReaching item len steps sets set steps next
-reaching_start item set none next l with empty below lowest = record {
+IsReaching-start item set none next l with empty below lowest = record {
   itself = grind (arith, nat_tests, with item l);
   all = λ k j lk lj s r. inl s;
   nothing_else = λ j lj e. inl (grind (arith, nat_tests, with j lj, empty j lj));
-  within = λ k lk s. s;
+  left_are_steps = λ k lk s. s;
   below = below;
   lowest = lowest;
 }
@@ -44,8 +45,8 @@ reaching_start item set none next l with empty below lowest = record {
 module _ {item len steps : ℕ} {sets : List ℕ} {set left next : ℕ} (few : len ≤ most_items) (low : item < most_items)
     (r : IsReaching item len steps sets set left next) where
   -- When no successor is left, the set has all that the item reaches.
-  pub reaching_end : len ≤ next → IsReachedFrom item len steps sets set
-  reaching_end end = record {
+  pub IsReachedFrom-end : len ≤ next → IsReachedFrom item len steps sets set
+  IsReachedFrom-end end = record {
     itself = r.itself;
     all = λ k j lk lj s t. elim (r.all k j lk lj s t) [ inl h ↦ cc (r.below k (omega (arith, lk, end)), h) | inr h ↦ h ];
     nothing_else = r.nothing_else;
@@ -56,8 +57,8 @@ module _ {item len steps : ℕ} {sets : List ℕ} {set left next : ℕ} (few : l
       (drop_next : (k : ℕ) → k < most_items → has rest k ≡ (not (eqb k next) && has left k))
       (below : (k : ℕ) → k < further → has rest k ≡ false) (lowest : further < most_items → has rest further ≡ true) where
     -- When the successor `next` is visited and its set joined, the invariant holds of the remaining successors.
-    pub reaching_more : IsReaching item len steps sets more rest further
-    reaching_more = record {
+    pub IsReaching-next : IsReaching item len steps sets more rest further
+    IsReaching-next = record {
       itself = join item low ∙ or_left _ _ r.itself;
       all = λ k j lk lj s t. elim (r.all k j lk lj s t) [
         | inl h ↦ elim (cases_eq k next) [
@@ -68,19 +69,20 @@ module _ {item len steps : ℕ} {sets : List ℕ} {set left next : ℕ} (few : l
       ];
       nothing_else = λ j lj e. elim (or_cases (has set j) (reaches_in sets next j) (sym (join j lj) ∙ e)) [
         | inl h ↦ r.nothing_else j lj h
-        | inr h ↦ inr (next, more_is, r.within next (omega (arith, more_is, few)) (r.lowest (omega (arith, more_is, few))), h)
+        | inr h ↦
+            inr (next, more_is, r.left_are_steps next (omega (arith, more_is, few)) (r.lowest (omega (arith, more_is, few))), h)
       ];
-      within = λ k lk h. r.within k lk (and_parts _ _ (sym (drop_next k lk) ∙ h)).1;
+      left_are_steps = λ k lk h. r.left_are_steps k lk (and_parts _ _ (sym (drop_next k lk) ∙ h)).1;
       below = below;
       lowest = lowest;
     }
 
     -- The following successor is higher than `next`: so the loop ends.
-    pub goes_further : next < further
-    goes_further = grind (arith, eq-eqb further next, drop_next further, r.below further)
+    pub next_lt_further : next < further
+    next_lt_further = grind (arith, eq-eqb further next, drop_next further, r.below further)
 
 -- The set computed for an item has exactly the items to which a walk leads, if this holds of the sets of higher items.
-pub set_of_steps : {item len set_of steps : ℕ} {sets : List ℕ} (fixed : List (ℕ × ℕ))
+pub Decides-set_of_steps : {item len set_of steps : ℕ} {sets : List ℕ} (fixed : List (ℕ × ℕ))
     → AreAscending len fixed
     → len ≤ most_items
     → ((k : ℕ) → k < most_items → has steps k ≡ has_edge fixed item k)
@@ -89,19 +91,21 @@ pub set_of_steps : {item len set_of steps : ℕ} {sets : List ℕ} (fixed : List
     → j < len
     → ((k : ℕ) → item < k → k < len → Decides (reaches_in sets k j) ((m : ℕ) × Walk fixed m k j))
     → Decides (has set_of j) ((m : ℕ) × Walk fixed m item j)
-set_of_steps {item = item} {len = len} {set_of = set_of} fixed up few says r j lj above = (
-  λ e. elim (r.nothing_else j (omega (arith, lj, few)) e) [
+Decides-set_of_steps {item = item} {len = len} {set_of = set_of} fixed up len_le says r j lj above = (
+  λ e. elim (r.nothing_else j (omega (arith, lj, len_le)) e) [
     | inl q ↦ (0, q)
     | inr (k, lk, s, l) ↦
-        (let c = joins_gives fixed item k (sym (says k (omega (arith, lk, few))) ∙ s) in
+        (let c = has_edge-inv fixed item k (sym (says k (omega (arith, lk, len_le))) ∙ s) in
         let (m, w) = (above k (All-contains (λ p. (p.0 < p.1) × (p.1 < len)) fixed (item, k) up c).0 lk).0 l in
         (suc m, (k, c, w)))
   ],
-  λ w. back w.0 w.1,
+  λ w. has-of_walk w.0 w.1,
 )
   where
-    back : (m : ℕ) → Walk fixed m item j → has set_of j ≡ true
-    back zero e = rw (← e) r.itself
-    back (suc m) (k, c, w) =
+    -- The set has what a walk from the item reaches.
+    has-of_walk : (m : ℕ) → Walk fixed m item j → has set_of j ≡ true
+    has-of_walk zero e = rw (← e) r.itself
+    has-of_walk (suc m) (k, c, w) =
         let (a, b) = All-contains (λ p. (p.0 < p.1) × (p.1 < len)) fixed (item, k) up c in
-        r.all k j b (omega (arith, lj, few)) (says k (omega (arith, b, few)) ∙ joins_from fixed item k c) ((above k a b).1 (m, w))
+        r.all k j b (omega (arith, lj, len_le)) (says k (omega (arith, b, len_le)) ∙ has_edge-of_member fixed item k c)
+        ((above k a b).1 (m, w))

@@ -1,4 +1,5 @@
--- The search's invariant: its start, one step, and the number of directions that one call tries.
+-- The search's invariant: its start, one step, and the number of directions that one call tries. For
+-- `Orders::with_unordered` and, by `OneCall`, for `next`.
 use Rattle.lw_orders.proofs.Common.{most_items, ℕ, zero, suc, ◌≡◌, ◌+◌, ◌-◌, ◌*◌, ◌<◌, ◌≤◌, List, [], ◌∷◌}
 use Rattle.lw_orders.proofs.Common.{◌++◌, length, get_or, take, replicate, ap, sym, ◌∙◌, refl, subst, inl}
 use Rattle.lw_orders.proofs.Common.{inr, arith, ◌⊎◌, All, Bool, true, false, cond, Option, Some, None}
@@ -12,9 +13,10 @@ use Rattle.lw_orders.proofs.Common.{Reaches, IsAcyclicClosure, SearchState, reve
 use Rattle.lw_orders.proofs.Common.{search_from, after_ways, from_ways, IsTaken, pair_at, reach}
 use Rattle.lw_orders.proofs.Common.{CanBeSearched, IsSearchState, HasSearchTables, remaining_orders}
 use Rattle.lw_orders.proofs.SearchTree.{oriented-push, from-down, after-on, after-true, from-all, from-none}
-use Rattle.lw_orders.proofs.Walks.{closes_anti}
-use Rattle.lw_orders.proofs.GrowingClosure.{closes_start, IsAcyclicClosure-more, cycle_none, closed_has_order}
-use Rattle.lw_orders.proofs.api.Complete.{All-parts, IsWithin, IsUp, keeps_parts}
+use Rattle.lw_orders.proofs.Walks.{closure-antisym}
+use Rattle.lw_orders.proofs.GrowingClosure.{IsAcyclicClosure-start, IsAcyclicClosure-more}
+use Rattle.lw_orders.proofs.GrowingClosure.{not-Before-if_cycle, lowest_order-if_acyclic}
+use Rattle.lw_orders.proofs.api.Complete.{All-parts, IsWithin, IsAscendingPair, Respects-push_inv}
 
 -- The number of directions that one call tries is at most 3 k, for k unordered pairs. At first the call may go up, from a reversed pair
 -- that closes a cycle to the pair before it, and tries one direction for each pair that it leaves. After the first direction taken it goes
@@ -29,50 +31,53 @@ Phase undecided s (Some level) tried =
 
 -- ---- after some ways
 module _ (ways : List Bool) (ps : List (ℕ × ℕ)) (long : length ways ≡ length ps) where
-  way_more : (k : ℕ) (w : Bool) → k < length ps → get_or ways k false ≡ w → take (k + 1) ways ≡ take k ways ++ w ∷ []
-  way_more k w l e = take_more ways k false (omega (arith, long)) ∙ ap (λ v. take k ways ++ v ∷ []) e
+  -- The first `k + 1` ways are the first k, and the next one.
+  take_ways-suc : (k : ℕ) (w : Bool) → k < length ps → get_or ways k false ≡ w → take (k + 1) ways ≡ take k ways ++ w ∷ []
+  take_ways-suc k w in_range e = take_more ways k false (omega (arith, long)) ∙ ap (λ v. take k ways ++ v ∷ []) e
 
-  long_upto : (k : ℕ) → k ≤ length ps → length (take k ways) ≡ k
-  long_upto k l = length-take-le k ways (omega (arith, long))
+  -- The first k ways are k in number.
+  length_take-ways : (k : ℕ) → k ≤ length ps → length (take k ways) ≡ k
+  length_take-ways k l = length-take-le k ways (omega (arith, long))
 
-module _ (n : ℕ) (g ps : List (ℕ × ℕ)) (ways : List Bool) (long : length ways ≡ length ps) where
+module _ (len : ℕ) (graph ps : List (ℕ × ℕ)) (ways : List Bool) (long : length ways ≡ length ps) where
   -- The orders that come after those whose first k ways are these.
-  abbrev behind : ℕ → List (List ℕ)
-  behind k = after_ways n g ps (take k ways)
+  abbrev orders_after : ℕ → List (List ℕ)
+  orders_after k = after_ways len graph ps (take k ways)
 
   -- After a reversed pair come the orders that come after the pairs before it.
-  behind_turned : (k : ℕ) → k < length ps → get_or ways k false ≡ true → behind (k + 1) ≡ behind k
-  behind_turned k l on =
-      ap (after_ways n g ps) (way_more ways ps long k true l on)
-      ∙ after-true n g ps (take k ways) (omega (arith, long_upto ways ps long k (omega arith)))
+  orders_after-reversed : (k : ℕ) → k < length ps → get_or ways k false ≡ true → orders_after (k + 1) ≡ orders_after k
+  orders_after-reversed k in_range on =
+      ap (after_ways len graph ps) (take_ways-suc ways ps long k true in_range on)
+      ∙ after-true len graph ps (take k ways) (omega (arith, length_take-ways ways ps long k (omega arith)))
 
   -- After d reversed pairs come the orders that come after the pairs before them.
-  after_turned : (d from upto : ℕ)
+  orders_after-all_reversed : (d from upto : ℕ)
       → from + d ≡ upto
       → upto ≤ length ps
       → ((k : ℕ) → from ≤ k → k < upto → get_or ways k false ≡ true)
-      → behind upto ≡ behind from
-  after_turned zero from upto e l all = let same : upto ≡ from = omega arith in ap behind same
-  after_turned (suc d) from upto e l all =
-      after_turned d (from + 1) upto (omega arith) l (λ k a b. all k (omega arith) b)
-      ∙ behind_turned from (omega arith) (all from (omega arith) (omega arith))
+      → orders_after upto ≡ orders_after from
+  orders_after-all_reversed zero from upto e l all = let same : upto ≡ from = omega arith in ap orders_after same
+  orders_after-all_reversed (suc d) from upto e l all =
+      orders_after-all_reversed d (from + 1) upto (omega arith) l (λ k a b. all k (omega arith) b)
+      ∙ orders_after-reversed from (omega arith) (all from (omega arith) (omega arith))
 
   -- If the last pair not yet reversed, among the first `upto`, is reversed, the remaining orders are those that come after all orders with
   -- these first ways: the later pairs were reversed already.
-  pub left_on : (next : List Bool) (upto : ℕ) (found : Option ℕ)
+  pub remaining_orders-reversed_last : (next : List Bool) (upto : ℕ) (found : Option ℕ)
       → upto ≤ length ps
       → TurnedLast ways next upto found
-      → remaining_orders found n g ps next ≡ behind upto
-  left_on next upto None l (same, all) = sym (after_turned upto 0 upto (omega arith) l (λ k a b. all k b))
-  left_on next upto (Some i) l (li, off, is, on) =
+      → remaining_orders found len graph ps next ≡ orders_after upto
+  remaining_orders-reversed_last next upto None l (same, all) =
+      sym (orders_after-all_reversed upto 0 upto (omega arith) l (λ k a b. all k b))
+  remaining_orders-reversed_last next upto (Some i) l (li, off, is, on) =
       let now : take (i + 1) next ≡ take i ways ++ true ∷ [] =
       ap (take (i + 1)) is ∙ take_more_set ways i true (omega (arith, li, l, long)) in
-      let was : take (i + 1) ways ≡ take i ways ++ false ∷ [] = way_more ways ps long i false (omega (arith, li, l)) off in
-      let other_way : after_ways n g ps (take i ways ++ false ∷ []) ≡ from_ways n g ps (take i ways ++ true ∷ []) =
-      after-on n g ps (take i ways) (omega (arith, li, l, long_upto ways ps long i (omega (arith, li, l)))) in
-      let rest_turned : behind upto ≡ behind (i + 1) =
-      after_turned (upto - (i + 1)) (i + 1) upto (omega (arith, li)) l (λ k a b. on k (omega arith) b) in
-      ap (from_ways n g ps) now ∙ (sym other_way ∙ (sym (ap (after_ways n g ps) was) ∙ sym rest_turned))
+      let was : take (i + 1) ways ≡ take i ways ++ false ∷ [] = take_ways-suc ways ps long i false (omega (arith, li, l)) off in
+      let other_way : after_ways len graph ps (take i ways ++ false ∷ []) ≡ from_ways len graph ps (take i ways ++ true ∷ []) =
+      after-on len graph ps (take i ways) (omega (arith, li, l, length_take-ways ways ps long i (omega (arith, li, l)))) in
+      let rest_turned : orders_after upto ≡ orders_after (i + 1) =
+      orders_after-all_reversed (upto - (i + 1)) (i + 1) upto (omega (arith, li)) l (λ k a b. on k (omega arith) b) in
+      ap (from_ways len graph ps) now ∙ (sym other_way ∙ (sym (ap (after_ways len graph ps) was) ∙ sym rest_turned))
 
 -- ---- the search state
 
@@ -91,21 +96,22 @@ All-oriented : (P : ℕ × ℕ → Type 0) (ps : List (ℕ × ℕ)) (ws : List B
 All-oriented P [] ws all = All-nil P
 All-oriented P (p ∷ ps) [] all = All-nil P
 All-oriented P (p ∷ ps) (w ∷ ws) all =
-    All-cons P (reverse_if w p) _ (one w (All-head (λ p. P p × P (p.1, p.0)) p ps all))
+    All-cons P (reverse_if w p) _ (reverse_if-both w (All-head (λ p. P p × P (p.1, p.0)) p ps all))
     (All-oriented P ps ws (All-tail (λ p. P p × P (p.1, p.0)) p ps all))
   where
-    one : (w : Bool) → P p × P (p.1, p.0) → P (reverse_if w p)
-    one false h = h.0
-    one true h = h.1
+    -- Whether the pair is reversed or not.
+    reverse_if-both : (w : Bool) → P p × P (p.1, p.0) → P (reverse_if w p)
+    reverse_if-both false h = h.0
+    reverse_if-both true h = h.1
 
 -- Reversing the last pair not yet reversed preserves the ways before it and their number.
-turned_upto : (ways next : List Bool) (upto : ℕ) (found : Option ℕ)
+TurnedLast-front_unchanged : (ways next : List Bool) (upto : ℕ) (found : Option ℕ)
     → TurnedLast ways next upto found
     → (length next ≡ length ways)
     × (take (unwrap_or found 0) next ≡ take (unwrap_or found 0) ways)
     × (unwrap_or found 0 ≤ upto - 1)
-turned_upto ways next upto None (same, all) = (ap length same, ap (take 0) same, omega arith)
-turned_upto ways next upto (Some i) (li, off, is, on) =
+TurnedLast-front_unchanged ways next upto None (same, all) = (ap length same, ap (take 0) same, omega arith)
+TurnedLast-front_unchanged ways next upto (Some i) (li, off, is, on) =
     (ap length is ∙ length-set ways i true, ap (take i) is ∙ take-set ways i true, omega arith)
 
 module _ {len : ℕ} {fixed undecided : List (ℕ × ℕ)} {s : SearchState} {level : ℕ}
@@ -116,7 +122,7 @@ module _ {len : ℕ} {fixed undecided : List (ℕ × ℕ)} {s : SearchState} {le
       → TurnedLast s.ways next upto found
       → IsSearchState len fixed undecided (record { ways = next; chosen = s.chosen; saved = s.saved }) (unwrap_or found 0)
   IsSearchState-on next upto found l turn =
-      let (long, same, low) = turned_upto s.ways next upto found turn in
+      let (long, same, low) = TurnedLast-front_unchanged s.ways next upto found turn in
       let i : ℕ = unwrap_or found 0 in
       record {
         can = st.can;
@@ -134,21 +140,27 @@ module _ {len : ℕ} {fixed undecided : List (ℕ × ℕ)} {s : SearchState} {le
 
   -- At a leaf every pair has its direction: the only order there comes first, and then those after it.
   module _ (leaf : level ≡ length undecided) where
+    -- All directions are chosen.
     all_chosen : take level s.chosen ≡ s.chosen
     all_chosen = take_all level s.chosen (omega (arith, st.chosen_long, leaf))
 
+    -- From this level on, the first ways are all ways.
     all_ways : (k : ℕ) → level ≤ k → take k s.ways ≡ s.ways
     all_ways k l = take_all k s.ways (omega (arith, st.ways_long, leaf))
 
+    -- The directions chosen are those of the ways.
     chosen_directed : s.chosen ≡ oriented undecided s.ways
     chosen_directed = sym all_chosen ∙ (st.ways_chosen ∙ ap (oriented undecided) (all_ways _ (omega arith)))
 
+    -- The saved sets are the acyclic closure of the fixed pairs and all directions chosen.
     pub leaf_closes : IsAcyclicClosure len (fixed ++ s.chosen) (reaches_in (get_or s.saved level []))
     leaf_closes = rw all_chosen at (st.closed level (omega arith))
 
+    -- The directions chosen are of items in range.
     pub chosen_within : AreInRange len s.chosen
     chosen_within = (All-parts (IsWithin len) fixed s.chosen leaf_closes.within).1
 
+    -- Neighbours by the fixed pairs and the unordered ones include those by the directions chosen.
     pub leaf_neighbours : (neighbours : List ℕ)
         → EdgesAreIn fixed neighbours
         → AreNeighbours undecided neighbours
@@ -157,11 +169,12 @@ module _ {len : ℕ} {fixed undecided : List (ℕ × ℕ)} {s : SearchState} {le
         All-append (λ p. reaches_in neighbours p.0 p.1 ≡ true) fixed s.chosen into
         (rw chosen_directed (All-oriented (λ p. reaches_in neighbours p.0 p.1 ≡ true) undecided s.ways both))
 
-    pub at_leaf : (o : List ℕ)
+    -- There is a lowest order with the directions chosen, and it comes before the orders that are left.
+    pub lowest_order-at_leaf : (o : List ℕ)
         × (lowest_order len (fixed ++ s.chosen) ≡ Some o)
         × (from_ways len fixed undecided (take (level + 1) s.ways) ≡ o ∷ after_ways len fixed undecided (take level s.ways))
-    at_leaf =
-        let (o, h) = closed_has_order leaf_closes in (
+    lowest_order-at_leaf =
+        let (o, h) = lowest_order-if_acyclic leaf_closes in (
           o,
           h,
           rw (all_ways level (omega arith), all_ways (level + 1) (omega arith))
@@ -171,40 +184,47 @@ module _ {len : ℕ} {fixed undecided : List (ℕ × ℕ)} {s : SearchState} {le
 
   -- At a pair the search tries a direction.
   module _ (below : level < length undecided) where
+    -- The direction to try.
     abbrev p : ℕ × ℕ
     p = pair_at undecided s.ways level
 
+    -- Its items are in range.
     p_within : (p.0 < len) × (p.1 < len)
     p_within = let (a, b) = st.can.undecided_up level (0, 0) below in grind arith
 
+    -- The ways before this pair are as many as the level says.
     long_here : length (take level s.ways) ≡ level
-    long_here = long_upto s.ways undecided st.ways_long level st.level_in
+    long_here = length_take-ways s.ways undecided st.ways_long level st.level_in
 
+    -- Oriented by the ways up to this pair, the pairs are those chosen before, and the direction to try.
     way_chosen : oriented undecided (take (level + 1) s.ways) ≡ take level s.chosen ++ p ∷ []
     way_chosen =
-        ap (oriented undecided) (way_more s.ways _ st.ways_long level (get_or s.ways level false) below refl)
+        ap (oriented undecided) (take_ways-suc s.ways _ st.ways_long level (get_or s.ways level false) below refl)
         ∙ (oriented-push _ _ _ (0, 0) (omega (arith, long_here)) ∙ rw (long_here, st.ways_chosen) refl)
 
+    -- The fixed pairs with these oriented pairs are those at the level, and the direction to try.
     graph_is : fixed ++ oriented undecided (take (level + 1) s.ways) ≡ (fixed ++ take level s.chosen) ++ p ∷ []
     graph_is = ap (λ ds. fixed ++ ds) way_chosen ∙ sym (append_assoc fixed (take level s.chosen) (p ∷ []))
 
     -- A direction that closes a cycle has no orders, so the search skips it.
-    pub given_up : reach s.saved level p.1 p.0 ≡ true
+    pub from_ways-closing_cycle : reach s.saved level p.1 p.0 ≡ true
         → from_ways len fixed undecided (take (level + 1) s.ways) ≡ after_ways len fixed undecided (take (level + 1) s.ways)
-    given_up back =
+    from_ways-closing_cycle back =
         from-none len fixed undecided (take (level + 1) s.ways)
-        (omega (arith, long_upto s.ways undecided st.ways_long (level + 1) (omega (arith, below))))
-        (rw graph_is (All-push (IsWithin len) (fixed ++ take level s.chosen) p here.within p_within))
-        (All-drop (IsUp len) (length (take (level + 1) s.ways)) undecided st.can.undecided_up)
+        (omega (arith, length_take-ways s.ways undecided st.ways_long (level + 1) (omega (arith, below))))
+        (rw graph_is (All-push (IsWithin len) (fixed ++ take level s.chosen) p closure_at_level.within p_within))
+        (All-drop (IsAscendingPair len) (length (take (level + 1) s.ways)) undecided st.can.undecided_up)
         (λ o keeps. no_order o (rw graph_is at keeps))
       where
-        here : IsAcyclicClosure len (fixed ++ take level s.chosen) (reach s.saved level)
-        here = st.closed level (omega arith)
+        -- The sets at this level are the closure of the pairs chosen before.
+        closure_at_level : IsAcyclicClosure len (fixed ++ take level s.chosen) (reach s.saved level)
+        closure_at_level = st.closed level (omega arith)
 
+        -- No order respects the direction, since it closes a cycle.
         no_order : (o : List ℕ) → Respects ((fixed ++ take level s.chosen) ++ p ∷ []) o → ⊥
         no_order o keeps =
-            let (graph, pair) = keeps_parts (fixed ++ take level s.chosen) p o keeps in
-            cycle_none p.0 p.1 p_within.0 p_within.1 here back o graph pair
+            let (graph, pair) = Respects-push_inv (fixed ++ take level s.chosen) p o keeps in
+            not-Before-if_cycle p.0 p.1 p_within.0 p_within.1 closure_at_level back o graph pair
 
     module _ {next : SearchState} (taken : IsTaken len p level s next) where
       -- After a direction that closes no cycle, the search is at the next pair.
@@ -230,18 +250,20 @@ module _ {len : ℕ} {fixed undecided : List (ℕ × ℕ)} {s : SearchState} {le
         ];
       }
         where
+          -- The pairs chosen now are those before, and the direction.
           chosen_now : take (level + 1) next.chosen ≡ take level s.chosen ++ p ∷ []
           chosen_now = ap (take (level + 1)) taken.chosen ∙ take_more_set s.chosen level p (omega (arith, st.chosen_long, below))
 
-      pub left_down : from_ways len fixed undecided (take (level + 1) s.ways)
+      -- The orders from these ways on are those from the ways at the next pair on.
+      pub from_ways-next_pair : from_ways len fixed undecided (take (level + 1) s.ways)
           ≡ from_ways len fixed undecided (take (level + 1 + 1) next.ways)
-      left_down = elim (cases_lt (level + 1) (length undecided)) [
+      from_ways-next_pair = elim (cases_lt (level + 1) (length undecided)) [
         | inl l ↦
             from-down len fixed undecided (take (level + 1) s.ways)
-            (omega (arith, long_upto s.ways undecided st.ways_long (level + 1) (omega arith)))
+            (omega (arith, length_take-ways s.ways undecided st.ways_long (level + 1) (omega arith)))
             ∙ ap (from_ways len fixed undecided)
             (ap (λ ws. ws ++ false ∷ []) (sym taken.before)
-            ∙ sym (way_more next.ways undecided (taken.long ∙ st.ways_long) (level + 1) false l taken.behind))
+            ∙ sym (take_ways-suc next.ways undecided (taken.long ∙ st.ways_long) (level + 1) false l taken.behind))
         | inr g ↦
             ap (from_ways len fixed undecided)
             (sym (take_all (level + 1 + 1) next.ways (omega (arith, st.ways_long, taken.long))
@@ -249,31 +271,32 @@ module _ {len : ℕ} {fixed undecided : List (ℕ × ℕ)} {s : SearchState} {le
       ]
 
     -- ---- the count of directions tried: at most one direction of a pair closes a cycle
-    both_closed : reach s.saved level (get_or undecided level (0, 0)).1 (get_or undecided level (0, 0)).0 ≡ true
+    not-both_close_cycle : reach s.saved level (get_or undecided level (0, 0)).1 (get_or undecided level (0, 0)).0 ≡ true
         → reach s.saved level (get_or undecided level (0, 0)).0 (get_or undecided level (0, 0)).1 ≡ true
         → ⊥
-    both_closed x y =
+    not-both_close_cycle x y =
         let (a, b) = st.can.undecided_up level (0, 0) below in
-        omega (arith, closes_anti (st.closed level (omega arith)) _ _ (omega arith) b y x)
+        omega (arith, closure-antisym (st.closed level (omega arith)) _ _ (omega arith) b y x)
 
     module _ (tried : ℕ) (ph : Phase undecided s (Some level) tried) where
-      pub phase_on : (way : Bool) (next : List Bool) (found : Option ℕ)
+      -- The count of tries is within its bound after a direction that closes a cycle is abandoned.
+      pub Phase-direction_abandoned : (way : Bool) (next : List Bool) (found : Option ℕ)
           → get_or s.ways level false ≡ way
           → reach s.saved level (reverse_if way (get_or undecided level (0, 0))).1
           (reverse_if way (get_or undecided level (0, 0))).0
           ≡ true
           → TurnedLast s.ways next (level + 1) found
           → Phase undecided (record { ways = next; chosen = s.chosen; saved = s.saved }) found (tried + 1)
-      phase_on false next None e back (same, all) = cc (all level (omega arith))
-      phase_on true next None e back (same, all) =
-          elim ph [ inl a ↦ omega (arith, a.1) | inr b ↦ absurd (both_closed (b.1 e) back) ]
-      phase_on true next (Some i) e back (li, off, is, on) =
+      Phase-direction_abandoned false next None e back (same, all) = cc (all level (omega arith))
+      Phase-direction_abandoned true next None e back (same, all) =
+          elim ph [ inl a ↦ omega (arith, a.1) | inr b ↦ absurd (not-both_close_cycle (b.1 e) back) ]
+      Phase-direction_abandoned true next (Some i) e back (li, off, is, on) =
           let ne : i ≡ level → ⊥ = λ q. cc (e, off, q) in
           inl (
             ap (λ ws. get_or ws i false) is ∙ get_or-set_same s.ways i true false (omega (arith, li, below, st.ways_long)),
-            elim ph [ inl a ↦ omega (arith, a.1, li, ne) | inr b ↦ absurd (both_closed (b.1 e) back) ],
+            elim ph [ inl a ↦ omega (arith, a.1, li, ne) | inr b ↦ absurd (not-both_close_cycle (b.1 e) back) ],
           )
-      phase_on false next (Some i) e back (li, off, is, on) = elim (cases_eq i level) [
+      Phase-direction_abandoned false next (Some i) e back (li, off, is, on) = elim (cases_eq i level) [
         | inl q ↦ inr (
           rw (is, get_or-set_same s.ways i true false (omega (arith, li, below, st.ways_long)), q)
               (elim ph [ inl a ↦ cc (a.0, e) | inr b ↦ omega (arith, rw e at b.0) ]),
@@ -282,15 +305,17 @@ module _ {len : ℕ} {fixed undecided : List (ℕ × ℕ)} {s : SearchState} {le
         | inr n ↦ cc (on level (omega arith) (omega arith))
       ]
 
-      pub phase_down : (next : SearchState)
+      -- The count of tries is within its bound after a direction is taken.
+      pub Phase-next_pair : (next : SearchState)
           → get_or next.ways (level + 1) false ≡ false
           → Phase undecided next (Some (level + 1)) (tried + 1)
-      phase_down next off = inr (rw off (elim ph [ inl a ↦ omega (arith, a.1) | inr b ↦ grind (arith, b.0) ]), λ t. cc (off, t))
+      Phase-next_pair next off =
+          inr (rw off (elim ph [ inl a ↦ omega (arith, a.1) | inr b ↦ grind (arith, b.0) ]), λ t. cc (off, t))
 
   -- A call tries at most three directions for each unordered pair.
-  pub tried_le : (tried : ℕ) → Phase undecided s (Some level) tried → tried ≤ 3 * length undecided
-  tried_le tried (inl a) = omega (arith, a.1)
-  tried_le tried (inr b) = elim (cases_lt level (length undecided)) [
+  pub tries-le_three_per_pair : (tried : ℕ) → Phase undecided s (Some level) tried → tried ≤ 3 * length undecided
+  tries-le_three_per_pair tried (inl a) = omega (arith, a.1)
+  tries-le_three_per_pair tried (inr b) = elim (cases_lt level (length undecided)) [
     | inl lt ↦ grind (arith, b.0)
     | inr ge ↦ omega (arith, rw (get_or_past s.ways level false (omega (arith, st.ways_long))) at b.0, st.level_in)
   ]
@@ -298,20 +323,20 @@ module _ {len : ℕ} {fixed undecided : List (ℕ × ℕ)} {s : SearchState} {le
 -- ---- the start
 
 -- Before the first step all orders of the search remain.
-pub start_left : (n : ℕ) (fixed undecided : List (ℕ × ℕ)) (ways : List Bool)
+pub from_ways-start : (n : ℕ) (fixed undecided : List (ℕ × ℕ)) (ways : List Bool)
     → length ways ≡ length undecided
     → get_or ways 0 false ≡ false
     → from_ways n fixed undecided (take (0 + 1) ways) ≡ search_from n fixed undecided
-start_left n fixed [] [] long off = refl
-start_left n fixed (p ∷ ps) [] long off = refl
-start_left n fixed [] (w ∷ ways) long off = refl
-start_left n fixed (p ∷ ps) (w ∷ ways) long off =
+from_ways-start n fixed [] [] long off = refl
+from_ways-start n fixed (p ∷ ps) [] long off = refl
+from_ways-start n fixed [] (w ∷ ways) long off = refl
+from_ways-start n fixed (p ∷ ps) (w ∷ ways) long off =
     ap (λ v. from_ways n fixed (p ∷ ps) (v ∷ [])) off ∙ sym (from-down n fixed (p ∷ ps) [] (omega arith))
 
 -- If no pair is reversed, the first is not.
-pub none_turned : (n : ℕ) → get_or (replicate n false) 0 false ≡ false
-none_turned zero = refl
-none_turned (suc n) = refl
+pub get_or-replicate_false : (n : ℕ) → get_or (replicate n false) 0 false ≡ false
+get_or-replicate_false zero = refl
+get_or-replicate_false (suc n) = refl
 
 -- At the start the search is at the first pair, and no pair is reversed.
 pub IsSearchState-start : {len : ℕ} {fixed undecided : List (ℕ × ℕ)} {s : SearchState} (sets : List ℕ) (k : ℕ)
@@ -329,12 +354,14 @@ IsSearchState-start {len = len} {fixed = fixed} {undecided = undecided} {s = s} 
   saved_long = ap length sv ∙ (length-replicate (k + 1) sets ∙ ap (λ n. n + 1) kl);
   level_in = omega arith;
   ways_chosen = sym (take-oriented 0 undecided s.ways);
-  closed =
-      λ i li. (let e : i ≡ 0 = omega arith in rw (e, append-nil fixed) (rw (← first) at (closes_start can.fixed_up reaches)));
+  closed = λ i li.
+      (let e : i ≡ 0 = omega arith in
+      rw (e, append-nil fixed) (rw (← first_saved) at (IsAcyclicClosure-start can.fixed_up reaches)));
 }
   where
-    first : get_or s.saved 0 [] ≡ sets
-    first = ap (λ xs. get_or xs 0 []) sv ∙ get_or-replicate (k + 1) 0 sets [] (omega arith)
+    -- The first of the saved sets are these.
+    first_saved : get_or s.saved 0 [] ≡ sets
+    first_saved = ap (λ xs. get_or xs 0 []) sv ∙ get_or-replicate (k + 1) 0 sets [] (omega arith)
 
 -- How the code fills the tables of a search: with two copies of `sets`, the predecessors by the fixed pairs; and with the first `len` sets
 -- of `all`, the neighbours by the fixed and the unordered pairs.
@@ -344,8 +371,8 @@ pub record TablesAreMade (len : ℕ) (fixed undecided : List (ℕ × ℕ)) (tabl
   pub predecessors : ArePredecessors most_items fixed sets
   pub first : neighbours ≡ take len all
   pub long : length neighbours ≡ len
-  pub into : EdgesAreIn fixed all
-  pub both : AreNeighbours undecided all
+  pub fixed_are_edges : EdgesAreIn fixed all
+  pub unordered_are_neighbours : AreNeighbours undecided all
 
 -- A search can start with tables that are filled so.
 pub Tabled-start : {len : ℕ} {fixed undecided : List (ℕ × ℕ)} {tables : List (List ℕ)} {neighbours : List ℕ} (sets all : List ℕ)
@@ -356,12 +383,14 @@ Tabled-start {len = len} {neighbours = neighbours} sets all can made = record {
   two = ap length made.copies;
   sets = rw made.copies made.predecessors;
   neighbours_long = omega (arith, made.long);
-  neighbours_fixed = λ k d l. (let (a, b) = can.fixed_up k d l in same _ _ (omega (arith, a, b)) ∙ made.into k d l);
+  neighbours_fixed =
+      λ k d l. (let (a, b) = can.fixed_up k d l in same_reach _ _ (omega (arith, a, b)) ∙ made.fixed_are_edges k d l);
   neighbours_open = λ k d l.
       (let (a, b) = can.undecided_up k d l in
-      let (there, back) = made.both k d l in
-      (same _ _ (omega (arith, a, b)) ∙ there, same _ _ b ∙ back));
+      let (there, back) = made.unordered_are_neighbours k d l in
+      (same_reach _ _ (omega (arith, a, b)) ∙ there, same_reach _ _ b ∙ back));
 }
   where
-    same : (i j : ℕ) → i < len → reaches_in neighbours i j ≡ reaches_in all i j
-    same i j l = ap (λ set. has set j) (ap (λ rs. get_or rs i 0) made.first ∙ get_or-take len all i 0 l)
+    -- The neighbours reach what all sets reach.
+    same_reach : (i j : ℕ) → i < len → reaches_in neighbours i j ≡ reaches_in all i j
+    same_reach i j l = ap (λ set. has set j) (ap (λ rs. get_or rs i 0) made.first ∙ get_or-take len all i 0 l)

@@ -1,56 +1,59 @@
--- The sets of the closure, one for each item: which conflicts they leave unordered, and how they grow by a pair.
+-- The sets of the closure, one for each item: which conflicts they leave unordered, and how they grow by a
+-- pair. Lemmas for `unordered_conflicts_of` and for the functions of `reach.rt`, which write one table of a
+-- list of tables.
 use Rattle.lw_orders.proofs.Common.{most_items, ℕ, ◌≡◌, ◌+◌, ◌<◌, ◌≤◌, List, [], ◌∷◌, ◌++◌, length, set}
 use Rattle.lw_orders.proofs.Common.{get_or, get_or_append_left, ap, sym, ◌∙◌, refl, inl, inr, arith, true}
 use Rattle.lw_orders.proofs.Common.{false, not, ◌&&◌, ◌||◌, length-set, filter, get_or-set_same}
 use Rattle.lw_orders.proofs.Common.{get_or-set_other, cases_eq, same_from_decides, All-head, All-tail}
 use Rattle.lw_orders.proofs.Common.{Constraints, IsWellFormed, AreAscending, is_ordered, unordered_conflicts}
 use Rattle.lw_orders.proofs.Common.{has, reaches_in, Reaches}
-use Rattle.lw_orders.proofs.Walks.{decided_walk, walk_decided}
+use Rattle.lw_orders.proofs.Walks.{IsOrderedByPath-if_ordered, is_ordered-if_path}
 
 -- The conflicts that the sets of the closure do not order are the unordered ones.
-pub open_is : (t : Constraints)
+pub unordered_conflicts-by_sets : (t : Constraints)
     → IsWellFormed t
     → (sets : List ℕ)
     → Reaches t.len t.fixed (reaches_in sets)
     → filter (λ p. not (reaches_in sets p.0 p.1)) t.conflicts ≡ unordered_conflicts t
-open_is t are sets walks = kept t.conflicts are.conflicts_up
+unordered_conflicts-by_sets t are sets walks = filter_ordered-same t.conflicts are.conflicts_up
   where
-    kept : (ps : List (ℕ × ℕ))
+    -- For each pair both tests have the same value.
+    filter_ordered-same : (ps : List (ℕ × ℕ))
         → AreAscending t.len ps
         → filter (λ p. not (reaches_in sets p.0 p.1)) ps ≡ filter (λ p. not (is_ordered t.fixed p)) ps
-    kept [] up = refl
-    kept (p ∷ ps) up =
+    filter_ordered-same [] up = refl
+    filter_ordered-same (p ∷ ps) up =
         let (a, b) = All-head (λ p. (p.0 < p.1) × (p.1 < t.len)) p ps up in
         let same : reaches_in sets p.0 p.1 ≡ is_ordered t.fixed p =
         same_from_decides _ _ (walks p.0 p.1 (omega (arith, a, b)) b)
-        (decided_walk t.fixed p, walk_decided t.len t.fixed p are.fixed_up) in
-        let rest = kept ps (All-tail (λ p. (p.0 < p.1) × (p.1 < t.len)) p ps up) in
+        (IsOrderedByPath-if_ordered t.fixed p, is_ordered-if_path t.len t.fixed p are.fixed_up) in
+        let rest = filter_ordered-same ps (All-tail (λ p. (p.0 < p.1) × (p.1 < t.len)) p ps up) in
         cc
 
 -- To write the first element of `back` is to write it in the whole list, at the length of `front`.
-written : {X : Type 0} (front back : List X) (v d : X)
+set-append_first : {X : Type 0} (front back : List X) (v d : X)
     → 0 < length back
     → front ++ set back 0 v ≡ set (front ++ back) (length front) (get_or (front ++ set back 0 v) (length front) d)
-written [] [] v d l = absurd (omega arith)
-written [] (b ∷ back) v d l = refl
-written (f ∷ front) back v d l = ap (λ xs. f ∷ xs) (written front back v d l)
+set-append_first [] [] v d in_range = absurd (omega arith)
+set-append_first [] (b ∷ back) v d in_range = refl
+set-append_first (f ∷ front) back v d in_range = ap (λ xs. f ∷ xs) (set-append_first front back v d in_range)
 
 -- If xs is split at n into `front` and `back`, to write the first element of `back` is to write xs at n.
-pub written_behind : {X : Type 0} (xs front back : List X) (n : ℕ) (v d : X)
+pub set-split_at : {X : Type 0} (xs front back : List X) (n : ℕ) (v d : X)
     → xs ≡ front ++ back
     → length front ≡ n
     → 0 < length back
     → front ++ set back 0 v ≡ set xs n (get_or (front ++ set back 0 v) n d)
-written_behind xs front back n v d e long l = rw (e, ← long) (written front back v d l)
+set-split_at xs front back n v d e long in_range = rw (e, ← long) (set-append_first front back v d in_range)
 
 module _ (xs front back : List (List ℕ)) (level : ℕ) (e : xs ≡ front ++ back) (long : length front ≡ level + 1) where
   -- The table of a level, the last of the front part, is the one in the whole list.
-  pub read_in_front : get_or front level [] ≡ get_or xs level []
-  read_in_front = rw e (sym (get_or_append_left front back [] level (omega (arith, long))))
+  pub get_or-front_level : get_or front level [] ≡ get_or xs level []
+  get_or-front_level = rw e (sym (get_or_append_left front back [] level (omega (arith, long))))
 
   -- If `more`, the table of a level extended by a pair, is written to the first of the back part, then the whole list has it after the
   -- table of that level.
-  pub grown_behind : {len : ℕ} (from to : ℕ) (more : List ℕ)
+  pub reaches_in-written_level : {len : ℕ} (from to : ℕ) (more : List ℕ)
       → 0 < length back
       → ((i j : ℕ)
       → i < len
@@ -63,12 +66,16 @@ module _ (xs front back : List (List ℕ)) (level : ℕ) (e : xs ≡ front ++ ba
       → j < len
       → reaches_in (get_or (front ++ set back 0 more) (level + 1) []) i j
       ≡ (reaches_in (get_or xs level []) i j || (reaches_in (get_or xs level []) i from && reaches_in (get_or xs level []) to j))
-  grown_behind from to more some grown i j li lj = rw (← long, read_behind front back some, ← read_in_front) (grown i j li lj)
+  reaches_in-written_level from to more some grown i j li lj =
+      rw (← long, get_or-written_level front back some, ← get_or-front_level) (grown i j li lj)
     where
-      read_behind : (front back : List (List ℕ)) → 0 < length back → get_or (front ++ set back 0 more) (length front) [] ≡ more
-      read_behind [] [] l = absurd (omega arith)
-      read_behind [] (b ∷ back) l = refl
-      read_behind (f ∷ front) back l = read_behind front back l
+      -- The sets written at a level are read there.
+      get_or-written_level : (front back : List (List ℕ))
+          → 0 < length back
+          → get_or (front ++ set back 0 more) (length front) [] ≡ more
+      get_or-written_level [] [] in_range = absurd (omega arith)
+      get_or-written_level [] (b ∷ back) in_range = refl
+      get_or-written_level (f ∷ front) back in_range = get_or-written_level front back in_range
 
 -- The invariant of the loop that extends `sets` by a pair, item by item: the sets of the items below `item` are extended, the others
 -- unchanged.
@@ -81,28 +88,28 @@ pub record IsGrowing (sets more : List ℕ) (len from to item : ℕ) : Type 0 wh
       → reaches_in more i j ≡ (reaches_in sets i j || (reaches_in sets i from && reaches_in sets to j))
 
 module _ {sets more : List ℕ} {len from to item : ℕ} (few : len ≤ most_items) (l : item < len)
-    (is : IsGrowing sets more len from to item) where
+    (growing : IsGrowing sets more len from to item) where
   -- If an item reaches the new pair's first item, its set is joined with the second item's.
-  pub joined_set : (set' : ℕ)
+  pub IsGrowing-set_joined : (set' : ℕ)
       → ((j : ℕ) → j < most_items → has set' j ≡ (reaches_in sets item j || reaches_in sets to j))
       → reaches_in sets item from ≡ true
       → IsGrowing sets (set more item set') len from to (item + 1)
-  joined_set set' joined on = record {
-    room = length-set more item set' ∙ is.room;
-    kept = λ i past li. get_or-set_other more item i set' 0 (λ e. omega arith) ∙ is.kept i (omega arith) li;
+  IsGrowing-set_joined set' joined on = record {
+    room = length-set more item set' ∙ growing.room;
+    kept = λ i past li. get_or-set_other more item i set' 0 (λ e. omega arith) ∙ growing.kept i (omega arith) li;
     grown = λ i j past lj. elim (cases_eq i item) [
-      | inl e ↦ rw e (rw (get_or-set_same more item set' 0 (omega (arith, is.room)), on) (joined j (omega arith)))
-      | inr ne ↦ rw (get_or-set_other more item i set' 0 ne) (is.grown i j (omega arith) lj)
+      | inl e ↦ rw e (rw (get_or-set_same more item set' 0 (omega (arith, growing.room)), on) (joined j (omega arith)))
+      | inr ne ↦ rw (get_or-set_other more item i set' 0 ne) (growing.grown i j (omega arith) lj)
     ];
   }
 
   -- If an item does not reach the new pair's first item, its set is unchanged.
-  pub kept_set : reaches_in sets item from ≡ false → IsGrowing sets more len from to (item + 1)
-  kept_set off = record {
-    room = is.room;
-    kept = λ i past li. is.kept i (omega arith) li;
+  pub IsGrowing-set_unchanged : reaches_in sets item from ≡ false → IsGrowing sets more len from to (item + 1)
+  IsGrowing-set_unchanged off = record {
+    room = growing.room;
+    kept = λ i past li. growing.kept i (omega arith) li;
     grown = λ i j past lj. elim (cases_eq i item) [
-      | inl e ↦ rw e (rw (is.kept item (omega arith) l, off) (grind arith))
-      | inr ne ↦ is.grown i j (omega arith) lj
+      | inl e ↦ rw e (rw (growing.kept item (omega arith) l, off) (grind arith))
+      | inr ne ↦ growing.grown i j (omega arith) lj
     ];
   }

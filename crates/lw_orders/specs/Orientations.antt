@@ -1,5 +1,5 @@
 -- Which conflicts the preserved pairs do not order, and the number of their orientations, as the code's contracts compute them. The laws
--- `decided_by_walks` and `ways_are_computed` state that these are the ones of `IsOrderedByPath`, `AreUnorderedConflicts` and
+-- `paths_order_pairs` and `orientations_are_counted` state that these are the ones of `IsOrderedByPath`, `AreUnorderedConflicts` and
 -- `HasOrientationCount`.
 use Rattle.std.specs.Prelude.{ℕ, suc, zero, ◌^◌, Bool, not, ◌==◌, ◌&&◌, ◌||◌, List, length, filter}
 use Rattle.std.specs.List.{list_any}

@@ -9,7 +9,7 @@ ghost use Rattle.lw_orders.specs.Swaps.{AreConnected, IsSwapInvariant};
 
 /// States, for readers, that two trace-equivalent linear extensions are connected by swaps of adjacent items that
 /// neither conflict nor are preserved, through linear extensions only.
-pub fn alike_orders_are_joined()
+pub fn trace_equivalent_orders_are_connected()
     ensures { (t : Constraints) → IsWellFormed t
         → (xs ys : List ℕ) → IsLinearExtension t xs → IsLinearExtension t ys → AreTraceEquivalent t.conflicts xs ys
         → AreConnected t xs ys }
@@ -17,7 +17,7 @@ pub fn alike_orders_are_joined()
 
 /// States, for readers, that a test of orders (such as whether the run of an order ends in a given way) has the same
 /// value on trace-equivalent linear extensions, if every swap of adjacent independent items preserves its value.
-pub fn alike_orders_agree()
+pub fn trace_equivalent_orders_agree()
     ensures { (t : Constraints) → IsWellFormed t → (test : List ℕ → Bool) → IsSwapInvariant t test
         → (xs ys : List ℕ) → IsLinearExtension t xs → IsLinearExtension t ys → AreTraceEquivalent t.conflicts xs ys
         → test xs ≡ test ys }
@@ -25,13 +25,13 @@ pub fn alike_orders_agree()
 
 /// States, for readers, that a pair is ordered if and only if a path of preserved pairs leads from its first item to
 /// its second.
-pub fn decided_by_walks()
+pub fn paths_order_pairs()
     ensures { (t : Constraints) → IsWellFormed t → (p : ℕ × ℕ) → IsTrue (is_ordered t.fixed p) ↔ IsOrderedByPath t.fixed p }
 {}
 
 /// States, for readers, that the computed unordered conflicts are those that no path orders, and that the number of
 /// their orientations is 2 to the power of their number, and no other.
-pub fn ways_are_computed()
+pub fn orientations_are_counted()
     ensures pairs { (t : Constraints) → IsWellFormed t → AreUnorderedConflicts t (unordered_conflicts t) }
     ensures number { (t : Constraints) → IsWellFormed t → (n : ℕ) → HasOrientationCount t n ↔ (n ≡ orientation_count t) }
 {}
@@ -45,13 +45,13 @@ pub fn orders_are_complete()
 {}
 
 /// States that there is one order if no conflict is unordered: the items in ascending order.
-pub fn one_order_goes_up()
+pub fn one_order_without_open_conflicts()
     ensures { (t : Constraints) → IsWellFormed t → unordered_conflicts t ≡ [] → orders t ≡ indices 0 t.len ∷ [] }
 {}
 
 /// States, for readers, that an order of n items has each item at exactly one index and nothing else, and that a list
 /// of these items in which each is found, without duplicates, is an order of them.
-pub fn items_stand_once()
+pub fn orders_are_permutations()
     ensures within { (n : ℕ) (order : List ℕ) → IsOrder n order → All (λ i. i < n) order }
     ensures once { (n : ℕ) (order : List ℕ) → IsOrder n order → AreDistinct order }
     ensures found { (n i : ℕ) (front rest : List ℕ) → IsOrder n (front ++ i ∷ rest)

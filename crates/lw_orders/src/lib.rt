@@ -11,12 +11,12 @@
 //! 2. Take any linear extension of the preserved pairs. By the clause `exactly_one` of `Orders::new` it is
 //!    trace-equivalent to one order in that list, which by the clause `each` is a linear extension too.
 //!    (`orders_are_complete` states this of all well-formed items, without a call.)
-//! 3. By the law `alike_orders_are_joined` the two orders are connected by swaps of adjacent items that neither
+//! 3. By the law `trace_equivalent_orders_are_connected` the two orders are connected by swaps of adjacent items that neither
 //!    conflict nor are preserved, through linear extensions only. If each such swap preserves the outcome of a run,
 //!    the two runs have the same outcome. So the outcome of every order was found.
 //! A contract cannot speak of outcomes of any type. Lemmas for that are in `proofs/api/`: `SwapInvariance` has
-//! `kept_along` (what each swap preserves is preserved between connected orders), and `Indices` has the indices of
-//! items. The law `alike_orders_agree` states it for a test of orders.
+//! `preserved-by_swaps` (what each swap preserves is preserved between connected orders), and `Indices` has the indices of
+//! items. The law `trace_equivalent_orders_agree` states it for a test of orders.
 //! This crate depends only on std.
 #![tactic(auto)]
 
@@ -34,8 +34,9 @@ mod reach;
 
 pub use items::{Items, count};
 pub use laws::{
-    alike_orders_agree, alike_orders_are_joined, decided_by_walks, items_stand_once,
-    one_order_goes_up, orders_are_complete, ways_are_computed,
+    one_order_without_open_conflicts, orders_are_complete, orders_are_permutations,
+    orientations_are_counted, paths_order_pairs, trace_equivalent_orders_agree,
+    trace_equivalent_orders_are_connected,
 };
 pub use limits::{MAX_ITEMS, MAX_OPEN, MAX_ORDERS, the_constants_are_the_limits};
 pub use order::Order;

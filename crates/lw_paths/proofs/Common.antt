@@ -31,7 +31,7 @@ pub use Rattle.std.proofs.lemmas.Result.{IfErr-weaker, IfOk-from_err, err_from_i
 pub use Rattle.std.proofs.lemmas.Simd.{map-map}
 pub use Rattle.std.specs.Option.{option_map_or}
 pub use Rattle.lw_base.proofs.Common.{IsDuplicateFree, most_threads, thread_code}
-pub use Rattle.lw_base.proofs.api.Lists.{cons_head, get_some}
+pub use Rattle.lw_base.proofs.api.Lists.{cons-head_eq, drop-past_end, slice_get-in_range}
 pub use Rattle.lw_litmus.proofs.Common.{IsFlowPathFrom, IsFlowSuccessor, IsWellFormedSource}
 pub use Rattle.lw_litmus.proofs.Common.{IsWellFormedThread, IsWellScoped, IsWellScopedThread, Language}
 pub use Rattle.lw_litmus.proofs.Common.{SourceTest, Test, branch_target, falls_through, is_same_location}
@@ -41,9 +41,10 @@ pub use Rattle.lw_litmus.specs.declared.operation.Operation.TheVariants.{Branch}
 pub use Rattle.lw_orders.proofs.Common.{AreAscending, AreSorted, Before, Constraints, IsLinearExtension}
 pub use Rattle.lw_orders.proofs.Common.{IsOrderedByPath, IsWellFormed, Respects, indices, is_ordered}
 pub use Rattle.lw_orders.proofs.Common.{most_items, most_open, most_orders, orientation_count}
-pub use Rattle.lw_orders.proofs.api.Closure.{Leads, decided_along, leads_itself, leads_on, same_count}
+pub use Rattle.lw_orders.proofs.api.Closure.{IsOrderedByPath-along, Leads, Leads-trans, LeadsAlong-refl}
+pub use Rattle.lw_orders.proofs.api.Closure.{orientation_count-same_closure}
 pub use Rattle.lw_orders.proofs.api.Complete.{All-parts}
-pub use Rattle.lw_orders.proofs.api.OpenPairs.{ways_are, ways_are_one}
+pub use Rattle.lw_orders.proofs.api.OpenPairs.{HasOrientationCount-computed, HasOrientationCount-unique}
 pub use Rattle.lw_paths.specs.ChoiceLists.{next_and_target, path_assignments, paths_from, paths_of}
 pub use Rattle.lw_paths.specs.ChoiceLists.{paths_through, successor_list, successors}
 pub use Rattle.lw_paths.specs.Choices.{IsPathAssignment, JumpsForward}

@@ -12,13 +12,13 @@ flat_map-same f g (x ∷ xs) h =
     ap₂ (λ a b. a ++ b) (h x (Contains-head x x xs refl)) (flat_map-same f g xs (λ y c. h y (Contains-tail x y xs c)))
 
 -- A `flat_map` of a `flat_map` is a single `flat_map`.
-pub over_flat_map : {X Y Z : Type 0} (f : Y → List Z) (g : X → List Y) (xs : List X)
+pub flat_map-of_flat_map : {X Y Z : Type 0} (f : Y → List Z) (g : X → List Y) (xs : List X)
     → flat_map f (flat_map g xs) ≡ flat_map (λ x. flat_map f (g x)) xs
-over_flat_map f g [] = refl
-over_flat_map f g (x ∷ xs) = flat_map-append f _ _ ∙ ap (λ b. flat_map f (g x) ++ b) (over_flat_map f g xs)
+flat_map-of_flat_map f g [] = refl
+flat_map-of_flat_map f g (x ∷ xs) = flat_map-append f _ _ ∙ ap (λ b. flat_map f (g x) ++ b) (flat_map-of_flat_map f g xs)
 
 -- A `map` of a `flat_map` is a `flat_map`.
-pub map_of_flat_map : {X Y Z : Type 0} (f : Y → Z) (g : X → List Y) (xs : List X)
+pub map-flat_map : {X Y Z : Type 0} (f : Y → Z) (g : X → List Y) (xs : List X)
     → map f (flat_map g xs) ≡ flat_map (λ x. map f (g x)) xs
-map_of_flat_map f g [] = refl
-map_of_flat_map f g (x ∷ xs) = map-append f (g x) (flat_map g xs) ∙ ap (λ b. map f (g x) ++ b) (map_of_flat_map f g xs)
+map-flat_map f g [] = refl
+map-flat_map f g (x ∷ xs) = map-append f (g x) (flat_map g xs) ∙ ap (λ b. map f (g x) ++ b) (map-flat_map f g xs)

@@ -1,4 +1,5 @@
--- One turn of each loop that lists the items or their reduced pairs: what is listed, followed by what remains, is still `whole`.
+-- One turn of each loop that lists the items or their reduced pairs: what is listed, followed by what
+-- remains, is still `whole`. For `items.rt` and `preserved_order.rt`.
 use Rattle.lw_paths.proofs.Common.{take-append_seam, take, ap, Result, Ok, Err, OnErr, ◌≡◌, ℕ, suc, ◌+◌, ◌<◌}
 use Rattle.lw_paths.proofs.Common.{Bool, false, ◌||◌, List, [], ◌∷◌, ◌++◌, length, map, drop, get_or}
 use Rattle.lw_paths.proofs.Common.{slice_get, Option, Some, None, SomeIff, refl, sym, ◌∙◌, ◌^◌, arith, IsSome}
@@ -8,55 +9,55 @@ use Rattle.lw_paths.proofs.Common.{edge_from, fixed_at, record_last, last_of_thr
 use Rattle.lw_paths.proofs.Common.{items_from, needs_earlier_drains, fixed_from}
 
 -- The pairs pushed for an item are its reduced pairs.
-fixed_is : (d w : Bool) (last : LastItems) (n : ℕ)
+fixed_at-as_pushed : (d w : Bool) (last : LastItems) (n : ℕ)
     → edge_from last.statement n ++ (if d || w then edge_from last.drain n else []) ≡ fixed_at d w last n
-fixed_is false false last n = append-nil (edge_from last.statement n)
-fixed_is _ _ last n = refl
+fixed_at-as_pushed false false last n = append-nil (edge_from last.statement n)
+fixed_at-as_pushed _ _ last n = refl
 
 -- A property holds after a failure if it holds in every case.
-pub of_refusal : {T E P : Type 0} (r : Result T E) → P → OnErr r P
-of_refusal (Ok x) p = tt
-of_refusal (Err e) p = p
+pub OnErr-always : {T E P : Type 0} (r : Result T E) → P → OnErr r P
+OnErr-always (Ok x) p = tt
+OnErr-always (Err e) p = p
 
 -- Concatenation of new, `rest` and `more` is associative.
-pub is_front : (new rest more : List Item) {all : List Item} → new ++ rest ++ more ≡ all → new ++ (rest ++ more) ≡ all
-is_front new rest more e = sym (append_assoc new rest more) ∙ e
+pub append-assoc_all : (new rest more : List Item) {all : List Item} → new ++ rest ++ more ≡ all → new ++ (rest ++ more) ≡ all
+append-assoc_all new rest more e = sym (append_assoc new rest more) ∙ e
 
 -- A list to which `rest` is appended to give all items is the first of them.
-pub first_of : (new rest : List Item) {all : List Item} → new ++ rest ≡ all → (filled : ℕ) × (new ≡ take filled all)
-first_of new rest e = (length new, sym (take-append_seam new rest) ∙ ap (take (length new)) e)
+pub append-is_take : (new rest : List Item) {all : List Item} → new ++ rest ≡ all → (filled : ℕ) × (new ≡ take filled all)
+append-is_take new rest e = (length new, sym (take-append_seam new rest) ∙ ap (take (length new)) e)
 
 -- If an optional result can only be n, and it is m, then m is n.
-pub some_is : (P : Type 0) (o : Option ℕ) (n m : ℕ) → SomeIff o P n → o ≡ Some m → m ≡ n
-some_is P None n m s e = absurd (let bad : None ≡ Some m = e in cc)
-some_is P (Some x) n m s e =
+pub SomeIff-value : (P : Type 0) (o : Option ℕ) (n m : ℕ) → SomeIff o P n → o ≡ Some m → m ≡ n
+SomeIff-value P None n m s e = absurd (let bad : None ≡ Some m = e in cc)
+SomeIff-value P (Some x) n m s e =
     (let given : Some x ≡ Some m = e in
     let same : x ≡ m = cc in
     sym same ∙ s.1)
 
 -- A result that is present if and only if n is below the bound is present, since n is.
-pub some_there : (o : Option ℕ) (n most : ℕ) → SomeIff o (n < most) n → n < most → IsSome o
-some_there None n most s lt = absurd (s lt)
-some_there (Some x) n most s lt = refl
+pub SomeIff-is_some : (o : Option ℕ) (n most : ℕ) → SomeIff o (n < most) n → n < most → IsSome o
+SomeIff-is_some None n most s lt = absurd (s lt)
+SomeIff-is_some (Some x) n most s lt = refl
 
 module _ {S : Type 0} (language : Language S) where
   -- Pushing the items of the statement at index i of a path preserves that `whole` is the items listed and those of the rest of the path.
-  pub path_pushed : {s : Option S} {new whole : List Item} (t : ℕ) (code : List S) (path : List ℕ) (i d : ℕ) (old : List Item)
+  pub path_items-push : {s : Option S} {new whole : List Item} (t : ℕ) (code : List S) (path : List ℕ) (i d : ℕ) (old : List Item)
       → i < length path
       → s ≡ slice_get code (get_or path i d)
       → new ≡ old ++ items_at language t (get_or path i d) s
       → old ++ path_items language t code (drop i path) ≡ whole
       → new ++ path_items language t code (drop (i + 1) path) ≡ whole
-  path_pushed t code path i d old l e n h = rw (n, e, append_assoc) (rw (drop_more path i d l) at h)
+  path_items-push t code path i d old in_range e n h = rw (n, e, append_assoc) (rw (drop_more path i d in_range) at h)
 
   -- No paths have no items.
-  pub no_paths : (t : ℕ) (codes : List (List S)) → items_from language t codes [] ≡ []
-  no_paths t [] = refl
-  no_paths t (c ∷ codes) = refl
+  pub items_from-no_paths : (t : ℕ) (codes : List (List S)) → items_from language t codes [] ≡ []
+  items_from-no_paths t [] = refl
+  items_from-no_paths t (c ∷ codes) = refl
 
   module _ {P : Type 0} (view : P → List ℕ) (program : List (List S)) (paths : List P) where
     -- Pushing the items of thread t preserves that `whole` is the items listed and those of the later threads.
-    pub thread_pushed : {code : List S} {path : P} {new whole : List Item} (t : ℕ) (old : List Item)
+    pub items_from-push : {code : List S} {path : P} {new whole : List Item} (t : ℕ) (old : List Item)
         → t < length program
         → t < length paths
         → code ≡ get_or program t code
@@ -64,12 +65,12 @@ module _ {S : Type 0} (language : Language S) where
         → new ≡ old ++ path_items language t code (view path)
         → old ++ items_from language t (drop t program) (map view (drop t paths)) ≡ whole
         → new ++ items_from language (t + 1) (drop (t + 1) program) (map view (drop (t + 1) paths)) ≡ whole
-    thread_pushed {code = code} {path = path} t old lp lq ec ep n h =
+    items_from-push {code = code} {path = path} t old lp lq ec ep n h =
         let plus : t + 1 ≡ suc t = omega arith in
         rw (n, append_assoc, plus) (rw (drop_more program t code lp, drop_more paths t path lq, ← ec, ← ep, plus) at h)
 
   -- Pushing the reduced pairs of item n preserves that `whole` is the pairs listed and those of the later items.
-  pub fixed_pushed : {last next : LastItems} {a : Item} {waits : Bool} {new whole : List (ℕ × ℕ)} (program : List (List S))
+  pub fixed_from-push : {last next : LastItems} {a : Item} {waits : Bool} {new whole : List (ℕ × ℕ)} (program : List (List S))
       (items : List Item) (n t : ℕ) (before : LastItems) (old : List (ℕ × ℕ))
       → n < length items
       → a ≡ get_or items n a
@@ -79,11 +80,11 @@ module _ {S : Type 0} (language : Language S) where
       → new ≡ old ++ edge_from last.statement n ++ (if waits then edge_from last.drain n else [])
       → old ++ fixed_from language program n t before (drop n items) ≡ whole
       → new ++ fixed_from language program (n + 1) a.thread next (drop (n + 1) items) ≡ whole
-  fixed_pushed {last = last} {a = a} {waits = waits} program items n t before old l ea ew el en is h =
+  fixed_from-push {last = last} {a = a} {waits = waits} program items n t before old in_range ea ew el en is h =
       let plus : n + 1 ≡ suc n = omega arith in
       let here : edge_from last.statement n ++ (if waits then edge_from last.drain n else [])
       ≡ fixed_at a.is_drain (needs_earlier_drains language program a) (last_of_thread t a.thread before) n =
-      rw (← el, ew) (fixed_is _ _ last n) in
+      rw (← el, ew) (fixed_at-as_pushed _ _ last n) in
       rw (
         is,
         append_assoc old (edge_from last.statement n) (if waits then edge_from last.drain n else []),
@@ -92,12 +93,15 @@ module _ {S : Type 0} (language : Language S) where
         en,
         el,
         plus,
-      ) (rw (drop_more items n a l, ← ea, plus) at h)
+      ) (rw (drop_more items n a in_range, ← ea, plus) at h)
 
 -- If nothing conflicts, there is exactly one order.
-pub one_order : (t : Constraints) → length t.conflicts ≡ 0 → 1 ≡ orientation_count t
-one_order t none = go t.conflicts none
+pub orientation_count-no_conflicts : (t : Constraints) → length t.conflicts ≡ 0 → 1 ≡ orientation_count t
+orientation_count-no_conflicts t none = one-without_pairs t.conflicts none
   where
-    go : (pairs : List (ℕ × ℕ)) → length pairs ≡ 0 → 1 ≡ 2 ^ length (filter (λ p. not (is_ordered t.fixed p)) pairs)
-    go [] e = refl
-    go (p ∷ pairs) e = absurd (omega (arith, e))
+    -- No pair is left to be chosen.
+    one-without_pairs : (pairs : List (ℕ × ℕ))
+        → length pairs ≡ 0
+        → 1 ≡ 2 ^ length (filter (λ p. not (is_ordered t.fixed p)) pairs)
+    one-without_pairs [] e = refl
+    one-without_pairs (p ∷ pairs) e = absurd (omega (arith, e))

@@ -1,4 +1,4 @@
--- The path assignments of a program as a list, in the order in which the code visits them. The law `choices_are_complete` states that it
+-- The path assignments of a program as a list, in the order in which the code visits them. The law `path_assignments_are_complete` states that it
 -- has each path assignment once, and nothing else.
 use Rattle.std.specs.Prelude.{◌+◌, ◌==◌, ℕ, zero, suc, Bool, true, false, if◌then◌else◌, Option, Some, None, List, [], ◌∷◌, length, map}
 use Rattle.std.specs.Prelude.{slice_get}

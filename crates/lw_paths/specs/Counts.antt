@@ -27,7 +27,7 @@ module _ {S : Type 0} (language : Language S) (program : List (List S)) where
   pub record IsTotalOrderCount (n : ℕ) : Type 0 where
     pub choices : List (List (List ℕ))
     pub all : (paths : List (List ℕ)) → Contains choices paths ↔ IsPathAssignment language program paths
-    pub once : IsDuplicateFree choices
+    pub without_duplicates : IsDuplicateFree choices
     pub orders : HaveOrderCounts choices n
 
   -- Some path assignment has more items than a list takes.

@@ -1,5 +1,5 @@
 -- The preserved pairs with which the orders of items are computed: for speed only a part of all, an item's pairs with its direct
--- predecessors. `reduced_pairs_fix_the_same` states that they are equivalent to all.
+-- predecessors. `transitive_reduction_is_equivalent` states that they are equivalent to all.
 use Rattle.std.specs.Prelude.{ℕ, suc, ◌==◌, Bool, true, false, if◌then◌else◌, Option, Some, None, List, [], ◌∷◌, ◌++◌, length}
 use Rattle.lw_litmus.specs.Languages.{Language}
 use Rattle.lw_orders.specs.Order.{Constraints}

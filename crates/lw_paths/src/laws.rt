@@ -20,7 +20,7 @@ use lw_litmus::Statement;
 
 /// States that the list of path assignments of a program has each of them once, and nothing else, if jumps lead
 /// forward, at most to the end.
-pub fn choices_are_complete<S: Statement>()
+pub fn path_assignments_are_complete<S: Statement>()
     ensures all { (program : List (List S)) (paths : List (List ℕ)) → All (JumpsForward S.language) program
         → Contains (path_assignments S.language program) paths ↔ IsPathAssignment S.language program paths }
     ensures once { (program : List (List S)) → All (JumpsForward S.language) program → IsDuplicateFree (path_assignments S.language program) }
@@ -28,14 +28,14 @@ pub fn choices_are_complete<S: Statement>()
 
 /// States that the transitive reduction of the preserved pairs is equivalent to all of them: it has the same linear
 /// extensions, orders the same pairs, and leaves as many orientations of the conflicts.
-pub fn reduced_pairs_fix_the_same<S: Statement>()
+pub fn transitive_reduction_is_equivalent<S: Statement>()
     ensures orders { (program : List (List S)) (paths : List (List ℕ)) (order : List ℕ)
         → IsLinearExtension (transitive_reduction S.language program (items_of S.language program paths)) order
         ↔ IsLinearExtension (constraints_of S.language program (items_of S.language program paths)) order }
-    ensures decided { (program : List (List S)) (paths : List (List ℕ)) (p : ℕ × ℕ)
+    ensures ordered { (program : List (List S)) (paths : List (List ℕ)) (p : ℕ × ℕ)
         → IsOrderedByPath (transitive_reduction S.language program (items_of S.language program paths)).fixed p
         ↔ IsOrderedByPath (constraints_of S.language program (items_of S.language program paths)).fixed p }
-    ensures ways { (program : List (List S)) (paths : List (List ℕ))
+    ensures orientations { (program : List (List S)) (paths : List (List ℕ))
         → orientation_count (transitive_reduction S.language program (items_of S.language program paths))
         ≡ orientation_count (constraints_of S.language program (items_of S.language program paths)) }
 {}

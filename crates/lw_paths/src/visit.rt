@@ -52,27 +52,27 @@ pub(crate) fn successors<S: Statement>(stmt: &S, at: usize) -> (usize, Option<us
 /// a position.
 fn visit_from<S: Statement, A: Allocator, V: Visitor>(
     program: &[Sequence<S, A>],
-    choice: PathAssignment,
-    path: Path,
+    choice: &PathAssignment,
+    path: &Path,
     at: usize,
     visitor: &mut V,
 ) -> Result<(), V::Fault>
-    requires { CanExtendPath S.language program.now (choice_of choice) (path_of path) at }
-    ensures { VisitResult V.visits V.refuses (choices_along S.language program.now (choice_of choice) (path_of path) at) visitor.old result visitor.new }
+    requires { CanExtendPath S.language program.now (choice_of choice.now) (path_of path.now) at }
+    ensures { VisitResult V.visits V.refuses (choices_along S.language program.now (choice_of choice.now) (path_of path.now) at) visitor.old result visitor.new }
 {
     let code = &program[choice.len()];
     let Some(stmt) = code.get(at) else {
-        let choice = choice.with(path);
+        let choice = choice.with(*path);
         if choice.len() == program.len() {
             return visitor.visit(&choice);
         }
-        return visit_from(program, choice, Path::new(), 0, visitor);
+        return visit_from(program, &choice, &Path::new(), 0, visitor);
     };
     let path = path.with(at as u8);
     let (first, second) = successors(stmt, at);
-    visit_from(program, choice, path, first, visitor)?;
+    visit_from(program, choice, &path, first, visitor)?;
     match second {
-        Some(to) => visit_from(program, choice, path, to, visitor),
+        Some(to) => visit_from(program, choice, &path, to, visitor),
         None => Ok(()),
     }
 }
@@ -89,5 +89,5 @@ pub fn visit_choices<S: Statement, A: Allocator, V: Visitor>(
     if program.is_empty() {
         return visitor.visit(&PathAssignment::new());
     }
-    visit_from(program, PathAssignment::new(), Path::new(), 0, visitor)
+    visit_from(program, &PathAssignment::new(), &Path::new(), 0, visitor)
 }

@@ -1,4 +1,5 @@
--- Runs and replays of a source test, one event further: results, invariants, and reading a state.
+-- Runs and replays of a source test, one event further: results, invariants, and reading a state. Lemmas for
+-- `run.rt`.
 use Rattle.lw_interleaving.proofs.Common.{◌≡◌, ℕ, suc, ◌<◌, ◌≤◌, ◌+◌, List, [], ◌∷◌, ◌++◌, length, map, take}
 use Rattle.lw_interleaving.proofs.Common.{drop, get_or, refl, sym, ap, ◌∙◌, subst, Result, Ok, Err, arith}
 use Rattle.lw_interleaving.proofs.Common.{MatchResult, length-set, take-suc, All, ◌^◌, slice_set, slice_get}
@@ -16,24 +17,24 @@ use Rattle.lw_interleaving.proofs.Common.{map_more, set_at, slice_get-map, slice
 use Rattle.lw_base.specs.declared.stop.End.TheVariants as at
 
 -- A call for an event returned this answer and left the state `end`, where r is the event's result. If it is a refusal, Q holds.
-abbrev pub Told : Type 0 → Result State Stop → Result (Unit {0}) Stop → State → Type 0
-Told Q r answer end = MatchResult r (λ next. (answer ≡ Ok tt) × (end ≡ next)) (λ stop. (answer ≡ Err stop) × Q)
+abbrev pub ReturnsEventResult : Type 0 → Result State Stop → Result (Unit {0}) Stop → State → Type 0
+ReturnsEventResult Q r answer end = MatchResult r (λ next. (answer ≡ Ok tt) × (end ≡ next)) (λ stop. (answer ≡ Err stop) × Q)
 
 -- If a call for an event returned Ok, the event was enabled, and the call left its next state.
-pub possible : (Q : Type 0) (r : Result State Stop) (answer : Result (Unit {0}) Stop) (u : Unit {0}) (end : State)
-    → Told Q r answer end
+pub ReturnsEventResult-ok : (Q : Type 0) (r : Result State Stop) (answer : Result (Unit {0}) Stop) (u : Unit {0}) (end : State)
+    → ReturnsEventResult Q r answer end
     → answer ≡ Ok u
     → r ≡ Ok end
-possible Q (Ok next) answer u end told ok = ap Ok (sym told.1)
-possible Q (Err stop) answer u end told ok = let e : answer ≡ Err stop = told.0 in absurd cc
+ReturnsEventResult-ok Q (Ok next) answer u end told ok = ap Ok (sym told.1)
+ReturnsEventResult-ok Q (Err stop) answer u end told ok = let e : answer ≡ Err stop = told.0 in absurd cc
 
 -- If a call for an event returned a refusal, the event is rejected for this cause, and Q holds, which says which state was left.
-refusal : (Q : Type 0) (r : Result State Stop) (answer : Result (Unit {0}) Stop) (stop : Stop) (end : State)
-    → Told Q r answer end
+ReturnsEventResult-err : (Q : Type 0) (r : Result State Stop) (answer : Result (Unit {0}) Stop) (stop : Stop) (end : State)
+    → ReturnsEventResult Q r answer end
     → answer ≡ Err stop
     → (r ≡ Err stop) × Q
-refusal Q (Ok next) answer stop end told failed = let e : answer ≡ Ok tt = told.0 in absurd cc
-refusal Q (Err s) answer stop end told failed =
+ReturnsEventResult-err Q (Ok next) answer stop end told failed = let e : answer ≡ Ok tt = told.0 in absurd cc
+ReturnsEventResult-err Q (Err s) answer stop end told failed =
     let e : answer ≡ Err s = told.0 in
     let same : s ≡ stop = cc in
     (ap Err same, told.1)
@@ -44,38 +45,40 @@ pub record MeetsRefusal (Q : Type 0) (program : List (List Stmt)) (events : List
   pub e : Event
   pub mid : State
   pub answer : Result (Unit {0}) Stop
-  pub within : done < length events
+  pub done_in_range : done < length events
   pub is_event : e ≡ get_or events done e
   pub ran : SourceRunsTo program (take done events) s mid
-  pub told : Told Q (source_event_result program e mid) answer end
+  pub event_result : ReturnsEventResult Q (source_event_result program e mid) answer end
   pub failed : answer ≡ Err stop
   pub kept : Q → end ≡ mid
 
 -- A replay whose next event is rejected stops there.
-pub stopped : (Q : Type 0) (program : List (List Stmt)) (events : List Event) (s : State) (done : ℕ) (stop : Stop) (end : State)
+pub IsSourceReplay-stopped : (Q : Type 0) (program : List (List Stmt)) (events : List Event) (s : State) (done : ℕ) (stop : Stop)
+    (end : State)
     → MeetsRefusal Q program events s done stop end
     → IsSourceReplay program events s (record { done = done; end = at.Stopped stop }) end
-stopped Q program events s done stop end meets =
+IsSourceReplay-stopped Q program events s done stop end meets =
     let e = meets.e in
-    let (is_refused, left) = refusal Q (source_event_result program e meets.mid) meets.answer stop end meets.told meets.failed in
+    let (is_refused, left) =
+    ReturnsEventResult-err Q (source_event_result program e meets.mid) meets.answer stop end meets.event_result meets.failed in
     let same = sym (meets.kept left) in
     record {
-      within = omega (arith, meets.within);
+      within = omega (arith, meets.done_in_range);
       ran = subst (λ (m : State). SourceRunsTo program (take done events) s m) same meets.ran;
       ends = (
         e,
-        at_index events done e meets.within ∙ ap Some (sym meets.is_event),
+        at_index events done e meets.done_in_range ∙ ap Some (sym meets.is_event),
         (subst (λ (m : State). source_event_result program e m ≡ Err stop) same is_refused, refl),
       );
     }
 
 -- A replay that carries out all events ends as its last state does.
-pub replayed_all : (program : List (List Stmt)) (events : List Event) (k : ℕ) (s last : State) (end : End)
+pub IsSourceReplay-all_events : (program : List (List Stmt)) (events : List Event) (k : ℕ) (s last : State) (end : End)
     → length events ≤ k
     → SourceRunsTo program (take k events) s last
     → HasReplayEnd (SourceTransition program) (is_source_final program) events (length events) last end
     → IsSourceReplay program events s (record { done = length events; end = end }) last
-replayed_all program events k s last end done ran ends = record {
+IsSourceReplay-all_events program events k s last end done ran ends = record {
   within = omega arith;
   ran =
       subst (λ (es : List Event). SourceRunsTo program es s last)
@@ -84,98 +87,102 @@ replayed_all program events k s last end done ran ends = record {
 }
 
 -- A drain is rejected in a source test, whose threads have no store buffers.
-pub drained : (Q : Type 0) (answer : Result (Unit {0}) Stop) (s : State) (t n : ℕ)
+pub ReturnsEventResult-drain_refused : (Q : Type 0) (answer : Result (Unit {0}) Stop) (s : State) (t n : ℕ)
     → t < n
     → answer ≡ Err BufferEmpty
     → Q
-    → Told Q (if nat_lt t n then Err BufferEmpty else Err NoCpu) answer s
-drained Q answer s t n within failed same = rw (lt-ltb t n within) (failed, same)
+    → ReturnsEventResult Q (if nat_lt t n then Err BufferEmpty else Err NoCpu) answer s
+ReturnsEventResult-drain_refused Q answer s t n in_range failed same = rw (lt-ltb t n in_range) (failed, same)
 
 -- A change at a location preserves the number of words, whether there is one or not.
-pub changed_length : (x : Option ℕ) (change : Option Change) (words : List ℕ)
+pub length-apply_change_if_some : (x : Option ℕ) (change : Option Change) (words : List ℕ)
     → length (apply_change_if_some x change words) ≡ length words
-changed_length (Some x) (Some change) words = length-set words x _
-changed_length _ _ words = refl
+length-apply_change_if_some (Some x) (Some change) words = length-set words x _
+length-apply_change_if_some _ _ words = refl
 
 -- An operation preserves the number of words.
-pub words_kept : (o : Operation) (th : Thread) (words : List ℕ) → length (words_after o th words) ≡ length words
-words_kept o th words = changed_length (location_of o) (written_change o th.regs) words
+pub length-words_after_operation : (o : Operation) (th : Thread) (words : List ℕ) → length (words_after o th words) ≡ length words
+length-words_after_operation o th words = length-apply_change_if_some (location_of o) (written_change o th.regs) words
 
 -- The states have the same numbers of threads and words.
 abbrev pub SameSize : State → State → Type 0
 SameSize s end = (length end.threads ≡ length s.threads) × (length end.words ≡ length s.words)
 
 -- A rejection for either of two causes leads to no state.
-refused : (b : Bool) (x y : Stop) (mid : State) → (if b then Err x else Err y) ≡ Ok mid → ⊥
-refused true x y mid e = absurd cc
-refused false x y mid e = absurd cc
+refusal-ne_Ok : (b : Bool) (x y : Stop) (mid : State) → (if b then Err x else Err y) ≡ Ok mid → ⊥
+refusal-ne_Ok true x y mid e = absurd cc
+refusal-ne_Ok false x y mid e = absurd cc
 
 -- An event preserves the numbers of threads and words.
-pub event_kept : (program : List (List Stmt)) (e : Event) (s mid : State)
+pub SameSize-source_event : (program : List (List Stmt)) (e : Event) (s mid : State)
     → source_event_result program e s ≡ Ok mid
     → SameSize s mid
-event_kept program (Step t) s mid e = go (slice_get s.threads t) e
+SameSize-source_event program (Step t) s mid e = SameSize-of_thread (slice_get s.threads t) e
   where
-    carried : (th : Thread) (stmt : Option Stmt) → state_after_step t th s stmt ≡ Ok mid → SameSize s mid
-    carried th None e = absurd cc
-    carried th (Some stmt) e =
+    -- By the statement at the thread's position.
+    SameSize-of_statement : (th : Thread) (stmt : Option Stmt) → state_after_step t th s stmt ≡ Ok mid → SameSize s mid
+    SameSize-of_statement th None e = absurd cc
+    SameSize-of_statement th (Some stmt) e =
         let o : Operation = source_operation stmt in
         let next : State =
         record { threads = slice_set s.threads t (thread_after o th s.words); words = words_after o th s.words } in
-        let kept : SameSize s next = (length-set s.threads t _, words_kept o th s.words) in
+        let kept : SameSize s next = (length-set s.threads t _, length-words_after_operation o th s.words) in
         subst (SameSize s) (let same : next ≡ mid = cc in same) kept
 
-    go : (th : Option Thread) → thread_step program t s th ≡ Ok mid → SameSize s mid
-    go None e = absurd cc
-    go (Some th) e = carried th (slice_get (thread_code program t) th.position) e
-event_kept program (Drain t) s mid e = absurd (refused (nat_lt t (length s.threads)) BufferEmpty NoCpu mid e)
-event_kept program (Evict t x) s mid e = go (nat_lt t (length s.threads)) e
+    -- By the thread, if the state has it.
+    SameSize-of_thread : (th : Option Thread) → thread_step program t s th ≡ Ok mid → SameSize s mid
+    SameSize-of_thread None e = absurd cc
+    SameSize-of_thread (Some th) e = SameSize-of_statement th (slice_get (thread_code program t) th.position) e
+SameSize-source_event program (Drain t) s mid e = absurd (refusal-ne_Ok (nat_lt t (length s.threads)) BufferEmpty NoCpu mid e)
+SameSize-source_event program (Evict t x) s mid e = SameSize-of_refusal (nat_lt t (length s.threads)) e
   where
-    go : (b : Bool)
+    -- An eviction is refused, whether there is the processor or not.
+    SameSize-of_refusal : (b : Bool)
         → (if b then (if nat_lt x (length s.words) then Err NotHeld else Err NoLocation) else Err NoCpu) ≡ Ok mid
         → SameSize s mid
-    go true e = absurd (refused (nat_lt x (length s.words)) NotHeld NoLocation mid e)
-    go false e = absurd cc
+    SameSize-of_refusal true e = absurd (refusal-ne_Ok (nat_lt x (length s.words)) NotHeld NoLocation mid e)
+    SameSize-of_refusal false e = absurd cc
 
 -- The item that is read at an index is the item of an equal list at an equal index.
-pub found_at : {X : Type 0} (xs ys : List X) (i j : ℕ) (d : X)
+pub slice_get-equal_list : {X : Type 0} (xs ys : List X) (i j : ℕ) (d : X)
     → ys ≡ xs
     → j ≡ i
     → i < length xs
     → slice_get xs i ≡ Some (get_or ys j d)
-found_at xs ys i j d same index within = rw (same, index) (at_index xs i d within)
+slice_get-equal_list xs ys i j d same index in_range = rw (same, index) (at_index xs i d in_range)
 
 -- The image that is read at an index of a list of images is the image of the item there.
-pub read_at : {X Y : Type 0} (f : X → Y) (xs ys : List X) (i j : ℕ) (d : X)
+pub slice_get-map_equal_list : {X Y : Type 0} (f : X → Y) (xs ys : List X) (i j : ℕ) (d : X)
     → ys ≡ xs
     → j ≡ i
     → i < length xs
     → slice_get (map f xs) i ≡ Some (f (get_or ys j d))
-read_at f xs ys i j d same index within = slice_get-map f xs i ∙ ap (option_map f) (found_at xs ys i j d same index within)
+slice_get-map_equal_list f xs ys i j d same index in_range =
+    slice_get-map f xs i ∙ ap (option_map f) (slice_get-equal_list xs ys i j d same index in_range)
 
 -- One more item's image extends the images of the first items.
-pub mapped_on : {X Y : Type 0} {xs ys : List X} {out next : List Y} (f : X → Y) (i : ℕ) (d : X)
+pub take_map-push : {X Y : Type 0} {xs ys : List X} {out next : List Y} (f : X → Y) (i : ℕ) (d : X)
     → ys ≡ xs
     → i < length ys
     → out ≡ map f (take i xs)
     → next ≡ out ++ f (get_or ys i d) ∷ []
     → next ≡ map f (take (i + 1) xs)
-mapped_on {ys} f i d same within so_far pushed =
-    let last : suc i ≡ i + 1 = omega arith in pushed ∙ rw (so_far, ← same, ← last, (take-suc ys i d within), map-append) refl
+take_map-push {ys} f i d same in_range so_far pushed =
+    let last : suc i ≡ i + 1 = omega arith in pushed ∙ rw (so_far, ← same, ← last, (take-suc ys i d in_range), map-append) refl
 
 -- The code that is read for an existing thread is its code.
-the_code : (program : List (List Stmt)) (t : ℕ) (code : List Stmt)
+thread_code-in_range : (program : List (List Stmt)) (t : ℕ) (code : List Stmt)
     → t < length program
     → code ≡ get_or program t code
     → thread_code program t ≡ code
-the_code program t code within is =
-    let e = at_index program t code within in
-    let f = at_index program t [] within in
+thread_code-in_range program t code in_range is =
+    let e = at_index program t code in_range in
+    let f = at_index program t [] in_range in
     cc
 
 -- The thread of a program with this number is th, and its code is `code`.
 pub record IsAtCode (threads : List Thread) (program : List (List Stmt)) (t : ℕ) (th : Thread) (code : List Stmt) : Type 0 where
-  pub many : length threads ≡ length program
+  pub thread_count : length threads ≡ length program
   pub is_thread : Some th ≡ slice_get threads t
   pub is_code : code ≡ get_or program t code
 
@@ -189,27 +196,29 @@ pub next_statement : {words locs : ℕ} {program : List (List Stmt)} {code : Lis
     → IsWellFormedStatement source_language words stmt × (th.position + 1 < 2 ^ 64)
 next_statement {locs} {code} {stmt} threads t th at is_stmt same whole =
     let there = slice_get_within threads t th (sym at.is_thread) in
-    let here = subst (IsWellFormedThread source_language locs) (sym at.is_code) (whole t code (omega (arith, there, at.many))) in
+    let here =
+    subst (IsWellFormedThread source_language locs) (sym at.is_code) (whole t code (omega (arith, there, at.thread_count))) in
     let inside = slice_get_within code th.position stmt (sym is_stmt) in
     let found = at_index code th.position stmt inside in
     let this : get_or code th.position stmt ≡ stmt = cc in (
-      rw same (subst (IsWellFormedStatement source_language locs) this (here.there th.position stmt inside)),
+      rw same (subst (IsWellFormedStatement source_language locs) this (here.statements_formed th.position stmt inside)),
       omega (arith, inside, here.short),
     )
 
 -- States with equal threads and equal memories are equal.
-pub made : (a b : List Thread) (u v : List ℕ)
+pub State-eq : (a b : List Thread) (u v : List ℕ)
     → a ≡ b
     → u ≡ v
     → (let s : State = record { threads = a; words = u } in s) ≡ record { threads = b; words = v }
-made a b u v e f = rw (e, f) refl
+State-eq a b u v e f = rw (e, f) refl
 
 -- The code of a thread is the program's.
-code_at : (threads : List Thread) (program : List (List Stmt)) (t : ℕ) (th : Thread) (code : List Stmt)
+thread_code-of_reading : (threads : List Thread) (program : List (List Stmt)) (t : ℕ) (th : Thread) (code : List Stmt)
     → IsAtCode threads program t th code
     → thread_code program t ≡ code
-code_at threads program t th code at =
-    the_code program t code (omega (arith, slice_get_within threads t th (sym at.is_thread), at.many)) at.is_code
+thread_code-of_reading threads program t th code at =
+    thread_code-in_range program t code (omega (arith, slice_get_within threads t th (sym at.is_thread), at.thread_count))
+    at.is_code
 
 -- A thread executes its next statement, which changes the thread and the words.
 pub record CarriesOut (before : SourceRunState) (t : ℕ) (end : State) : Type 0 where
@@ -222,23 +231,23 @@ pub record CarriesOut (before : SourceRunState) (t : ℕ) (end : State) : Type 0
   pub words : end.words ≡ words_after (source_operation stmt) th before.state.words
 
 -- A step that is enabled returns this answer, and leaves its next state.
-pub stepped : (Q : Type 0) (answer : Result (Unit {0}) Stop) (before run : SourceRunState) (t : ℕ) (end : State)
+pub ReturnsEventResult-step : (Q : Type 0) (answer : Result (Unit {0}) Stop) (before run : SourceRunState) (t : ℕ) (end : State)
     → before ≡ run
     → answer ≡ Ok tt
     → CarriesOut before t end
-    → Told Q (source_step run.program t run.state) answer end
-stepped Q answer before run t end same ok c =
-    let at_code = code_at before.state.threads before.program t c.th c.code c.at in
-    rw (← same) (rw (← c.at.is_thread) (rw (at_code, ← c.is_stmt) (ok, made _ _ _ _ c.threads c.words)))
+    → ReturnsEventResult Q (source_step run.program t run.state) answer end
+ReturnsEventResult-step Q answer before run t end same ok c =
+    let at_code = thread_code-of_reading before.state.threads before.program t c.th c.code c.at in
+    rw (← same) (rw (← c.at.is_thread) (rw (at_code, ← c.is_stmt) (ok, State-eq _ _ _ _ c.threads c.words)))
 
 -- A step of a thread that does not exist is rejected.
-pub no_thread : (Q : Type 0) (answer : Result (Unit {0}) Stop) (before run : SourceRunState) (t : ℕ)
+pub ReturnsEventResult-no_thread : (Q : Type 0) (answer : Result (Unit {0}) Stop) (before run : SourceRunState) (t : ℕ)
     → before ≡ run
     → answer ≡ Err NoCpu
     → None ≡ slice_get before.state.threads t
     → Q
-    → Told Q (source_step run.program t run.state) answer run.state
-no_thread Q answer before run t same failed is_thread kept = rw (← same) (rw (← is_thread) (failed, kept))
+    → ReturnsEventResult Q (source_step run.program t run.state) answer run.state
+ReturnsEventResult-no_thread Q answer before run t same failed is_thread kept = rw (← same) (rw (← is_thread) (failed, kept))
 
 -- A thread is past the last statement of its code.
 pub record IsAtEnd (before : SourceRunState) (t : ℕ) : Type 0 where
@@ -248,40 +257,40 @@ pub record IsAtEnd (before : SourceRunState) (t : ℕ) : Type 0 where
   pub is_stmt : None ≡ slice_get code th.position
 
 -- A step of a terminated thread is rejected.
-pub no_statement : (Q : Type 0) (answer : Result (Unit {0}) Stop) (before run : SourceRunState) (t : ℕ)
+pub ReturnsEventResult-at_end : (Q : Type 0) (answer : Result (Unit {0}) Stop) (before run : SourceRunState) (t : ℕ)
     → before ≡ run
     → answer ≡ Err Ended
     → IsAtEnd before t
     → Q
-    → Told Q (source_step run.program t run.state) answer run.state
-no_statement Q answer before run t same failed end kept =
-    let at_code = code_at before.state.threads before.program t end.th end.code end.at in
+    → ReturnsEventResult Q (source_step run.program t run.state) answer run.state
+ReturnsEventResult-at_end Q answer before run t same failed end kept =
+    let at_code = thread_code-of_reading before.state.threads before.program t end.th end.code end.at in
     rw (← same) (rw (← end.at.is_thread) (rw (at_code, ← end.is_stmt) (failed, kept)))
 
 -- The images of all items are the list's images.
-pub mapped_all : {X Y : Type 0} {xs ys : List X} {out : List Y} (f : X → Y) (i : ℕ)
+pub take_map-all : {X Y : Type 0} {xs ys : List X} {out : List Y} (f : X → Y) (i : ℕ)
     → ys ≡ xs
     → length ys ≤ i
     → out ≡ map f (take i xs)
     → out ≡ map f xs
-mapped_all {xs} f i same end so_far = so_far ∙ ap (map f) (take_all i xs (omega (arith, end, ap length same)))
+take_map-all {xs} f i same end so_far = so_far ∙ ap (map f) (take_all i xs (omega (arith, end, ap length same)))
 
 -- The outcome of a state, all of whose registers are listed.
-pub outcome_is : (regs : List (List ℕ)) (words : List ℕ) (s : State)
+pub source_outcome-of_registers : (regs : List (List ℕ)) (words : List ℕ) (s : State)
     → regs ≡ map (λ t. t.regs) s.threads
     → words ≡ s.words
     → (let o : FinalState = record { regs = regs; words = words } in o) ≡ source_outcome s
-outcome_is regs words s listed same = rw (listed, same) refl
+source_outcome-of_registers regs words s listed same = rw (listed, same) refl
 
 -- If one more image is written, at index i, the first i + 1 items of the list are images, and the old ones follow.
-pub written_on : {X Z : Type 0} {items ys : List X} {xs : List Z} (f : X → Z) (old : List Z) (i : ℕ) (d : X)
+pub map_prefix-set : {X Z : Type 0} {items ys : List X} {xs : List Z} (f : X → Z) (old : List Z) (i : ℕ) (d : X)
     → items ≡ ys
     → xs ≡ map f (take i ys) ++ drop i old
     → i < length items
     → i < length old
     → slice_set xs i (f (get_or items i d)) ≡ map f (take (i + 1) ys) ++ drop (i + 1) old
-written_on {ys} {xs} f old i d same is within there =
-    let here : i < length ys = omega (arith, within, ap length same) in
+map_prefix-set {ys} {xs} f old i d same is in_range there =
+    let here : i < length ys = omega (arith, in_range, ap length same) in
     let front = length-map (take i ys) f ∙ length-take-le i ys (omega (arith, here)) in
     let new = f (get_or ys i d) in
     ap (λ zs. slice_set xs i (f (get_or zs i d))) same

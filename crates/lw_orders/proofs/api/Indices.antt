@@ -1,4 +1,5 @@
--- Indices of items in a list, in the list without one of them, in a range of numbers, and in an order.
+-- Indices of items in a list, in the list without one of them, in a range of numbers, and in an order. The
+-- basis of all proofs about orders, which are lists in which each item has one index.
 use Rattle.lw_orders.proofs.Common.{ℕ, zero, suc, ◌≡◌, ◌+◌, ◌<◌, ◌≤◌, List, [], ◌∷◌, ◌++◌, length, eqb, ap}
 use Rattle.lw_orders.proofs.Common.{sym, subst, refl, inl, inr, arith, eq-eqb, ne_eqb, All, get_or}
 use Rattle.lw_orders.proofs.Common.{length-append, cond-true, cond-false, cases_eq, cases_lt, nat_tests}
@@ -14,9 +15,9 @@ pub index_in-other : (x : ℕ) (xs : List ℕ) (i : ℕ) → (x ≡ i → ⊥) �
 index_in-other x xs i ne = cond-false (eqb x i) 0 (suc (index_in xs i)) (ne_eqb x i ne)
 
 -- Two items with the same index are equal.
-pub same_index : (xs : List ℕ) (i j : ℕ) → index_in xs i ≡ index_in xs j → index_in xs i < length xs → i ≡ j
-same_index [] i j e l = absurd (omega arith)
-same_index (x ∷ xs) i j e l = grind (arith, nat_tests, same_index xs i j)
+pub index_in-injective : (xs : List ℕ) (i j : ℕ) → index_in xs i ≡ index_in xs j → index_in xs i < length xs → i ≡ j
+index_in-injective [] i j e l = absurd (omega arith)
+index_in-injective (x ∷ xs) i j e l = grind (arith, nat_tests, index_in-injective xs i j)
 
 -- Removing an item that is in the list makes it one shorter.
 pub length-without : (xs : List ℕ) (y : ℕ) → index_in xs y < length xs → suc (length (without xs y)) ≡ length xs
@@ -57,13 +58,13 @@ length-without_le [] y = omega arith
 length-without_le (x ∷ xs) y = grind (arith, nat_tests, length-without_le xs y)
 
 -- A list that contains all of some distinct items is at least as long.
-pub room : (some xs : List ℕ)
+pub length_le-if_distinct : (some xs : List ℕ)
     → AreDistinct some
     → ((i : ℕ) → index_in some i < length some → index_in xs i < length xs)
     → length some ≤ length xs
-room [] xs o f = omega arith
-room (s ∷ some) xs o f =
-    let rest : length some ≤ length (without xs s) = room some (without xs s) o.1 (λ i l.
+length_le-if_distinct [] xs o f = omega arith
+length_le-if_distinct (s ∷ some) xs o f =
+    let rest : length some ≤ length (without xs s) = length_le-if_distinct some (without xs s) o.1 (λ i l.
     let ne : i ≡ s → ⊥ = λ e. omega (arith, o.0, rw e at l) in
     stands-without xs s i ne (f i (omega (arith, index_in-other s some i (λ e. ne (sym e)))))) in
     omega (arith, length-without xs s (f s (omega (arith, index_in-same s some s refl))))
@@ -81,7 +82,7 @@ AreDistinct-from_room (x ∷ xs) some o f l =
     let gone : length xs ≤ index_in xs x = elim (cases_lt (index_in xs x) (length xs)) [
       | inl twice ↦
           (let all : length some ≤ length xs =
-          room some xs o (λ i p. elim (cases_eq i x) [ inl e ↦ rw e twice | inr ne ↦ f' i ne p ]) in
+          length_le-if_distinct some xs o (λ i p. elim (cases_eq i x) [ inl e ↦ rw e twice | inr ne ↦ f' i ne p ]) in
           absurd (omega arith))
       | inr h ↦ h
     ] in (
@@ -122,34 +123,34 @@ AreDistinct-order n xs o =
     (omega (arith, o.0, length-indices 0 n))
 
 -- An order of n items contains only these.
-pub order_below : (n : ℕ) (xs : List ℕ) → IsOrder n xs → (i : ℕ) → index_in xs i < length xs → i < n
-order_below n xs o i l = elim (cases_lt i n) [
+pub IsOrder-item_below : (n : ℕ) (xs : List ℕ) → IsOrder n xs → (i : ℕ) → index_in xs i < length xs → i < n
+IsOrder-item_below n xs o i l = elim (cases_lt i n) [
   | inl h ↦ h
   | inr h ↦
       (let all =
-      room (indices 0 n) (without xs i) (AreDistinct-indices 0 n)
+      length_le-if_distinct (indices 0 n) (without xs i) (AreDistinct-indices 0 n)
       (λ j p.
       stands-without xs i j (λ e. omega (arith, below-indices n j p)) (omega (arith, o.1 j (below-indices n j p), o.0))) in
       absurd (omega (arith, length-indices 0 n, length-without xs i l, o.0)))
 ]
 
 -- The index of an item after `front` is at most the length of `front`.
-found_by : (front rest : List ℕ) (i : ℕ) → index_in (front ++ i ∷ rest) i ≤ length front
-found_by [] rest i = omega (arith, index_in-same i rest i refl)
-found_by (x ∷ front) rest i = grind (arith, nat_tests, found_by front rest i)
+index_in-append_le : (front rest : List ℕ) (i : ℕ) → index_in (front ++ i ∷ rest) i ≤ length front
+index_in-append_le [] rest i = omega (arith, index_in-same i rest i refl)
+index_in-append_le (x ∷ front) rest i = grind (arith, nat_tests, index_in-append_le front rest i)
 
 -- In a list without duplicates, the index of an item after `front` is the length of `front`.
 index_in-split : (front rest : List ℕ) (i : ℕ) → AreDistinct (front ++ i ∷ rest) → index_in (front ++ i ∷ rest) i ≡ length front
 index_in-split [] rest i o = index_in-same i rest i refl
 index_in-split (x ∷ front) rest i o =
-    grind (arith, nat_tests, index_in-split front rest i o.1, found_by front rest i, length-append front (i ∷ rest))
+    grind (arith, nat_tests, index_in-split front rest i o.1, index_in-append_le front rest i, length-append front (i ∷ rest))
 
 -- In an order, the index of an item after `front` is the length of `front`.
-pub order_split : (n i : ℕ) (front rest : List ℕ)
+pub index_in-order_split : (n i : ℕ) (front rest : List ℕ)
     → IsOrder n (front ++ i ∷ rest)
     → (i < n) × (index_in (front ++ i ∷ rest) i ≡ length front)
-order_split n i front rest o = (
-  order_below n _ o i (omega (arith, found_by front rest i, length-append front (i ∷ rest))),
+index_in-order_split n i front rest o = (
+  IsOrder-item_below n _ o i (omega (arith, index_in-append_le front rest i, length-append front (i ∷ rest))),
   index_in-split front rest i (AreDistinct-order n (front ++ i ∷ rest) o),
 )
 
@@ -162,25 +163,25 @@ All-stands P (x ∷ xs) i all l = elim (cases_eq x i) [
 ]
 
 -- A list without duplicates that contains exactly the items below n is an order.
-pub order_from : (n : ℕ) (xs : List ℕ)
+pub IsOrder-of_distinct : (n : ℕ) (xs : List ℕ)
     → All (λ i. i < n) xs
     → AreDistinct xs
     → ((i : ℕ) → i < n → index_in xs i < length xs)
     → IsOrder n xs
-order_from n xs below once there =
-    let least = room (indices 0 n) xs (AreDistinct-indices 0 n) (λ i l. there i (below-indices n i l)) in
+IsOrder-of_distinct n xs below once there =
+    let least = length_le-if_distinct (indices 0 n) xs (AreDistinct-indices 0 n) (λ i l. there i (below-indices n i l)) in
     let most =
-    room xs (indices 0 n) once
+    length_le-if_distinct xs (indices 0 n) once
     (λ i l. index_in-indices 0 n i (omega arith) (omega (arith, All-stands (λ i. i < n) xs i below l))) in
     let long : length xs ≡ n = omega (arith, length-indices 0 n, least, most) in
     (long, λ i l. omega (arith, there i l, long))
 
 -- The index of an item read at k is at most k.
 index_in_le_index : (xs : List ℕ) (k d : ℕ) → k < length xs → index_in xs (get_or xs k d) ≤ k
-index_in_le_index [] k d l = absurd (omega arith)
-index_in_le_index (x ∷ xs) zero d l = omega (arith, index_in-same x xs x refl)
-index_in_le_index (x ∷ xs) (suc k) d l = grind (arith, nat_tests, index_in_le_index xs k d)
+index_in_le_index [] k d in_range = absurd (omega arith)
+index_in_le_index (x ∷ xs) zero d in_range = omega (arith, index_in-same x xs x refl)
+index_in_le_index (x ∷ xs) (suc k) d in_range = grind (arith, nat_tests, index_in_le_index xs k d)
 
 -- Each item of an order is below n.
-pub order_items : (n : ℕ) (xs : List ℕ) → IsOrder n xs → All (λ i. i < n) xs
-order_items n xs o k d l = order_below n xs o (get_or xs k d) (omega (arith, index_in_le_index xs k d l))
+pub IsOrder-all_below : (n : ℕ) (xs : List ℕ) → IsOrder n xs → All (λ i. i < n) xs
+IsOrder-all_below n xs o k d l = IsOrder-item_below n xs o (get_or xs k d) (omega (arith, index_in_le_index xs k d l))

@@ -4,9 +4,9 @@ use Rattle.lw_paths.proofs.Common.{◌≡◌, ℕ, ◌<◌, ◌==◌, ◌⊎◌,
 use Rattle.lw_paths.proofs.Common.{true≢false, refl, sym, ◌∙◌, arith, All, cases_eq, cases_Bool, and_parts}
 use Rattle.lw_paths.proofs.Common.{eqb-true, eq-eqb, All-contains, Before, Respects, Item, Language, item_at}
 use Rattle.lw_paths.proofs.Common.{items_of, needs_earlier_drains, is_preserved, pairs_from, constraints_of}
-use Rattle.lw_paths.proofs.Drains.{IsStoreOf, behind_store}
-use Rattle.lw_paths.proofs.api.FixedPairs.{fixed_there}
-use Rattle.lw_paths.proofs.api.PairRanges.{In, All-passing, pairs_up}
+use Rattle.lw_paths.proofs.Drains.{IsStoreOf, IsStoreOf-before_drain}
+use Rattle.lw_paths.proofs.api.FixedPairs.{Contains-fixed_pair}
+use Rattle.lw_paths.proofs.api.PairRanges.{IsPairInRange, All-passing, IsPairInRange-pairs_from}
 
 module _ {S : Type 0} (language : Language S) (program : List (List S)) where
   -- Of two items of a thread the first is ordered before the second: it is a statement, or the second is a drain or waits for drains.
@@ -25,45 +25,58 @@ module _ {S : Type 0} (language : Language S) (program : List (List S)) where
 
   -- ---- two items
   module _ (a b : Item) where
-    fixed_ordered : is_preserved language program a b ≡ true → (a.thread ≡ b.thread) × AreOrdered a b
-    fixed_ordered e =
+    -- Two items in preserved order are of one thread, and the first is ordered before the second.
+    AreOrdered-if_preserved : is_preserved language program a b ≡ true → (a.thread ≡ b.thread) × AreOrdered a b
+    AreOrdered-if_preserved e =
         (let (same, kinds) = and_parts (a.thread == b.thread) _ e in (
           eqb-true a.thread b.thread same,
           λ d. elim (cases_Bool b.is_drain) [ inl drain ↦ inl drain | inr statement ↦ inr (rw (d, statement) at kinds) ],
         ))
 
-    statements_fixed : a.thread ≡ b.thread → a.is_drain ≡ false → b.is_drain ≡ false → is_preserved language program a b ≡ true
-    statements_fixed same d e = rw (eq-eqb a.thread b.thread same, d, e) refl
+    -- Two statements of a thread are in preserved order.
+    is_preserved-statements : a.thread ≡ b.thread
+        → a.is_drain ≡ false
+        → b.is_drain ≡ false
+        → is_preserved language program a b ≡ true
+    is_preserved-statements same_thread d e = rw (eq-eqb a.thread b.thread same_thread, d, e) refl
 
-    store_fixed : IsStoreOf a b → b.is_drain ≡ true → is_preserved language program a b ≡ true
-    store_fixed store e =
+    -- A store and its drain are in preserved order.
+    is_preserved-store_and_drain : IsStoreOf a b → b.is_drain ≡ true → is_preserved language program a b ≡ true
+    is_preserved-store_and_drain store e =
         rw (eq-eqb a.thread b.thread store.thread, store.statement, e, eq-eqb a.position b.position store.position) refl
 
-    drains_fixed : a.thread ≡ b.thread → a.is_drain ≡ true → b.is_drain ≡ true → is_preserved language program a b ≡ true
-    drains_fixed same d e = rw (eq-eqb a.thread b.thread same, d, e) refl
+    -- Two drains of a thread are in preserved order.
+    is_preserved-drains : a.thread ≡ b.thread → a.is_drain ≡ true → b.is_drain ≡ true → is_preserved language program a b ≡ true
+    is_preserved-drains same_thread d e = rw (eq-eqb a.thread b.thread same_thread, d, e) refl
 
-    waiting_fixed : a.thread ≡ b.thread
+    -- A drain and a statement of its thread that waits for drains are in preserved order.
+    is_preserved-drain_and_waiting : a.thread ≡ b.thread
         → a.is_drain ≡ true
         → b.is_drain ≡ false
         → needs_earlier_drains language program b ≡ true
         → is_preserved language program a b ≡ true
-    waiting_fixed same d e waits = rw (eq-eqb a.thread b.thread same, d, e, waits) refl
+    is_preserved-drain_and_waiting same_thread d e waits = rw (eq-eqb a.thread b.thread same_thread, d, e, waits) refl
 
   -- ---- the items of a path assignment
   module _ (paths : List (List ℕ)) where
+    -- The items of the path assignment.
     abbrev items : List Item
     items = items_of language program paths
 
+    -- The item at an index.
     abbrev at : ℕ → Item
     at i = item_at items i
 
     -- R is transitive, and relates the fixed pairs of the items.
     module _ (R : ℕ → ℕ → Type 0) (go_on : (i j k : ℕ) → R i j → R j k → R i k)
         (has : All (λ p. R p.0 p.1) (constraints_of language program items).fixed) where
+      -- R relates two ascending items in preserved order, since that is a fixed pair.
       related : (i j : ℕ) → i < j → j < length items → is_preserved language program (at i) (at j) ≡ true → R i j
-      related i j less l fixed = All-contains (λ p. R p.0 p.1) _ (i, j) has (fixed_there language program items i j less l fixed)
+      related i j less in_range fixed =
+          All-contains (λ p. R p.0 p.1) _ (i, j) has (Contains-fixed_pair language program items i j less in_range fixed)
 
-      by_kinds : (d e : Bool) (i j : ℕ)
+      -- R relates two ascending items of a thread that are ordered. A store whose drain follows is related to that drain by way of its own.
+      related-by_kinds : (d e : Bool) (i j : ℕ)
           → (at i).is_drain ≡ d
           → (at j).is_drain ≡ e
           → i < j
@@ -71,43 +84,47 @@ module _ {S : Type 0} (language : Language S) (program : List (List S)) where
           → (at i).thread ≡ (at j).thread
           → AreOrdered (at i) (at j)
           → R i j
-      by_kinds false false i j d e less l same ordered = related i j less l (statements_fixed (at i) (at j) same d e)
-      by_kinds true true i j d e less l same ordered = related i j less l (drains_fixed (at i) (at j) same d e)
-      by_kinds true false i j d e less l same ordered = elim (ordered d) [
+      related-by_kinds false false i j d e less in_range same ordered =
+          related i j less in_range (is_preserved-statements (at i) (at j) same d e)
+      related-by_kinds true true i j d e less in_range same ordered =
+          related i j less in_range (is_preserved-drains (at i) (at j) same d e)
+      related-by_kinds true false i j d e less in_range same ordered = elim (ordered d) [
         | inl drain ↦ absurd (true≢false (sym drain ∙ e))
-        | inr waits ↦ related i j less l (waiting_fixed (at i) (at j) same d e waits)
+        | inr waits ↦ related i j less in_range (is_preserved-drain_and_waiting (at i) (at j) same d e waits)
       ]
-      by_kinds false true i j d e less l same ordered =
-          let (m, next, store) = behind_store language program paths j l e in
-          let own = related m j (omega arith) l (store_fixed (at m) (at j) store e) in
+      related-by_kinds false true i j d e less in_range same ordered =
+          let (m, next, store) = IsStoreOf-before_drain language program paths j in_range e in
+          let own = related m j (omega arith) in_range (is_preserved-store_and_drain (at m) (at j) store e) in
           elim (cases_eq i m) [
             | inl is ↦ rw is own
             | inr ne ↦
                 go_on i m j
                 (related i m (omega arith) (omega arith)
-                (statements_fixed (at i) (at m) (same ∙ sym store.thread) d store.statement)) own
+                (is_preserved-statements (at i) (at m) (same ∙ sym store.thread) d store.statement)) own
           ]
 
       -- A transitive relation that relates the fixed pairs relates all ordered items.
-      pub has_ordered : HasOrdered R items
-      has_ordered i j = by_kinds (at i).is_drain (at j).is_drain i j refl refl
+      pub HasOrdered-if_fixed_related : HasOrdered R items
+      HasOrdered-if_fixed_related i j = related-by_kinds (at i).is_drain (at j).is_drain i j refl refl
 
     -- An order that respects the fixed pairs has all ordered items in order.
-    pub kept : (order : List ℕ) → Respects (constraints_of language program items).fixed order → HasOrdered (Before order) items
-    kept order keeps = has_ordered (Before order) (λ i j k a b. omega (arith, a, b)) keeps
+    pub HasOrdered-if_respected : (order : List ℕ)
+        → Respects (constraints_of language program items).fixed order
+        → HasOrdered (Before order) items
+    HasOrdered-if_respected order keeps = HasOrdered-if_fixed_related (Before order) (λ i j k a b. omega (arith, a, b)) keeps
 
   -- A relation of indices that relates all ordered items relates the fixed pairs.
-  pub has_fixed : (R : ℕ → ℕ → Type 0) (items : List Item)
+  pub All-fixed_related : (R : ℕ → ℕ → Type 0) (items : List Item)
       → HasOrdered R items
       → All (λ p. R p.0 p.1) (constraints_of language program items).fixed
-  has_fixed R items has =
-      All-passing (λ p. is_preserved language program (item_at items p.0) (item_at items p.1)) (In 0 (length items))
-      (λ p. R p.0 p.1) (pairs_from 0 (length items)) (pairs_up 0 (length items)) (λ p within fixed.
-      (let (same, ordered) = fixed_ordered (item_at items p.0) (item_at items p.1) fixed in
+  All-fixed_related R items has =
+      All-passing (λ p. is_preserved language program (item_at items p.0) (item_at items p.1)) (IsPairInRange 0 (length items))
+      (λ p. R p.0 p.1) (pairs_from 0 (length items)) (IsPairInRange-pairs_from 0 (length items)) (λ p within fixed.
+      (let (same, ordered) = AreOrdered-if_preserved (item_at items p.0) (item_at items p.1) fixed in
       has p.0 p.1 within.1 (omega (arith, within.2)) same ordered))
 
   -- An order that has all ordered items in order respects the fixed pairs.
-  pub keeps_all : (items : List Item) (order : List ℕ)
+  pub Respects-if_ordered : (items : List Item) (order : List ℕ)
       → HasOrdered (Before order) items
       → Respects (constraints_of language program items).fixed order
-  keeps_all items order = has_fixed (Before order) items
+  Respects-if_ordered items order = All-fixed_related (Before order) items

@@ -5,23 +5,26 @@ use Rattle.lw_paths.proofs.Common.{Contains-append_cases}
 pub use Rattle.lw_base.proofs.api.Members.{not-Contains-nil, Contains-head, Contains-tail, Contains-cons}
 
 -- A singleton contains only its element.
-pub of_one : {X : Type 0} (x y : X) → Contains (x ∷ []) y → y ≡ x
-of_one x y c = elim (Contains-cons x y [] c) [ inl e ↦ sym e | inr r ↦ absurd (not-Contains-nil y r) ]
+pub Contains-singleton : {X : Type 0} (x y : X) → Contains (x ∷ []) y → y ≡ x
+Contains-singleton x y is_member =
+    elim (Contains-cons x y [] is_member) [ inl is_head ↦ sym is_head | inr in_tail ↦ absurd (not-Contains-nil y in_tail) ]
 
 -- The image of an element is among the images.
 pub Contains-map : {X Y : Type 0} (f : X → Y) (xs : List X) (x : X) → Contains xs x → Contains (map f xs) (f x)
 Contains-map f [] x (k, l, e) = absurd (omega arith)
-Contains-map f (z ∷ xs) x c = elim (Contains-cons z x xs c) [
-  | inl e ↦ Contains-head (f z) (f x) (map f xs) (ap f e)
-  | inr r ↦ Contains-tail (f z) (f x) (map f xs) (Contains-map f xs x r)
+Contains-map f (z ∷ xs) x is_member = elim (Contains-cons z x xs is_member) [
+  | inl is_head ↦ Contains-head (f z) (f x) (map f xs) (ap f is_head)
+  | inr in_tail ↦ Contains-tail (f z) (f x) (map f xs) (Contains-map f xs x in_tail)
 ]
 
 -- Each image is that of an element of the list.
-pub from_map : {X Y : Type 0} (f : X → Y) (xs : List X) (y : Y) → Contains (map f xs) y → (x : X) × Contains xs x × (f x ≡ y)
-from_map f [] y (k, l, e) = absurd (omega arith)
-from_map f (z ∷ xs) y c = elim (Contains-cons (f z) y (map f xs) c) [
-  | inl e ↦ (z, Contains-head z z xs refl, e)
-  | inr r ↦ (let g = from_map f xs y r in (g.0, Contains-tail z g.0 xs g.1, g.2))
+pub Contains-map_inv : {X Y : Type 0} (f : X → Y) (xs : List X) (y : Y)
+    → Contains (map f xs) y
+    → (x : X) × Contains xs x × (f x ≡ y)
+Contains-map_inv f [] y (k, l, e) = absurd (omega arith)
+Contains-map_inv f (z ∷ xs) y is_member = elim (Contains-cons (f z) y (map f xs) is_member) [
+  | inl is_head ↦ (z, Contains-head z z xs refl, is_head)
+  | inr in_tail ↦ (let g = Contains-map_inv f xs y in_tail in (g.0, Contains-tail z g.0 xs g.1, g.2))
 ]
 
 -- What the list of an element contains, the `flat_map` contains.
@@ -29,18 +32,18 @@ pub Contains-flat_map : {X Y : Type 0} (f : X → List Y) (xs : List X) (x : X) 
     → Contains xs x
     → Contains (f x) y
     → Contains (flat_map f xs) y
-Contains-flat_map f [] x y (k, l, e) h = absurd (omega arith)
-Contains-flat_map f (z ∷ xs) x y c h = elim (Contains-cons z x xs c) [
-  | inl e ↦ Contains-append_left (f z) (flat_map f xs) y (subst (λ w. Contains (f w) y) (sym e) h)
-  | inr r ↦ Contains-append_right (f z) (flat_map f xs) y (Contains-flat_map f xs x y r h)
+Contains-flat_map f [] x y (k, l, e) is_member = absurd (omega arith)
+Contains-flat_map f (z ∷ xs) x y is_member h = elim (Contains-cons z x xs is_member) [
+  | inl is_head ↦ Contains-append_left (f z) (flat_map f xs) y (subst (λ w. Contains (f w) y) (sym is_head) h)
+  | inr in_tail ↦ Contains-append_right (f z) (flat_map f xs) y (Contains-flat_map f xs x y in_tail h)
 ]
 
 -- What the `flat_map` contains, the list of some element contains.
-pub from_flat_map : {X Y : Type 0} (f : X → List Y) (xs : List X) (y : Y)
+pub Contains-flat_map_inv : {X Y : Type 0} (f : X → List Y) (xs : List X) (y : Y)
     → Contains (flat_map f xs) y
     → (x : X) × Contains xs x × Contains (f x) y
-from_flat_map f [] y (k, l, e) = absurd (omega arith)
-from_flat_map f (z ∷ xs) y c = elim (Contains-append_cases (f z) (flat_map f xs) y c) [
+Contains-flat_map_inv f [] y (k, l, e) = absurd (omega arith)
+Contains-flat_map_inv f (z ∷ xs) y is_member = elim (Contains-append_cases (f z) (flat_map f xs) y is_member) [
   | inl h ↦ (z, Contains-head z z xs refl, h)
-  | inr r ↦ (let g = from_flat_map f xs y r in (g.0, Contains-tail z g.0 xs g.1, g.2))
+  | inr r ↦ (let g = Contains-flat_map_inv f xs y r in (g.0, Contains-tail z g.0 xs g.1, g.2))
 ]

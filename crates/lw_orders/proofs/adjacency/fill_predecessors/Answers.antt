@@ -1,12 +1,15 @@
+-- Of `fill_predecessors`: the filled sets are the predecessors along the preserved and the chosen pairs.
+-- `ArePredecessors-append` adds to the copied sets what `add_pairs` inserts.
 use Rattle.lw_orders.proofs.Common.{◌||◌, arith, ap, ◌∙◌, has, has_edge}
-use Rattle.lw_orders.proofs.LowestBySets.{sets_with, copied_set}
+use Rattle.lw_orders.proofs.LowestBySets.{ArePredecessors-append, get_or-copied_set}
 use Rattle.lw_orders.proofs.adjacency.fill_predecessors.Goals as goal
 
 -- The fixed pairs' sets are copied, and the chosen pairs added to them.
 pub returns : goal.returns
 returns c fixed are =
-    sets_with c.args.len _ _ fixed c.args.chosen.now (λ i j li lj. are i j (omega (arith, li, c.requires.few)) lj) (λ i j li lj.
+    ArePredecessors-append c.args.len _ _ fixed c.args.chosen.now (λ i j li lj. are i j (omega (arith, li, c.requires.few)) lj)
+    (λ i j li lj.
     c.add_pairs.ensures i j (omega (arith, li, c.requires.few)) lj
     ∙ ap (λ set_of. has set_of j || has_edge c.args.chosen.now j i)
-    (copied_set c.args.len i c.args.before.now _ _ li (omega (arith, c.told-before, c.requires.few))
+    (get_or-copied_set c.args.len i c.args.before.now _ _ li (omega (arith, c.told-before, c.requires.few))
     c.copy_from_slice.ensures.after))

@@ -1,3 +1,5 @@
+-- At each round the items taken so far begin the greedy order, which continues with the items left; each item
+-- left that is no candidate is blocked.
 use Rattle.lw_orders.proofs.Common.{most_items, ℕ, ◌≡◌, ◌<◌, ◌^◌, List, length, AreGraphTables}
 use Rattle.lw_orders.proofs.LowestBySets.{Searching}
 use Rattle.lw_orders.proofs.greedy.lowest_by_sets.Given as goal

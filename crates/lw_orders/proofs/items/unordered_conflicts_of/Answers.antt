@@ -1,6 +1,9 @@
+-- Of `unordered_conflicts_of`, which returns the conflicts that the preserved pairs do not order. The loop
+-- filters the conflicts by reachability, and `unordered_conflicts-by_sets` says that this leaves the unordered ones. Items are
+-- below the limit, as the table's functions require.
 use Rattle.lw_orders.proofs.Common.{ℕ, List, not, length, get_or, ap, subst, arith, ◌∙◌, filter, take_all}
 use Rattle.lw_orders.proofs.Common.{IsWellFormed, reaches_in, common_steps, IfOk-from_err}
-use Rattle.lw_orders.proofs.WalkSets.{open_is}
+use Rattle.lw_orders.proofs.WalkSets.{unordered_conflicts-by_sets}
 use Rattle.lw_orders.proofs.items.unordered_conflicts_of.Goals as goal
 
 pub returns-clause-pairs : goal.returns-clause-pairs
@@ -9,7 +12,8 @@ returns-clause-pairs g c =
     ∙ (ap (filter (λ p. not (reaches_in c.args.reach.now p.0 p.1)))
     (take_all c.loop-pair.pair-index c.deref-pair-items.result.now c.loop-pair-test.false
     ∙ (c.deref-pair-items.ensures.value ∙ ap (λ t. t.conflicts) c.items.view_is))
-    ∙ open_is c.args.items.now (subst IsWellFormed c.items.view_is c.items.invariant) c.args.reach.now c.requires)
+    ∙ unordered_conflicts-by_sets c.args.items.now (subst IsWellFormed c.items.view_is c.items.invariant) c.args.reach.now
+    c.requires)
 
 pub set_of-requires : goal.set_of-requires
 set_of-requires g c =

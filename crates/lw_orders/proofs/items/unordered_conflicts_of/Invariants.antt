@@ -1,3 +1,5 @@
+-- At each round `undecided` has those of the first conflicts whose second item is not reachable from the
+-- first.
 use Rattle.lw_orders.proofs.Common.{◌≡◌, not, take, filter, reaches_in}
 use Rattle.lw_orders.proofs.items.unordered_conflicts_of.Given as goal
 

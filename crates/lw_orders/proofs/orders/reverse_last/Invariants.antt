@@ -1,3 +1,5 @@
+-- At each round all ways from `at` up to the level are reversed already, and none has been changed. The loop
+-- ends since `at` decreases.
 use Rattle.lw_orders.proofs.Common.{ℕ, ◌≡◌, ◌<◌, ◌≤◌, true, false, slice_index_or}
 use Rattle.lw_orders.proofs.orders.reverse_last.Given as goal
 

@@ -1,15 +1,19 @@
+-- Of `reach_more`, which computes reachability with one more pair: i reaches j if it did, or if i reaches the
+-- pair's first item and its second reaches j. A set is joined (`IsGrowing-set_joined`) or unchanged (`IsGrowing-set_unchanged`). If
+-- the first item reaches the second already, nothing changes, since reachability is transitive.
 use Rattle.lw_orders.proofs.Common.{◌≡◌, ◌^◌, ◌||◌, not, arith, ap, sym, ◌∙◌, has, are_disjoint, reaches_in}
 use Rattle.lw_orders.proofs.Common.{common_steps}
 use Rattle.lw_orders.proofs.Bits.{has-bit}
-use Rattle.lw_orders.proofs.WalkSets.{joined_set, kept_set}
+use Rattle.lw_orders.proofs.WalkSets.{IsGrowing-set_joined, IsGrowing-set_unchanged}
 use Rattle.lw_orders.proofs.reach.reach_more.Given.{Over}
 use Rattle.lw_orders.proofs.reach.reach_more.Goals.{After-is_disjoint, then-not-is_disjoint}
 use Rattle.lw_orders.proofs.reach.reach_more.Goals.{else-not-is_disjoint}
 use Rattle.lw_orders.proofs.reach.reach_more.Goals as goal
 
 -- The item's set is disjoint from the pair's first item if and only if the item does not reach it.
-leads : (g : Over) (c : After-is_disjoint g) → not c.is_disjoint.result ≡ reaches_in c.args.sets.now c.loop-item.item c.args.from
-leads g c =
+not_disjoint-is_reaches : (g : Over) (c : After-is_disjoint g)
+    → not c.is_disjoint.result ≡ reaches_in c.args.sets.now c.loop-item.item c.args.from
+not_disjoint-is_reaches g c =
     ap not
     (c.is_disjoint.ensures
     ∙ (ap (are_disjoint c.set_of-in-loop-item.result) c.only-first.ensures
@@ -22,15 +26,15 @@ loop-item-preserved g c =
     elim c.if-not-is_disjoint.branch [
       | then-not-is_disjoint w ↦
           rw w.more-is
-          (joined_set c.requires.few c.loop-item-test.true c.loop-item.invariant w.union.result (λ j l.
+          (IsGrowing-set_joined c.requires.few c.loop-item-test.true c.loop-item.invariant w.union.result (λ j l.
           w.union.ensures j l
           ∙ (ap (λ set_of. has set_of j || has c.set_of-reached_from_to.result j) w.set_of-then-not-is_disjoint.ensures
           ∙ ap (λ set_of. reaches_in c.args.sets.now c.loop-item.item j || has set_of j) c.set_of-reached_from_to.ensures))
-          (sym (leads g d) ∙ ap not w.if-not-is_disjoint.true))
+          (sym (not_disjoint-is_reaches g d) ∙ ap not w.if-not-is_disjoint.true))
       | else-not-is_disjoint w ↦
           rw w.more-is
-          (kept_set c.requires.few c.loop-item-test.true c.loop-item.invariant
-          (sym (leads g d) ∙ ap not w.if-not-is_disjoint.false))
+          (IsGrowing-set_unchanged c.requires.few c.loop-item-test.true c.loop-item.invariant
+          (sym (not_disjoint-is_reaches g d) ∙ ap not w.if-not-is_disjoint.false))
     ]
 
 pub returns : goal.returns

@@ -1,3 +1,4 @@
+-- At each round the sets of the first items are those with the new pair, and the others are copies.
 use Rattle.lw_orders.proofs.WalkSets.{IsGrowing}
 use Rattle.lw_orders.proofs.reach.reach_more.Given as goal
 

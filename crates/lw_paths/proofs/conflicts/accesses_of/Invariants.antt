@@ -1,3 +1,4 @@
+-- At each round the accesses so far, followed by those of the items from `index` on, are all.
 use Rattle.lw_paths.proofs.Common.{◌≡◌, ◌++◌, drop, accesses_from}
 use Rattle.lw_paths.proofs.conflicts.accesses_of.Given as goal
 

@@ -1,11 +1,14 @@
+-- Of `conflicts_of`, which returns the conflicting pairs of items, sorted. The definition filters all pairs
+-- of items; the code pairs accesses only, which gives the same list (`conflicts_among-are_conflicts`), since an item without
+-- an access conflicts with none.
 use Rattle.lw_paths.proofs.Common.{append_assoc, append-nil, nil_from_length}
-use Rattle.lw_paths.proofs.AccessPairs.{conflicts_are}
+use Rattle.lw_paths.proofs.AccessPairs.{conflicts_among-are_conflicts}
 use Rattle.lw_paths.proofs.conflicts.conflicts_of.Goals as goal
 
 pub loop-first-init : goal.loop-first-init
 loop-first-init g c =
     rw (c.new-pairs.ensures.items, c.as_slice-later.ensures.value, c.in_ok-accesses.ensures)
-    (conflicts_are g.S.Statement.language c.args.program.now c.args.items.now)
+    (conflicts_among-are_conflicts g.S.Statement.language c.args.program.now c.args.items.now)
 
 pub loop-first-preserved : goal.loop-first-preserved
 loop-first-preserved g c =

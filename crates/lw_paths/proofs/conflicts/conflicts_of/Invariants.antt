@@ -1,3 +1,5 @@
+-- At each round the pairs so far, followed by the conflicts among the later accesses, are all conflicts. The
+-- loop ends since fewer accesses remain.
 use Rattle.lw_paths.proofs.Common.{◌≡◌, ◌++◌, length, conflicts_among, constraints_of}
 use Rattle.lw_paths.proofs.conflicts.conflicts_of.Given as goal
 

@@ -1,3 +1,5 @@
+-- At each round the pairs so far, followed by the conflicts with the remaining accesses, are the old pairs
+-- and all conflicts.
 use Rattle.lw_paths.proofs.Common.{◌≡◌, ◌++◌, drop, conflicts_with}
 use Rattle.lw_paths.proofs.conflicts.push_conflicts.Given as goal
 

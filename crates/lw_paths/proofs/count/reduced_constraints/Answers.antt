@@ -1,7 +1,9 @@
-use Rattle.lw_paths.proofs.api.ReducedPairs.{well_formed_with}
+-- Of `reduced_constraints`, which returns the items with the reduced pairs. These are well-formed, as
+-- `Items::new` requires (`IsWellFormed-with_reduced_pairs`).
+use Rattle.lw_paths.proofs.api.ReducedPairs.{IsWellFormed-with_reduced_pairs}
 use Rattle.lw_paths.proofs.count.reduced_constraints.Goals as goal
 
 pub new-requires : goal.new-requires
 new-requires g c =
-    well_formed_with g.S.Statement.language c.args.program.now c.args.items.now c.in_ok-fixed.fixed.items c.args.conflicts.items
-    c.requires.few c.in_ok-fixed.ensures c.requires.conflicts
+    IsWellFormed-with_reduced_pairs g.S.Statement.language c.args.program.now c.args.items.now c.in_ok-fixed.fixed.items
+    c.args.conflicts.items c.requires.few c.in_ok-fixed.ensures c.requires.conflicts

@@ -1,3 +1,4 @@
+-- At each round the room left and the branches of the first threads together are the maximum.
 use Rattle.lw_paths.proofs.Common.{◌≡◌, ◌+◌, take, sum_by, most_open, branches}
 use Rattle.lw_paths.proofs.few_orders.has_few_branches.Given as goal
 

@@ -1,14 +1,17 @@
+-- Of `fill_items`, which fills a list with the items of a path assignment, thread by thread; if memory runs
+-- out the list has the first of them. `items_from-push` appends the items of the next thread's path. The
+-- thread's index is that of a processor, since there are at most four paths.
 use Rattle.lw_paths.proofs.Common.{◌≡◌, ◌≤◌, ◌++◌, sym, ap₂, length, drop, append-nil, arith, ltb-false, ◌+◌}
 use Rattle.lw_paths.proofs.Common.{refl, drop_all, map, most_threads, items_from, path_items, path_of}
 use Rattle.lw_paths.proofs.Common.{common_steps, IfOk-from_err}
-use Rattle.lw_paths.proofs.Pushed.{of_refusal, is_front, first_of, some_is, some_there, thread_pushed}
-use Rattle.lw_paths.proofs.Pushed.{no_paths}
+use Rattle.lw_paths.proofs.Pushed.{OnErr-always, append-assoc_all, append-is_take, SomeIff-value}
+use Rattle.lw_paths.proofs.Pushed.{SomeIff-is_some, items_from-push, items_from-no_paths}
 use Rattle.lw_paths.proofs.items.fill_items.Goals as goal
 
 pub loop-thread-preserved : goal.loop-thread-preserved
 loop-thread-preserved g c =
     let cpu : c.unwrap-cpu.result ≡ c.loop-thread.thread =
-    some_is _ c.new.result c.loop-thread.thread c.unwrap-cpu.result c.new.ensures c.unwrap-cpu.ensures in
+    SomeIff-value _ c.new.result c.loop-thread.thread c.unwrap-cpu.result c.new.ensures c.unwrap-cpu.ensures in
     let same : path_items g.S.Statement.language c.unwrap-cpu.result c.in-Some.code.now c.as_slice.result.now
     ≡ path_items g.S.Statement.language c.loop-thread.thread c.in-Some.code.now (path_of c.path-item.result) =
     ap₂ (λ t p. path_items g.S.Statement.language t c.in-Some.code.now p) cpu c.as_slice.ensures in
@@ -19,7 +22,7 @@ loop-thread-preserved g c =
     record {
       few = c.loop-thread.invariant.few;
       items =
-          thread_pushed g.S.Statement.language path_of c.args.program.now c.as_slice-path-items.result.now c.loop-thread.thread
+          items_from-push g.S.Statement.language path_of c.args.program.now c.as_slice-path-items.result.now c.loop-thread.thread
           c.loop-thread.items.items c.in-Some.ensures.lookup.3.0 c.loop-thread-test.true c.in-Some.ensures.lookup.1 c.path-item.is
           pushed c.loop-thread.invariant.items;
     }
@@ -28,7 +31,7 @@ pub returns-clause-ok : goal.returns-clause-ok
 returns-clause-ok g c =
     rw (
       drop_all c.loop-thread.thread c.as_slice-path-items.result.now c.loop-thread-test.false,
-      no_paths g.S.Statement.language c.loop-thread.thread (drop c.loop-thread.thread c.args.program.now),
+      items_from-no_paths g.S.Statement.language c.loop-thread.thread (drop c.loop-thread.thread c.args.program.now),
       append-nil,
     ) at c.loop-thread.invariant.items
 
@@ -37,7 +40,7 @@ overflow_cast-thread g c = omega (arith, c.loop-thread-test.true, c.loop-thread.
 
 pub unwrap-cpu-requires : goal.unwrap-cpu-requires
 unwrap-cpu-requires g c =
-    some_there c.new.result c.loop-thread.thread most_threads c.new.ensures
+    SomeIff-is_some c.new.result c.loop-thread.thread most_threads c.new.ensures
     (omega (arith, c.loop-thread-test.true, c.loop-thread.invariant.few))
 
 pub returns-in_default-clause-ok : goal.returns-in_default-clause-ok
@@ -60,7 +63,7 @@ pub returns-in_err-push_path-clause-err : goal.returns-in_err-push_path-clause-e
 returns-in_err-push_path-clause-err g c =
     let left = c.in_err-push_path.ensures.err in
     let cpu : c.unwrap-cpu.result ≡ c.loop-thread.thread =
-    some_is _ c.new.result c.loop-thread.thread c.unwrap-cpu.result c.new.ensures c.unwrap-cpu.ensures in
+    SomeIff-value _ c.new.result c.loop-thread.thread c.unwrap-cpu.result c.new.ensures c.unwrap-cpu.ensures in
     let same : path_items g.S.Statement.language c.unwrap-cpu.result c.in-Some.code.now c.as_slice.result.now
     ≡ path_items g.S.Statement.language c.loop-thread.thread c.in-Some.code.now (path_of c.path-item.result) =
     ap₂ (λ t p. path_items g.S.Statement.language t c.in-Some.code.now p) cpu c.as_slice.ensures in
@@ -72,11 +75,11 @@ returns-in_err-push_path-clause-err g c =
     items_from g.S.Statement.language (c.loop-thread.thread + 1) (drop (c.loop-thread.thread + 1) c.args.program.now)
     (map path_of (drop (c.loop-thread.thread + 1) c.as_slice-path-items.result.now)) in
     let whole =
-    thread_pushed g.S.Statement.language path_of c.args.program.now c.as_slice-path-items.result.now c.loop-thread.thread
+    items_from-push g.S.Statement.language path_of c.args.program.now c.as_slice-path-items.result.now c.loop-thread.thread
     c.loop-thread.items.items c.in-Some.ensures.lookup.3.0 c.loop-thread-test.true c.in-Some.ensures.lookup.1 c.path-item.is
     pushed c.loop-thread.invariant.items in
-    let all = is_front _ left.0 more whole in
-    of_refusal c.from_residual.result (first_of _ (left.0 ++ more) all)
+    let all = append-assoc_all _ left.0 more whole in
+    OnErr-always c.from_residual.result (append-is_take _ (left.0 ++ more) all)
 
 pub returns-in_err-push_path-clause-ok : goal.returns-in_err-push_path-clause-ok
 returns-in_err-push_path-clause-ok g c = IfOk-from_err _ _ c.from_residual.ensures.0

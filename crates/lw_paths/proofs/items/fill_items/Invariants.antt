@@ -1,3 +1,4 @@
+-- At each round the items so far, followed by those of the remaining threads' paths, are all.
 use Rattle.lw_paths.proofs.Common.{◌≡◌, ◌++◌, ◌≤◌, length, map, drop, most_threads, items_from, items_of}
 use Rattle.lw_paths.proofs.Common.{path_of, choice_of}
 use Rattle.lw_paths.proofs.items.fill_items.Given as goal

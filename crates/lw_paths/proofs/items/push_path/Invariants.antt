@@ -1,3 +1,5 @@
+-- At each round the items so far, followed by those of the remaining positions, are the old items and all of
+-- the path.
 use Rattle.lw_paths.proofs.Common.{◌≡◌, ◌++◌, drop, path_items}
 use Rattle.lw_paths.proofs.items.push_path.Given as goal
 

@@ -1,11 +1,14 @@
-use Rattle.lw_paths.proofs.api.Totals.{total_is, one_total, limits_part}
+-- Of the law that a program's total number of orders is unique and is the computed sum, so that no program is
+-- both within the limits and beyond them. Each clause is a lemma.
+use Rattle.lw_paths.proofs.api.Totals.{IsTotalOrderCount-total_of, IsTotalOrderCount-unique}
+use Rattle.lw_paths.proofs.api.Totals.{not-LimitFaultIsTrue-within_limits}
 use Rattle.lw_paths.proofs.laws.totals_are_counted.Goals as goal
 
 pub returns-clause-counted : goal.returns-clause-counted
-returns-clause-counted g c program forward = total_is g.S.Statement.language program forward
+returns-clause-counted g c program forward = IsTotalOrderCount-total_of g.S.Statement.language program forward
 
 pub returns-clause-one : goal.returns-clause-one
-returns-clause-one g c program n m = one_total g.S.Statement.language program n m
+returns-clause-one g c program n m = IsTotalOrderCount-unique g.S.Statement.language program n m
 
 pub returns-clause-apart : goal.returns-clause-apart
-returns-clause-apart g c program f told = limits_part g.S.Statement.language program f told
+returns-clause-apart g c program f told = not-LimitFaultIsTrue-within_limits g.S.Statement.language program f told

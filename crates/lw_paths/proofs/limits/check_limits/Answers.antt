@@ -1,20 +1,23 @@
+-- Of `check_limits`: if it returns `Ok`, the program is within the limits of lists, and a fault is true.
+-- Items are checked first, so a fault of `check_orders` is one of orders (`LimitFaultIsTrue-of_choices`). If the quick test
+-- says that orders are few, they are (`IsWithinLimits-of_total`).
 use Rattle.lw_paths.proofs.Common.{on_ok_weaker, IfErr-weaker}
-use Rattle.lw_paths.proofs.api.Counting.{limit_told, limit_kept}
+use Rattle.lw_paths.proofs.api.Counting.{LimitFaultIsTrue-of_choices, IsWithinLimits-of_total}
 use Rattle.lw_paths.proofs.limits.check_limits.Goals as goal
 
 pub returns-clause-within : goal.returns-clause-within
 returns-clause-within g c =
     on_ok_weaker c.check_orders.result
-    (limit_kept g.S.Statement.language c.args.program.now c.requires.forward c.in_ok-check_items.ensures.few)
+    (IsWithinLimits-of_total g.S.Statement.language c.args.program.now c.requires.forward c.in_ok-check_items.ensures.few)
     c.check_orders.ensures.orders
 
 pub returns-clause-err : goal.returns-clause-err
 returns-clause-err g c =
     IfErr-weaker c.check_orders.result _ _
-    (limit_told g.S.Statement.language c.args.program.now c.requires.forward c.in_ok-check_items.ensures.few)
+    (LimitFaultIsTrue-of_choices g.S.Statement.language c.args.program.now c.requires.forward c.in_ok-check_items.ensures.few)
     c.check_orders.ensures.err
 
 pub returns-then-has_few_orders-clause-within : goal.returns-then-has_few_orders-clause-within
 returns-then-has_few_orders-clause-within g c =
-    limit_kept g.S.Statement.language c.args.program.now c.requires.forward c.in_ok-check_items.ensures.few
+    IsWithinLimits-of_total g.S.Statement.language c.args.program.now c.requires.forward c.in_ok-check_items.ensures.few
     (c.has_few_orders.ensures c.if-has_few_orders.true)

@@ -1,3 +1,4 @@
+-- At each round the pairs so far, followed by those of the items from `index` on, are all.
 use Rattle.lw_paths.proofs.Common.{◌≡◌, ◌++◌, drop, none_before, fixed_from}
 use Rattle.lw_paths.proofs.preserved_order.preserved_pairs.Given as goal
 

@@ -1,5 +1,8 @@
+-- Of `max_items`, which returns the maximum number of items of a program's path assignments. It is the sum of
+-- the threads' maxima (`IsMost-more_threads`), since a path assignment chooses each thread's path by itself. The sum
+-- is small, so nothing overflows.
 use Rattle.lw_paths.proofs.Common.{arith, rules, ap, ◌<◌, length, IsVisitable}
-use Rattle.lw_paths.proofs.Sizes.{most_of_more, most_of_none, visitable_first, visitable_rest}
+use Rattle.lw_paths.proofs.Sizes.{IsMost-more_threads, IsMost-no_threads, visitable_first, visitable_rest}
 use Rattle.lw_paths.proofs.size.+max_items.Goals as goal
 
 pub max_items_of_thread-requires : goal.max_items_of_thread-requires
@@ -20,7 +23,7 @@ overflow_add-result g t c =
 
 pub returns-in-Some-clause-most : goal.returns-in-Some-clause-most
 returns-in-Some-clause-most g t c =
-    most_of_more g.S.Statement.language c.args.program.now c.in-Some.code.now c.in-Some.others.now _ c.max_items.result
+    IsMost-more_threads g.S.Statement.language c.args.program.now c.in-Some.code.now c.in-Some.others.now _ c.max_items.result
     c.in-Some.ensures.cases.0 c.max_items_of_thread.ensures.most c.max_items.ensures.most
 
 pub returns-in-Some-clause-few : goal.returns-in-Some-clause-few
@@ -28,7 +31,7 @@ returns-in-Some-clause-few g t c =
     omega (arith, ap length c.in-Some.ensures.cases.0, c.max_items_of_thread.ensures.few, c.max_items.ensures.few)
 
 pub returns-in-None-clause-most : goal.returns-in-None-clause-most
-returns-in-None-clause-most g t c = most_of_none g.S.Statement.language _ c.in-None.ensures.cases
+returns-in-None-clause-most g t c = IsMost-no_threads g.S.Statement.language _ c.in-None.ensures.cases
 
 pub returns-in-None-clause-few : goal.returns-in-None-clause-few
 returns-in-None-clause-few g t c = omega arith

@@ -1,3 +1,4 @@
+-- The recursion ends since the function calls itself for one thread less.
 use Rattle.lw_paths.proofs.Common.{length}
 use Rattle.lw_paths.proofs.size.+max_items.Given as goal
 

@@ -1,11 +1,14 @@
+-- Of `max_items_of_thread`, which returns the maximum number of items on a thread's paths. Jumps lead
+-- forward, so the table is filled from the end: the maximum at a position is the statement's items and the
+-- maximum over its successors, which are known.
 use Rattle.lw_paths.proofs.Common.{◌+◌, ◌-◌, ◌∙◌, ap, sym, subst, refl, Some, length, slice_set, arith}
 use Rattle.lw_paths.proofs.Common.{slice_get-get_or, get_or-replicate}
-use Rattle.lw_paths.proofs.api.Successors.{led_within}
-use Rattle.lw_paths.proofs.Sizes.{AreKnownFrom, known_at_first, known_before, few_behind}
+use Rattle.lw_paths.proofs.api.Successors.{successors-in_range}
+use Rattle.lw_paths.proofs.Sizes.{AreKnownFrom, AreKnownFrom-end, AreKnownFrom-set, size_sum_small}
 use Rattle.lw_paths.proofs.size.max_items_of_thread.Goals as goal
 
 pub loop-done-init : goal.loop-done-init
-loop-done-init g c = known_at_first _ refl (omega arith) (get_or-replicate 33 (length c.as_slice-stmts.result.now) 0 0
+loop-done-init g c = AreKnownFrom-end _ refl (omega arith) (get_or-replicate 33 (length c.as_slice-stmts.result.now) 0 0
     (omega (arith, c.requires.short, ap length c.as_slice-stmts.ensures)))
 
 pub max_items_from-requires-clause-within : goal.max_items_from-requires-clause-within
@@ -16,8 +19,8 @@ max_items_from-requires-clause-within g c k has =
     slice_get-get_or stmts at c.index-stmts-at.result (omega (arith, c.loop-done-test.true))
     ∙ ap Some (sym c.index-stmts-at.is) in
     let beyond =
-    led_within g.S.Statement.language stmts at k c.index-stmts-at.result (rw c.as_slice-stmts.ensures c.requires.forward) is
-    has in
+    successors-in_range g.S.Statement.language stmts at k c.index-stmts-at.result (rw c.as_slice-stmts.ensures c.requires.forward)
+    is has in
     omega (arith, beyond.1, c.requires.short, ap length c.as_slice-stmts.ensures)
 
 pub overflow_add-most : goal.overflow_add-most
@@ -27,8 +30,9 @@ overflow_add-most g c =
     slice_get-get_or stmts (length stmts - 1 - c.loop-done.done) c.index-stmts-at.result (omega (arith, c.loop-done-test.true))
     ∙ ap Some (sym c.index-stmts-at.is) in
     let few =
-    few_behind c.loop-done.invariant (omega (arith, c.loop-done-test.true)) is (rw c.as_slice-stmts.ensures c.requires.forward)
-    (omega (arith, c.requires.short, ap length c.as_slice-stmts.ensures)) c.max_items_from.ensures in
+    size_sum_small c.loop-done.invariant (omega (arith, c.loop-done-test.true)) is
+    (rw c.as_slice-stmts.ensures c.requires.forward) (omega (arith, c.requires.short, ap length c.as_slice-stmts.ensures))
+    c.max_items_from.ensures in
     omega (arith, few, c.count_items.ensures)
 
 pub loop-done-preserved : goal.loop-done-preserved
@@ -41,18 +45,17 @@ loop-done-preserved g c =
     subst (λ k.
     AreKnownFrom g.S.Statement.language stmts k (slice_set c.loop-done.most at (c.count_items.result + c.max_items_from.result)))
     (omega (arith, c.loop-done-test.true))
-    (known_before c.loop-done.invariant (omega (arith, c.loop-done-test.true)) is (rw c.as_slice-stmts.ensures c.requires.forward)
-    (omega (arith, c.requires.short, ap length c.as_slice-stmts.ensures)) c.max_items_from.ensures _
-    (ap (λ n. n + c.max_items_from.result) c.count_items.ensures))
+    (AreKnownFrom-set c.loop-done.invariant (omega (arith, c.loop-done-test.true)) is
+    (rw c.as_slice-stmts.ensures c.requires.forward) (omega (arith, c.requires.short, ap length c.as_slice-stmts.ensures))
+    c.max_items_from.ensures _ (ap (λ n. n + c.max_items_from.result) c.count_items.ensures))
 
 pub returns-clause-most : goal.returns-clause-most
 returns-clause-most g c = rw (← c.as_slice-stmts.ensures) (c.loop-done.invariant.each 0 (omega arith) (omega arith)).is_most
 
 pub returns-clause-few : goal.returns-clause-few
-returns-clause-few g c =
-    omega (
-      arith,
-      (c.loop-done.invariant.each 0 (omega arith) (omega arith)).few,
-      c.requires.short,
-      ap length c.as_slice-stmts.ensures,
-    )
+returns-clause-few g c = omega (
+  arith,
+  (c.loop-done.invariant.each 0 (omega arith) (omega arith)).at_most_two_each,
+  c.requires.short,
+  ap length c.as_slice-stmts.ensures,
+)

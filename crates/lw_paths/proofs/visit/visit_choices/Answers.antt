@@ -1,36 +1,42 @@
+-- Of `visit_choices`, which visits exactly the path assignments of a program, in order, until a visit fails.
+-- Those that begin with no path are all (`choices_along-start`); a program without threads has one, the empty one
+-- (`path_assignments-no_threads`).
 use Rattle.lw_paths.proofs.Common.{nat_tests, arith, refl, inl, subst, on_ok_weaker, IfErr-weaker, path_of}
 use Rattle.lw_paths.proofs.Common.{choice_of, VisitResult, path_assignments}
-use Rattle.lw_paths.proofs.Along.{start_with_some, start_with_none, done_ok, done_err}
+use Rattle.lw_paths.proofs.Along.{choices_along-start, path_assignments-no_threads, VisitsAll-if_ok}
+use Rattle.lw_paths.proofs.Along.{VisitFails-if_err}
 use Rattle.lw_paths.proofs.visit.visit_choices.Goals as goal
 
 pub returns-then-is_empty-clause-ok : goal.returns-then-is_empty-clause-ok
 returns-then-is_empty-clause-ok g c =
     on_ok_weaker c.visit.result
     (λ visited.
-    rw (← start_with_none g.S.Statement.language c.args.program.now (choice_of c.new.result) c.if-is_empty.ensures c.new.ensures)
-    (c.visit.new.self, visited, refl)) c.visit.ensures.ok
+    rw
+    (← path_assignments-no_threads g.S.Statement.language c.args.program.now (choice_of c.new.result) c.if-is_empty.ensures
+    c.new.ensures) (c.visit.new.self, visited, refl)) c.visit.ensures.ok
 
 pub returns-then-is_empty-clause-err : goal.returns-then-is_empty-clause-err
 returns-then-is_empty-clause-err g c =
     IfErr-weaker c.visit.result _ _ (λ e refused.
-    rw (← start_with_none g.S.Statement.language c.args.program.now (choice_of c.new.result) c.if-is_empty.ensures c.new.ensures)
-    (inl refused)) c.visit.ensures.err
+    rw
+    (← path_assignments-no_threads g.S.Statement.language c.args.program.now (choice_of c.new.result) c.if-is_empty.ensures
+    c.new.ensures) (inl refused)) c.visit.ensures.err
 
 pub returns-clause-ok : goal.returns-clause-ok
 returns-clause-ok g c =
-    done_ok _ _ _ _ _ _
+    VisitsAll-if_ok _ _ _ _ _ _
     (subst (λ choices.
     VisitResult g.V.Visitor.visits g.V.Visitor.refuses choices c.args.visitor.now c.visit_from.result c.visit_from.new.visitor)
-    (start_with_some g.S.Statement.language c.args.program.now _ (path_of c.new-3.result) c.if-is_empty.ensures c.new-2.ensures
-    c.new-3.ensures) c.visit_from.ensures)
+    (choices_along-start g.S.Statement.language c.args.program.now _ (path_of c.new-3.result) c.if-is_empty.ensures
+    c.new-2.ensures c.new-3.ensures) c.visit_from.ensures)
 
 pub returns-clause-err : goal.returns-clause-err
 returns-clause-err g c =
-    done_err _ _ _ _ _ _
+    VisitFails-if_err _ _ _ _ _ _
     (subst (λ choices.
     VisitResult g.V.Visitor.visits g.V.Visitor.refuses choices c.args.visitor.now c.visit_from.result c.visit_from.new.visitor)
-    (start_with_some g.S.Statement.language c.args.program.now _ (path_of c.new-3.result) c.if-is_empty.ensures c.new-2.ensures
-    c.new-3.ensures) c.visit_from.ensures)
+    (choices_along-start g.S.Statement.language c.args.program.now _ (path_of c.new-3.result) c.if-is_empty.ensures
+    c.new-2.ensures c.new-3.ensures) c.visit_from.ensures)
 
 pub visit_from-requires : goal.visit_from-requires
 visit_from-requires g c = rw (c.new-2.ensures, c.new-3.ensures) (record {

@@ -1,5 +1,8 @@
+-- Of `SourceRun::carry_out_event`, which returns the result of one event. A step is the contract of `step`.
+-- Drains and evictions are always refused, for the cause that the definition says: a source run has no store
+-- buffers and no caches.
 use Rattle.lw_interleaving.proofs.Common.{ap, refl, length, SourceRunState}
-use Rattle.lw_interleaving.proofs.api.Runs.{drained}
+use Rattle.lw_interleaving.proofs.api.Runs.{ReturnsEventResult-drain_refused}
 use Rattle.lw_interleaving.proofs.run.SourceRun.carry_out_event.Goals as goal
 
 pub returns-then-index-len-clause-done : goal.returns-then-index-len-clause-done
@@ -7,7 +10,7 @@ returns-then-index-len-clause-done g c =
     let within =
     rw (c.index.ensures.value, c.len.ensures, ap (λ (r : SourceRunState). length r.state.threads) c.self.view_is) at
     c.if-index-len.true in
-    rw c.in-Drain.is (drained _ _ c.args.self.now.state c.in-Drain.cpu _ within refl refl)
+    rw c.in-Drain.is (ReturnsEventResult-drain_refused _ _ c.args.self.now.state c.in-Drain.cpu _ within refl refl)
 
 pub returns-in-Step-clause-program : goal.returns-in-Step-clause-program
 returns-in-Step-clause-program g c = c.step.ensures.program

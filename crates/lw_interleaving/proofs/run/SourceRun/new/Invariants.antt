@@ -1,3 +1,4 @@
+-- At each round the first threads are created, each at its first statement.
 use Rattle.lw_interleaving.proofs.Common.{◌≡◌, map, take, initial_thread}
 use Rattle.lw_interleaving.proofs.run.SourceRun.new.Given as goal
 

@@ -1,3 +1,4 @@
+-- At each round `regs` has the registers of the first threads.
 use Rattle.lw_interleaving.proofs.Common.{◌≡◌, map, take, Thread}
 use Rattle.lw_interleaving.proofs.run.SourceRun.outcome.Given as goal
 

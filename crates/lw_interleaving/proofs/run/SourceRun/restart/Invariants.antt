@@ -1,3 +1,4 @@
+-- At each round the first `cpu` threads are reset, and the others, the words and the source are unchanged.
 use Rattle.lw_interleaving.proofs.Common.{◌≡◌, ◌++◌, map, take, drop, initial_thread}
 use Rattle.lw_interleaving.proofs.run.SourceRun.restart.Given as goal
 

@@ -1,13 +1,19 @@
+-- Of `SourceRun::run`, which carries out events up to the first that is refused, and reports how the replay
+-- ended. `RunsTo-more` adds one event. A refused event changes nothing, so the replay stops there
+-- (`IsSourceReplay-stopped`); otherwise all events are carried out.
 use Rattle.lw_interleaving.proofs.Common.{◌≡◌, ◌∙◌, ap, refl, sym, true≢false, RunsTo-more, SourceTransition}
 use Rattle.lw_interleaving.proofs.Common.{SourceRunState}
-use Rattle.lw_interleaving.proofs.api.Runs.{event_kept, possible, stopped, replayed_all}
+use Rattle.lw_interleaving.proofs.api.Runs.{SameSize-source_event, ReturnsEventResult-ok}
+use Rattle.lw_interleaving.proofs.api.Runs.{IsSourceReplay-stopped, IsSourceReplay-all_events}
 use Rattle.lw_interleaving.proofs.run.SourceRun.run.Goals as goal
 
 pub loop-done-preserved : goal.loop-done-preserved
 loop-done-preserved g c =
     let done = rw (c.loop-done.invariant.program, c.loop-done.invariant.start) at c.carry_out_event.ensures.done in
-    let one = possible _ _ c.carry_out_event.result c.in_default.field-0 c.carry_out_event.new.self.state done c.in_default.is in
-    let kept = event_kept c.args.self.now.program _ c.loop-done.self.state c.carry_out_event.new.self.state one in
+    let one =
+    ReturnsEventResult-ok _ _ c.carry_out_event.result c.in_default.field-0 c.carry_out_event.new.self.state done
+    c.in_default.is in
+    let kept = SameSize-source_event c.args.self.now.program _ c.loop-done.self.state c.carry_out_event.new.self.state one in
     record {
       program = c.carry_out_event.ensures.program ∙ c.loop-done.invariant.program;
       start = c.carry_out_event.ensures.start ∙ c.loop-done.invariant.start;
@@ -23,15 +29,15 @@ pub returns-in-Err-clause-replayed : goal.returns-in-Err-clause-replayed
 returns-in-Err-clause-replayed g c =
     let before : SourceRunState =
     record { program = c.args.self.now.program; start = c.args.self.now.start; state = c.loop-done.self.state } in
-    stopped (c.carry_out_event.new.self ≡ before) c.args.self.now.program c.args.events.now c.args.self.now.state c.loop-done.done
-    c.in-Err.stop c.carry_out_event.new.self.state (record {
+    IsSourceReplay-stopped (c.carry_out_event.new.self ≡ before) c.args.self.now.program c.args.events.now c.args.self.now.state
+    c.loop-done.done c.in-Err.stop c.carry_out_event.new.self.state (record {
       e = c.index-events-done.result;
       mid = c.loop-done.self.state;
       answer = c.carry_out_event.result;
-      within = c.loop-done-test.true;
+      done_in_range = c.loop-done-test.true;
       is_event = c.index-events-done.is;
       ran = c.loop-done.invariant.ran;
-      told = rw (c.loop-done.invariant.program, c.loop-done.invariant.start) at c.carry_out_event.ensures.done;
+      event_result = rw (c.loop-done.invariant.program, c.loop-done.invariant.start) at c.carry_out_event.ensures.done;
       failed = c.in-Err.is;
       kept = λ same. ap (λ (r : SourceRunState). r.state) same;
     })
@@ -39,12 +45,12 @@ returns-in-Err-clause-replayed g c =
 pub returns-then-is_final-clause-replayed : goal.returns-then-is_final-clause-replayed
 returns-then-is_final-clause-replayed g c =
     let final = rw c.loop-done.invariant.program at (sym c.is_final.ensures ∙ c.if-is_final.true) in
-    replayed_all _ _ c.loop-done.done _ _ _ c.loop-done-test.false c.loop-done.invariant.ran (refl, final)
+    IsSourceReplay-all_events _ _ c.loop-done.done _ _ _ c.loop-done-test.false c.loop-done.invariant.ran (refl, final)
 
 pub returns-else-is_final-clause-replayed : goal.returns-else-is_final-clause-replayed
 returns-else-is_final-clause-replayed g c =
     let not_final = rw c.loop-done.invariant.program at (sym c.is_final.ensures ∙ c.if-is_final.false) in
-    replayed_all _ _ c.loop-done.done _ _ _ c.loop-done-test.false c.loop-done.invariant.ran
+    IsSourceReplay-all_events _ _ c.loop-done.done _ _ _ c.loop-done-test.false c.loop-done.invariant.ran
     (refl, λ final. true≢false (sym final ∙ not_final))
 
 pub loop-done-init : goal.loop-done-init

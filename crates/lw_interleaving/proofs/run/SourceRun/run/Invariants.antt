@@ -1,3 +1,4 @@
+-- At each round the first `done` events were carried out; program, start and sizes are unchanged.
 use Rattle.lw_interleaving.proofs.Common.{◌≡◌, length, take, SourceRunsTo}
 use Rattle.lw_interleaving.proofs.run.SourceRun.run.Given as goal
 

@@ -1,5 +1,7 @@
+-- Of `SourceRun::write_outcome`, which writes the current registers and memory into an outcome of the same
+-- size. Each round overwrites one row (`map_prefix-set`), which exists, since the sizes are equal.
 use Rattle.lw_interleaving.proofs.Common.{ap, arith, length, ◌∙◌, FinalState, common_steps}
-use Rattle.lw_interleaving.proofs.api.Runs.{written_on}
+use Rattle.lw_interleaving.proofs.api.Runs.{map_prefix-set}
 use Rattle.lw_interleaving.proofs.run.SourceRun.write_outcome.Goals as goal
 
 pub loop-cpu-preserved : goal.loop-cpu-preserved
@@ -9,7 +11,7 @@ loop-cpu-preserved g c =
     record {
       regs =
           c.set.ensures
-          ∙ written_on _ _ c.loop-cpu.cpu _ threads c.loop-cpu.invariant.regs c.loop-cpu-test.true
+          ∙ map_prefix-set _ _ c.loop-cpu.cpu _ threads c.loop-cpu.invariant.regs c.loop-cpu-test.true
           (omega (arith, many, c.loop-cpu-test.true, ap length threads));
       words = c.loop-cpu.invariant.words;
     }

@@ -1,3 +1,5 @@
+-- At each round the first `cpu` rows are the threads' registers, and the other rows and the words are
+-- unchanged.
 use Rattle.lw_interleaving.proofs.Common.{◌≡◌, ◌++◌, map, take, drop, Thread}
 use Rattle.lw_interleaving.proofs.run.SourceRun.write_outcome.Given as goal
 

@@ -1,3 +1,5 @@
+-- Of `without_all` for sets of 128 items: those that are not in the other set, by the laws of bits
+-- (`has-difference`).
 use Rattle.lw_orders.proofs.Common.{w128}
 use Rattle.lw_orders.proofs.Bits.{has-difference}
 use Rattle.lw_orders.proofs.item_set.ItemSetItemBits.without_all.Goals as goal

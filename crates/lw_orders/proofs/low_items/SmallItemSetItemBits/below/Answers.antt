@@ -1,3 +1,5 @@
+-- Of `below` for sets of 64 items: all items below `len`. For 64 all bits are set (`has-ones`); otherwise the
+-- number is one less than a power of two (`has-below`).
 use Rattle.lw_orders.proofs.Common.{arith, w64}
 use Rattle.lw_orders.proofs.Bits.{has-ones, has-below}
 use Rattle.lw_orders.proofs.low_items.SmallItemSetItemBits.below.Goals as goal

@@ -1,3 +1,4 @@
+-- At each round the first `item` entries of the array are the items below `item`.
 use Rattle.lw_orders.proofs.Common.{most_items, ◌≡◌, length, take, indices}
 use Rattle.lw_orders.proofs.order.Order.ascending.Given as goal
 

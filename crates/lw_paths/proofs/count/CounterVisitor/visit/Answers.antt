@@ -1,16 +1,19 @@
+-- Of the counter's `visit`, which adds the number of one path assignment's orders to the total.
+-- `Counts-if_counted`: the total is within its limit after the visit, so the saturating sum is the sum.
+-- `sum_too_large-if_saturated` is for a total above the limit: then so is the exact sum.
 use Rattle.lw_paths.proofs.Common.{arith, ◌∙◌}
-use Rattle.lw_paths.proofs.api.Counting.{choice_counted, too_many_orders}
+use Rattle.lw_paths.proofs.api.Counting.{Counts-if_counted, sum_too_large-if_saturated}
 use Rattle.lw_paths.proofs.count.CounterVisitor.visit.Goals as goal
 
 pub returns-clause-ok : goal.returns-clause-ok
-returns-clause-ok g c = choice_counted g.S.Statement.language c.args.self.now.program.now c.args.self.now.total _ _ (record {
+returns-clause-ok g c = Counts-if_counted g.S.Statement.language c.args.self.now.program.now c.args.self.now.total _ _ (record {
   items = c.as_slice.result.now;
   orders = c.in-Some.orders;
   made = c.as_slice.ensures.value ∙ c.in_ok-fill_few_items.ensures.ok;
-  few = rw (← c.as_slice.ensures.value) at c.in_ok-fill_few_items.ensures.few;
+  within_item_limit = rw (← c.as_slice.ensures.value) at c.in_ok-fill_few_items.ensures.few;
   ways = (rw c.in-Some.is at c.in_ok-orders.ensures).0;
   total = c.saturating_add-total.ensures;
-  within = omega arith;
+  within_order_limit = omega arith;
 })
 
 pub count_orders-requires-clause-of_choice : goal.count_orders-requires-clause-of_choice
@@ -18,6 +21,6 @@ count_orders-requires-clause-of_choice g c = (_, c.as_slice.ensures.value ∙ c.
 
 pub returns-then-total-gt-MAX_ORDERS-clause-err : goal.returns-then-total-gt-MAX_ORDERS-clause-err
 returns-then-total-gt-MAX_ORDERS-clause-err g c =
-    too_many_orders g.S.Statement.language c.args.self.now.program.now c.args.self.now.total _
+    sum_too_large-if_saturated g.S.Statement.language c.args.self.now.program.now c.args.self.now.total _
     (c.as_slice.ensures.value ∙ c.in_ok-fill_few_items.ensures.ok) (rw c.in-Some.is at c.in_ok-orders.ensures).0
     c.saturating_add-total.ensures c.if-total-gt-MAX_ORDERS.true
