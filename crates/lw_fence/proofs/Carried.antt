@@ -1,5 +1,6 @@
 -- The instructions of a lowering execute its statement: the last one does to its processor and to memory what the statement does to its
--- thread, and an instruction before it leaves memory and the store buffer unchanged.
+-- thread, and an instruction before it leaves memory and the store buffer unchanged. Both directions of the compiler's theorem use this, by
+-- Statements and by ThreadSimulation.
 use Rattle.lw_fence.proofs.Common.{◌≡◌, ℕ, ◌+◌, ◌<◌, ◌==◌, ◌%◌, ◌^◌, add_comm, Bool, true, false, not}
 use Rattle.lw_fence.proofs.Common.{true≢false, None, Some, List, [], ◌∷◌, ◌++◌, length, if◌then◌else◌, refl}
 use Rattle.lw_fence.proofs.Common.{sym, ap, ap₂, ◌∙◌, subst, subst₂, arith, slice_set, slice_index, eqb-true}
@@ -7,13 +8,13 @@ use Rattle.lw_fence.proofs.Common.{All, set-set, get_or-set_same, get_or-set_oth
 use Rattle.lw_fence.proofs.Common.{wrapping_sum, operand_value, IsRegisterIndex, Operand, Register, Number}
 use Rattle.lw_fence.proofs.Common.{SwapWaits, FenceWaits, Operation, Stmt, Store, Load, Swap, FetchAdd, Set}
 use Rattle.lw_fence.proofs.Common.{Sum, IfEq, IfNe, Goto, Instr, location_of, is_store, is_load, registers_of}
-use Rattle.lw_fence.proofs.Common.{source_operation, Thread, thread_after, words_after, thread_alone}
-use Rattle.lw_fence.proofs.Common.{Processor, newest_buffered, advance_processor, set_register}
-use Rattle.lw_fence.proofs.Common.{jump_or_advance_processor, LocalStep, load_effect, step_effect}
-use Rattle.lw_fence.proofs.Common.{EffectLeadsTo, Lowered, One, Two, with_move_if, lower_compare, lowered}
-use Rattle.lw_fence.proofs.Common.{instrs_of, once_done}
+use Rattle.lw_fence.proofs.Common.{source_operation, Thread, thread_after, words_after}
+use Rattle.lw_fence.proofs.Common.{thread_after-no_location, Processor, newest_buffered, advance_processor}
+use Rattle.lw_fence.proofs.Common.{set_register, jump_or_advance_processor, LocalStep, load_effect}
+use Rattle.lw_fence.proofs.Common.{step_effect, EffectLeadsTo, Lowered, One, Two, with_move_if, lower_compare}
+use Rattle.lw_fence.proofs.Common.{lowered, instrs_of, EffectLeadsTo-if_buffer_empty}
 use Rattle.lw_fence.proofs.PendingStores.{IsLocal}
-use Rattle.lw_fence.proofs.CodeLayout.{chosen}
+use Rattle.lw_fence.proofs.CodeLayout.{both_cases-selected}
 use Rattle.lw_litmus.specs.declared.operation.Operation.TheVariants as operation
 use Rattle.lw_litmus.specs.declared.instr.Instr.TheVariants as x86
 
@@ -22,103 +23,115 @@ abbrev pub Buffer : Type 0
 Buffer = List (ℕ × ℕ)
 
 -- How a statement of the thread v changes a store buffer b and a memory m, to c and n.
-pub data Stored (s : Stmt) (v : Thread) (b : Buffer) (m : List ℕ) (c : Buffer) (n : List ℕ) : Type 0 where
+pub data BuffersStatement (s : Stmt) (v : Thread) (b : Buffer) (m : List ℕ) (c : Buffer) (n : List ℕ) : Type 0 where
   -- Not at all, if it has no location.
-  apart : IsLocal s → c ≡ b → n ≡ m → Stored s v b m c n
+  apart : IsLocal s → c ≡ b → n ≡ m → BuffersStatement s v b m c n
   -- A store becomes the newest entry.
-  buffered : (x : ℕ) (w : Operand) → s ≡ Store x w → c ≡ b ++ (x, operand_value w v.regs) ∷ [] → n ≡ m → Stored s v b m c n
+  buffered : (x : ℕ) (w : Operand)
+      → s ≡ Store x w
+      → c ≡ b ++ (x, operand_value w v.regs) ∷ []
+      → n ≡ m
+      → BuffersStatement s v b m c n
   -- Any other statement takes effect at once, if the buffer is empty.
   at_once : is_store (source_operation s) ≡ false
       → b ≡ []
       → c ≡ []
       → n ≡ words_after (source_operation s) v m
-      → Stored s v b m c n
+      → BuffersStatement s v b m c n
 
 -- After the statement s of the thread v is executed over the buffer b and the memory m, the processor is q and the memory n.
-pub record Carried (starts : List ℕ) (s : Stmt) (v : Thread) (b : Buffer) (m : List ℕ) (q : Processor) (n : List ℕ) : Type 0 where
+pub record ExecutesStatement (starts : List ℕ) (s : Stmt) (v : Thread) (b : Buffer) (m : List ℕ) (q : Processor)
+    (n : List ℕ) : Type 0 where
   pub position : q.position ≡ slice_index starts (thread_after (source_operation s) v m).position
   pub regs : q.regs ≡ (thread_after (source_operation s) v m).regs
-  pub stored : Stored s v b m q.buffer n
+  pub stored : BuffersStatement s v b m q.buffer n
 
 -- The instruction i of the processor p, whatever its buffer holds, executes s. A load requires an empty buffer.
-pub record Ends (starts : List ℕ) (v : Thread) (s : Stmt) (p : Processor) (i : Instr) : Type 0 where
+pub record CompletesStatement (starts : List ℕ) (v : Thread) (s : Stmt) (p : Processor) (i : Instr) : Type 0 where
   pub empty : is_load (source_operation s) ≡ true → p.buffer ≡ []
   pub carries : (b : Buffer) (m : List ℕ)
       → (is_load (source_operation s) ≡ true → b ≡ [])
       → (q : Processor) (n : List ℕ)
       → EffectLeadsTo m (step_effect (Some i) (record p { buffer = b })) q n
-      → Carried starts s v b m q n
+      → ExecutesStatement starts s v b m q n
 
--- The instruction before i leads the processor p to q, where i executes the statement s of the thread v.
-pub record Led (starts : List ℕ) (v : Thread) (s : Stmt) (p : Processor) (i : Instr) (q : Processor) : Type 0 where
+-- The instruction before i leads the processor p to q, at whose position i executes the statement s of the thread v.
+pub record AdvancesToLast (starts : List ℕ) (v : Thread) (s : Stmt) (p : Processor) (i : Instr) (q : Processor) : Type 0 where
   pub position : q.position ≡ p.position + 1
   pub buffer : q.buffer ≡ p.buffer
-  pub ends : Ends starts v s q i
+  pub ends : CompletesStatement starts v s q i
 
 -- A lowering executes the statement s of the thread v on the processor p, which is at the lowering's first instruction.
-abbrev pub Serves : List ℕ → Thread → Stmt → Processor → Lowered → Type 0
-Serves starts v s p (One i) = Ends starts v s p i
-Serves starts v s p (Two i j) =
-    (m : List ℕ) (q : Processor) (n : List ℕ) → EffectLeadsTo m (step_effect (Some i) p) q n → Led starts v s p j q × (n ≡ m)
+abbrev pub ExecutesLowering : List ℕ → Thread → Stmt → Processor → Lowered → Type 0
+ExecutesLowering starts v s p (One i) = CompletesStatement starts v s p i
+ExecutesLowering starts v s p (Two i j) =
+    (m : List ℕ) (q : Processor) (n : List ℕ)
+    → EffectLeadsTo m (step_effect (Some i) p) q n
+    → AdvancesToLast starts v s p j q × (n ≡ m)
 
 -- An operation without a location is no store and no load.
-pub quiet : (o : Operation) → location_of o ≡ None → (is_store o ≡ false) × (is_load o ≡ false)
-quiet (operation.Store x w) none = absurd cc
-quiet (operation.Load d x) none = absurd cc
-quiet o none = (refl, refl)
+pub no_store_no_load-if_unlocated : (o : Operation) → location_of o ≡ None → (is_store o ≡ false) × (is_load o ≡ false)
+no_store_no_load-if_unlocated (operation.Store x w) is_none = absurd cc
+no_store_no_load-if_unlocated (operation.Load d x) is_none = absurd cc
+no_store_no_load-if_unlocated o is_none = (refl, refl)
 
 module _ (starts : List ℕ) (v : Thread) where
   -- The state after an instruction is that of its effect.
-  carried : (s : Stmt) (b : Buffer) (m k n : List ℕ) (r q : Processor)
+  ExecutesStatement-of_effect : (s : Stmt) (b : Buffer) (m k n : List ℕ) (r q : Processor)
       → r.position ≡ slice_index starts (thread_after (source_operation s) v m).position
       → r.regs ≡ (thread_after (source_operation s) v m).regs
-      → Stored s v b m r.buffer k
+      → BuffersStatement s v b m r.buffer k
       → (q ≡ r) × (n ≡ k)
-      → Carried starts s v b m q n
-  carried s b m k n r q position regs stored d =
-      subst₂ (λ c l. Carried starts s v b m c l) (sym d.0) (sym d.1)
+      → ExecutesStatement starts s v b m q n
+  ExecutesStatement-of_effect s b m k n r q position regs stored d =
+      subst₂ (λ c l. ExecutesStatement starts s v b m c l) (sym d.0) (sym d.1)
       (record { position = position; regs = regs; stored = stored })
 
   -- An instruction executes a statement without a location, whatever the memory and the buffer.
-  local_ends : {s : Stmt} {p : Processor} {i : Instr} {k : ℕ} {regs : List ℕ} {flag : Bool}
+  CompletesStatement-local : {s : Stmt} {p : Processor} {i : Instr} {k : ℕ} {regs : List ℕ} {flag : Bool}
       → IsLocal s
       → ((b : Buffer)
       → step_effect (Some i) (record p { buffer = b })
       ≡ LocalStep (record { position = k; regs = regs; zero_flag = flag; buffer = b }))
       → k ≡ slice_index starts (thread_after (source_operation s) v []).position
       → regs ≡ (thread_after (source_operation s) v []).regs
-      → Ends starts v s p i
-  local_ends {s = s} l goes position same = record {
-    empty = λ load. absurd (true≢false (sym load ∙ (quiet (source_operation s) l).1));
+      → CompletesStatement starts v s p i
+  CompletesStatement-local {s = s} l goes position same = record {
+    empty = λ load. absurd (true≢false (sym load ∙ (no_store_no_load-if_unlocated (source_operation s) l).1));
     carries = λ b m load q n done.
-        let next = thread_alone (source_operation s) v [] m l in
-        carried s b m m n _ q (position ∙ ap (λ (t : Thread). slice_index starts t.position) next) (same ∙ ap (λ t. t.regs) next)
-        (apart l refl refl) (subst (λ act. EffectLeadsTo m act q n) (goes b) done);
+        let next = thread_after-no_location (source_operation s) v [] m l in
+        ExecutesStatement-of_effect s b m m n _ q (position ∙ ap (λ (t : Thread). slice_index starts t.position) next)
+        (same ∙ ap (λ t. t.regs) next) (apart l refl refl) (subst (λ act. EffectLeadsTo m act q n) (goes b) done);
   }
 
   -- Wrapping addition is commutative, here with the destination as an operand.
-  swapped : (d a b : ℕ)
+  wrapping_sum-comm_destination : (d a b : ℕ)
       → (d == b) ≡ true
       → wrapping_sum (slice_index v.regs d) (slice_index v.regs a) ≡ wrapping_sum (slice_index v.regs a) (slice_index v.regs b)
-  swapped d a b is =
+  wrapping_sum-comm_destination d a b is =
       ap (λ k. k % 2 ^ 32) (add_comm (slice_index v.regs d) (slice_index v.regs a))
       ∙ ap (λ k. wrapping_sum (slice_index v.regs a) (slice_index v.regs k)) (eqb-true d b is)
 
   -- The last instruction of a lowering.
   module _ (p : Processor) (next : slice_index starts (v.position + 1) ≡ p.position + 1) where
-    store_ends : (x : ℕ) (w : Operand) → p.regs ≡ v.regs → Ends starts v (Store x w) p (x86.Store x w)
-    store_ends x w regs = record {
+    -- `MOV [x],w` executes the store of w at x.
+    CompletesStatement-store : (x : ℕ) (w : Operand) → p.regs ≡ v.regs → CompletesStatement starts v (Store x w) p (x86.Store x w)
+    CompletesStatement-store x w regs = record {
       empty = λ load. absurd cc;
       carries = λ b m load q n done.
-          carried (Store x w) b m m n _ q (sym next) regs
+          ExecutesStatement-of_effect (Store x w) b m m n _ q (sym next) regs
           (buffered x w refl (ap (λ r. b ++ (x, operand_value w r) ∷ []) regs) refl) done;
     }
 
-    load_ends : (d x : ℕ) → p.regs ≡ v.regs → p.buffer ≡ [] → Ends starts v (Load d x) p (x86.Load d x)
-    load_ends d x regs empty = record {
+    -- `MOV d,[x]` executes the load of x into d, if the buffer is empty.
+    CompletesStatement-load : (d x : ℕ)
+        → p.regs ≡ v.regs
+        → p.buffer ≡ []
+        → CompletesStatement starts v (Load d x) p (x86.Load d x)
+    CompletesStatement-load d x regs empty = record {
       empty = λ load. empty;
       carries = λ b m load q n done.
-          carried (Load d x) b m m n _ q (sym next) (ap (λ r. slice_set r d (slice_index m x)) regs)
+          ExecutesStatement-of_effect (Load d x) b m m n _ q (sym next) (ap (λ r. slice_set r d (slice_index m x)) regs)
           (at_once refl (load refl) (load refl) refl)
           (subst (λ c.
           EffectLeadsTo m
@@ -128,124 +141,137 @@ module _ (starts : List ℕ) (v : Thread) where
 
     -- The word of register a was moved to d.
     module _ (d a : ℕ) (there : d < length v.regs) (moved : p.regs ≡ slice_set v.regs d (slice_index v.regs a)) where
+      -- In the processor, register d has the word of register a in the thread.
       word : slice_index p.regs d ≡ slice_index v.regs a
       word = ap (λ r. slice_index r d) moved ∙ get_or-set_same v.regs d (slice_index v.regs a) 0 there
 
+      -- Setting register d gives the same registers in the processor and in the thread, since the move changed only d.
       set : (u : ℕ) → slice_set p.regs d u ≡ slice_set v.regs d u
       set u = ap (λ r. slice_set r d u) moved ∙ set-set v.regs d (slice_index v.regs a) u
 
-      swap_ends : (x : ℕ) → Ends starts v (Swap d x a) p (x86.Xchg x d)
-      swap_ends x = record {
+      -- After the move of a to d, `XCHG` of x and d executes the exchange of x and a into d.
+      CompletesStatement-swap : (x : ℕ) → CompletesStatement starts v (Swap d x a) p (x86.Xchg x d)
+      CompletesStatement-swap x = record {
         empty = λ load. absurd cc;
         carries = λ b m load q n done.
-            let once = once_done b SwapWaits _ m n q done in
-            carried (Swap d x a) b m _ n _ q (sym next) (set (slice_index m x))
+            let once = EffectLeadsTo-if_buffer_empty b SwapWaits _ m n q done in
+            ExecutesStatement-of_effect (Swap d x a) b m _ n _ q (sym next) (set (slice_index m x))
             (at_once refl once.0 once.0 (ap (λ w. slice_set m x w) word)) once.1;
       }
 
-      fetch_add_ends : (x : ℕ) → Ends starts v (FetchAdd d x a) p (x86.Xadd x d)
-      fetch_add_ends x = record {
+      -- After the move of a to d, `LOCK XADD` of x and d executes the fetch-and-add of a to x.
+      CompletesStatement-fetch_add : (x : ℕ) → CompletesStatement starts v (FetchAdd d x a) p (x86.Xadd x d)
+      CompletesStatement-fetch_add x = record {
         empty = λ load. absurd cc;
         carries = λ b m load q n done.
-            let once = once_done b SwapWaits _ m n q done in
-            carried (FetchAdd d x a) b m _ n _ q (sym next) (set (slice_index m x))
+            let once = EffectLeadsTo-if_buffer_empty b SwapWaits _ m n q done in
+            ExecutesStatement-of_effect (FetchAdd d x a) b m _ n _ q (sym next) (set (slice_index m x))
             (at_once refl once.0 once.0 (ap (λ w. slice_set m x (wrapping_sum (slice_index m x) w)) word)) once.1;
       }
 
-      add_ends : (w : Operand) → operand_value w p.regs ≡ operand_value w v.regs → Ends starts v (Sum d a w) p (x86.Add d w)
-      add_ends w right = local_ends refl (λ b. refl) (sym next) (ap (slice_set p.regs d) (ap₂ wrapping_sum word right) ∙ set _)
+      -- After the move of a to d, `ADD` of w to d executes the sum of a and w into d, if the move does not change the value of w.
+      CompletesStatement-add : (w : Operand)
+          → operand_value w p.regs ≡ operand_value w v.regs
+          → CompletesStatement starts v (Sum d a w) p (x86.Add d w)
+      CompletesStatement-add w right =
+          CompletesStatement-local refl (λ b. refl) (sym next) (ap (slice_set p.regs d) (ap₂ wrapping_sum word right) ∙ set _)
 
   -- The lowerings of a statement, with the processor p at the first instruction.
   module _ (p : Processor) (regs : p.regs ≡ v.regs) where
-    abbrev From : Stmt → Lowered → Type 0
-    From s r = slice_index starts (v.position + 1) ≡ p.position + length (instrs_of r) → Serves starts v s p r
+    -- The lowering executes the statement, if the start of the next statement follows its instructions.
+    abbrev ExecutesFrom : Stmt → Lowered → Type 0
+    ExecutesFrom s r = slice_index starts (v.position + 1) ≡ p.position + length (instrs_of r) → ExecutesLowering starts v s p r
 
     -- An instruction before the last only advances.
-    leads : (s : Stmt) (r q : Processor) (i : Instr) (m n : List ℕ)
+    AdvancesToLast-of_step : (s : Stmt) (r q : Processor) (i : Instr) (m n : List ℕ)
         → r.position ≡ p.position + 1
         → r.buffer ≡ p.buffer
-        → Ends starts v s r i
+        → CompletesStatement starts v s r i
         → (q ≡ r) × (n ≡ m)
-        → Led starts v s p i q × (n ≡ m)
-    leads s r q i m n position buffer ends d =
-        (subst (Led starts v s p i) (sym d.0) (record { position = position; buffer = buffer; ends = ends }), d.1)
+        → AdvancesToLast starts v s p i q × (n ≡ m)
+    AdvancesToLast-of_step s r q i m n position buffer ends d =
+        (subst (AdvancesToLast starts v s p i) (sym d.0) (record { position = position; buffer = buffer; ends = ends }), d.1)
 
-    fenced_serves : (d x : ℕ) → From (Load d x) (Two x86.Mfence (x86.Load d x))
-    fenced_serves d x next m q n done =
-        let once = once_done p.buffer FenceWaits _ m n q done in
-        leads (Load d x) _ q (x86.Load d x) m n refl refl (load_ends _ (omega arith) d x regs once.0) once.1
+    -- An `MFENCE` and the load after it execute the load.
+    ExecutesLowering-fenced : (d x : ℕ) → ExecutesFrom (Load d x) (Two x86.Mfence (x86.Load d x))
+    ExecutesLowering-fenced d x next m q n done =
+        let once = EffectLeadsTo-if_buffer_empty p.buffer FenceWaits _ m n q done in
+        AdvancesToLast-of_step (Load d x) _ q (x86.Load d x) m n refl refl
+        (CompletesStatement-load _ (omega arith) d x regs once.0) once.1
 
     -- A lowering that moves a register first.
-    moved_serves : (s : Stmt) (d a : ℕ) (last : Instr)
+    ExecutesLowering-moved : (s : Stmt) (d a : ℕ) (last : Instr)
         → ((q : Processor)
         → slice_index starts (v.position + 1) ≡ q.position + 1
         → q.regs ≡ slice_set v.regs d (slice_index v.regs a)
-        → Ends starts v s q last)
-        → From s (with_move_if d a last)
-    moved_serves s d a last ends =
-        chosen (From s) (d == a) (One last) (Two (x86.Set d (Register a)) last) (λ is next.
+        → CompletesStatement starts v s q last)
+        → ExecutesFrom s (with_move_if d a last)
+    ExecutesLowering-moved s d a last ends =
+        both_cases-selected (ExecutesFrom s) (d == a) (One last) (Two (x86.Set d (Register a)) last) (λ is next.
         ends p next (regs ∙ sym (set-get_or v.regs d 0) ∙ ap (λ k. slice_set v.regs d (slice_index v.regs k)) (eqb-true d a is)))
         (λ is next m q n done.
         let r = advance_processor (set_register p d (slice_index p.regs a)) in
-        leads s r q last m n refl refl (ends r (omega arith) (ap (λ l. slice_set l d (slice_index l a)) regs)) done)
+        AdvancesToLast-of_step s r q last m n refl refl (ends r (omega arith) (ap (λ l. slice_set l d (slice_index l a)) regs))
+        done)
 
-    jumps : (holds : Bool) (to : ℕ) {k : ℕ}
+    -- The start of a branch's next statement is that of its target if it jumps, and otherwise the next start.
+    start-of_jump : (holds : Bool) (to : ℕ) {k : ℕ}
         → slice_index starts (v.position + 1) ≡ k
         → (if holds then slice_index starts to else k) ≡ slice_index starts (if holds then to else (v.position + 1))
-    jumps true to next = refl
-    jumps false to next = sym next
+    start-of_jump true to next = refl
+    start-of_jump false to next = sym next
 
     -- A jump after a comparison, by the flag that the comparison sets.
-    jump_serves : {s : Stmt} (a k to : ℕ) {i : Instr} (told : Bool → Bool)
+    ExecutesLowering-jump : {s : Stmt} (a k to : ℕ) {i : Instr} (told : Bool → Bool)
         → IsLocal s
         → ((q : Processor)
         → step_effect (Some i) q ≡ LocalStep (jump_or_advance_processor q (told q.zero_flag) (slice_index starts to)))
         → thread_after (source_operation s) v []
         ≡ record { position = if told (slice_index v.regs a == k) then to else (v.position + 1); regs = v.regs }
-        → From s (Two (lower_compare a k) i)
-    jump_serves {s = s} a k to {i = i} told l goes after next m q n done =
+        → ExecutesFrom s (Two (lower_compare a k) i)
+    ExecutesLowering-jump {s = s} a k to {i = i} told l goes after next m q n done =
         let behind = p.position + 1 + 1 in
         let r : Processor =
         record { position = p.position + 1; regs = p.regs; zero_flag = slice_index p.regs a == k; buffer = p.buffer } in
-        let jump = jumps (told (slice_index v.regs a == k)) to (omega arith) in
-        leads s r q i m n refl refl
-        (local_ends l (λ b. goes (record r { buffer = b }))
+        let jump = start-of_jump (told (slice_index v.regs a == k)) to (omega arith) in
+        AdvancesToLast-of_step s r q i m n refl refl
+        (CompletesStatement-local l (λ b. goes (record r { buffer = b }))
         (ap (λ l. if told (slice_index l a == k) then slice_index starts to else behind) regs
         ∙ jump
         ∙ ap (λ t. slice_index starts t.position) (sym after)) (regs ∙ ap (λ t. t.regs) (sym after))) done
 
     -- The lowering of a statement, with or without a fence, executes the statement.
-    pub lowered_serves : (s : Stmt) {fence : Bool}
+    pub ExecutesLowering-lowered : (s : Stmt) {fence : Bool}
         → length v.regs ≡ 6
         → All IsRegisterIndex (registers_of (source_operation s))
         → (is_load (source_operation s) ≡ true → fence ≡ false → p.buffer ≡ [])
-        → From s (lowered starts fence s)
-    lowered_serves (Store x w) six registers empty = λ next. store_ends p next x w regs
-    lowered_serves (Load d x) {fence = fence} six registers empty =
-        chosen (From (Load d x)) fence (Two x86.Mfence (x86.Load d x)) (One (x86.Load d x)) (λ is. fenced_serves d x)
-        (λ is next. load_ends p next d x regs (empty refl is))
-    lowered_serves (Swap d x a) six registers empty =
-        moved_serves (Swap d x a) d a (x86.Xchg x d)
-        (λ q next moved. swap_ends q next d a (omega (arith, registers 0 0 (omega arith))) moved x)
-    lowered_serves (FetchAdd d x a) six registers empty =
-        moved_serves (FetchAdd d x a) d a (x86.Xadd x d)
-        (λ q next moved. fetch_add_ends q next d a (omega (arith, registers 0 0 (omega arith))) moved x)
-    lowered_serves (Set d w) six registers empty =
-        λ next. local_ends refl (λ b. refl) (sym next) (ap (λ r. slice_set r d (operand_value w r)) regs)
-    lowered_serves (Sum d a (Number k)) six registers empty =
-        moved_serves (Sum d a (Number k)) d a (x86.Add d (Number k))
-        (λ q next moved. add_ends q next d a (omega (arith, registers 0 0 (omega arith))) moved (Number k) refl)
-    lowered_serves (Sum d a (Register b)) six registers empty =
-        let there : d < length v.regs = omega (arith, registers 0 0 (omega arith)) in
-        chosen (From (Sum d a (Register b))) (d == b) (One (x86.Add d (Register a))) _ (λ is next.
-        local_ends refl (λ c. refl) (sym next)
+        → ExecutesFrom s (lowered starts fence s)
+    ExecutesLowering-lowered (Store x w) six registers empty = λ next. CompletesStatement-store p next x w regs
+    ExecutesLowering-lowered (Load d x) {fence = fence} six registers empty =
+        both_cases-selected (ExecutesFrom (Load d x)) fence (Two x86.Mfence (x86.Load d x)) (One (x86.Load d x))
+        (λ is. ExecutesLowering-fenced d x) (λ is next. CompletesStatement-load p next d x regs (empty refl is))
+    ExecutesLowering-lowered (Swap d x a) six registers empty =
+        ExecutesLowering-moved (Swap d x a) d a (x86.Xchg x d)
+        (λ q next moved. CompletesStatement-swap q next d a (omega (arith, registers 0 0 (omega arith))) moved x)
+    ExecutesLowering-lowered (FetchAdd d x a) six registers empty =
+        ExecutesLowering-moved (FetchAdd d x a) d a (x86.Xadd x d)
+        (λ q next moved. CompletesStatement-fetch_add q next d a (omega (arith, registers 0 0 (omega arith))) moved x)
+    ExecutesLowering-lowered (Set d w) six registers empty =
+        λ next. CompletesStatement-local refl (λ b. refl) (sym next) (ap (λ r. slice_set r d (operand_value w r)) regs)
+    ExecutesLowering-lowered (Sum d a (Number k)) six registers empty =
+        ExecutesLowering-moved (Sum d a (Number k)) d a (x86.Add d (Number k))
+        (λ q next moved. CompletesStatement-add q next d a (omega (arith, registers 0 0 (omega arith))) moved (Number k) refl)
+    ExecutesLowering-lowered (Sum d a (Register b)) six registers empty =
+        let in_range : d < length v.regs = omega (arith, registers 0 0 (omega arith)) in
+        both_cases-selected (ExecutesFrom (Sum d a (Register b))) (d == b) (One (x86.Add d (Register a))) _ (λ is next.
+        CompletesStatement-local refl (λ c. refl) (sym next)
         (ap (λ r. slice_set r d (wrapping_sum (slice_index r d) (slice_index r a))) regs
-        ∙ ap (slice_set v.regs d) (swapped d a b is)))
+        ∙ ap (slice_set v.regs d) (wrapping_sum-comm_destination d a b is)))
         (λ is.
-        moved_serves (Sum d a (Register b)) d a _
+        ExecutesLowering-moved (Sum d a (Register b)) d a _
         (λ q next moved.
-        add_ends q next d a there moved (Register b)
+        CompletesStatement-add q next d a in_range moved (Register b)
         (ap (λ r. slice_index r b) moved ∙ get_or-set_other v.regs d b (slice_index v.regs a) 0 (λ e. eqb-false d b is (sym e)))))
-    lowered_serves (IfEq a k to) six registers empty = jump_serves a k to (λ flag. flag) refl (λ q. refl) refl
-    lowered_serves (IfNe a k to) six registers empty = jump_serves a k to not refl (λ q. refl) refl
-    lowered_serves (Goto to) six registers empty = λ next. local_ends refl (λ b. refl) refl regs
+    ExecutesLowering-lowered (IfEq a k to) six registers empty = ExecutesLowering-jump a k to (λ flag. flag) refl (λ q. refl) refl
+    ExecutesLowering-lowered (IfNe a k to) six registers empty = ExecutesLowering-jump a k to not refl (λ q. refl) refl
+    ExecutesLowering-lowered (Goto to) six registers empty = λ next. CompletesStatement-local refl (λ b. refl) refl regs

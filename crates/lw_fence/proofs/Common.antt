@@ -21,10 +21,11 @@ pub use Rattle.std.specs.List.{AllByRecursion}
 pub use Rattle.std.specs.Option.{ForSome, option_map_or}
 pub use Rattle.lw_base.proofs.Common.{FinalState, IsRegisterIndex, IsWellFormedHead, IsWordNumber, TestHead}
 pub use Rattle.lw_base.proofs.Common.{operand_value, thread_code, wrapping_sum}
-pub use Rattle.lw_base.proofs.api.Lists.{at_index, fellows_after, get-set_same, get_append, get_some}
-pub use Rattle.lw_base.proofs.api.Lists.{length-set_word_if_some, set-get_same}
+pub use Rattle.lw_base.proofs.api.Lists.{OfFellows-set_both, at_index, get-set_same, length-set_word_if_some}
+pub use Rattle.lw_base.proofs.api.Lists.{set-get_same, slice_get-append_cases, slice_get-in_range}
 pub use Rattle.lw_base.proofs.api.Replays.{RunsTo-append}
-pub use Rattle.lw_base.proofs.api.Zips.{get-map, same_maps, zip_pass, zip_passes}
+pub use Rattle.lw_base.proofs.api.Zips.{get-map, list_all_zip-at_index, list_all_zip-of_each}
+pub use Rattle.lw_base.proofs.api.Zips.{maps_equal-at_each_index}
 pub use Rattle.lw_base.specs.declared.event.Event.{Event}
 pub use Rattle.lw_base.specs.declared.event.Event.TheVariants.{Drain, Evict, Step}
 pub use Rattle.lw_base.specs.declared.head.Arch.TheVariants.{X86}
@@ -50,9 +51,10 @@ pub use Rattle.lw_interleaving.proofs.Common.{InterleavesTo, IsStepResult, Sourc
 pub use Rattle.lw_interleaving.proofs.Common.{SourceRunsTo, State, advance, initial_state, source_outcome}
 pub use Rattle.lw_interleaving.proofs.Common.{source_step, state_after_step, thread_after, thread_step}
 pub use Rattle.lw_interleaving.proofs.Common.{words_after}
-pub use Rattle.lw_interleaving.proofs.api.Commutation.{Stepped, leads, state_after, state_of, step-decompose}
-pub use Rattle.lw_interleaving.proofs.api.Commutation.{thread_alone, words_alone}
-pub use Rattle.lw_interleaving.proofs.api.Runs.{possible}
+pub use Rattle.lw_interleaving.proofs.api.Commutation.{IsSuccessor-thread_after, StepEffect, state_after}
+pub use Rattle.lw_interleaving.proofs.api.Commutation.{state_of, step-decompose, thread_after-no_location}
+pub use Rattle.lw_interleaving.proofs.api.Commutation.{words_after-no_location}
+pub use Rattle.lw_interleaving.proofs.api.Runs.{ReturnsEventResult-ok}
 pub use Rattle.lw_interleaving.specs.declared.thread.Thread.{Thread}
 pub use Rattle.lw_memory.proofs.Common.{Memory, flat_memory, words_invariant, words_lawful}
 pub use Rattle.lw_tso.proofs.Common.{CanTerminate, EventEffect, IsFencedCode, IsFencedTest, IsMachineOutcome}
@@ -62,11 +64,12 @@ pub use Rattle.lw_tso.proofs.Common.{drain_effect, event_effect, has_terminated,
 pub use Rattle.lw_tso.proofs.Common.{initial_processor, is_final, jump_or_advance_processor, kept}
 pub use Rattle.lw_tso.proofs.Common.{load_effect, machine_outcome, newest_buffered, retarget_to_blocks}
 pub use Rattle.lw_tso.proofs.Common.{set_register, step_effect, unmarked_count_before}
-pub use Rattle.lw_tso.proofs.api.Effects.{EffectLeadsTo, EventOccurrence, effect_of_event, event_of_effect}
-pub use Rattle.lw_tso.proofs.api.Effects.{no_eviction, state}
-pub use Rattle.lw_tso.proofs.api.Endings.{can_end}
-pub use Rattle.lw_tso.proofs.api.FenceRemoval.{fences_append, kept_append, kept_first, kept_on, left_out}
-pub use Rattle.lw_tso.proofs.api.Operations.{can_step, once_done}
+pub use Rattle.lw_tso.proofs.api.Effects.{EffectLeadsTo, EventOccurrence, EventOccurrence-of_event}
+pub use Rattle.lw_tso.proofs.api.Effects.{MachineTransition-of_effect, not-EffectLeadsTo-evict_event, state}
+pub use Rattle.lw_tso.proofs.api.Endings.{CanTerminate-reached}
+pub use Rattle.lw_tso.proofs.api.FenceRemoval.{IsFencedCode-code_without, MarksAreFences-append, kept-append}
+pub use Rattle.lw_tso.proofs.api.FenceRemoval.{unmarked_count_before-cons, unmarked_count_before-zero}
+pub use Rattle.lw_tso.proofs.api.Operations.{EffectLeadsTo-if_buffer_empty, IsEnabledEffect-operation}
 pub use Rattle.lw_fence.specs.Compiling.{IsCompiled, IsCompiledThread, instrs_of, lower_compare, lowered}
 pub use Rattle.lw_fence.specs.Compiling.{lowered_code, starts_from, with_move_if}
 pub use Rattle.lw_fence.specs.Fences.{HasKind, HasOperation, IsFlowPath, IsReachableFromStore, NeedsFence}

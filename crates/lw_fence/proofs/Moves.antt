@@ -1,38 +1,40 @@
 -- The events of one processor over flat memory, and the steps of one source thread, within any whole state.
+-- So the proofs about a single thread do not mention the list of threads.
 use Rattle.lw_fence.proofs.Common.{◌≡◌, ℕ, List, [], ◌∷◌, ◌++◌, map, Some, refl, sym, ap, ◌∙◌, subst}
 use Rattle.lw_fence.proofs.Common.{slice_get, slice_set, set-set, map-append, RunsTo-append, thread_code}
 use Rattle.lw_fence.proofs.Common.{Event, Step, Drain, flat_memory, Memory, get-set_same, set-get_same, Stmt}
 use Rattle.lw_fence.proofs.Common.{source_operation, Thread, thread_after, words_after, State, SourceRunsTo}
 use Rattle.lw_fence.proofs.Common.{state_after_step, thread_step, state_of, state_after, Instr, Processor}
 use Rattle.lw_fence.proofs.Common.{step_effect, drain_effect, MachineState, MachineTransition, MachineRunsTo}
-use Rattle.lw_fence.proofs.Common.{EffectLeadsTo, state, event_of_effect}
+use Rattle.lw_fence.proofs.Common.{EffectLeadsTo, state, MachineTransition-of_effect}
 use Rattle.lw_interleaving.specs.Runs.{SourceTransition as SourceDone}
 
 -- A run of the machine followed by another is a run by both lists of events.
-pub run_append : {M : Type 0} (mem : Memory M) (program : List (List Instr)) (es fs : List Event) (s mid end : MachineState M)
+pub MachineRunsTo-append : {M : Type 0} (mem : Memory M) (program : List (List Instr)) (es fs : List Event)
+    (s mid end : MachineState M)
     → MachineRunsTo mem program es s mid
     → MachineRunsTo mem program fs mid end
     → MachineRunsTo mem program (es ++ fs) s end
-run_append mem program es fs s mid end r q = RunsTo-append (MachineTransition mem program) es fs s mid end r q
+MachineRunsTo-append mem program es fs s mid end r q = RunsTo-append (MachineTransition mem program) es fs s mid end r q
 
 -- A run of the source followed by another is a run by both lists of steps.
-pub source_append : (program : List (List Stmt)) (ts us : List ℕ) (s mid end : State)
+pub SourceRunsTo-append : (program : List (List Stmt)) (ts us : List ℕ) (s mid end : State)
     → SourceRunsTo program (map Step ts) s mid
     → SourceRunsTo program (map Step us) mid end
     → SourceRunsTo program (map Step (ts ++ us)) s end
-source_append program ts us s mid end r q =
+SourceRunsTo-append program ts us s mid end r q =
     subst (λ (es : List Event). SourceRunsTo program es s end) (sym (map-append Step ts us))
     (RunsTo-append (SourceDone program) (map Step ts) (map Step us) s mid end r q)
 
 -- These events lead processor t from p to q, and memory from m to n, whatever the other processors.
-pub record Moves (program : List (List Instr)) (t : ℕ) (p : Processor) (m : List ℕ) (es : List Event) (q : Processor)
+pub record ProcessorMoves (program : List (List Instr)) (t : ℕ) (p : Processor) (m : List ℕ) (es : List Event) (q : Processor)
     (n : List ℕ) : Type 0 where
   pub on : (processors : List Processor)
       → slice_get processors t ≡ Some p
       → MachineRunsTo flat_memory program es (state processors m) (state (slice_set processors t q) n)
 
 -- Some steps of thread t lead it from th to `end`, and memory from m to n, whatever the other threads.
-pub record Turns (program : List (List Stmt)) (t : ℕ) (th : Thread) (m : List ℕ) (end : Thread) (n : List ℕ) : Type 0 where
+pub record ThreadMoves (program : List (List Stmt)) (t : ℕ) (th : Thread) (m : List ℕ) (end : Thread) (n : List ℕ) : Type 0 where
   pub order : List ℕ
   pub on : (threads : List Thread)
       → slice_get threads t ≡ Some th
@@ -40,62 +42,64 @@ pub record Turns (program : List (List Stmt)) (t : ℕ) (th : Thread) (m : List 
 
 module _ (program : List (List Instr)) (t : ℕ) where
   -- A processor's moves compose.
-  pub moves_on : (p : Processor) {q : Processor} (r : Processor) {m n k : List ℕ} (es : List Event) {fs : List Event}
-      → Moves program t p m es q n
-      → Moves program t q n fs r k
-      → Moves program t p m (es ++ fs) r k
-  moves_on p {q = q} r es {fs = fs} a b = record {
+  pub ProcessorMoves-append : (p : Processor) {q : Processor} (r : Processor) {m n k : List ℕ} (es : List Event) {fs : List Event}
+      → ProcessorMoves program t p m es q n
+      → ProcessorMoves program t q n fs r k
+      → ProcessorMoves program t p m (es ++ fs) r k
+  ProcessorMoves-append p {q = q} r es {fs = fs} a b = record {
     on = λ processors was.
         let second = b.on (slice_set processors t q) (get-set_same processors t q p was) in
-        run_append flat_memory program es fs _ _ _ (a.on processors was) (rw (set-set processors t q r) at second);
+        MachineRunsTo-append flat_memory program es fs _ _ _ (a.on processors was) (rw (set-set processors t q r) at second);
   }
 
   -- The effect of a processor's next instruction is its step in the whole machine.
-  pub step_moves : (p q : Processor) (m n : List ℕ) {i : Instr}
+  pub ProcessorMoves-step : (p q : Processor) (m n : List ℕ) {i : Instr}
       → slice_get (thread_code program t) p.position ≡ Some i
       → EffectLeadsTo m (step_effect (Some i) p) q n
-      → Moves program t p m (Step t ∷ []) q n
-  step_moves p q m n next d = record {
+      → ProcessorMoves program t p m (Step t ∷ []) q n
+  ProcessorMoves-step p q m n next d = record {
     on = λ processors was. (
       state (slice_set processors t q) n,
-      event_of_effect program (Step t) _ p q m n was (subst (λ o. EffectLeadsTo m (step_effect o p) q n) (sym next) d),
+      MachineTransition-of_effect program (Step t) _ p q m n was
+          (subst (λ o. EffectLeadsTo m (step_effect o p) q n) (sym next) d),
       refl,
     );
   }
 
   -- The effect of draining a processor's oldest entry is its drain in the whole machine.
-  pub drain_moves : {p : Processor} (q : Processor) (m n : List ℕ)
+  pub ProcessorMoves-drain : {p : Processor} (q : Processor) (m n : List ℕ)
       → EffectLeadsTo m (drain_effect p.buffer p) q n
-      → Moves program t p m (Drain t ∷ []) q n
-  drain_moves {p = p} q m n d = record {
-    on = λ processors was. (state (slice_set processors t q) n, event_of_effect program (Drain t) processors p q m n was d, refl);
+      → ProcessorMoves program t p m (Drain t ∷ []) q n
+  ProcessorMoves-drain {p = p} q m n d = record {
+    on = λ processors was.
+        (state (slice_set processors t q) n, MachineTransition-of_effect program (Drain t) processors p q m n was d, refl);
   }
 
 module _ (program : List (List Stmt)) (t : ℕ) where
   -- A thread is unchanged by no steps.
-  pub turns_none : (th : Thread) (m : List ℕ) → Turns program t th m th m
-  turns_none th m = record { order = []; on = λ threads was. ap (λ l. state_of l m) (set-get_same _ t th was) }
+  pub ThreadMoves-refl : (th : Thread) (m : List ℕ) → ThreadMoves program t th m th m
+  ThreadMoves-refl th m = record { order = []; on = λ threads was. ap (λ l. state_of l m) (set-get_same _ t th was) }
 
   -- A thread's moves compose.
-  pub turns_on : (th : Thread) {mid : Thread} (end : Thread) (m n : List ℕ) {k : List ℕ}
-      → Turns program t th m mid n
-      → Turns program t mid n end k
-      → Turns program t th m end k
-  turns_on th {mid = mid} end m n {k = k} a b = record {
+  pub ThreadMoves-trans : (th : Thread) {mid : Thread} (end : Thread) (m n : List ℕ) {k : List ℕ}
+      → ThreadMoves program t th m mid n
+      → ThreadMoves program t mid n end k
+      → ThreadMoves program t th m end k
+  ThreadMoves-trans th {mid = mid} end m n {k = k} a b = record {
     order = a.order ++ b.order;
     on = λ threads was.
         let after = slice_set threads t mid in
         let second = b.on after (get-set_same threads t mid th was) in
-        source_append program a.order b.order (state_of threads m) (state_of after n) _ (a.on threads was)
+        SourceRunsTo-append program a.order b.order (state_of threads m) (state_of after n) _ (a.on threads was)
         (subst (λ c. SourceRunsTo program (map Step b.order) (state_of after n) (state_of c k)) (set-set threads t mid end)
         second);
   }
 
   -- One step of a thread, by its next statement.
-  pub turn : (th : Thread) (m : List ℕ) (x : Stmt)
+  pub ThreadMoves-statement : (th : Thread) (m : List ℕ) (x : Stmt)
       → slice_get (thread_code program t) th.position ≡ Some x
-      → Turns program t th m (thread_after (source_operation x) th m) (words_after (source_operation x) th m)
-  turn th m x next = record {
+      → ThreadMoves program t th m (thread_after (source_operation x) th m) (words_after (source_operation x) th m)
+  ThreadMoves-statement th m x next = record {
     order = t ∷ [];
     on = λ threads was.
         let s = state_of threads m in

@@ -1,52 +1,54 @@
--- The schedule of a source run, thread by thread of its order.
+-- The schedule of a source run, thread by thread of its order. Lemmas for `schedule.rt`: reading a
+-- statement's start, and one more statement in the order.
 use Rattle.lw_fence.proofs.Common.{◌≡◌, ℕ, ◌+◌, ◌-◌, ◌<◌, ◌≤◌, List, [], ◌∷◌, ◌++◌, length, Result, map, drop}
 use Rattle.lw_fence.proofs.Common.{take, take-append_seam, OnErr, replicate, Some, Ok, Err, is_ok, sym, ap}
 use Rattle.lw_fence.proofs.Common.{ap₂, ◌∙◌, subst, ◌⊎◌, inl, inr, arith, append_assoc, if◌then◌else◌}
 use Rattle.lw_fence.proofs.Common.{slice_get, slice_index, slice_index_or, IsOk, cases_lt, drop_more}
 use Rattle.lw_fence.proofs.Common.{get_or_read, get_or_past, slice_get_within, same_Some, thread_code, Event}
-use Rattle.lw_fence.proofs.Common.{Step, Drain, Stop, get_some, at_index, Stmt, Thread, SourceTest, X86Test}
-use Rattle.lw_fence.proofs.Common.{State, SourceRunsTo, SourceRunState, IsStepResult, source_step}
+use Rattle.lw_fence.proofs.Common.{Step, Drain, Stop, slice_get-in_range, at_index, Stmt, Thread, SourceTest}
+use Rattle.lw_fence.proofs.Common.{X86Test, State, SourceRunsTo, SourceRunState, IsStepResult, source_step}
 use Rattle.lw_fence.proofs.Common.{step-decompose, is_store, source_operation, IsCompiled, statement_events}
 use Rattle.lw_fence.proofs.Common.{thread_events, after_step, compiled_schedule, get-map}
-use Rattle.lw_fence.proofs.CodeLayout.{placed_at, starts_many}
+use Rattle.lw_fence.proofs.CodeLayout.{IsFencedAsNeeded-at, length-starts_from}
 
 -- If a call that has appended `more` to the old events fails, the old ones are still the first.
-pub kept : {T E : Type 0} (r : Result T E) (old more : List Event) {new : List Event}
+pub OnErr-old_events_first : {T E : Type 0} (r : Result T E) (old more : List Event) {new : List Event}
     → new ≡ old ++ more
     → OnErr r (take (length old) new ≡ old)
-kept (Ok x) old more is = tt
-kept (Err e) old more is = ap (take (length old)) is ∙ take-append_seam old more
+OnErr-old_events_first (Ok x) old more is = tt
+OnErr-old_events_first (Err e) old more is = ap (take (length old)) is ∙ take-append_seam old more
 
 -- The code read for a thread in range is the thread's.
-pub code_read : {X : Type 0} (program : List (List X)) {lists : List (List X)} (t : ℕ) {i : ℕ} {code : List X} (list : List X)
+pub thread_code-of_read : {X : Type 0} {program : List (List X)} {lists : List (List X)} {t : ℕ} {i : ℕ} {code : List X}
+    {list : List X}
     → lists ≡ program
     → i ≡ t
     → t < length program
     → list ≡ slice_index_or lists i list
     → code ≡ list
     → code ≡ thread_code program t
-code_read {X} program t list same index within is read =
+thread_code-of_read {X} {program} {t = t} {list = list} same index in_range is read =
     let at = is ∙ ap₂ (λ (l : List (List X)) (k : ℕ). slice_index_or l k list) same index in
-    read ∙ get_or_read program t list within at []
+    read ∙ get_or_read program t list in_range at []
 
 -- A thread that has a statement at this index is one of the program.
-pub thread_of_index : {X : Type 0} (program : List (List X)) (t index : ℕ)
+pub thread_in_range-if_statement : {X : Type 0} (program : List (List X)) (t index : ℕ)
     → index < length (thread_code program t)
     → t < length program
-thread_of_index program t index there = elim (cases_lt t (length program)) [
+thread_in_range-if_statement program t index in_range = elim (cases_lt t (length program)) [
   | inl lt ↦ lt
-  | inr past ↦ absurd (omega (arith, there, ap length (get_or_past program t [] past)))
+  | inr past ↦ absurd (omega (arith, in_range, ap length (get_or_past program t [] past)))
 ]
 
 -- The starts that were read, `begins`, are those of thread t, and include the starts of its statement at `index` and of the next one.
 pub record HasStart (program : List (List Stmt)) (starts : List (List ℕ)) (t index : ℕ) (begins : List ℕ) : Type 0 where
-  pub within : t < length program
+  pub thread_in_range : t < length program
   pub same : begins ≡ thread_code starts t
   pub next : index + 1 < length begins
   pub grows : slice_index begins index ≤ slice_index begins (index + 1)
 
 -- The starts read for a statement of a compiled source are its thread's.
-pub has_start : {s : SourceTest} {p : X86Test} {starts lists : List (List ℕ)} {t i index : ℕ} {begins list : List ℕ}
+pub HasStart-of_read : {s : SourceTest} {p : X86Test} {starts lists : List (List ℕ)} {t i index : ℕ} {begins list : List ℕ}
     → IsCompiled s p starts
     → index < length (thread_code s.threads t)
     → lists ≡ starts
@@ -54,30 +56,31 @@ pub has_start : {s : SourceTest} {p : X86Test} {starts lists : List (List ℕ)} 
     → list ≡ slice_index_or lists i list
     → begins ≡ list
     → HasStart s.threads starts t index begins
-has_start {s = s} {p = p} {starts = starts} {t = t} {index = index} {begins = begins} {list = list} compiled there same at is read =
-    go (cases_lt t (length s.threads))
+HasStart-of_read {s = s} {p = p} {starts = starts} {t = t} {index = index} {begins = begins} {list = list} compiled in_range same at is read =
+    HasStart-by_thread (cases_lt t (length s.threads))
   where
-    go : (t < length s.threads) ⊎ (length s.threads ≤ t) → HasStart s.threads starts t index begins
-    go (inr past) = absurd (omega (arith, there, ap length (get_or_past s.threads t [] past)))
-    go (inl within) =
-        let stmt = get_some (thread_code s.threads t) index there in
-        let stands = (placed_at s p starts compiled t within).laid.at index stmt.0 stmt.1 in
+    -- By whether the source has the thread.
+    HasStart-by_thread : (t < length s.threads) ⊎ (length s.threads ≤ t) → HasStart s.threads starts t index begins
+    HasStart-by_thread (inr past) = absurd (omega (arith, in_range, ap length (get_or_past s.threads t [] past)))
+    HasStart-by_thread (inl within) =
+        let stmt = slice_get-in_range (thread_code s.threads t) index in_range in
+        let stands = (IsFencedAsNeeded-at s p starts compiled t within).laid.at index stmt.0 stmt.1 in
         let own = at_index starts t [] (omega (arith, compiled.as_many_starts)) in
         let thread =
         compiled.threads t (thread_code s.threads t) _ _ (at_index s.threads t [] within)
         (at_index p.threads t [] (omega (arith, compiled.as_many))) own in
-        let here = code_read starts t list same at (omega (arith, within, compiled.as_many_starts)) is read in
-        let many = starts_many 0 thread.fences (thread_code s.threads t) in
+        let here = thread_code-of_read same at (omega (arith, within, compiled.as_many_starts)) is read in
+        let many = length-starts_from 0 thread.fences (thread_code s.threads t) in
         record {
-          within = within;
+          thread_in_range = within;
           same = here;
-          next = omega (arith, there, ap length here, ap length thread.starts_are, many);
+          next = omega (arith, in_range, ap length here, ap length thread.starts_are, many);
           grows = rw here (omega (arith, stands.next));
         }
 
 -- The events appended for a statement are those that execute it.
-pub events_of_statement : (t index : ℕ) (program : List (List Stmt)) (starts : List (List ℕ)) {code : List Stmt} {begins : List ℕ}
-    {stmt : Stmt}
+pub statement_events-read : (t index : ℕ) (program : List (List Stmt)) (starts : List (List ℕ)) {code : List Stmt}
+    {begins : List ℕ} {stmt : Stmt}
     → code ≡ thread_code program t
     → begins ≡ thread_code starts t
     → index < length code
@@ -85,36 +88,49 @@ pub events_of_statement : (t index : ℕ) (program : List (List Stmt)) (starts :
     → statement_events t (thread_code starts t) index (slice_get (thread_code program t) index)
     ≡ replicate (slice_index begins (index + 1) - slice_index begins index) (Step t)
     ++ (if is_store (source_operation stmt) then Drain t ∷ [] else [])
-events_of_statement t index program starts {code = code} {stmt = stmt} same begin there is =
-    let at : slice_get code index ≡ Some stmt = at_index code index stmt there ∙ ap Some (sym is) in
-    ap₂ (λ b o. statement_events t b index o) (sym begin) (ap (λ c. slice_get c index) (sym same) ∙ at)
+statement_events-read t index program starts {code = code} {stmt = stmt} same begin in_range is =
+    let found_at : slice_get code index ≡ Some stmt = at_index code index stmt in_range ∙ ap Some (sym is) in
+    ap₂ (λ b o. statement_events t b index o) (sym begin) (ap (λ c. slice_get c index) (sym same) ∙ found_at)
 
 -- A step that is enabled succeeds.
-pub answered_ok : (step : Result State Stop) (answer : Result (Unit {0}) Stop) (before after : SourceRunState) (mid : State)
+pub IsOk-if_enabled : (step : Result State Stop) (answer : Result (Unit {0}) Stop) (before after : SourceRunState) (mid : State)
     → IsStepResult step answer before after
     → step ≡ Ok mid
     → IsOk answer
-answered_ok (Ok s) answer before after mid done e = ap is_ok done.0
-answered_ok (Err stop) answer before after mid done e = absurd (let bad : Err stop ≡ Ok mid = e in cc)
+IsOk-if_enabled (Ok s) answer before after mid done e = ap is_ok done.0
+IsOk-if_enabled (Err stop) answer before after mid done e = absurd (let bad : Err stop ≡ Ok mid = e in cc)
 
 -- A step of the order's next thread that is enabled, followed by the rest of the order.
-pub record Turn (program : List (List Stmt)) (order : List ℕ) (i t : ℕ) (s : State) : Type 0 where
+pub record NextThreadStep (program : List (List Stmt)) (order : List ℕ) (i t : ℕ) (s : State) : Type 0 where
   pub mid : State
   pub step : source_step program t s ≡ Ok mid
   pub more : (end : State) × SourceRunsTo program (map Step (drop (i + 1) order)) mid end
   pub thread : Thread
   pub was : slice_get s.threads t ≡ Some thread
-  pub there : thread.position < length (thread_code program t)
+  pub position_in_range : thread.position < length (thread_code program t)
 
-module _ (program : List (List Stmt)) (order : List ℕ) (i t : ℕ) (within : i < length order)
+-- If thread t has the turn at an index, the rest of the order begins with it.
+drop_order-cons : (order : List ℕ) (i t : ℕ)
+    → i < length order
+    → t ≡ slice_index_or order i t
+    → drop i order ≡ t ∷ drop (i + 1) order
+drop_order-cons order i t in_range is = drop_more order i t in_range ∙ ap (λ (u : ℕ). u ∷ drop (i + 1) order) (sym is)
+
+-- The events of thread t for its statement at this index.
+abbrev statement_events_at : List (List Stmt) → ℕ → List (List ℕ) → ℕ → List Event
+statement_events_at program t starts index =
+    statement_events t (thread_code starts t) index (slice_get (thread_code program t) index)
+
+-- At the turn of thread t, at index i of the order.
+module _ {program : List (List Stmt)} {order : List ℕ} {i t : ℕ} (within : i < length order)
     (is : t ≡ slice_index_or order i t) where
-  next_is : drop i order ≡ t ∷ drop (i + 1) order
-  next_is = drop_more order i t within ∙ ap (λ (u : ℕ). u ∷ drop (i + 1) order) (sym is)
-
   -- The next step of a run is its thread's turn, and the steps after it are those of the rest of the order.
-  pub next_turn : (s : State) → (end : State) × SourceRunsTo program (map Step (drop i order)) s end → Turn program order i t s
-  next_turn s possible =
-      let ran = subst (λ (ts : List ℕ). SourceRunsTo program (map Step ts) s possible.0) next_is possible.1 in
+  pub NextThreadStep-of_run : {s : State}
+      → (end : State) × SourceRunsTo program (map Step (drop i order)) s end
+      → NextThreadStep program order i t s
+  NextThreadStep-of_run {s} possible =
+      let ran =
+      subst (λ (ts : List ℕ). SourceRunsTo program (map Step ts) s possible.0) (drop_order-cons order i t within is) possible.1 in
       let d = step-decompose program t s ran.0 ran.1 in
       record {
         mid = ran.0;
@@ -122,45 +138,44 @@ module _ (program : List (List Stmt)) (order : List ℕ) (i t : ℕ) (within : i
         more = (possible.0, ran.2);
         thread = d.thread;
         was = d.was;
-        there = slice_get_within (thread_code program t) d.thread.position d.stmt d.at;
+        position_in_range = slice_get_within (thread_code program t) d.thread.position d.stmt d.at;
       }
 
   -- The position read for a thread is the thread's.
-  pub placed_in : (s : State) (turn : Turn program order i t s) (index : ℕ)
+  pub read_position-eq : {s : State} (turn : NextThreadStep program order i t s) {index : ℕ}
       → slice_get (map (λ (th : Thread). th.position) s.threads) t ≡ Some index
       → index ≡ turn.thread.position
-  placed_in s turn index at =
-      let a = get-map (λ (th : Thread). th.position) s.threads t index at in
+  read_position-eq {s} turn {index} found_at =
+      let a = get-map (λ (th : Thread). th.position) s.threads t index found_at in
       a.2 ∙ ap (λ (th : Thread). th.position) (same_Some a.0 turn.thread (sym a.1 ∙ turn.was))
 
-  -- The events of thread t for the statement at this index.
-  abbrev Events : List (List ℕ) → ℕ → List Event
-  Events starts index = statement_events t (thread_code starts t) index (slice_get (thread_code program t) index)
-
+module _ (program : List (List Stmt)) (order : List ℕ) (i t : ℕ) (within : i < length order)
+    (is : t ≡ slice_index_or order i t) where
   -- The schedule from here on starts with this step's events.
-  schedule_next : (starts : List (List ℕ)) (s : State) {mid : State} (index : ℕ)
+  compiled_schedule-step : (starts : List (List ℕ)) (s : State) {mid : State} (index : ℕ)
       → slice_get (map (λ (th : Thread). th.position) s.threads) t ≡ Some index
       → source_step program t s ≡ Ok mid
       → compiled_schedule program starts (drop i order) s
-      ≡ Events starts index ++ compiled_schedule program starts (drop (i + 1) order) mid
-  schedule_next starts s index at step =
-      let a = get-map (λ (th : Thread). th.position) s.threads t index at in
-      let events = ap (thread_events program starts t) a.1 ∙ ap (Events starts) (sym a.2) in
-      ap (λ (ts : List ℕ). compiled_schedule program starts ts s) next_is
+      ≡ statement_events_at program t starts index ++ compiled_schedule program starts (drop (i + 1) order) mid
+  compiled_schedule-step starts s index found_at step =
+      let a = get-map (λ (th : Thread). th.position) s.threads t index found_at in
+      let events = ap (thread_events program starts t) a.1 ∙ ap (statement_events_at program t starts) (sym a.2) in
+      ap (λ (ts : List ℕ). compiled_schedule program starts ts s) (drop_order-cons order i t within is)
       ∙ ap₂
       (λ (es : List Event) (o : Result State Stop). es ++ after_step o (compiled_schedule program starts (drop (i + 1) order)))
       events step
 
   -- Appending the events of the order's next thread preserves that the events so far and those to come are the whole schedule.
-  pub one_further : (starts : List (List ℕ)) (s mid : State) (index : ℕ) (events : List Event) {more whole : List Event}
+  pub compiled_schedule-append_events : (starts : List (List ℕ)) (s mid : State) (index : ℕ) (events : List Event)
+      {more whole : List Event}
       → slice_get (map (λ (th : Thread). th.position) s.threads) t ≡ Some index
       → source_step program t s ≡ Ok mid
-      → more ≡ events ++ Events starts index
+      → more ≡ events ++ statement_events_at program t starts index
       → events ++ compiled_schedule program starts (drop i order) s ≡ whole
       → more ++ compiled_schedule program starts (drop (i + 1) order) mid ≡ whole
-  one_further starts s mid index events at step pushed so_far =
+  compiled_schedule-append_events starts s mid index events found_at step pushed so_far =
       let rest = compiled_schedule program starts (drop (i + 1) order) mid in
       ap (λ (es : List Event). es ++ rest) pushed
-      ∙ append_assoc events (Events starts index) rest
-      ∙ ap (λ (es : List Event). events ++ es) (sym (schedule_next starts s index at step))
+      ∙ append_assoc events (statement_events_at program t starts index) rest
+      ∙ ap (λ (es : List Event). events ++ es) (sym (compiled_schedule-step starts s index found_at step))
       ∙ so_far

@@ -60,7 +60,8 @@ starts_from n fences [] = n ∷ []
 starts_from n [] (s ∷ code) = n ∷ starts_from (n + length (instrs_of (lowered [] false s))) [] code
 starts_from n (fence ∷ fences) (s ∷ code) = n ∷ starts_from (n + length (instrs_of (lowered [] fence s))) fences code
 
--- The instructions, and the table of each statement's first one, are those of the compiled thread.
+-- The instructions are those of the compiled thread. The table `starts` has the index of each statement's first instruction, and at the
+-- end the number of instructions.
 pub record IsCompiledThread (code : List Stmt) (instrs : List Instr) (starts : List ℕ) : Type 0 where
   pub fences : List Bool
   pub as_many : length fences ≡ length code
@@ -68,7 +69,8 @@ pub record IsCompiledThread (code : List Stmt) (instrs : List Instr) (starts : L
   pub starts_are : starts ≡ starts_from 0 fences code
   pub instrs_are : instrs ≡ lowered_code starts fences code
 
--- The program has the source's head, in x86, and the compiled threads, with these tables of starts.
+-- The program has the source's head, in x86, and the compiled threads. In `starts`, each thread has a table of the indices at which its
+-- statements start.
 pub record IsCompiled (source : SourceTest) (program : X86Test) (starts : List (List ℕ)) : Type 0 where
   pub head : program.head ≡ record source.head { arch = X86 }  -- The source's head, except the language.
   pub as_many : length program.threads ≡ length source.threads

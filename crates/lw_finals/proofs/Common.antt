@@ -10,21 +10,19 @@ pub use Rattle.std.proofs.lemmas.Bool.{and_from, and_parts, cases_Bool, cases_eq
 pub use Rattle.std.proofs.lemmas.Bool.{cond-false, cond-true, false_from_ne_true, or_left, or_right}
 pub use Rattle.std.proofs.lemmas.Grind.{common_steps}
 pub use Rattle.std.proofs.lemmas.List.{drop_all, get_or_past, length-map, map-append, nil_from_length}
-pub use Rattle.std.proofs.lemmas.List.Elements.{All-append, All-cons, All-contains, All-head, All-nil}
-pub use Rattle.std.proofs.lemmas.List.Elements.{All-tail, All-weaker, Contains-append_left}
+pub use Rattle.std.proofs.lemmas.List.Elements.{All-append, All-cons, All-contains, All-contains_itself}
+pub use Rattle.std.proofs.lemmas.List.Elements.{All-head, All-nil, All-tail, All-weaker, Contains-append_left}
 pub use Rattle.std.proofs.lemmas.List.Elements.{Contains-append_right}
 pub use Rattle.std.proofs.lemmas.List.Sorted.{All-permutation}
 pub use Rattle.std.proofs.lemmas.Option.{get_or_from_slice_get, none-some, same_Some, slice_get-get_or}
 pub use Rattle.std.proofs.lemmas.Option.{slice_get-map, slice_get_within}
 pub use Rattle.std.proofs.lemmas.Result.{IfErr-weaker, IfOk-from_err, IfOk-weaker, err_from_is_err_and}
 pub use Rattle.std.proofs.lemmas.Result.{on_ok_weaker}
-pub use Rattle.std.specs.List.{AllByRecursion}
 pub use Rattle.std.specs.Option.{option_map_or}
-pub use Rattle.lw_base.proofs.Common.{FinalState, HasOutcomeShape, IsEvent, IsListedOutcome, RunsTo, TestHead}
-pub use Rattle.lw_base.proofs.Common.{thread_code}
-pub use Rattle.lw_base.proofs.api.Lists.{at_index, get-set_other, get-set_same, get_some}
+pub use Rattle.lw_base.proofs.Common.{FinalState, HasOutcomeShape, RunsTo, thread_code}
+pub use Rattle.lw_base.proofs.api.Lists.{at_index, get-set_other, get-set_same, slice_get-in_range}
 pub use Rattle.lw_base.proofs.api.Replays.{RunsTo-append}
-pub use Rattle.lw_base.proofs.api.Zips.{get-map, zip_passes}
+pub use Rattle.lw_base.proofs.api.Zips.{get-map, list_all_zip-at_index}
 pub use Rattle.lw_base.specs.declared.event.Event.{Event}
 pub use Rattle.lw_base.specs.declared.event.Event.TheVariants.{Drain, Evict, Step}
 pub use Rattle.lw_base.specs.declared.stop.Stop.{Stop}
@@ -41,7 +39,8 @@ pub use Rattle.lw_litmus.specs.declared.stmt.Stmt.{Stmt}
 pub use Rattle.lw_interleaving.proofs.Common.{FollowsFlow, InterleavesTo, SourceOutcome, SourceRunsTo, State}
 pub use Rattle.lw_interleaving.proofs.Common.{initial_state, initial_thread, is_source_final, next_statement}
 pub use Rattle.lw_interleaving.proofs.Common.{source_outcome, source_step, thread_position}
-pub use Rattle.lw_interleaving.proofs.api.Commutation.{exchange, moved, next_is, others_placed}
+pub use Rattle.lw_interleaving.proofs.api.Commutation.{FollowsFlow-source_step, StepsCommute-no_conflict}
+pub use Rattle.lw_interleaving.proofs.api.Commutation.{next_statement-at_position, source_step-other_position}
 pub use Rattle.lw_interleaving.proofs.api.Commutation.{step-decompose}
 pub use Rattle.lw_interleaving.specs.declared.thread.Thread.{Thread}
 pub use Rattle.lw_memory.proofs.Common.{Invariant, Memory, flat_memory}
@@ -55,47 +54,52 @@ pub use Rattle.lw_tso.proofs.Common.{MayPassOldest, Processor, ReplaysTo, Transi
 pub use Rattle.lw_tso.proofs.Common.{event_effect, initial_machine_state, initial_processor, is_final}
 pub use Rattle.lw_tso.proofs.Common.{operation_effect, over_flat_memory, position_of, step_effect}
 pub use Rattle.lw_tso.proofs.Common.{without_evictions}
-pub use Rattle.lw_tso.proofs.api.Effects.{EffectLeadsTo, EventOccurrence, MachineTransition-deterministic}
-pub use Rattle.lw_tso.proofs.api.Effects.{effect_of_event, no_eviction, state}
-pub use Rattle.lw_tso.proofs.api.Neighbours.{exchanged, position_at}
-pub use Rattle.lw_tso.proofs.api.Operations.{Buffers, OperationTransition, operation_accessed, operation_does}
-pub use Rattle.lw_fence.proofs.Common.{IsCompiled, after_step, compiled_schedule, statement_events}
-pub use Rattle.lw_fence.proofs.Common.{thread_events}
+pub use Rattle.lw_tso.proofs.api.Effects.{EffectLeadsTo, EventOccurrence, EventOccurrence-of_event}
+pub use Rattle.lw_tso.proofs.api.Effects.{MachineTransition-deterministic, not-EffectLeadsTo-evict_event}
+pub use Rattle.lw_tso.proofs.api.Effects.{state}
+pub use Rattle.lw_tso.proofs.api.Neighbours.{EventsCommute-independent, position_of-in_range}
+pub use Rattle.lw_tso.proofs.api.Operations.{Buffers, OperationTransition, OperationTransition-of_effect}
+pub use Rattle.lw_tso.proofs.api.Operations.{accessed_location-of_operation}
+pub use Rattle.lw_fence.proofs.Common.{after_step, compiled_schedule, statement_events, thread_events}
 pub use Rattle.lw_orders.proofs.Common.{AreDependent, AreDistinct, AreTraceEquivalent, Before, Constraints}
 pub use Rattle.lw_orders.proofs.Common.{IsAdjacentSwap, IsLinearExtension, IsOrder, Progress, Respects}
 pub use Rattle.lw_orders.proofs.Common.{index_in, indices, is_ordered, most_items, orders}
-pub use Rattle.lw_orders.proofs.api.Indices.{All-stands, index_in-other, index_in-same, order_from}
-pub use Rattle.lw_orders.proofs.api.Indices.{order_split, same_index}
-pub use Rattle.lw_orders.proofs.api.SwapInvariance.{alike_orders_are_joined, kept_along}
-pub use Rattle.lw_outcome_map.proofs.api.Listings.{stays_listed}
-pub use Rattle.lw_outcome_map.specs.Listings.{OutcomeEntries, outcomes_of}
+pub use Rattle.lw_orders.proofs.api.Indices.{All-stands, IsOrder-of_distinct, index_in-injective}
+pub use Rattle.lw_orders.proofs.api.Indices.{index_in-order_split, index_in-other, index_in-same}
+pub use Rattle.lw_orders.proofs.api.SwapInvariance.{preserved-by_swaps, trace_equivalent_orders_are_connected}
+pub use Rattle.lw_outcome_map.proofs.api.Listings.{Contains-permuted_outcomes}
+pub use Rattle.lw_outcome_map.specs.Listings.{OutcomeEntries, OutcomesWith, outcomes_of}
 pub use Rattle.lw_paths.proofs.Common.{HasTooManyItems, IsPathAssignment, IsWithinLimits, JumpsForward}
 pub use Rattle.lw_paths.proofs.Common.{LimitFaultOfChoice, VisitsAll, choice_of, conflict_by, constraints_of}
 pub use Rattle.lw_paths.proofs.Common.{drained_location, item_at, items_at_choice, items_conflict, items_of}
 pub use Rattle.lw_paths.proofs.Common.{location_by, statement_needs_empty_buffer, statement_of}
 pub use Rattle.lw_paths.proofs.Common.{transitive_reduction, writes_by}
-pub use Rattle.lw_paths.proofs.api.Counting.{GivesReasons, VisitorView, given_refused, limit_told}
-pub use Rattle.lw_paths.proofs.api.Counting.{visit_refused}
-pub use Rattle.lw_paths.proofs.api.Enumerated.{choices_are_all}
-pub use Rattle.lw_paths.proofs.api.FixedOrder.{AreOrdered, keeps_all, kept}
-pub use Rattle.lw_paths.proofs.api.FixedPairs.{conflict_there, conflicts_up}
-pub use Rattle.lw_paths.proofs.api.Members.{Contains-cons, Contains-head, Contains-tail, from_map}
-pub use Rattle.lw_paths.proofs.api.Members.{not-Contains-nil, of_one}
-pub use Rattle.lw_paths.proofs.api.Mutual.{conflict_mutual}
-pub use Rattle.lw_paths.proofs.api.Numbering.{HasItem, IsAscendingFrom, IsAscendingFrom-lower_bound}
-pub use Rattle.lw_paths.proofs.api.Numbering.{IsItemOnPath, IsItemOnPath-of_member, IsMember, IsStoring}
-pub use Rattle.lw_paths.proofs.api.Numbering.{Pairwise, as_many, beside, item, item_there, number_less}
-pub use Rattle.lw_paths.proofs.api.Numbering.{path_up, same_number, slot_goes_up, slot_less, store_slot}
-pub use Rattle.lw_paths.proofs.api.Numbering.{thread_rank}
-pub use Rattle.lw_paths.proofs.api.PairRanges.{indices_up}
-pub use Rattle.lw_paths.proofs.api.Reduced.{same_orders}
-pub use Rattle.lw_paths.proofs.api.ReducedPairs.{reduced_well_formed}
-pub use Rattle.lw_paths.proofs.api.Successors.{follows_within}
-pub use Rattle.lw_paths.proofs.api.Visitable.{forward_of, visitable}
+pub use Rattle.lw_paths.proofs.api.Counting.{GivesReasons, LimitFaultIsTrue-of_choices}
+pub use Rattle.lw_paths.proofs.api.Counting.{LimitFaultOfChoice-items_refused}
+pub use Rattle.lw_paths.proofs.api.Counting.{LimitFaultOfChoices-visit_fails, VisitorView}
+pub use Rattle.lw_paths.proofs.api.Enumerated.{Contains-path_assignments}
+pub use Rattle.lw_paths.proofs.api.FixedOrder.{AreOrdered, HasOrdered-if_respected, Respects-if_ordered}
+pub use Rattle.lw_paths.proofs.api.FixedPairs.{AreAscending-conflicts, Contains-conflict_pair}
+pub use Rattle.lw_paths.proofs.api.Members.{Contains-cons, Contains-head, Contains-map_inv}
+pub use Rattle.lw_paths.proofs.api.Members.{Contains-singleton, Contains-tail, not-Contains-nil}
+pub use Rattle.lw_paths.proofs.api.Mutual.{conflict_by-sym}
+pub use Rattle.lw_paths.proofs.api.Numbering.{HasItem, HasItem-on_path, HasItem-same_position}
+pub use Rattle.lw_paths.proofs.api.Numbering.{IsAscendingFrom, IsAscendingFrom-flow_path}
+pub use Rattle.lw_paths.proofs.api.Numbering.{IsAscendingFrom-lower_bound, IsItemOnPath}
+pub use Rattle.lw_paths.proofs.api.Numbering.{IsItemOnPath-of_member, IsMember, IsStoring, Pairwise}
+pub use Rattle.lw_paths.proofs.api.Numbering.{index_lt-if_rank_lt, item, item_index-unique}
+pub use Rattle.lw_paths.proofs.api.Numbering.{item_slot-increasing, item_slot-store_before_drain}
+pub use Rattle.lw_paths.proofs.api.Numbering.{length-path_assignment, thread_rank, thread_rank-increasing}
+pub use Rattle.lw_paths.proofs.api.PairRanges.{All-indices_in_range}
+pub use Rattle.lw_paths.proofs.api.Reduced.{IsLinearExtension-reduced_iff}
+pub use Rattle.lw_paths.proofs.api.ReducedPairs.{IsWellFormed-reduced_pairs}
+pub use Rattle.lw_paths.proofs.api.Successors.{IsFlowSuccessor-in_range}
+pub use Rattle.lw_paths.proofs.api.Visitable.{IsVisitable-well_formed, JumpsForward-thread}
 pub use Rattle.lw_paths.specs.declared.item.Item.{Item}
-pub use Rattle.lw_tso_caches.proofs.api.CompleteLists.{no_evictions, of_source, on_machine}
-pub use Rattle.lw_tso_caches.specs.CompleteLists.{IsComplete}
-pub use Rattle.lw_tso_caches.specs.OverCaches.{ReplaysToOverCaches}
+pub use Rattle.lw_tso_caches.proofs.api.CompleteLists.{HasOutcomeShape-of_compiled, IsListedOutcome-of_source}
+pub use Rattle.lw_tso_caches.proofs.api.CompleteLists.{on_machine, without_evictions-flat_run}
+pub use Rattle.lw_tso_caches.specs.CompleteLists.{AreAllOutcomes, IsComplete}
+pub use Rattle.lw_tso_caches.specs.OverCaches.{OutcomeOverCaches, ReplaysToOverCaches}
 pub use Rattle.lw_finals.specs.OrderRuns.{FollowsPathsToEnd, IsChoiceOutcome, ItemTransitionSystem}
 pub use Rattle.lw_finals.specs.OrderRuns.{ItemsRunTo, OrderRunsTo}
 pub use Rattle.lw_finals.specs.SourceRuns.{IsSourceChoiceOutcome, SourceFollowsPathsToEnd}

@@ -1,31 +1,37 @@
--- What is collected from all path assignments of a test is its complete list, in either language.
+-- What is collected from all path assignments of a test is its complete list, in either language. The main
+-- theorem of this crate, from three premises: trace-equivalent orders have one outcome, orders are complete,
+-- and outcomes are those of path assignments.
 use Rattle.lw_finals.proofs.Common.{IsWellScoped, IsWellScopedThread, ◌≡◌, ℕ, inl, inr, List, [], ◌∷◌, length}
 use Rattle.lw_finals.proofs.Common.{Result, Ok, Err, refl, sym, ap, subst, IfOk, OnOk, All, Contains, ◌↔◌}
 use Rattle.lw_finals.proofs.Common.{cases_lt, All-nil, All-contains, All-weaker, Contains-append_right}
 use Rattle.lw_finals.proofs.Common.{FinalState, flat_memory, Protocol, Mesi, Instr, without_evictions}
 use Rattle.lw_finals.proofs.Common.{MachineState, MachineRunsTo, IsMachineOutcome, initial_machine_state}
-use Rattle.lw_finals.proofs.Common.{EventOccurrence, effect_of_event, no_eviction, Event, Step, Drain, Evict}
-use Rattle.lw_finals.proofs.Common.{Language, Test, X86Test, Constraints, IsLinearExtension, most_items}
-use Rattle.lw_finals.proofs.Common.{orders, JumpsForward, IsPathAssignment, HasTooManyItems, IsWithinLimits}
-use Rattle.lw_finals.proofs.Common.{items_at_choice, items_of, transitive_reduction, Item, choices_are_all}
-use Rattle.lw_finals.proofs.Common.{reduced_well_formed, same_orders, Contains-head, from_map, OutcomeEntries}
-use Rattle.lw_finals.proofs.Common.{outcomes_of, ReplaysToOverCaches, ItemTransitionSystem, ReplaysFlatTo}
-use Rattle.lw_finals.proofs.Common.{CollectsOutcomes, OutcomesOfProgram, AreComplete, AreFlat, IsComplete}
-use Rattle.lw_finals.proofs.Common.{no_evictions, FollowsPathsToEnd}
+use Rattle.lw_finals.proofs.Common.{EventOccurrence, EventOccurrence-of_event, not-EffectLeadsTo-evict_event}
+use Rattle.lw_finals.proofs.Common.{Event, Step, Drain, Evict, Language, Test, X86Test, Constraints}
+use Rattle.lw_finals.proofs.Common.{IsLinearExtension, most_items, orders, JumpsForward, IsPathAssignment}
+use Rattle.lw_finals.proofs.Common.{HasTooManyItems, IsWithinLimits, items_at_choice, items_of}
+use Rattle.lw_finals.proofs.Common.{transitive_reduction, Item, Contains-path_assignments}
+use Rattle.lw_finals.proofs.Common.{IsWellFormed-reduced_pairs, IsLinearExtension-reduced_iff, Contains-head}
+use Rattle.lw_finals.proofs.Common.{Contains-map_inv, OutcomeEntries, outcomes_of, ReplaysToOverCaches}
+use Rattle.lw_finals.proofs.Common.{ItemTransitionSystem, ReplaysFlatTo, CollectsOutcomes, OutcomesOfProgram}
+use Rattle.lw_finals.proofs.Common.{AreComplete, AreFlat, IsComplete, AreAllOutcomes, OutcomesWith}
+use Rattle.lw_finals.proofs.Common.{HasOutcomeShape, OutcomeOverCaches, All-contains_itself}
+use Rattle.lw_finals.proofs.Common.{without_evictions-flat_run, FollowsPathsToEnd}
 use Rattle.lw_finals.proofs.SourceTraceEquivalence.{OrdersEndAlike}
 use Rattle.lw_finals.proofs.Ordered.{OfChoice}
 use Rattle.lw_orders.specs.Order as orders
 
 -- If P and Q imply R, and the value of a result has P where it has one, and Q holds there, then the value has R.
-known_too : {T E : Type 0} (r : Result T E) (P R : T → Type 0) (Q : Type 0)
+IfOk-with_fact : {T E : Type 0} (r : Result T E) (P R : T → Type 0) (Q : Type 0)
     → ((x : T) → P x → Q → R x)
     → IfOk r P
     → OnOk r Q
     → IfOk r R
-known_too (Ok x) P R Q f p q = f x p q
-known_too (Err e) P R Q f p q = tt
+IfOk-with_fact (Ok x) P R Q f p q = f x p q
+IfOk-with_fact (Err e) P R Q f p q = tt
 
 module _ {S : Type 0} (language : Language S) (test : Test S) {State : Type 0} (system : ItemTransitionSystem State) where
+  -- The items of a path assignment of the test.
   abbrev choice_items : List (List ℕ) → List Item
   choice_items paths = items_of language test.threads paths
 
@@ -38,90 +44,136 @@ module _ {S : Type 0} (language : Language S) (test : Test S) {State : Type 0} (
   AreAlike =
       (paths : List (List ℕ)) → IsPathAssignment language test.threads paths → OrdersEndAlike language test.threads paths system
 
-  module _ (is : IsWellScoped language test) (alike : AreAlike) (complete : AreComplete)
-      (few : HasTooManyItems language test.threads → ⊥) where
-    formed : (paths : List (List ℕ))
+  module _ (well_scoped : IsWellScoped language test) (alike : AreAlike) (complete : AreComplete)
+      (not_too_many : HasTooManyItems language test.threads → ⊥) where
+    -- The items of a path assignment with their reduced pairs are well-formed, since they are not too many.
+    IsWellFormed-reduced : (paths : List (List ℕ))
         → IsPathAssignment language test.threads paths
         → orders.IsWellFormed (reduced_constraints paths)
-    formed paths choice = elim (cases_lt most_items (items_at_choice language test.threads paths)) [
-      | inl many ↦ absurd (few (paths, choice, many))
-      | inr within ↦ reduced_well_formed language test.threads (choice_items paths) within
+    IsWellFormed-reduced paths choice = elim (cases_lt most_items (items_at_choice language test.threads paths)) [
+      | inl many ↦ absurd (not_too_many (paths, choice, many))
+      | inr within ↦ IsWellFormed-reduced_pairs language test.threads (choice_items paths) within
     ]
 
     -- An outcome of some order of a path assignment is the outcome of a listed order.
-    given_end : (o : FinalState)
+    OutcomesOfProgram-if_of_choice : (o : FinalState)
         → OfChoice language test.threads system o
         → OutcomesOfProgram language (FollowsPathsToEnd system) test.threads o
-    given_end o (paths, choice, c) =
+    OutcomesOfProgram-if_of_choice o (paths, choice, c) =
         let t : Constraints = reduced_constraints paths in
-        let same = same_orders language test.threads paths in
-        let given = complete.exactly_one t (formed paths choice) c.order ((same c.order).1 c.keeps) in
-        let there : Contains (orders t) given.one =
+        let same = IsLinearExtension-reduced_iff language test.threads paths in
+        let given = complete.exactly_one t (IsWellFormed-reduced paths choice) c.order ((same c.order).1 c.keeps) in
+        let is_member : Contains (orders t) given.one =
         subst (λ (xs : List (List ℕ)). Contains xs given.one) (sym given.split)
         (Contains-append_right given.before _ given.one (Contains-head given.one given.one given.after refl)) in
-        let keeps = (same given.one).0 (All-contains (IsLinearExtension t) _ _ (complete.each t (formed paths choice)) there) in
+        let keeps =
+        (same given.one).0 (All-contains (IsLinearExtension t) _ _ (complete.each t (IsWellFormed-reduced paths choice))
+        is_member) in
         let forward : All (JumpsForward language) test.threads =
         All-weaker (IsWellScopedThread language (length test.head.locs)) (JumpsForward language) (λ code t. t.forward)
-        test.threads is.code in (
+        test.threads well_scoped.code in (
           paths,
-          (choices_are_all language test.threads paths forward).1 choice,
-          (given.one, there, alike paths choice c.order given.one o c.keeps keeps given.has c.run),
+          (Contains-path_assignments language test.threads paths forward).1 choice,
+          (given.one, is_member, alike paths choice c.order given.one o c.keeps keeps given.has c.run),
         )
 
     module _ (Has : FinalState → Type 0) (choices : (o : FinalState) → Has o ↔ OfChoice language test.threads system o)
         (program : X86Test) (same : (o : FinalState) → IsMachineOutcome flat_memory program program.head.init_words o ↔ Has o)
-        (flat_too : AreFlat program) (entries : OutcomeEntries)
-        (gathers : CollectsOutcomes (OutcomesOfProgram language (FollowsPathsToEnd system) test.threads) (ReplaysFlatTo program)
-        [] entries) where
-      -- Each schedule reaches its outcome.
-      lead : All (λ e. ReplaysFlatTo program e.1 e.0) entries
-      lead = gathers.lead (All-nil (λ e. ReplaysFlatTo program e.1 e.0))
+        (flat_too : AreFlat program) where
+      -- What leads to an outcome shows that the program reaches it.
+      module _ {Kept : Type 0} (Leads : Kept → FinalState → Type 0)
+          (reached : (kept : Kept) (o : FinalState)
+          → Leads kept o
+          → IsMachineOutcome flat_memory program program.head.init_words o) (entries : OutcomesWith Kept)
+          (gathers : CollectsOutcomes (OutcomesOfProgram language (FollowsPathsToEnd system) test.threads) Leads [] entries) where
+        -- Each kept value leads to its outcome.
+        All-lead_to_outcome : All (λ e. Leads e.1 e.0) entries
+        All-lead_to_outcome = gathers.lead (All-nil (λ e. Leads e.1 e.0))
 
-      exactly : (o : FinalState) → Contains (outcomes_of entries) o ↔ Has o
-      exactly o = (
-        λ c.
-            (let e = from_map _ entries o c in
-            subst Has e.2 ((same e.0.0).0 (e.0.1, (All-contains (λ e. ReplaysFlatTo program e.1 e.0) entries e.0 lead e.1)))),
-        λ has. gathers.covered o (given_end o ((choices o).0 has)),
-      )
+        -- The collected outcomes are exactly those of the test.
+        Contains-iff_outcome : (o : FinalState) → Contains (outcomes_of entries) o ↔ Has o
+        Contains-iff_outcome o = (
+          λ c.
+              (let e = Contains-map_inv _ entries o c in
+              subst Has e.2
+              ((same e.0.0).0 (reached e.0.1 e.0.0 (All-contains (λ e. Leads e.1 e.0) entries e.0 All-lead_to_outcome e.1)))),
+          λ has. gathers.covered o (OutcomesOfProgram-if_of_choice o ((choices o).0 has)),
+        )
 
-      replays : (protocol : Protocol) → All (λ e. ReplaysToOverCaches protocol program e.1 e.0) entries
-      replays protocol =
-          All-weaker (λ e. ReplaysFlatTo program e.1 e.0) (λ e. ReplaysToOverCaches protocol program e.1 e.0) (λ e h.
-          (flat_too.replays protocol e.1 e.0
-          (no_evictions program.threads e.1 (initial_machine_state program program.head.init_words) h.end h.ran)).1 h) entries
-          lead
+        -- The collected outcomes are exactly those of the program over the caches of each protocol.
+        over_caches : (protocol : Protocol) (o : FinalState)
+            → Contains (outcomes_of entries) o ↔ OutcomeOverCaches protocol program o
+        over_caches protocol o = (
+          (λ c. (flat_too.outcomes protocol o).1 ((same o).1 ((Contains-iff_outcome o).0 c))),
+          (λ m. (Contains-iff_outcome o).1 ((same o).0 ((flat_too.outcomes protocol o).0 m))),
+        )
 
-      complete_list : IsComplete Has program entries
-      complete_list = record {
-        exactly = exactly;
-        over_caches = λ protocol o. (
-          (λ c. (flat_too.outcomes protocol o).1 ((same o).1 ((exactly o).0 c))),
-          (λ m. (exactly o).1 ((same o).0 ((flat_too.outcomes protocol o).0 m))),
-        );
-        replays = replays;
-        of_program = All-weaker _ _ (λ e h. flat_too.of_test Mesi e.1 e.0 h) entries (replays Mesi);
-      }
+        -- The collected outcomes are exactly the test's, and those of the program over the caches of each protocol.
+        all_outcomes : AreAllOutcomes Has program (outcomes_of entries)
+        all_outcomes = record {
+          exactly = Contains-iff_outcome;
+          over_caches = over_caches;
+          shapes =
+              All-weaker (Contains (outcomes_of entries)) (HasOutcomeShape program.head.threads (length program.head.locs))
+              (λ o c. let m = (over_caches Mesi o).0 c in (flat_too.of_test Mesi m.0 o m.1).outcome) (outcomes_of entries)
+              (All-contains_itself (outcomes_of entries));
+        }
+
+      module _ (entries : OutcomeEntries)
+          (gathers : CollectsOutcomes (OutcomesOfProgram language (FollowsPathsToEnd system) test.threads) (ReplaysFlatTo program)
+          [] entries) where
+        -- Each collected schedule replays over the caches of each protocol, to its outcome.
+        replays : (protocol : Protocol) → All (λ e. ReplaysToOverCaches protocol program e.1 e.0) entries
+        replays protocol =
+            All-weaker (λ e. ReplaysFlatTo program e.1 e.0) (λ e. ReplaysToOverCaches protocol program e.1 e.0) (λ e h.
+            (flat_too.replays protocol e.1 e.0
+            (without_evictions-flat_run program.threads e.1 (initial_machine_state program program.head.init_words) h.end
+            h.ran)).1 h) entries (gathers.lead (All-nil (λ e. ReplaysFlatTo program e.1 e.0)))
+
+        -- What is collected with schedules is the test's complete list.
+        complete_list : IsComplete Has program entries
+        complete_list = record {
+          all = all_outcomes (ReplaysFlatTo program) (λ events o h. (events, h)) entries gathers;
+          replays = replays;
+          of_program = All-weaker _ _ (λ e h. flat_too.of_test Mesi e.1 e.0 h) entries (replays Mesi);
+        }
 
   -- Why a test's list is complete: its outcomes are those of the path assignments, and those of this program on the flat machine.
   pub record CanBeListed (Has : FinalState → Type 0) (program : X86Test) : Type 0 where
-    pub is : IsWellScoped language test
+    pub well_scoped : IsWellScoped language test
     pub alike : AreAlike
     pub complete : AreComplete
     pub choices : (o : FinalState) → Has o ↔ OfChoice language test.threads system o
     pub same : (o : FinalState) → IsMachineOutcome flat_memory program program.head.init_words o ↔ Has o
     pub flat_too : AreFlat program
 
+  -- The outcomes of the orders of all path assignments are collected, each with a value that leads to it.
+  abbrev pub IsCollected : {Kept : Type 0} → (Kept → FinalState → Type 0) → OutcomesWith Kept → Type 0
+  IsCollected Leads l = CollectsOutcomes (OutcomesOfProgram language (FollowsPathsToEnd system) test.threads) Leads [] l
+
   -- If a test has a list, it is a complete list of its outcomes.
-  pub listed : (Has : FinalState → Type 0) (program : X86Test)
+  pub IsComplete-collected : (Has : FinalState → Type 0) (program : X86Test)
       → CanBeListed Has program
       → {E : Type 0} (result : Result OutcomeEntries E)
-      → IfOk result
-      (λ l. CollectsOutcomes (OutcomesOfProgram language (FollowsPathsToEnd system) test.threads) (ReplaysFlatTo program) [] l)
+      → IfOk result (IsCollected (ReplaysFlatTo program))
       → OnOk result (IsWithinLimits language test.threads)
       → IfOk result (IsComplete Has program)
-  listed Has program can result =
-      known_too result
-      (λ l. CollectsOutcomes (OutcomesOfProgram language (FollowsPathsToEnd system) test.threads) (ReplaysFlatTo program) [] l)
-      (IsComplete Has program) (IsWithinLimits language test.threads) (λ l gathers within.
-      complete_list can.is can.alike can.complete within.0 Has can.choices program can.same can.flat_too l gathers)
+  IsComplete-collected Has program can result =
+      IfOk-with_fact result (IsCollected (ReplaysFlatTo program)) (IsComplete Has program) (IsWithinLimits language test.threads)
+      (λ l gathers within.
+      complete_list can.well_scoped can.alike can.complete within.0 Has can.choices program can.same can.flat_too l gathers)
+
+  -- If a test has a list without schedules, it has exactly the test's outcomes.
+  pub AreAllOutcomes-collected : (Has : FinalState → Type 0) (program : X86Test)
+      → CanBeListed Has program
+      → {Kept : Type 0} (Leads : Kept → FinalState → Type 0)
+      → ((kept : Kept) (o : FinalState) → Leads kept o → IsMachineOutcome flat_memory program program.head.init_words o)
+      → {E : Type 0} (result : Result (OutcomesWith Kept) E)
+      → IfOk result (IsCollected Leads)
+      → OnOk result (IsWithinLimits language test.threads)
+      → IfOk result (λ l. AreAllOutcomes Has program (outcomes_of l))
+  AreAllOutcomes-collected Has program can Leads reached result =
+      IfOk-with_fact result (IsCollected Leads) (λ l. AreAllOutcomes Has program (outcomes_of l))
+      (IsWithinLimits language test.threads) (λ l gathers within.
+      all_outcomes can.well_scoped can.alike can.complete within.0 Has can.choices program can.same can.flat_too Leads reached l
+      gathers)

@@ -1,23 +1,25 @@
--- One step of the run of an order of items.
+-- One step of the run of an order of items. Lemmas for the loops of both runners, which execute an order's
+-- items one by one.
 use Rattle.lw_finals.proofs.Common.{◌≡◌, ℕ, suc, ◌+◌, ◌<◌, ◌≤◌, List, ◌∷◌, length, drop, Some, refl, sym, ap}
 use Rattle.lw_finals.proofs.Common.{◌∙◌, subst, arith, get_or, drop-cons, IsTrue, drop_all, slice_get-get_or}
 use Rattle.lw_finals.proofs.Common.{get_or_from_slice_get, FinalState, Item, item_at, ItemTransitionSystem}
 use Rattle.lw_finals.proofs.Common.{OrderRunsTo, FollowsPathsToEnd}
 
 -- The item read at an index is the item of that number.
-read_item : (items : List Item) (n : ℕ) (x : Item) → n < length items → x ≡ get_or items n x → item_at items n ≡ x
-read_item items n x l e = get_or_from_slice_get items n x _ (slice_get-get_or items n x l ∙ ap Some (sym e))
+item_at-of_read : (items : List Item) (n : ℕ) (x : Item) → n < length items → x ≡ get_or items n x → item_at items n ≡ x
+item_at-of_read items n x in_range e = get_or_from_slice_get items n x _ (slice_get-get_or items n x in_range ∙ ap Some (sym e))
 
 -- The item x is the next one of an order whose first k items are done: its number is read at index k of the order.
 pub record IsNext (items : List Item) (order : List ℕ) (k : ℕ) (x : Item) : Type 0 where
   pub index : ℕ
   pub past : ℕ
-  pub within : k < length order
+  pub place_in_range : k < length order
   pub is_number : index ≡ get_or order k past
-  pub there : index < length items
+  pub item_in_range : index < length items
   pub is_item : x ≡ get_or items index x
 
 module _ {State : Type 0} (system : ItemTransitionSystem State) (items : List Item) where
+  -- The items of an order, executed in sequence, lead from one state to another.
   abbrev Ran : List ℕ → State → State → Type 0
   Ran = OrderRunsTo system items
 
@@ -27,33 +29,37 @@ module _ {State : Type 0} (system : ItemTransitionSystem State) (items : List It
     pub comes : (end : State) → Ran (drop k order) now end → Ran order system.start end
 
   -- The item of number n is the next one.
-  next_item : (order : List ℕ) (k n d : ℕ) → k < length order → n ≡ get_or order k d → drop k order ≡ n ∷ drop (suc k) order
-  next_item order k n d l is = drop-cons order k d l ∙ ap (λ (i : ℕ). i ∷ drop (suc k) order) (sym is)
+  drop_order-cons_item : (order : List ℕ) (k n d : ℕ)
+      → k < length order
+      → n ≡ get_or order k d
+      → drop k order ≡ n ∷ drop (suc k) order
+  drop_order-cons_item order k n d in_range is = drop-cons order k d in_range ∙ ap (λ (i : ℕ). i ∷ drop (suc k) order) (sym is)
 
   -- If the next item is not enabled, the order has no run.
-  pub ran_off : (order : List ℕ) (k : ℕ) (x : Item) (now : State)
+  pub not-Ran-if_not_enabled : (order : List ℕ) (k : ℕ) (x : Item) (now : State)
       → IsNext items order k x
       → ((next : State) → system.Carried x now next → ⊥)
       → RanFirst order k now
       → (end : State)
       → Ran order system.start end
       → ⊥
-  ran_off order k x now one none r end o =
-      let split = next_item order k one.index one.past one.within one.is_number in
+  not-Ran-if_not_enabled order k x now one none r end o =
+      let split = drop_order-cons_item order k one.index one.past one.place_in_range one.is_number in
       let m = subst (λ (xs : List ℕ). Ran xs now end) split (r.goes end o) in
-      none m.0 (subst (λ (y : Item). system.Carried y now m.0) (read_item items one.index x one.there one.is_item) m.1)
+      none m.0
+      (subst (λ (y : Item). system.Carried y now m.0) (item_at-of_read items one.index x one.item_in_range one.is_item) m.1)
 
   -- If the next item has exactly one successor state, one more item has reached it.
-  pub ran_on : (order : List ℕ) (k : ℕ) (x : Item) (now next : State)
+  pub RanFirst-next : (order : List ℕ) (k : ℕ) (x : Item) (now next : State)
       → IsNext items order k x
       → system.Carried x now next
       → ((other : State) → system.Carried x now other → other ≡ next)
       → RanFirst order k now
       → RanFirst order (k + 1) next
-  ran_on order k x now next one carried alone r =
-      let split = next_item order k one.index one.past one.within one.is_number in
+  RanFirst-next order k x now next one carried alone r =
+      let split = drop_order-cons_item order k one.index one.past one.place_in_range one.is_number in
       let more : suc k ≡ k + 1 = omega arith in
-      let item = read_item items one.index x one.there one.is_item in
+      let item = item_at-of_read items one.index x one.item_in_range one.is_item in
       record {
         goes = λ end o.
             let m = subst (λ (xs : List ℕ). Ran xs now end) split (r.goes end o) in
@@ -69,33 +75,37 @@ module _ {State : Type 0} (system : ItemTransitionSystem State) (items : List It
       }
 
   -- After the last item a run is at its end.
-  pub ran_out : (order : List ℕ) (k : ℕ) (now : State)
+  pub Ran-end_unique : (order : List ℕ) (k : ℕ) (now : State)
       → length order ≤ k
       → RanFirst order k now
       → (end : State)
       → Ran order system.start end
       → end ≡ now
-  ran_out order k now past r end o = subst (λ xs. Ran xs now end) (drop_all k order past) (r.goes end o)
+  Ran-end_unique order k now past r end o = subst (λ xs. Ran xs now end) (drop_all k order past) (r.goes end o)
 
   -- If all items of an order have reached a state, the order's run ends there.
-  pub ran_whole : (order : List ℕ) (k : ℕ) (now : State) → length order ≤ k → RanFirst order k now → Ran order system.start now
-  ran_whole order k now past r = r.comes now (subst (λ xs. Ran xs now now) (sym (drop_all k order past)) refl)
+  pub Ran-if_all_ran : (order : List ℕ) (k : ℕ) (now : State)
+      → length order ≤ k
+      → RanFirst order k now
+      → Ran order system.start now
+  Ran-if_all_ran order k now past r = r.comes now (subst (λ xs. Ran xs now now) (sym (drop_all k order past)) refl)
 
   -- If all items of an order have reached a state, the order's only outcome is that state's, and the state is final.
-  pub ends_alone : {order : List ℕ} {k : ℕ} {now : State}
+  pub outcome_at_end-unique : {order : List ℕ} {k : ℕ} {now : State}
       → length order ≤ k
       → RanFirst order k now
       → (o : FinalState)
       → FollowsPathsToEnd system items order o
       → (o ≡ system.outcome_of now) × IsTrue (system.is_final now)
-  ends_alone {order} {k} {now} past r o run =
-      let end : run.end ≡ now = ran_out order k now past r run.end run.ran in
-      (run.is ∙ ap system.outcome_of end, subst (λ (s : State). IsTrue (system.is_final s)) end run.final)
+  outcome_at_end-unique {order} {k} {now} past r o run =
+      let end : run.end ≡ now = Ran-end_unique order k now past r run.end run.ran in
+      (run.outcome_is ∙ ap system.outcome_of end, subst (λ (s : State). IsTrue (system.is_final s)) end run.final)
 
   -- If all items of an order have reached a final state, the order follows its paths and reaches that state's outcome.
-  pub ends_so : {order : List ℕ} {k : ℕ} {now : State}
+  pub FollowsPathsToEnd-if_final : {order : List ℕ} {k : ℕ} {now : State}
       → length order ≤ k
       → RanFirst order k now
       → IsTrue (system.is_final now)
       → FollowsPathsToEnd system items order (system.outcome_of now)
-  ends_so {order} {k} {now} past r final = record { end = now; ran = ran_whole order k now past r; final = final; is = refl }
+  FollowsPathsToEnd-if_final {order} {k} {now} past r final =
+      record { end = now; ran = Ran-if_all_ran order k now past r; final = final; outcome_is = refl }

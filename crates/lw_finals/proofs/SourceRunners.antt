@@ -1,4 +1,5 @@
--- The schedules of the orders of a source test's items reach the orders' outcomes.
+-- The schedules of the orders of a source test's items reach the orders' outcomes. For `entry` and `is_led`
+-- of the source runner.
 use Rattle.lw_finals.proofs.Common.{◌≡◌, ◌<◌, length, ℕ, subst, List, [], ◌∷◌, ◌++◌, refl, sym, ap, ap₂, ◌∙◌}
 use Rattle.lw_finals.proofs.Common.{All, slice_get, All-nil, All-cons, slice_get_within, same_Some, get-map}
 use Rattle.lw_finals.proofs.Common.{step-decompose, FinalState, thread_code, Event, Stmt, Thread, State}
@@ -7,34 +8,35 @@ use Rattle.lw_finals.proofs.Common.{statement_events, thread_events, after_step,
 use Rattle.lw_finals.proofs.Common.{item_at, OrderRunsTo, source_item_system, SourceFollowsPathsToEnd}
 use Rattle.lw_finals.proofs.Common.{ReplaysFlatTo, CompiledSource, HasStatementAt, events_at, item_events}
 use Rattle.lw_finals.proofs.Common.{threads_of, SourceItemTransition}
-use Rattle.lw_finals.proofs.SourceOutcomes.{order_runs_to}
+use Rattle.lw_finals.proofs.SourceOutcomes.{InterleavesTo-of_order}
 
 -- An item that is executed is a statement of its thread.
-there : (program : List (List Stmt)) (item : Item) (s next : State)
+HasStatementAt-if_executed : (program : List (List Stmt)) (item : Item) (s next : State)
     → SourceItemTransition program item s next
     → HasStatementAt program item
-there program item s next (at, step) =
+HasStatementAt-if_executed program item s next (at, step) =
     let a = get-map (λ (th : Thread). th.position) s.threads item.thread item.position at in
     let d = step-decompose program item.thread s next step in
-    let same : a.0 ≡ d.thread = same_Some a.0 d.thread (sym a.1 ∙ d.was) in
-    let index_in : item.position ≡ d.thread.position = a.2 ∙ ap (λ (th : Thread). th.position) same in
+    let same_thread : a.0 ≡ d.thread = same_Some a.0 d.thread (sym a.1 ∙ d.was) in
+    let index_in : item.position ≡ d.thread.position = a.2 ∙ ap (λ (th : Thread). th.position) same_thread in
     subst (λ (k : ℕ). k < length (thread_code program item.thread)) (sym index_in) (slice_get_within _ _ d.stmt d.at)
 
 -- Each item of an order that is executed is a statement of its thread.
-pub all_there : (test : SourceTest) (items : List Item) (order : List ℕ) (s end : State)
+pub HasStatementAt-all_executed : (test : SourceTest) (items : List Item) (order : List ℕ) (s end : State)
     → OrderRunsTo (source_item_system test) items order s end
     → All (λ i. HasStatementAt test.threads (item_at items i)) order
-all_there test items [] s end ran = All-nil (λ i. HasStatementAt test.threads (item_at items i))
-all_there test items (i ∷ order) s end (next, carried, ran) =
-    All-cons (λ j. HasStatementAt test.threads (item_at items j)) i order (there test.threads (item_at items i) s next carried)
-    (all_there test items order next end ran)
+HasStatementAt-all_executed test items [] s end ran = All-nil (λ i. HasStatementAt test.threads (item_at items i))
+HasStatementAt-all_executed test items (i ∷ order) s end (next, carried, ran) =
+    All-cons (λ j. HasStatementAt test.threads (item_at items j)) i order
+    (HasStatementAt-if_executed test.threads (item_at items i) s next carried)
+    (HasStatementAt-all_executed test items order next end ran)
 
 -- The schedule of an order's threads has the events of the order's items.
-of_items : (test : SourceTest) (starts : List (List ℕ)) (items : List Item) (order : List ℕ) (s end : State)
+compiled_schedule-of_items : (test : SourceTest) (starts : List (List ℕ)) (items : List Item) (order : List ℕ) (s end : State)
     → OrderRunsTo (source_item_system test) items order s end
     → compiled_schedule test.threads starts (threads_of items order) s ≡ item_events test.threads starts items order
-of_items test starts items [] s end ran = refl
-of_items test starts items (i ∷ order) s end (next, (at, step), ran) =
+compiled_schedule-of_items test starts items [] s end ran = refl
+compiled_schedule-of_items test starts items (i ∷ order) s end (next, (at, step), ran) =
     let item : Item = item_at items i in
     let a = get-map (λ (th : Thread). th.position) s.threads item.thread item.position at in
     let here : thread_events test.threads starts item.thread (slice_get s.threads item.thread)
@@ -45,10 +47,10 @@ of_items test starts items (i ∷ order) s end (next, (at, step), ran) =
     (sym a.2) in
     ap₂ (λ (es fs : List Event). es ++ fs) here
     (ap (λ o. after_step o (compiled_schedule test.threads starts (threads_of items order))) step
-    ∙ of_items test starts items order next end ran)
+    ∙ compiled_schedule-of_items test starts items order next end ran)
 
 -- The events of an order's items reach its outcome.
-pub leads : (t : CompiledSource) (items : List Item) (order : List ℕ) (events : List Event) (o : FinalState)
+pub ReplaysTo-item_events : (t : CompiledSource) (items : List Item) (order : List ℕ) (events : List Event) (o : FinalState)
     → SourceFollowsPathsToEnd t.source items order o
     → events ≡ item_events t.source.threads t.starts items order
     → ((p : FinalState)
@@ -56,7 +58,7 @@ pub leads : (t : CompiledSource) (items : List Item) (order : List ℕ) (events 
     → ReplaysTo flat_memory t.program t.program.head.init_words
     (compiled_schedule t.source.threads t.starts (threads_of items order) (initial_state t.source)) p)
     → ReplaysFlatTo t.program events o
-leads t items order events o stays is replays =
+ReplaysTo-item_events t items order events o stays is replays =
     subst (λ (es : List Event). ReplaysTo flat_memory t.program t.program.head.init_words es o)
-    (of_items t.source t.starts items order (initial_state t.source) stays.end stays.ran ∙ sym is)
-    (replays o (order_runs_to t.source items order o stays))
+    (compiled_schedule-of_items t.source t.starts items order (initial_state t.source) stays.end stays.ran ∙ sym is)
+    (replays o (InterleavesTo-of_order t.source items order o stays))

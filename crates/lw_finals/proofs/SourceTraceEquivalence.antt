@@ -1,30 +1,35 @@
 -- Trace-equivalent orders of a path assignment's items reach the same outcome, in either language, if adjacent items that neither conflict
--- nor are fixed commute.
+-- nor are fixed commute. SourceOutcomes and X86TraceEquivalence apply it to each language.
 use Rattle.lw_finals.proofs.Common.{◌≡◌, ◌≢◌, ℕ, suc, ◌<◌, true, List, [], ◌∷◌, ◌++◌, length, refl, sym, ap}
 use Rattle.lw_finals.proofs.Common.{◌∙◌, subst, inl, inr, arith, append_assoc, append-nil, length-append}
 use Rattle.lw_finals.proofs.Common.{cases_order, Contains-append_right, FinalState, Language, Constraints}
 use Rattle.lw_finals.proofs.Common.{index_in, IsOrder, IsLinearExtension, AreTraceEquivalent, AreDependent}
-use Rattle.lw_finals.proofs.Common.{IsAdjacentSwap, order_split, alike_orders_are_joined, kept_along, Item}
-use Rattle.lw_finals.proofs.Common.{item_at, items_of, statement_of, items_conflict, constraints_of}
-use Rattle.lw_finals.proofs.Common.{AreOrdered, kept, conflict_there, conflicts_up, conflict_mutual}
-use Rattle.lw_finals.proofs.Common.{ItemTransitionSystem, OrderRunsTo, FollowsPathsToEnd}
+use Rattle.lw_finals.proofs.Common.{IsAdjacentSwap, index_in-order_split}
+use Rattle.lw_finals.proofs.Common.{trace_equivalent_orders_are_connected, preserved-by_swaps, Item, item_at}
+use Rattle.lw_finals.proofs.Common.{items_of, statement_of, items_conflict, constraints_of, AreOrdered}
+use Rattle.lw_finals.proofs.Common.{HasOrdered-if_respected, Contains-conflict_pair, AreAscending-conflicts}
+use Rattle.lw_finals.proofs.Common.{conflict_by-sym, ItemTransitionSystem, OrderRunsTo, FollowsPathsToEnd}
 
 module _ {S : Type 0} (language : Language S) (program : List (List S)) (paths : List (List ℕ)) where
+  -- The items of the path assignment.
   abbrev items : List Item
   items = items_of language program paths
 
-  abbrev t : Constraints
-  t = constraints_of language program items
+  -- The items' fixed pairs and conflicts.
+  abbrev constraints : Constraints
+  constraints = constraints_of language program items
 
-  abbrev at : ℕ → Item
-  at i = item_at items i
+  -- The item at an index.
+  abbrev nth_item : ℕ → Item
+  nth_item i = item_at items i
 
-  abbrev Keeps : List ℕ → Type 0
-  Keeps = IsLinearExtension t
+  -- The list is an order of the items that respects the fixed pairs.
+  abbrev RespectsFixedPairs : List ℕ → Type 0
+  RespectsFixedPairs = IsLinearExtension constraints
 
   -- No fixed pair orders item x before item y.
   abbrev pub IsFree : ℕ → ℕ → Type 0
-  IsFree x y = x < y → (at x).thread ≡ (at y).thread → AreOrdered language program (at x) (at y) → ⊥
+  IsFree x y = x < y → (nth_item x).thread ≡ (nth_item y).thread → AreOrdered language program (nth_item x) (nth_item y) → ⊥
 
   -- The items x and y neither conflict nor are fixed, and are adjacent in the order, x at index k.
   pub record Neighbours (order : List ℕ) (k x y : ℕ) : Type 0 where
@@ -32,75 +37,89 @@ module _ {S : Type 0} (language : Language S) (program : List (List S)) (paths :
     pub y_below : y < length items
     pub x_index : index_in order x ≡ k
     pub y_index : index_in order y ≡ suc k
+    -- The two items differ.
     pub differ : x ≢ y
-    pub apart : items_conflict language program (at x) (at y) ≡ true → ⊥
+    pub apart : items_conflict language program (nth_item x) (nth_item y) ≡ true → ⊥
     pub forth : IsFree x y
     pub back : IsFree y x
 
-  neighbours : (xs ys : List ℕ)
-      → Keeps xs
-      → Keeps ys
-      → (e : IsAdjacentSwap (AreDependent t) xs ys)
+  -- If two orders that respect the fixed pairs differ by a swap of adjacent independent items, these items neither conflict nor are fixed.
+  Neighbours-of_swap : (xs ys : List ℕ)
+      → RespectsFixedPairs xs
+      → RespectsFixedPairs ys
+      → (e : IsAdjacentSwap (AreDependent constraints) xs ys)
       → Neighbours xs (length e.front) e.x e.y
-  neighbours xs ys ix iy e = record {
-    x_below = old.0;
-    y_below = old.1;
-    x_index = old.2;
-    y_index = old.3;
+  Neighbours-of_swap xs ys ix iy e = record {
+    x_below = indices_in_first.0;
+    y_below = indices_in_first.1;
+    x_index = indices_in_first.2;
+    y_index = indices_in_first.3;
     differ = differ;
     apart = λ c. elim (cases_order e.x e.y) [
       | inl same ↦ differ same
       | inr (inl less) ↦
-          e.free (inl (Contains-append_right t.fixed t.conflicts (e.x, e.y)
-          (conflict_there language program items e.x e.y less old.1 c)))
+          e.free (inl (Contains-append_right constraints.fixed constraints.conflicts (e.x, e.y)
+          (Contains-conflict_pair language program items e.x e.y less indices_in_first.1 c)))
       | inr (inr more) ↦
-          e.free (inr (Contains-append_right t.fixed _ (e.y, e.x)
-          (conflict_there language program items e.y e.x more old.0
-          (conflict_mutual language (at e.y).is_drain (at e.x).is_drain (statement_of language program (at e.y))
-          (statement_of language program (at e.x))
+          e.free (inr (Contains-append_right constraints.fixed _ (e.y, e.x)
+          (Contains-conflict_pair language program items e.y e.x more indices_in_first.0
+          (conflict_by-sym language (nth_item e.y).is_drain (nth_item e.x).is_drain (statement_of language program (nth_item e.y))
+          (statement_of language program (nth_item e.x))
           ∙ c))))
     ];
-    forth = λ less same ordered. omega (arith, kept language program paths ys iy.1 e.x e.y less old.1 same ordered, new.2, new.3);
-    back = λ less same ordered. omega (arith, kept language program paths xs ix.1 e.y e.x less old.0 same ordered, old.2, old.3);
+    forth = λ less same ordered. omega (
+      arith,
+      HasOrdered-if_respected language program paths ys iy.1 e.x e.y less indices_in_first.1 same ordered,
+      indices_in_second.2,
+      indices_in_second.3,
+    );
+    back = λ less same ordered. omega (
+      arith,
+      HasOrdered-if_respected language program paths xs ix.1 e.y e.x less indices_in_first.0 same ordered,
+      indices_in_first.2,
+      indices_in_first.3,
+    );
   }
     where
       -- The two adjacent items have these indices in an order.
-      stand : (order front : List ℕ) (x y : ℕ) (rest : List ℕ)
+      index_in-swapped_pair : (order front : List ℕ) (x y : ℕ) (rest : List ℕ)
           → IsOrder (length items) order
           → order ≡ front ++ x ∷ y ∷ rest
           → (x < length items) × (y < length items) × (index_in order x ≡ length front) × (index_in order y ≡ suc (length front))
-      stand order front x y rest is split =
+      index_in-swapped_pair order front x y rest is split =
           let again = split ∙ sym (append_assoc front (x ∷ []) (y ∷ rest)) in
-          let a = order_split (length items) x front (y ∷ rest) (subst (IsOrder (length items)) split is) in
-          let b = order_split (length items) y _ rest (subst (IsOrder (length items)) again is) in (
+          let a = index_in-order_split (length items) x front (y ∷ rest) (subst (IsOrder (length items)) split is) in
+          let b = index_in-order_split (length items) y _ rest (subst (IsOrder (length items)) again is) in (
             a.0,
             b.0,
             ap (λ zs. index_in zs x) split ∙ a.1,
             ap (λ zs. index_in zs y) again ∙ (b.1 ∙ omega (arith, length-append front (x ∷ []))),
           )
 
-      old : (e.x < length items)
+      -- The indices of the two items in the first order.
+      indices_in_first : (e.x < length items)
           × (e.y < length items)
           × (index_in xs e.x ≡ length e.front)
           × (index_in xs e.y ≡ suc (length e.front))
-      old = stand xs e.front e.x e.y e.rest ix.0 e.old
+      indices_in_first = index_in-swapped_pair xs e.front e.x e.y e.rest ix.0 e.old
 
-      new : (e.y < length items)
+      -- The indices of the two items in the second order.
+      indices_in_second : (e.y < length items)
           × (e.x < length items)
           × (index_in ys e.y ≡ length e.front)
           × (index_in ys e.x ≡ suc (length e.front))
-      new = stand ys e.front e.y e.x e.rest iy.0 e.new
+      indices_in_second = index_in-swapped_pair ys e.front e.y e.x e.rest iy.0 e.new
 
       differ : e.x ≢ e.y
-      differ same = omega (arith, ap (index_in xs) same, old.2, old.3)
+      differ same = omega (arith, ap (index_in xs) same, indices_in_first.2, indices_in_first.3)
 
   -- If one of two trace-equivalent orders that respect the fixed pairs follows its paths, so does the other, with the same outcome.
   abbrev pub OrdersEndAlike : {State : Type 0} → ItemTransitionSystem State → Type 0
   OrdersEndAlike system =
       (xs ys : List ℕ) (o : FinalState)
-      → Keeps xs
-      → Keeps ys
-      → AreTraceEquivalent t.conflicts xs ys
+      → RespectsFixedPairs xs
+      → RespectsFixedPairs ys
+      → AreTraceEquivalent constraints.conflicts xs ys
       → FollowsPathsToEnd system items xs o
       → FollowsPathsToEnd system items ys o
 
@@ -110,69 +129,74 @@ module _ {S : Type 0} (language : Language S) (program : List (List S)) (paths :
     pub record CanExchange : Type 0 where
       pub first : (order : List ℕ) → Holds order 0 system.start
       pub next : (order : List ℕ)
-          → Keeps order
+          → RespectsFixedPairs order
           → (k i : ℕ)
           → i < length items
           → index_in order i ≡ k
           → (s mid : State)
           → Holds order k s
-          → system.Carried (at i) s mid
+          → system.Carried (nth_item i) s mid
           → Holds order (suc k) mid
       pub exchange : (order : List ℕ)
-          → Keeps order
+          → RespectsFixedPairs order
           → (k x y : ℕ)
           → Neighbours order k x y
           → (s mid end : State)
           → Holds order k s
-          → system.Carried (at x) s mid
-          → system.Carried (at y) mid end
-          → (other : State) × system.Carried (at y) s other × system.Carried (at x) other end
+          → system.Carried (nth_item x) s mid
+          → system.Carried (nth_item y) mid end
+          → (other : State) × system.Carried (nth_item y) s other × system.Carried (nth_item x) other end
 
     module _ (can : CanExchange) where
+      -- The items of an order, executed in sequence, lead from one state to another.
       abbrev Ran : List ℕ → State → State → Type 0
       Ran = OrderRunsTo system items
 
-      exchanged : (xs ys : List ℕ)
-          → Keeps xs
-          → Keeps ys
-          → IsAdjacentSwap (AreDependent t) xs ys
+      -- After a swap of adjacent independent items an order's run has the same end.
+      Ran-after_swap : (xs ys : List ℕ)
+          → RespectsFixedPairs xs
+          → RespectsFixedPairs ys
+          → IsAdjacentSwap (AreDependent constraints) xs ys
           → (end : State)
           → Ran xs system.start end
           → Ran ys system.start end
-      exchanged xs ys ix iy e end ran =
+      Ran-after_swap xs ys ix iy e end ran =
           subst (λ zs. Ran zs system.start end) (sym e.new)
-          (walk [] e.front system.start e.old refl (can.first xs) (subst (λ zs. Ran zs system.start end) e.old ran))
+          (Ran-up_to_swap [] e.front system.start e.old refl (can.first xs) (subst (λ zs. Ran zs system.start end) e.old ran))
         where
           -- The run up to the two adjacent items.
-          walk : (before front : List ℕ) (s : State)
+          Ran-up_to_swap : (before front : List ℕ) (s : State)
               → xs ≡ before ++ (front ++ e.x ∷ e.y ∷ e.rest)
               → before ++ front ≡ e.front
               → Holds xs (length before) s
               → Ran (front ++ e.x ∷ e.y ∷ e.rest) s end
               → Ran (front ++ e.y ∷ e.x ∷ e.rest) s end
-          walk before [] s split is holds (mid, one, (after, two, rest)) =
+          Ran-up_to_swap before [] s split is holds (mid, one, (after, two, rest)) =
               let here : before ≡ e.front = sym (append-nil before) ∙ is in
               let o =
-              can.exchange xs ix (length e.front) e.x e.y (neighbours xs ys ix iy e) s mid after
+              can.exchange xs ix (length e.front) e.x e.y (Neighbours-of_swap xs ys ix iy e) s mid after
               (subst (λ (zs : List ℕ). Holds xs (length zs) s) here holds) one two in
               (o.0, o.1, (after, o.2, rest))
-          walk before (i ∷ front) s split is holds (mid, one, rest) =
+          Ran-up_to_swap before (i ∷ front) s split is holds (mid, one, rest) =
               let o =
-              order_split (length items) i before (front ++ e.x ∷ e.y ∷ e.rest) (subst (IsOrder (length items)) split ix.0) in
+              index_in-order_split (length items) i before (front ++ e.x ∷ e.y ∷ e.rest)
+              (subst (IsOrder (length items)) split ix.0) in
               let there : index_in xs i ≡ length before = ap (λ zs. index_in zs i) split ∙ o.1 in
               let more : suc (length before) ≡ length (before ++ i ∷ []) = omega (arith, length-append before (i ∷ [])) in (
                 mid,
                 one,
-                walk (before ++ i ∷ []) front mid (split ∙ sym (append_assoc before (i ∷ []) (front ++ e.x ∷ e.y ∷ e.rest)))
+                Ran-up_to_swap (before ++ i ∷ []) front mid
+                    (split ∙ sym (append_assoc before (i ∷ []) (front ++ e.x ∷ e.y ∷ e.rest)))
                     (append_assoc before (i ∷ []) front ∙ is)
                     (subst (λ (k : ℕ). Holds xs k mid) more (can.next xs ix (length before) i o.0 there s mid holds one)) rest,
               )
 
       -- Trace-equivalent orders reach the same outcome.
-      pub orders_end_alike : OrdersEndAlike system
-      orders_end_alike xs ys o ix iy alike r =
-          let joined = alike_orders_are_joined t (conflicts_up language program items) xs ys ix iy alike in
+      pub OrdersEndAlike-if_swaps : OrdersEndAlike system
+      OrdersEndAlike-if_swaps xs ys o ix iy alike r =
+          let joined =
+          trace_equivalent_orders_are_connected constraints (AreAscending-conflicts language program items) xs ys ix iy alike in
           let ran =
-          kept_along t (λ zs. Ran zs system.start r.end) (λ us vs iu iv e run. exchanged us vs iu iv e r.end run) xs ys ix joined
-          r.ran in
-          record { end = r.end; ran = ran; final = r.final; is = r.is }
+          preserved-by_swaps constraints (λ zs. Ran zs system.start r.end)
+          (λ us vs iu iv e run. Ran-after_swap us vs iu iv e r.end run) xs ys ix joined r.ran in
+          record { end = r.end; ran = ran; final = r.final; outcome_is = r.outcome_is }

@@ -1,30 +1,53 @@
--- The complete list of an x86 test.
-use Rattle.lw_finals.proofs.Common.{IsWellScopedProgram, [], Result, IfOk, OnOk, flat_memory, x86_language}
-use Rattle.lw_finals.proofs.Common.{X86Test, IsMachineOutcome, IsWithinLimits, OutcomeEntries, ReplaysFlatTo}
-use Rattle.lw_finals.proofs.Common.{CollectsOutcomes, OutcomesOfProgram, AreComplete, AreFlat, IsComplete}
-use Rattle.lw_finals.proofs.Common.{x86_item_system, X86FollowsPathsToEnd}
-use Rattle.lw_finals.proofs.CompleteLists.{listed}
-use Rattle.lw_finals.proofs.X86TraceEquivalence.{x86_orders_end_alike}
-use Rattle.lw_finals.proofs.X86Outcomes.{x86_outcomes}
+-- The complete list of an x86 test. It puts the premises of `CompleteLists` together for x86 tests.
+use Rattle.lw_finals.proofs.Common.{IsWellScopedProgram, Result, IfOk, OnOk, flat_memory, x86_language}
+use Rattle.lw_finals.proofs.Common.{X86Test, IsMachineOutcome, IsWithinLimits, OutcomeEntries, OutcomesWith}
+use Rattle.lw_finals.proofs.Common.{outcomes_of, ReplaysFlatTo, AreComplete, AreFlat, IsComplete}
+use Rattle.lw_finals.proofs.Common.{AreAllOutcomes, x86_item_system, ◌≡◌, subst, List, [], FinalState, Event}
+use Rattle.lw_finals.proofs.Common.{Instr, X86FollowsPathsToEnd, CollectsOutcomes, OutcomesOfProgram}
+use Rattle.lw_finals.proofs.CompleteLists.{CanBeListed, IsCollected, IsComplete-collected}
+use Rattle.lw_finals.proofs.CompleteLists.{AreAllOutcomes-collected}
+use Rattle.lw_finals.proofs.X86TraceEquivalence.{OrdersEndAlike-x86}
+use Rattle.lw_finals.proofs.X86Outcomes.{IsMachineOutcome-iff_choice}
 
--- What the orders of all path assignments collect is the complete list of the x86 test's outcomes.
-pub program_listed : (test : X86Test)
-    → IsWellScopedProgram test
-    → AreComplete
-    → AreFlat test
-    → {E : Type 0} (result : Result OutcomeEntries E)
-    → IfOk result (λ l.
-    CollectsOutcomes (OutcomesOfProgram x86_language (X86FollowsPathsToEnd flat_memory test test.head.init_words) test.threads)
-    (ReplaysFlatTo test) [] l)
-    → OnOk result (IsWithinLimits x86_language test.threads)
-    → IfOk result (IsComplete (IsMachineOutcome flat_memory test test.head.init_words) test)
-program_listed test is complete flat_too =
-    listed x86_language test (x86_item_system flat_memory test test.head.init_words)
-    (IsMachineOutcome flat_memory test test.head.init_words) test (record {
-      is = is;
-      alike = λ paths. x86_orders_end_alike test paths is;
-      complete = complete;
-      choices = λ o. x86_outcomes test o is;
-      same = λ o. ((λ m. m), (λ m. m));
-      flat_too = flat_too;
-    })
+module _ (test : X86Test) (well_scoped : IsWellScopedProgram test) (complete : AreComplete) (are_flat : AreFlat test) where
+  -- The list of a well-scoped x86 test is complete, for these reasons.
+  CanBeListed-x86 : CanBeListed x86_language test (x86_item_system flat_memory test test.head.init_words)
+      (IsMachineOutcome flat_memory test test.head.init_words) test
+  CanBeListed-x86 = record {
+    well_scoped = well_scoped;
+    alike = λ paths. OrdersEndAlike-x86 test paths well_scoped;
+    complete = complete;
+    choices = λ o. IsMachineOutcome-iff_choice test o well_scoped;
+    same = λ o. ((λ m. m), (λ m. m));
+    flat_too = are_flat;
+  }
+
+  -- What the orders of all path assignments collect is the complete list of the x86 test's outcomes.
+  pub IsComplete-x86_collected : {E : Type 0} (result : Result OutcomeEntries E)
+      → IfOk result (IsCollected x86_language test (x86_item_system flat_memory test test.head.init_words) (ReplaysFlatTo test))
+      → OnOk result (IsWithinLimits x86_language test.threads)
+      → IfOk result (IsComplete (IsMachineOutcome flat_memory test test.head.init_words) test)
+  IsComplete-x86_collected =
+      IsComplete-collected x86_language test (x86_item_system flat_memory test test.head.init_words)
+      (IsMachineOutcome flat_memory test test.head.init_words) test CanBeListed-x86
+
+  -- What is collected without schedules, by a runner of the test over the test's code, is exactly the test's outcomes.
+  pub AreAllOutcomes-x86_collected : {E : Type 0} (result : Result (OutcomesWith (Unit {0})) E) (t : X86Test)
+      (threads : List (List Instr))
+      → t ≡ test
+      → threads ≡ test.threads
+      → IfOk result (λ l.
+      CollectsOutcomes (OutcomesOfProgram x86_language (X86FollowsPathsToEnd flat_memory t t.head.init_words) threads)
+      (λ kept o. (events : List Event) × ReplaysFlatTo t events o) [] l)
+      → OnOk result (IsWithinLimits x86_language threads)
+      → IfOk result (λ l. AreAllOutcomes (IsMachineOutcome flat_memory test test.head.init_words) test (outcomes_of l))
+  AreAllOutcomes-x86_collected result t threads same_test same_threads collected within =
+      let Reached : X86Test → Unit {0} → FinalState → Type 0 = λ p kept o. (events : List Event) × ReplaysFlatTo p events o in
+      let Collected : X86Test → List (List Instr) → Type 0 = λ p code. IfOk result (λ l.
+      CollectsOutcomes (OutcomesOfProgram x86_language (X86FollowsPathsToEnd flat_memory p p.head.init_words) code) (Reached p) []
+      l) in
+      AreAllOutcomes-collected x86_language test (x86_item_system flat_memory test test.head.init_words)
+      (IsMachineOutcome flat_memory test test.head.init_words) test CanBeListed-x86 (Reached test) (λ kept o m. m) result
+      (subst (λ (p : X86Test). Collected p test.threads) same_test
+      (subst (λ (code : List (List Instr)). Collected t code) same_threads collected))
+      (subst (λ (code : List (List Instr)). OnOk result (IsWithinLimits x86_language code)) same_threads within)

@@ -1,4 +1,5 @@
--- Runs of the orders of an x86 test's items over any memory correspond to runs over flat memory; and so do their events.
+-- Runs of the orders of an x86 test's items over any memory correspond to runs over flat memory; and so do
+-- their events. For the loop of the x86 runner, which runs over MESI caches.
 use Rattle.lw_finals.proofs.Common.{◌≡◌, ℕ, ◌+◌, ◌≤◌, Bool, true, false, List, [], ◌∷◌, ◌++◌, length, Some}
 use Rattle.lw_finals.proofs.Common.{◌↔◌, ◌==◌, Ok, Err, refl, sym, ap, ◌∙◌, subst, IsTrue, eqb-true, eq-eqb}
 use Rattle.lw_finals.proofs.Common.{RunsTo-append, same_Some, FinalState, Event, Stop, flat_memory, Invariant}
@@ -7,15 +8,15 @@ use Rattle.lw_finals.proofs.Common.{EventResult, MachineTransition, over_flat_me
 use Rattle.lw_finals.proofs.Common.{initial_machine_state, IsInitialMemory, MachineTransition-deterministic}
 use Rattle.lw_finals.proofs.Common.{Instr, X86Test, Item, event_by, event_of, X86ItemTransition}
 use Rattle.lw_finals.proofs.Common.{x86_item_system, X86FollowsPathsToEnd}
-use Rattle.lw_finals.proofs.OrderSteps.{RanFirst, IsNext, ran_off, ran_on}
+use Rattle.lw_finals.proofs.OrderSteps.{RanFirst, IsNext, not-Ran-if_not_enabled, RanFirst-next}
 
 -- The thread of a step's item is at the item if and only if its position is the item's.
-pub item_stands : {M : Type 0} (a : Item) (s : MachineState M) (p q : ℕ)
+pub IsAtPosition-iff_item : {M : Type 0} (a : Item) (s : MachineState M) (p q : ℕ)
     → a.is_drain ≡ false
     → q ≡ a.position
     → position_of s a.thread ≡ Some p
     → IsTrue (p == q) ↔ IsAtPosition (event_of a) a.position s
-item_stands a s p q step same at =
+IsAtPosition-iff_item a s p q step same at =
     subst (λ (d : Bool). IsTrue (p == q) ↔ IsAtPosition (event_by d a.thread) a.position s) (sym step)
     ((λ t. at ∙ ap Some (eqb-true p q t ∙ same)), (λ h. eq-eqb p q (same_Some p a.position (sym at ∙ h) ∙ sym same)))
 
@@ -26,13 +27,14 @@ no_eviction false t = refl
 
 module _ {M : Type 0} (mem : Memory M) where
   -- A thread's position does not depend on the memory.
-  stands_flat : (b : Bool) (t j : ℕ) (s : MachineState M)
+  IsAtPosition-iff_flat : (b : Bool) (t j : ℕ) (s : MachineState M)
       → IsAtPosition (event_by b t) j s ↔ IsAtPosition (event_by b t) j (over_flat_memory mem s)
-  stands_flat true t j s = ((λ h. h), (λ h. h))
-  stands_flat false t j s = ((λ h. h), (λ h. h))
+  IsAtPosition-iff_flat true t j s = ((λ h. h), (λ h. h))
+  IsAtPosition-iff_flat false t j s = ((λ h. h), (λ h. h))
 
   -- A machine may start on a memory that was reset to the test's initial words.
-  pub can_start : (test : X86Test) (m : M) (inv : Invariant M) {program threads : List (List Instr)} {words : List ℕ}
+  pub IsInitialMemory-after_reset : (test : X86Test) (m : M) (inv : Invariant M) {program threads : List (List Instr)}
+      {words : List ℕ}
       → inv.sound m
       → length program ≤ inv.cpus m
       → mem.content m ≡ words
@@ -40,7 +42,7 @@ module _ {M : Type 0} (mem : Memory M) where
       → threads ≡ test.threads
       → words ≡ test.head.init_words
       → IsInitialMemory mem inv test m
-  can_start test m inv sound cpus content same is initial = record {
+  IsInitialMemory-after_reset test m inv sound cpus content same is initial = record {
     sound = sound;
     cpus = subst (λ (p : List (List Instr)). length p ≤ inv.cpus m) (same ∙ is) cpus;
     words = content ∙ initial;
@@ -73,12 +75,12 @@ module _ {M : Type 0} (mem : Memory M) where
           over_flat r.events now after (event_of item) answer r.reached (no_eviction item.is_drain item.thread) done
 
       -- One more item is executed.
-      pub carried_on : (order : List ℕ) (k : ℕ) (item : Item) (now next : MachineState M)
+      pub RanFlat-next : (order : List ℕ) (k : ℕ) (item : Item) (now next : MachineState M)
           → IsNext items order k item
           → RanFlat order k now
           → X86ItemTransition mem test.threads item now next
           → RanFlat order (k + 1) next
-      carried_on order k item now next one r carried =
+      RanFlat-next order k item now next one r carried =
           let done = done_flat order k item now next (Ok tt) r carried.done in
           record {
             events = r.events ++ event_of item ∷ [];
@@ -86,14 +88,15 @@ module _ {M : Type 0} (mem : Memory M) where
                 RunsTo-append (MachineTransition mem test.threads) r.events (event_of item ∷ []) (initial_machine_state test m)
                 now next r.reached (next, carried.done, refl);
             first =
-                ran_on (x86_item_system flat_memory test test.head.init_words) items order k item _ _ one
-                (record { stands = (stands_flat _ item.thread item.position now).0 carried.stands; done = done }) (λ other c.
+                RanFirst-next (x86_item_system flat_memory test test.head.init_words) items order k item _ _ one
+                (record { stands = (IsAtPosition-iff_flat _ item.thread item.position now).0 carried.stands; done = done })
+                (λ other c.
                 (MachineTransition-deterministic test.threads (event_of item) (over_flat_memory mem now) other _ (Ok tt) (Ok tt)
                 c.done done).1) r.first;
           }
 
       -- An item that is not executed ends every run.
-      pub left_off : (order : List ℕ) (k : ℕ) (item : Item) (now after : MachineState M)
+      pub not-outcome_if_refused : (order : List ℕ) (k : ℕ) (item : Item) (now after : MachineState M)
           → IsNext items order k item
           → RanFlat order k now
           → (IsAtPosition (event_of item) item.position now
@@ -101,14 +104,15 @@ module _ {M : Type 0} (mem : Memory M) where
           → (o : FinalState)
           → X86FollowsPathsToEnd flat_memory test test.head.init_words items order o
           → ⊥
-      left_off order k item now after one r refused o run =
-          ran_off _ items order k item (over_flat_memory mem now) one none r.first run.end run.ran
+      not-outcome_if_refused order k item now after one r refused o run =
+          not-Ran-if_not_enabled _ items order k item (over_flat_memory mem now) one not_enabled r.first run.end run.ran
         where
-          none : (next : MachineState (List ℕ))
+          -- The item is not enabled over flat memory either.
+          not_enabled : (next : MachineState (List ℕ))
               → X86ItemTransition flat_memory test.threads item (over_flat_memory mem now) next
               → ⊥
-          none next c =
-              let no = refused ((stands_flat item.is_drain item.thread item.position now).1 c.stands) in
+          not_enabled next c =
+              let no = refused ((IsAtPosition-iff_flat item.is_drain item.thread item.position now).1 c.stands) in
               let done = done_flat order k item now after (Err no.0) r no.1 in
               let same =
               (MachineTransition-deterministic _ (event_of item) (over_flat_memory mem now) next _ (Ok tt) _ c.done done).0 in

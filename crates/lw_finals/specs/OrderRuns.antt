@@ -29,7 +29,7 @@ module _ {State : Type 0} (system : ItemTransitionSystem State) where
     pub end : State
     pub ran : OrderRunsTo items order system.start end
     pub final : IsTrue (system.is_final end)
-    pub is : o ≡ system.outcome_of end
+    pub outcome_is : o ≡ system.outcome_of end
 
   -- The outcome is one of a path assignment: that of a linear extension of its items.
   pub record IsChoiceOutcome {S : Type 0} (language : Language S) (program : List (List S)) (paths : List (List ℕ)) (o : FinalState) : Type 0 where

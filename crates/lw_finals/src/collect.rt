@@ -12,7 +12,7 @@ ghost use Rattle.lw_paths.specs.Visits.{IsVisitable};
 use crate::runner::OrderRunner;
 use lw_base::Sequence;
 use lw_litmus::Statement;
-use lw_orders::{Order, Orders, one_order_goes_up};
+use lw_orders::{Order, Orders, one_order_without_open_conflicts};
 use lw_outcome_map::{Listing, OutcomeMap};
 use lw_paths::{
     Item, ListFault, PathAssignment, Visitor, check_limits, conflicts_of, fill_few_items,
@@ -20,12 +20,13 @@ use lw_paths::{
 };
 use std::alloc::{AllocError, Allocator};
 
-/// Runs an order of items, and adds its outcome with a schedule if it is new. A known outcome costs one look-up.
+/// Runs an order of items, and adds its outcome with what is kept for it if it is new. A known outcome costs one look-up.
+#[inline(always)]
 fn collect_order<A: Allocator, R: OrderRunner<A>>(
     runner: &mut R,
     items: &[Item],
     order: &[u8],
-    found: &mut OutcomeMap<A>,
+    found: &mut OutcomeMap<A, R::Kept>,
 ) -> Result<(), AllocError>
     requires { All (λ i. i < length items.now) order.now }
     ensures same { R.test runner.new ≡ R.test runner.old }
@@ -38,20 +39,20 @@ fn collect_order<A: Allocator, R: OrderRunner<A>>(
     add_last_outcome(runner, items, order, found)
 }
 
-/// Adds the outcome of the last run, which is new, with a schedule that reaches it.
+/// Adds the outcome of the last run, which is new, with what is kept for it.
 fn add_last_outcome<A: Allocator, R: OrderRunner<A>>(
     runner: &R,
     items: &[Item],
     order: &[u8],
-    found: &mut OutcomeMap<A>,
+    found: &mut OutcomeMap<A, R::Kept>,
 ) -> Result<(), AllocError>
     requires within { All (λ i. i < length items.now) order.now }
     requires ran { RunResult (R.ends (R.test runner.now) items.now order.now) true (R.end runner.now) }
     requires new { ¬ Contains (outcomes_of found.old) (R.end runner.now) }
     ensures { OnOk result (CollectsOutcomes (R.ends (R.test runner.now) items.now order.now) (R.leads (R.test runner.now)) found.old found.new) }
 {
-    let (outcome, schedule) = runner.entry(items, order)?;
-    found.insert_new(outcome, schedule)
+    let (outcome, kept) = runner.entry(items, order)?;
+    found.insert_new(outcome, kept)
 }
 
 /// Runs each of these orders of items, and collects their outcomes.
@@ -59,7 +60,7 @@ fn collect_orders<A: Allocator, R: OrderRunner<A>>(
     runner: &mut R,
     items: &[Item],
     orders: Orders<A>,
-    found: &mut OutcomeMap<A>,
+    found: &mut OutcomeMap<A, R::Kept>,
 ) -> Result<(), AllocError>
     requires { All (λ o. All (λ i. i < length items.now) o) orders.to_come }
     ensures same { R.test runner.new ≡ R.test runner.old }
@@ -81,7 +82,7 @@ fn collect_items<S: Statement, A: Allocator + Copy, B: Allocator, R: OrderRunner
     is_apart: bool,
     runner: &mut R,
     items: &[Item],
-    found: &mut OutcomeMap<A>,
+    found: &mut OutcomeMap<A, R::Kept>,
 ) -> Result<(), ListFault>
     requires few { length items.now ≤ most_items }
     requires apart { is_apart ≡ true → (constraints_of S.language program.now items.now).conflicts ≡ [] }
@@ -108,7 +109,7 @@ fn collect_conflicting<S: Statement, A: Allocator + Copy, B: Allocator, R: Order
     runner: &mut R,
     items: &[Item],
     conflicts: Vec<(u8, u8), A>,
-    found: &mut OutcomeMap<A>,
+    found: &mut OutcomeMap<A, R::Kept>,
 ) -> Result<(), ListFault>
     requires few { length items.now ≤ most_items }
     requires conflicts { conflicts.items ≡ (constraints_of S.language program.now items.now).conflicts }
@@ -131,7 +132,7 @@ fn collect_single_order<S: Statement, A: Allocator, B: Allocator, R: OrderRunner
     program: &[Sequence<S, B>],
     runner: &mut R,
     items: &[Item],
-    found: &mut OutcomeMap<A>,
+    found: &mut OutcomeMap<A, R::Kept>,
 ) -> Result<(), ListFault>
     requires few { length items.now ≤ most_items }
     requires none { (constraints_of S.language program.now items.now).conflicts ≡ [] }
@@ -141,7 +142,7 @@ fn collect_single_order<S: Statement, A: Allocator, B: Allocator, R: OrderRunner
         (R.leads (R.test runner.old)) found.old found.new) }
     ensures err { IfErr result (TellsOfGiven S.language program.now items.now) }
 {
-    one_order_goes_up();
+    one_order_without_open_conflicts();
     let order = Order::ascending(items.len());
     collect_order(runner, items, order.as_slice(), found)?;
     Ok(())
@@ -149,14 +150,14 @@ fn collect_single_order<S: Statement, A: Allocator, B: Allocator, R: OrderRunner
 
 /// The visitor that collects the outcomes of path assignments.
 #[derive(Drop)]
-struct Gatherer<'a, 'r, S: Statement, A: Allocator, B: Allocator, R> {
+struct Gatherer<'a, 'r, S: Statement, A: Allocator, B: Allocator, R: OrderRunner<A>> {
     alloc: A,
     program: &'a [Sequence<S, B>],
     // Whether it is known that nothing conflicts.
     is_apart: bool,
     items: Vec<Item, A>,
     runner: &'r mut R,
-    found: OutcomeMap<A>,
+    found: OutcomeMap<A, R::Kept>,
     ghost apart: { is_apart ≡ true → (items : List Item) → (constraints_of S.language program.now items).conflicts ≡ [] },
 }
 
@@ -188,7 +189,7 @@ pub(crate) fn list_program<S: Statement, A: Allocator + Copy, B: Allocator, R: O
     alloc: A,
     program: &[Sequence<S, B>],
     runner: &mut R,
-) -> Result<Listing<A>, ListFault>
+) -> Result<Listing<A, R::Kept>, ListFault>
     requires { IsVisitable S.language program.now }
     ensures within { OnOk result (IsWithinLimits S.language program.now) }
     ensures err { IfErr result (LimitFaultIsTrue S.language program.now) }

@@ -33,7 +33,7 @@ pub(crate) fn lists_are_complete()
 
 /// States of two trace-equivalent linear extensions of a path assignment's items: if one follows the paths to a final
 /// state, the other does too, and has the same outcome.
-pub fn alike_source_orders_end_alike()
+pub fn trace_equivalent_source_orders_have_one_outcome()
     ensures { (s : SourceTest) (paths : List (List ℕ)) (xs ys : List ℕ) (o : FinalState)
         → IsLinearExtension (constraints_of source_language s.threads (items_of source_language s.threads paths)) xs
         → IsLinearExtension (constraints_of source_language s.threads (items_of source_language s.threads paths)) ys
@@ -44,14 +44,14 @@ pub fn alike_source_orders_end_alike()
 
 /// States that the outcomes of a source test are those of its path assignments: of the linear extensions of their
 /// items that follow the paths to a final state.
-pub fn source_outcomes_are_those_of_choices()
+pub fn source_outcomes_are_those_of_path_assignments()
     ensures { (s : SourceTest) (o : FinalState) → IsWellScopedSource s
         → SourceOutcome s o ↔ ((paths : List (List ℕ)) × IsPathAssignment source_language s.threads paths × IsSourceChoiceOutcome s paths o) }
 {}
 
 /// States of two trace-equivalent linear extensions of the items of an x86 test's path assignment, over flat memory:
 /// if one follows the paths to a final state, the other does too, and has the same outcome.
-pub fn alike_x86_orders_end_alike()
+pub fn trace_equivalent_x86_orders_have_one_outcome()
     ensures { (test : X86Test) (paths : List (List ℕ)) (xs ys : List ℕ) (o : FinalState)
         → IsWellScopedProgram test → IsPathAssignment x86_language test.threads paths
         → IsLinearExtension (constraints_of x86_language test.threads (items_of x86_language test.threads paths)) xs
@@ -63,7 +63,7 @@ pub fn alike_x86_orders_end_alike()
 
 /// States that the outcomes of an x86 test over flat memory are those of its path assignments: of the linear
 /// extensions of their items that follow the paths to a final state.
-pub fn x86_outcomes_are_those_of_choices()
+pub fn x86_outcomes_are_those_of_path_assignments()
     ensures { (test : X86Test) (o : FinalState) → IsWellScopedProgram test
         → IsMachineOutcome flat_memory test test.head.init_words o
         ↔ ((paths : List (List ℕ)) × IsPathAssignment x86_language test.threads paths × machine.IsX86ChoiceOutcome flat_memory test test.head.init_words paths o) }

@@ -1,13 +1,14 @@
 //! The complete lists of final states. The list of a source test has each reachable outcome once, with a schedule of
 //! the compiled program that reaches it; the list of an x86 test has each outcome that the machine reaches, with a
-//! schedule. Crates above rely on the contracts of `list_source` and `list_raw`.
+//! schedule. `list_source_outcomes` and `list_raw_outcomes` list the same outcomes without schedules. Crates above
+//! rely on the contracts of these four.
 //! How a list is made, for either language:
 //! 1. lw_paths visits each path assignment, and computes its items with their preserved pairs and conflicts; it also
 //!    checks the limits.
 //! 2. lw_orders enumerates one order of the items for each orientation of the conflicts.
 //! 3. `runner`, `source_runner`, `x86_runner`, `collect`: each enumerated order is run once. An order that leaves its
-//!    paths is dropped; the outcome of any other is looked up in the map of lw_outcome_map, and inserted with its
-//!    schedule if it is new.
+//!    paths is dropped; the outcome of any other is looked up in the map of lw_outcome_map, and inserted if it is new,
+//!    with its schedule if schedules are kept.
 //! Why the list is complete: `laws`. Every run of the test is a linear extension of the items of some path
 //! assignment; it is trace-equivalent to an enumerated order; and trace-equivalent orders have the same outcome. (So
 //! the list is made by partial-order reduction.)
@@ -23,13 +24,13 @@ mod source_runner;
 mod x86_runner;
 
 pub use laws::{
-    alike_source_orders_end_alike, alike_x86_orders_end_alike,
-    source_outcomes_are_those_of_choices, x86_outcomes_are_those_of_choices,
+    source_outcomes_are_those_of_path_assignments, trace_equivalent_source_orders_have_one_outcome,
+    trace_equivalent_x86_orders_have_one_outcome, x86_outcomes_are_those_of_path_assignments,
 };
-pub use list::{list_raw, list_source};
-pub use lw_outcome_map::{Listing, outcomes_stand_once};
+pub use list::{list_raw, list_raw_outcomes, list_source, list_source_outcomes};
+pub use lw_outcome_map::{Listing, OutcomeList, outcomes_stand_once};
 pub use lw_paths::{
-    ListFault, Path, PathAssignment, Visitor, choices_are_complete, source_tests_have_few_items,
-    visit_choices,
+    ListFault, Path, PathAssignment, Visitor, path_assignments_are_complete,
+    source_tests_have_few_items, visit_choices,
 };
 pub use lw_tso_caches::{outcomes_over_caches_are_flat, replays_over_caches_are_flat};

@@ -120,6 +120,8 @@ fn schedule_of_items<A: Allocator>(
 }
 
 impl<'a, A: Allocator + Copy> OrderRunner<A> for SourceRunner<'a, A> {
+    type Kept = Sequence<Event, A>;
+
     ghost Test = { CompiledSource };
 
     ghost test = { λ r. r.test };
@@ -149,6 +151,13 @@ impl<'a, A: Allocator + Copy> OrderRunner<A> for SourceRunner<'a, A> {
     /// Returns the outcome of the last run that followed its paths.
     fn last_outcome(&self) -> &Outcome<A> {
         &self.end
+    }
+
+    /// States that some schedule of the compiled program reaches the outcome.
+    fn is_led(&self, _items: &[Item], _order: &[u8]) {
+        // (The proof needs the runner's invariant, which holds when a field is read.)
+        let _source = self.source;
+        schedules_replay();
     }
 
     /// Returns the outcome of the last run, with a schedule of the compiled program that reaches it.

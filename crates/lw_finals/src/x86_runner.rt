@@ -12,7 +12,7 @@ use crate::runner::{OrderRunner, copy_outcome};
 use lw_base::{Event, Outcome, Sequence};
 use lw_litmus::Program;
 use lw_memory::MemorySystem;
-use lw_mesi::{Mesi, empty_caches_are_kept};
+use lw_mesi::{Mesi, empty_caches_are_coherent};
 use lw_paths::Item;
 use lw_tso::{Machine, events_are_flat};
 use std::alloc::{AllocError, Allocator};
@@ -132,7 +132,7 @@ impl<'a, A: Allocator + Copy> X86Runner<'a, A> {
     pub(crate) fn new(alloc: A, program: &'a Program<A>) -> Result<Self, AllocError>
         ensures test { IfOk result (λ r. r.test ≡ program_of program.now) }
     {
-        empty_caches_are_kept();
+        empty_caches_are_coherent();
         let end = first_outcome(program)?;
         let words = program.head.init_words.as_slice();
         let caches: Mesi<A> = Mesi::new(alloc, program.head.threads, words)?;
@@ -149,6 +149,8 @@ impl<'a, A: Allocator + Copy> X86Runner<'a, A> {
 }
 
 impl<'a, A: Allocator + Copy> OrderRunner<A> for X86Runner<'a, A> {
+    type Kept = Sequence<Event, A>;
+
     ghost use Rattle.lw_litmus.specs.Tests.{X86Test};
 
     ghost Test = { X86Test };
@@ -182,6 +184,9 @@ impl<'a, A: Allocator + Copy> OrderRunner<A> for X86Runner<'a, A> {
     fn last_outcome(&self) -> &Outcome<A> {
         &self.end
     }
+
+    /// States that some schedule reaches the outcome.
+    fn is_led(&self, _items: &[Item], _order: &[u8]) {}
 
     /// Returns the outcome of the last run, with the schedule of the order's events.
     fn entry(

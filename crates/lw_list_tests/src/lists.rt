@@ -1,8 +1,8 @@
 //! Complete lists of source tests whose outcomes and schedules are worked out by hand.
 use lw_base::{Arch, Head, Outcome, Sequence, Word, read_schedule, reg_from_name};
-use lw_finals::list_source;
+use lw_finals::{list_source, list_source_outcomes};
 use lw_litmus::Source;
-use lw_outcome_map::Listing;
+use lw_outcome_map::{Listing, OutcomeList};
 use lw_test_reader::source_of;
 use std::alloc::Global;
 
@@ -106,10 +106,34 @@ fn is_told(alloc: Global, head: &Head, listing: &Listing, told: &str) -> Option<
     Some(are_entries(alloc, head, listing, entries)? && are_missing(alloc, head, listing, missing)?)
 }
 
-/// Returns whether the list of a test is as a line says.
+/// Returns whether a list without schedules has the outcomes of a listing, in the same order.
+fn has_outcomes_of(list: &OutcomeList, listing: &Listing) -> bool {
+    if list.len() != listing.len() {
+        return false;
+    }
+    for place in 0..listing.len() {
+        if *list.outcome(place) != *listing.outcome(place) {
+            return false;
+        }
+    }
+    true
+}
+
+/// Returns whether the list of a test without schedules has the outcomes of a listing.
+fn is_listed_without_schedules(alloc: Global, source: &Source, listing: &Listing) -> bool {
+    match list_source_outcomes(alloc, source) {
+        Ok(list) => has_outcomes_of(&list, listing),
+        Err(_) => false,
+    }
+}
+
+/// Returns whether the list of a test is as a line says, with schedules and without.
 fn is_listed(alloc: Global, source: &Source, told: &str) -> bool {
     match list_source(alloc, source) {
-        Ok(listing) => is_told(alloc, &source.head, &listing, told) == Some(true),
+        Ok(listing) => {
+            is_told(alloc, &source.head, &listing, told) == Some(true)
+                && is_listed_without_schedules(alloc, source, &listing)
+        }
         Err(_) => false,
     }
 }

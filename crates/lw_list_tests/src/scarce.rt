@@ -1,6 +1,6 @@
 //! Making lists while memory is refused, each growth in turn.
-use lw_finals::{list_raw, list_source};
-use lw_outcome_map::Listing;
+use lw_finals::{list_raw, list_raw_outcomes, list_source, list_source_outcomes};
+use lw_outcome_map::{Listing, OutcomeList};
 use lw_paths::ListFault;
 use lw_test_reader::{Made, MadeByAllocator, Refusing, program_of, refusals, source_of};
 use std::alloc::Allocator;
@@ -41,6 +41,31 @@ fn listed<A: Allocator>(
     }
 }
 
+/// Returns whether two lists without schedules have the same outcomes.
+fn are_same_outcomes<A: Allocator>(list: &OutcomeList<A>, other: &OutcomeList<A>) -> bool {
+    if list.len() != other.len() {
+        return false;
+    }
+    for place in 0..list.len() {
+        if *list.outcome(place) != *other.outcome(place) {
+            return false;
+        }
+    }
+    true
+}
+
+/// Makes a list without schedules, and compares it, if it is whole, with the one that is made of the same test afterwards.
+fn outcomes_listed<A: Allocator>(
+    list: Result<OutcomeList<A>, ListFault>,
+    whole: Result<OutcomeList<A>, ListFault>,
+) -> Option<Made> {
+    match (list, whole) {
+        (Ok(list), Ok(whole)) => are_same_outcomes(&list, &whole).then_some(Made::Whole),
+        (Err(ListFault::Memory), Ok(_)) => Some(Made::Refused),
+        _ => None,
+    }
+}
+
 /// Lists store buffering.
 struct SourceList;
 
@@ -61,6 +86,32 @@ impl MadeByAllocator for X86List {
     }
 }
 
+/// Lists the outcomes of store buffering without schedules.
+struct SourceOutcomes;
+
+impl MadeByAllocator for SourceOutcomes {
+    fn make<'a>(&self, ample: &'a Refusing, scarce: &'a Refusing) -> Option<Made> {
+        let source = source_of(ample, STORE_BUFFERING)?;
+        outcomes_listed(
+            list_source_outcomes(scarce, &source),
+            list_source_outcomes(ample, &source),
+        )
+    }
+}
+
+/// Lists the outcomes of store buffering in x86 instructions without schedules.
+struct X86Outcomes;
+
+impl MadeByAllocator for X86Outcomes {
+    fn make<'a>(&self, ample: &'a Refusing, scarce: &'a Refusing) -> Option<Made> {
+        let program = program_of(ample, X86_STORE_BUFFERING)?;
+        outcomes_listed(
+            list_raw_outcomes(scarce, &program),
+            list_raw_outcomes(ample, &program),
+        )
+    }
+}
+
 #[test]
 fn lists_where_memory_is_refused(rt: HostRuntime) {
     let lists = refusals(rt.alloc(), &SourceList);
@@ -69,5 +120,15 @@ fn lists_where_memory_is_refused(rt: HostRuntime) {
     assert!(rt;
         matches!(x86_lists, Some(number) if number > 0),
         "{x86_lists:?}"
+    );
+    let outcomes = refusals(rt.alloc(), &SourceOutcomes);
+    assert!(rt;
+        matches!(outcomes, Some(number) if number > 0),
+        "{outcomes:?}"
+    );
+    let x86_outcomes = refusals(rt.alloc(), &X86Outcomes);
+    assert!(rt;
+        matches!(x86_outcomes, Some(number) if number > 0),
+        "{x86_outcomes:?}"
     );
 }

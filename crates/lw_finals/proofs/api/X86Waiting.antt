@@ -1,4 +1,5 @@
 -- Which stores of a thread wait in its store buffer, by their positions, along a run of items of an x86 test.
+-- The buffer's entries are those of the waiting stores, in order; so a drain is that of a known store.
 use Rattle.lw_finals.proofs.Common.{◌≡◌, ℕ, Bool, true, false, if◌then◌else◌, List, [], ◌∷◌, ◌++◌, map}
 use Rattle.lw_finals.proofs.Common.{Option, Some, None, refl, sym, ap, ◌∙◌, subst, inl, inr, arith, slice_get}
 use Rattle.lw_finals.proofs.Common.{slice_set, option_map, true≢false, cases_eq, cond-true, cond-false}
@@ -7,18 +8,19 @@ use Rattle.lw_finals.proofs.Common.{get-map, flat_memory, Operation, Instr, IsFl
 use Rattle.lw_finals.proofs.Common.{location_of, x86_operation, x86_language, X86Test, EventEffect}
 use Rattle.lw_finals.proofs.Common.{step_effect, drain_effect, TransitionAt, MachineState, Processor}
 use Rattle.lw_finals.proofs.Common.{initial_processor, initial_machine_state, state, EffectLeadsTo}
-use Rattle.lw_finals.proofs.Common.{EventOccurrence, effect_of_event, Buffers, OperationTransition}
-use Rattle.lw_finals.proofs.Common.{operation_does, JumpsForward, Item, drained_location, statement_of}
-use Rattle.lw_finals.proofs.Common.{follows_within, IsMember, event_by}
-use Rattle.lw_finals.proofs.api.Waiting.{IsAscendingBetween, own_waits, drain_climbs, statement_climbs}
-use Rattle.lw_finals.proofs.api.Waiting.{entry_location, waits_after, waits_same, waits_other}
+use Rattle.lw_finals.proofs.Common.{EventOccurrence, EventOccurrence-of_event, Buffers, OperationTransition}
+use Rattle.lw_finals.proofs.Common.{OperationTransition-of_effect, JumpsForward, Item, drained_location}
+use Rattle.lw_finals.proofs.Common.{statement_of, IsFlowSuccessor-in_range, IsMember, event_by}
+use Rattle.lw_finals.proofs.api.Waiting.{IsAscendingBetween, own_waits, IsAscendingBetween-after_drain}
+use Rattle.lw_finals.proofs.api.Waiting.{IsAscendingBetween-after_statement, entry_location, waits_after}
+use Rattle.lw_finals.proofs.api.Waiting.{waits_after-same_thread, waits_after-other_thread}
 
 -- ---- the effect of an item
 
 -- The effect of a thread's drain (true) or step (false).
-abbrev pub act_by : List (List Instr) → ℕ → Bool → Processor → EventEffect
-act_by program t true p = drain_effect p.buffer p
-act_by program t false p = step_effect (slice_get (thread_code program t) p.position) p
+abbrev pub effect_by : List (List Instr) → ℕ → Bool → Processor → EventEffect
+effect_by program t true p = drain_effect p.buffer p
+effect_by program t false p = step_effect (slice_get (thread_code program t) p.position) p
 
 -- A drain of thread t (b is true), or its step from position j, leads from the state s to `mid`: the processor before and after.
 pub record ItemStep (program : List (List Instr)) (t j : ℕ) (b : Bool) (s mid : MachineState (List ℕ)) : Type 0 where
@@ -27,15 +29,15 @@ pub record ItemStep (program : List (List Instr)) (t j : ℕ) (b : Bool) (s mid 
   pub words : List ℕ
   pub was : slice_get s.processors t ≡ Some old
   pub stands : b ≡ false → old.position ≡ j
-  pub does : EffectLeadsTo s.memory (act_by program t b old) new words
-  pub is : mid ≡ state (slice_set s.processors t new) words
+  pub does : EffectLeadsTo s.memory (effect_by program t b old) new words
+  pub state_is : mid ≡ state (slice_set s.processors t new) words
 
 -- An item's event that is executed is a step of its thread from the item's position, or a drain.
-pub carried : (program : List (List Instr)) (t j : ℕ) (b : Bool) (s mid : MachineState (List ℕ))
+pub ItemStep-of_transition : (program : List (List Instr)) (t j : ℕ) (b : Bool) (s mid : MachineState (List ℕ))
     → TransitionAt flat_memory program (event_by b t) j s mid
     → ItemStep program t j b s mid
-carried program t j true s mid d =
-    let x : EventOccurrence program (event_by true t) s mid = effect_of_event program (event_by true t) s mid d.done in
+ItemStep-of_transition program t j true s mid d =
+    let x : EventOccurrence program (event_by true t) s mid = EventOccurrence-of_event program (event_by true t) s mid d.done in
     record {
       old = x.from;
       new = x.to;
@@ -43,24 +45,25 @@ carried program t j true s mid d =
       was = x.was;
       stands = λ f. absurd (true≢false f);
       does = x.does;
-      is = x.is;
+      state_is = x.state_is;
     }
-carried program t j false s mid d =
-    let x : EventOccurrence program (event_by false t) s mid = effect_of_event program (event_by false t) s mid d.done in
+ItemStep-of_transition program t j false s mid d =
+    let x : EventOccurrence program (event_by false t) s mid = EventOccurrence-of_event program (event_by false t) s mid d.done in
     record {
       old = x.from;
       new = x.to;
       words = x.words;
       was = x.was;
-      stands = λ f. same_Some x.from.position j (sym (at x.from x.was) ∙ d.stands);
+      stands = λ f. same_Some x.from.position j (sym (position_at x.from x.was) ∙ d.stands);
       does = x.does;
-      is = x.is;
+      state_is = x.state_is;
     }
   where
-    at : (p : Processor)
+    -- A processor's position is in the list of positions.
+    position_at : (p : Processor)
         → slice_get s.processors t ≡ Some p
         → slice_get (map (λ (q : Processor). q.position) s.processors) t ≡ Some p.position
-    at p was = slice_get-map _ s.processors t ∙ ap (option_map (λ (q : Processor). q.position)) was
+    position_at p was = slice_get-map _ s.processors t ∙ ap (option_map (λ (q : Processor). q.position)) was
 
 -- The item is executed: a step of its thread from its position, or a drain.
 abbrev pub CarriedItem : List (List Instr) → Item → MachineState (List ℕ) → MachineState (List ℕ) → Type 0
@@ -72,21 +75,21 @@ CarriedItem program a s mid = ItemStep program a.thread a.position a.is_drain s 
 pub record DrainShape (p q : Processor) : Type 0 where
   pub entry : ℕ × ℕ
   pub newer : List (ℕ × ℕ)
-  pub full : p.buffer ≡ entry ∷ newer
+  pub buffer_is : p.buffer ≡ entry ∷ newer
   -- The processor after it has only the newer entries.
-  pub is : q ≡ record p { buffer = newer }
+  pub processor_is : q ≡ record p { buffer = newer }
 
 -- An enabled drain removes the oldest entry of a buffer that has one.
-drain_cases : (b : List (ℕ × ℕ)) (p q : Processor) (m n : List ℕ)
+DrainShape-of_buffer : (b : List (ℕ × ℕ)) (p q : Processor) (m n : List ℕ)
     → p.buffer ≡ b
     → EffectLeadsTo m (drain_effect b p) q n
     → DrainShape p q
-drain_cases [] p q m n e d = absurd d
-drain_cases (f ∷ b) p q m n e d = record { entry = f; newer = b; full = e; is = d.0 }
+DrainShape-of_buffer [] p q m n e d = absurd d
+DrainShape-of_buffer (f ∷ b) p q m n e d = record { entry = f; newer = b; buffer_is = e; processor_is = d.0 }
 
 -- A processor's drain removes its oldest entry, and leaves the newer ones.
-pub drain_shape : (p q : Processor) (m n : List ℕ) → EffectLeadsTo m (drain_effect p.buffer p) q n → DrainShape p q
-drain_shape p q m n d = drain_cases p.buffer p q m n refl d
+pub DrainShape-of_effect : (p q : Processor) (m n : List ℕ) → EffectLeadsTo m (drain_effect p.buffer p) q n → DrainShape p q
+DrainShape-of_effect p q m n d = DrainShape-of_buffer p.buffer p q m n refl d
 
 -- ---- the waiting stores
 
@@ -97,134 +100,143 @@ BufferHolds code (w ∷ ws) (e ∷ b) = (entry_location x86_language (slice_get 
 BufferHolds code _ _ = ⊥
 
 -- If the buffer is empty, no store waits.
-pub no_waits : (code : List Instr) (ws : List ℕ) → BufferHolds code ws [] → (j : ℕ) → IsMember j ws → ⊥
-no_waits code [] h j g = g
-no_waits code (w ∷ ws) h j g = h
+pub BufferHolds-nil_no_store : (code : List Instr) (ws : List ℕ) → BufferHolds code ws [] → (j : ℕ) → IsMember j ws → ⊥
+BufferHolds-nil_no_store code [] h j is_member = is_member
+BufferHolds-nil_no_store code (w ∷ ws) h j is_member = h
 
 -- A further store waits, with its entry after all others.
-waits_pushed : (code : List Instr) (ws : List ℕ) (b : List (ℕ × ℕ)) (j x w : ℕ)
+BufferHolds-push : (code : List Instr) (ws : List ℕ) (b : List (ℕ × ℕ)) (j x w : ℕ)
     → BufferHolds code ws b
     → entry_location x86_language (slice_get code j) ≡ Some x
     → BufferHolds code (ws ++ j ∷ []) (b ++ (x, w) ∷ [])
-waits_pushed code [] [] j x w h e = (e, tt)
-waits_pushed code (u ∷ ws) (f ∷ b) j x w h e = (h.0, waits_pushed code ws b j x w h.1 e)
-waits_pushed code _ _ j x w h e = absurd h
+BufferHolds-push code [] [] j x w h e = (e, tt)
+BufferHolds-push code (u ∷ ws) (f ∷ b) j x w h e = (h.0, BufferHolds-push code ws b j x w h.1 e)
+BufferHolds-push code _ _ j x w h e = absurd h
 
 -- The location for which an operation makes an entry, if it is a store.
-abbrev pub entered : Operation → Option ℕ
-entered o = if is_store o then location_of o else None
+abbrev pub entry_of_operation : Operation → Option ℕ
+entry_of_operation o = if is_store o then location_of o else None
 
 -- After a step the buffer has the entries of the stores that wait then.
-stepped_waits : (code : List Instr) (o : Operation) (ws : List ℕ) (b after : List (ℕ × ℕ)) (j : ℕ)
+BufferHolds-after_step : (code : List Instr) (o : Operation) (ws : List ℕ) (b after : List (ℕ × ℕ)) (j : ℕ)
     → BufferHolds code ws b
-    → entry_location x86_language (slice_get code j) ≡ entered o
+    → entry_location x86_language (slice_get code j) ≡ entry_of_operation o
     → Buffers o b after
-    → BufferHolds code (own_waits false (entered o) j ws) after
-stepped_waits code o ws b after j h e (inl (none, same)) =
+    → BufferHolds code (own_waits false (entry_of_operation o) j ws) after
+BufferHolds-after_step code o ws b after j h e (inl (none, same)) =
     subst (λ (entry : Option ℕ). BufferHolds code (own_waits false entry j ws) after)
     (sym (cond-false (is_store o) (location_of o) None none)) (subst (BufferHolds code ws) (sym same) h)
-stepped_waits code o ws b after j h e (inr (entry, is, at, grown)) =
-    let makes : entered o ≡ Some entry.0 = cond-true (is_store o) (location_of o) None is ∙ at in
+BufferHolds-after_step code o ws b after j h e (inr (entry, is, at, grown)) =
+    let makes : entry_of_operation o ≡ Some entry.0 = cond-true (is_store o) (location_of o) None is ∙ at in
     subst (λ (entry : Option ℕ). BufferHolds code (own_waits false entry j ws) after) (sym makes)
-    (subst (BufferHolds code (ws ++ j ∷ [])) (sym grown) (waits_pushed code ws b j entry.0 entry.1 h (e ∙ makes)))
+    (subst (BufferHolds code (ws ++ j ∷ [])) (sym grown) (BufferHolds-push code ws b j entry.0 entry.1 h (e ∙ makes)))
 
 -- After a drain the buffer has the entries of the stores that wait then.
-drained_waits : (code : List Instr) (o : Option ℕ) (j : ℕ) (ws : List ℕ) (e : ℕ × ℕ) (b : List (ℕ × ℕ))
+BufferHolds-after_drain : (code : List Instr) (o : Option ℕ) (j : ℕ) (ws : List ℕ) (e : ℕ × ℕ) (b : List (ℕ × ℕ))
     → BufferHolds code ws (e ∷ b)
     → BufferHolds code (own_waits true o j ws) b
-drained_waits code o j [] e b h = absurd h
-drained_waits code o j (w ∷ ws) e b h = h.1
+BufferHolds-after_drain code o j [] e b h = absurd h
+BufferHolds-after_drain code o j (w ∷ ws) e b h = h.1
 
 -- The stores at these positions wait in the processor's buffer, in their order, and all before its position.
-pub record Holds (code : List Instr) (ws : List ℕ) (p : Processor) : Type 0 where
+pub record HoldsStores (code : List Instr) (ws : List ℕ) (p : Processor) : Type 0 where
   pub waits : BufferHolds code ws p.buffer
   pub climbs : IsAscendingBetween 0 ws p.position
 
 -- Each processor's buffer has the entries of its thread's waiting stores.
 abbrev pub AllHold : List (List Instr) → (ℕ → List ℕ) → MachineState (List ℕ) → Type 0
-AllHold program W s = (t : ℕ) (p : Processor) → slice_get s.processors t ≡ Some p → Holds (thread_code program t) (W t) p
+AllHold program pending s =
+    (t : ℕ) (p : Processor) → slice_get s.processors t ≡ Some p → HoldsStores (thread_code program t) (pending t) p
 
 module _ (program : List (List Instr)) where
   -- The step of an item made its operation's transition.
-  pub went : (t j : ℕ) (i : Instr) (s mid : MachineState (List ℕ)) (c : ItemStep program t j false s mid)
+  pub OperationTransition-of_item : (t j : ℕ) (i : Instr) (s mid : MachineState (List ℕ)) (c : ItemStep program t j false s mid)
       → slice_get (thread_code program t) j ≡ Some i
       → OperationTransition (x86_operation i) c.old c.new
-  went t j i s mid c at =
-      let here = ap (λ k. slice_get (thread_code program t) k) (c.stands refl) ∙ at in
-      operation_does _ _ c.new _ _ (subst (λ o. EffectLeadsTo s.memory (step_effect o c.old) c.new c.words) here c.does)
+  OperationTransition-of_item t j i s mid c found_at =
+      let here = ap (λ k. slice_get (thread_code program t) k) (c.stands refl) ∙ found_at in
+      OperationTransition-of_effect _ _ c.new _ _
+      (subst (λ o. EffectLeadsTo s.memory (step_effect o c.old) c.new c.words) here c.does)
 
   module _ (forward : (t : ℕ) → JumpsForward x86_language (thread_code program t)) where
     -- The item's processor, after the item is executed.
-    after_one : (t j : ℕ) (i : Instr) (b : Bool) (ws : List ℕ) (s mid : MachineState (List ℕ)) (c : ItemStep program t j b s mid)
+    HoldsStores-after_item : (t j : ℕ) (i : Instr) (b : Bool) (ws : List ℕ) (s mid : MachineState (List ℕ))
+        (c : ItemStep program t j b s mid)
         → slice_get (thread_code program t) j ≡ Some i
-        → Holds (thread_code program t) ws c.old
-        → Holds (thread_code program t) (own_waits b (drained_location x86_language i) j ws) c.new
-    after_one t j i true ws s mid c at h =
-        let a : DrainShape c.old c.new = drain_shape c.old c.new s.memory c.words c.does in
-        subst (Holds (thread_code program t) (own_waits true (drained_location x86_language i) j ws)) (sym a.is) (record {
+        → HoldsStores (thread_code program t) ws c.old
+        → HoldsStores (thread_code program t) (own_waits b (drained_location x86_language i) j ws) c.new
+    HoldsStores-after_item t j i true ws s mid c found_at h =
+        let a : DrainShape c.old c.new = DrainShape-of_effect c.old c.new s.memory c.words c.does in
+        subst (HoldsStores (thread_code program t) (own_waits true (drained_location x86_language i) j ws)) (sym a.processor_is)
+        (record {
           waits =
-              drained_waits (thread_code program t) (drained_location x86_language i) j ws a.entry a.newer
-              (subst (BufferHolds (thread_code program t) ws) a.full h.waits);
-          climbs = drain_climbs (drained_location x86_language i) ws j c.old.position h.climbs;
+              BufferHolds-after_drain (thread_code program t) (drained_location x86_language i) j ws a.entry a.newer
+              (subst (BufferHolds (thread_code program t) ws) a.buffer_is h.waits);
+          climbs = IsAscendingBetween-after_drain (drained_location x86_language i) ws j c.old.position h.climbs;
         })
-    after_one t j i false ws s mid c at h =
-        let a : OperationTransition (x86_operation i) c.old c.new = went t j i s mid c at in
+    HoldsStores-after_item t j i false ws s mid c found_at h =
+        let a : OperationTransition (x86_operation i) c.old c.new = OperationTransition-of_item t j i s mid c found_at in
         let there : c.old.position ≡ j = c.stands refl in
         let lt =
-        follows_within x86_language (thread_code program t) j c.new.position (forward t)
-        (subst (λ (o : Option Instr). IsFlowSuccessor x86_language o j c.new.position) (sym at) (rw there at a.leads)) in
+        IsFlowSuccessor-in_range x86_language (thread_code program t) j c.new.position (forward t)
+        (subst (λ (o : Option Instr). IsFlowSuccessor x86_language o j c.new.position) (sym found_at) (rw there at a.leads)) in
         record {
           waits =
-              stepped_waits (thread_code program t) (x86_operation i) ws c.old.buffer c.new.buffer j h.waits
-              (ap (entry_location x86_language) at) a.buffers;
+              BufferHolds-after_step (thread_code program t) (x86_operation i) ws c.old.buffer c.new.buffer j h.waits
+              (ap (entry_location x86_language) found_at) a.buffers;
           climbs =
-              statement_climbs (drained_location x86_language i) ws j c.new.position lt.0
+              IsAscendingBetween-after_statement (drained_location x86_language i) ws j c.new.position lt.0
               (subst (IsAscendingBetween 0 ws) there h.climbs);
         }
 
     -- Each item that is executed preserves `AllHold`.
-    pub all_hold : (a : Item) (i : Instr) (W : ℕ → List ℕ) (s mid : MachineState (List ℕ))
+    pub AllHold-after_item : (a : Item) (i : Instr) (pending : ℕ → List ℕ) (s mid : MachineState (List ℕ))
         → CarriedItem program a s mid
         → statement_of x86_language program a ≡ Some i
-        → AllHold program W s
-        → AllHold program (waits_after x86_language program a W) mid
-    all_hold a i W s mid c at h t q e =
+        → AllHold program pending s
+        → AllHold program (waits_after x86_language program a pending) mid
+    AllHold-after_item a i pending s mid c at h t q e =
         let got : slice_get (slice_set s.processors a.thread c.new) t ≡ Some q =
-        ap (λ (z : MachineState (List ℕ)). slice_get z.processors t) (sym c.is) ∙ e in
+        ap (λ (z : MachineState (List ℕ)). slice_get z.processors t) (sym c.state_is) ∙ e in
         elim (cases_eq a.thread t) [
-          | inl same ↦ here t q same got
-          | inr ne ↦
-              subst (λ ws. Holds (thread_code program t) ws q) (sym (waits_other x86_language program a W t ne))
-              (h t q (sym (get-set_other s.processors a.thread t c.new ne) ∙ got))
+          | inl same_thread ↦ HoldsStores-own_thread t q same_thread got
+          | inr threads_differ ↦
+              subst (λ ws. HoldsStores (thread_code program t) ws q)
+              (sym (waits_after-other_thread x86_language program a pending t threads_differ))
+              (h t q (sym (get-set_other s.processors a.thread t c.new threads_differ) ∙ got))
         ]
       where
-        mine : Holds (thread_code program a.thread)
-            (own_waits a.is_drain (drained_location x86_language i) a.position (W a.thread)) c.new
-        mine = after_one a.thread a.position i a.is_drain (W a.thread) s mid c at (h a.thread c.old c.was)
+        -- After the item the buffer of its thread holds the stores that wait.
+        own_buffer_holds : HoldsStores (thread_code program a.thread)
+            (own_waits a.is_drain (drained_location x86_language i) a.position (pending a.thread)) c.new
+        own_buffer_holds =
+            HoldsStores-after_item a.thread a.position i a.is_drain (pending a.thread) s mid c at (h a.thread c.old c.was)
 
-        now : own_waits a.is_drain (drained_location x86_language i) a.position (W a.thread)
-            ≡ waits_after x86_language program a W a.thread
-        now =
-            ap (λ o. own_waits a.is_drain (entry_location x86_language o) a.position (W a.thread)) (sym at)
-            ∙ sym (waits_same x86_language program a W a.thread refl)
+        -- The stores of the item's thread that wait after it, in two forms.
+        own_waits-waits_after : own_waits a.is_drain (drained_location x86_language i) a.position (pending a.thread)
+            ≡ waits_after x86_language program a pending a.thread
+        own_waits-waits_after =
+            ap (λ o. own_waits a.is_drain (entry_location x86_language o) a.position (pending a.thread)) (sym at)
+            ∙ sym (waits_after-same_thread x86_language program a pending a.thread refl)
 
-        here : (t : ℕ) (q : Processor)
+        -- The same of a processor of this thread.
+        HoldsStores-own_thread : (t : ℕ) (q : Processor)
             → a.thread ≡ t
             → slice_get (slice_set s.processors a.thread c.new) t ≡ Some q
-            → Holds (thread_code program t) (waits_after x86_language program a W t) q
-        here t q same got =
+            → HoldsStores (thread_code program t) (waits_after x86_language program a pending t) q
+        HoldsStores-own_thread t q same_thread found_at =
             let e : c.new ≡ q =
             same_Some c.new q
             (sym (get-set_same s.processors a.thread c.new c.old c.was)
-            ∙ subst (λ k. slice_get (slice_set s.processors a.thread c.new) k ≡ Some q) (sym same) got) in
-            subst (λ k. Holds (thread_code program k) (waits_after x86_language program a W k) q) same
-            (subst (λ ws. Holds (thread_code program a.thread) ws q) now
+            ∙ subst (λ k. slice_get (slice_set s.processors a.thread c.new) k ≡ Some q) (sym same_thread) found_at) in
+            subst (λ k. HoldsStores (thread_code program k) (waits_after x86_language program a pending k) q) same_thread
+            (subst (λ ws. HoldsStores (thread_code program a.thread) ws q) own_waits-waits_after
             (subst
-            (Holds (thread_code program a.thread)
-            (own_waits a.is_drain (drained_location x86_language i) a.position (W a.thread))) e mine))
+            (HoldsStores (thread_code program a.thread)
+            (own_waits a.is_drain (drained_location x86_language i) a.position (pending a.thread))) e own_buffer_holds))
 
 -- Initially no store waits, and all buffers are empty.
-pub hold_first : (test : X86Test) (words : List ℕ) → AllHold test.threads (λ t. []) (initial_machine_state test words)
-hold_first test words t p e =
+pub AllHold-start : (test : X86Test) (words : List ℕ) → AllHold test.threads (λ t. []) (initial_machine_state test words)
+AllHold-start test words t p e =
     let from = get-map initial_processor test.head.init_regs t p e in
-    subst (Holds (thread_code test.threads t) []) (sym from.2) (record { waits = tt; climbs = omega arith })
+    subst (HoldsStores (thread_code test.threads t) []) (sym from.2) (record { waits = tt; climbs = omega arith })

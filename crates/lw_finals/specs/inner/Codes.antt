@@ -1,5 +1,6 @@
--- A code for propositions, by which a proof distinguishes the tests that have them. A proposition is serialized as a list of its parts,
--- each connective after its operands. Used only within the crate.
+-- A code for propositions. The toolchain asks for one of each type in a model's value (`ghost coded` of the runners), and finds none for
+-- `Formula`, which contains itself. A proposition is serialized as a list of its parts, each connective after its operands. Used only
+-- within the crate.
 use Rattle.std.specs.Prelude.{◌≡◌, ℕ, Bool, true, false, Option, Some, None, List, [], ◌∷◌}
 use Rattle.std.specs.Coded.{Coded, code_by, coded_ℕ, coded_bool, coded_list, coded_option, coded×, coded⊎}
 use Rattle.std.proofs.Common.{◌⊎◌, inl, inr, refl, ap, ◌∙◌}

@@ -1,14 +1,13 @@
--- Collecting the outcomes of runs of orders, each with a schedule. Used only within the crate.
+-- Collecting the outcomes of runs of orders, each with what is kept for it. Used only within the crate.
 use Rattle.std.specs.Prelude.{◌≡◌, ℕ, Bool, true, false, All, Contains, List}
 use Rattle.lw_base.specs.Outcomes.{FinalState}
-use Rattle.lw_base.specs.declared.event.Event.{Event}
 use Rattle.lw_orders.specs.Sequence.{orders}
 use Rattle.lw_paths.specs.declared.item.Item.{Item}
 use Rattle.lw_paths.specs.ChoiceLists.{path_assignments}
 use Rattle.lw_litmus.specs.Languages.{Language}
 use Rattle.lw_paths.specs.Items.{items_of}
 use Rattle.lw_paths.specs.TransitiveReduction.{transitive_reduction}
-use Rattle.lw_outcome_map.specs.Listings.{OutcomeEntries, outcomes_of}
+use Rattle.lw_outcome_map.specs.Listings.{OutcomesWith, outcomes_of}
 
 -- What a contract sees of a runner: a test, and the outcome of its last run.
 pub record RunnerState (Test : Type 0) : Type 0 where
@@ -20,9 +19,9 @@ abbrev pub RunResult : (FinalState → Type 0) → Bool → FinalState → Type 
 RunResult Ends true end = Ends end × ((o : FinalState) → Ends o → o ≡ end)
 RunResult Ends false end = (o : FinalState) → Ends o → ⊥
 
--- Entries have grown from `old` to `new`: all outcomes are now among them, the old ones still are, and if each old schedule reaches its
+-- Entries have grown from `old` to `new`: all outcomes are now among them, the old ones still are, and if each old value leads to its
 -- outcome, so does each new one.
-pub record CollectsOutcomes (Ends : FinalState → Type 0) (Leads : List Event → FinalState → Type 0) (old new : OutcomeEntries) : Type 0 where
+pub record CollectsOutcomes {Kept : Type 0} (Ends : FinalState → Type 0) (Leads : Kept → FinalState → Type 0) (old new : OutcomesWith Kept) : Type 0 where
   pub covered : (o : FinalState) → Ends o → Contains (outcomes_of new) o
   pub kept : (o : FinalState) → Contains (outcomes_of old) o → Contains (outcomes_of new) o
   pub lead : All (λ e. Leads e.1 e.0) old → All (λ e. Leads e.1 e.0) new

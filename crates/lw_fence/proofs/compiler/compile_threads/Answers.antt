@@ -1,13 +1,15 @@
+-- Of `compile_threads`: each thread of the source is compiled. `AreCompiled-push` appends the next thread, which
+-- is well-formed, as `compile_thread` requires (`IsWellFormedThread-of_turn`).
 use Rattle.lw_fence.proofs.Common.{◌∙◌, ap, arith, get_or, length, refl, subst, sym, slice_get_read}
 use Rattle.lw_fence.proofs.Common.{source_language, IsWellFormedThread}
-use Rattle.lw_fence.proofs.CompiledThreads.{none_compiled, one_compiled}
+use Rattle.lw_fence.proofs.CompiledThreads.{AreCompiled-none, AreCompiled-push}
 use Rattle.lw_fence.proofs.compiler.compile_threads.Given as given
 use Rattle.lw_fence.proofs.compiler.compile_threads.Goals as goal
 
 -- The thread of this turn is well-formed.
-thread_known : (g : given.Over) (c : goal.After-as_slice g)
+IsWellFormedThread-of_turn : (g : given.Over) (c : goal.After-as_slice g)
     → IsWellFormedThread source_language (length c.args.source.now.head.locs) c.as_slice.result.now
-thread_known g c =
+IsWellFormedThread-of_turn g c =
     let stmts = c.stmts-item.result in
     let k = c.loop-stmts.stmts-index in
     let all = c.as_slice-stmts-items.ensures in
@@ -16,20 +18,20 @@ thread_known g c =
     (c.args.source.now.well_formed.code k stmts (omega (arith, c.loop-stmts-test.true, ap length all)))
 
 pub loop-stmts-init : goal.loop-stmts-init
-loop-stmts-init g c = none_compiled c.args.source.now.threads _ c.new-instrs.ensures c.new-starts.ensures
+loop-stmts-init g c = AreCompiled-none c.args.source.now.threads _ c.new-instrs.ensures c.new-starts.ensures
 
 pub loop-stmts-preserved : goal.loop-stmts-preserved
 loop-stmts-preserved g c =
     let read = slice_get_read _ _ _ c.stmts-item.result refl c.loop-stmts-test.true c.stmts-item.is in
     let at = rw c.as_slice-stmts-items.ensures at read in
-    one_compiled _ _ _ _ _ _ c.loop-stmts.invariant at (rw c.as_slice.ensures at c.in_ok-code.ensures) c.in_ok-push.ensures.ok
+    AreCompiled-push _ c.loop-stmts.invariant at (rw c.as_slice.ensures at c.in_ok-code.ensures) c.in_ok-push.ensures.ok
     c.in_ok-push-2.ensures.ok
 
 pub compile_thread-requires-clause-short : goal.compile_thread-requires-clause-short
-compile_thread-requires-clause-short g c = (thread_known g c).short
+compile_thread-requires-clause-short g c = (IsWellFormedThread-of_turn g c).short
 
 pub compile_thread-requires-clause-forward : goal.compile_thread-requires-clause-forward
-compile_thread-requires-clause-forward g c = (thread_known g c).forward
+compile_thread-requires-clause-forward g c = (IsWellFormedThread-of_turn g c).forward
 
 pub bounds-stmts-items-stmts-index : goal.bounds-stmts-items-stmts-index
 bounds-stmts-items-stmts-index g c = c.loop-stmts-test.true

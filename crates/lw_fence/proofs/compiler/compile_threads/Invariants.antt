@@ -1,3 +1,4 @@
+-- At each round the first threads are compiled.
 use Rattle.lw_fence.proofs.CompiledThreads.{AreCompiled}
 use Rattle.lw_fence.proofs.compiler.compile_threads.Given as goal
 

@@ -1,6 +1,9 @@
+-- Of `marks_of`, which marks exactly the positions that a flow path reaches from a store that may still be
+-- buffered. Jumps lead forward, so one pass is enough: when a statement is passed, its own mark is final
+-- (`AreMarksAfter-suc`).
 use Rattle.lw_fence.proofs.Common.{◌+◌, ℕ, ap, arith, length, refl, sym, ◌∙◌, subst, slice_get_read}
 use Rattle.lw_fence.proofs.Common.{branch_target, common_steps}
-use Rattle.lw_fence.proofs.Marks.{Marked, mark_step, marked_behind_stores, given_back}
+use Rattle.lw_fence.proofs.Marks.{AreMarksAfter, AreMarksAfter-suc, AreMarksAfter-end, take-replaced_front}
 use Rattle.lw_fence.proofs.fences.marks_of.Goals as goal
 
 pub loop-index-preserved : goal.loop-index-preserved
@@ -9,18 +12,18 @@ loop-index-preserved g c =
     let marks = c.loop-index.marks.items in
     let stmt = c.index-code-index.result in
     let at = slice_get_read _ _ c.loop-index.index stmt refl c.loop-index-test.true c.index-code-index.is in
-    let next = mark_step code c.requires.forward c.loop-index.index stmt _ _ at refl c.loop-index.invariant in
-    let new : Marked code (c.loop-index.index + 1) c.propagate_marks.new.marks =
+    let next = AreMarksAfter-suc code c.requires.forward c.loop-index.index stmt _ _ at refl c.loop-index.invariant in
+    let new : AreMarksAfter code (c.loop-index.index + 1) c.propagate_marks.new.marks =
     rw (c.propagate_marks.ensures, c.operation.ensures, c.deref_mut.ensures.value) next in
-    let back = given_back marks _ _ _ (omega arith) (new.as_many ∙ sym c.loop-index.invariant.as_many) in
-    subst (Marked code (c.loop-index.index + 1)) (sym back) new
+    let back = take-replaced_front marks _ _ _ (omega arith) (new.as_many ∙ sym c.loop-index.invariant.as_many) in
+    subst (AreMarksAfter code (c.loop-index.index + 1)) (sym back) new
 
 pub returns-clause-behind : goal.returns-clause-behind
 returns-clause-behind g c =
     let code = c.args.code.now in
     let marks = c.loop-index.marks.items in
-    marked_behind_stores code c.requires.forward marks
-    (subst (λ (k : ℕ). Marked code k marks) (omega (arith, c.loop-index-test.false, c.loop-index.auto.index-end))
+    AreMarksAfter-end code c.requires.forward marks
+    (subst (λ (k : ℕ). AreMarksAfter code k marks) (omega (arith, c.loop-index-test.false, c.loop-index.auto.index-end))
     c.loop-index.invariant)
 
 pub overflow_add-code : goal.overflow_add-code

@@ -1,3 +1,4 @@
+-- At each round the instructions so far, followed by the lowerings of the remaining statements, are all.
 use Rattle.lw_fence.proofs.Common.{◌≡◌, drop, ◌++◌, lowered_code}
 use Rattle.lw_fence.proofs.lowering.lower.Given as goal
 

@@ -1,7 +1,9 @@
+-- Of `push_statement`, which appends a step for each instruction, and a drain after a store. The loop appends
+-- the steps one by one; if memory runs out, the old events are still the first.
 use Rattle.lw_fence.proofs.Common.{◌≡◌, ◌++◌, ◌∷◌, ◌∙◌, Bool, [], ap, append_assoc, arith, if◌then◌else◌}
 use Rattle.lw_fence.proofs.Common.{replicate, sym, append-nil, replicate-append-replicate, Step, Drain}
 use Rattle.lw_fence.proofs.Common.{is_store}
-use Rattle.lw_fence.proofs.Scheduling.{kept}
+use Rattle.lw_fence.proofs.Scheduling.{OnErr-old_events_first}
 use Rattle.lw_fence.proofs.schedule.push_statement.Goals as goal
 
 pub loop-instr-preserved : goal.loop-instr-preserved
@@ -37,8 +39,9 @@ returns-else-is_store-clause-ok g c =
     ∙ ap (λ (b : Bool). old ++ (steps ++ (if b then drain else []))) (sym stores_not)))
 
 pub returns-in_err-push-clause-err : goal.returns-in_err-push-clause-err
-returns-in_err-push-clause-err g c = kept c.from_residual.result _ _ (c.in_err-push.ensures.items ∙ c.loop-instr.invariant)
+returns-in_err-push-clause-err g c =
+    OnErr-old_events_first c.from_residual.result _ _ (c.in_err-push.ensures.items ∙ c.loop-instr.invariant)
 
 pub returns-in_err-push-2-clause-err : goal.returns-in_err-push-2-clause-err
 returns-in_err-push-2-clause-err g c =
-    kept c.from_residual-in_err-push-2.result _ _ (c.in_err-push-2.ensures.items ∙ c.loop-instr.invariant)
+    OnErr-old_events_first c.from_residual-in_err-push-2.result _ _ (c.in_err-push-2.ensures.items ∙ c.loop-instr.invariant)

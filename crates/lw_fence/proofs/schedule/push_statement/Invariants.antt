@@ -1,3 +1,4 @@
+-- At each round as many steps are appended as rounds were made.
 use Rattle.lw_fence.proofs.Common.{◌≡◌, ◌++◌, replicate, Step}
 use Rattle.lw_fence.proofs.schedule.push_statement.Given as goal
 

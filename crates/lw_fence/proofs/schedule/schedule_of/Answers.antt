@@ -1,26 +1,30 @@
+-- Of `schedule_of`, which returns the compiled program's schedule for a source run. The run is made once
+-- more, to know each thread's position: `NextThreadStep-of_run` says that the next step is enabled, so `unwrap` cannot
+-- panic, and `compiled_schedule-append_events` appends its statement's events.
 use Rattle.lw_fence.proofs.Common.{IsWellScoped-well_formed, source_language, ◌≡◌, ◌+◌, ◌++◌, ◌∙◌, ℕ, List}
 use Rattle.lw_fence.proofs.Common.{map, drop, ap, ap₂, sym, subst, append-nil, drop_all, slice_get_within}
 use Rattle.lw_fence.proofs.Common.{Event, Step, flat_memory, Stmt, State, SourceRunsTo, source_step}
-use Rattle.lw_fence.proofs.Common.{program_of, possible, ReplaysTo, compiled_schedule}
-use Rattle.lw_fence.proofs.Scheduling.{answered_ok, next_turn, placed_in, one_further}
+use Rattle.lw_fence.proofs.Common.{program_of, ReturnsEventResult-ok, ReplaysTo, compiled_schedule}
+use Rattle.lw_fence.proofs.Scheduling.{IsOk-if_enabled, NextThreadStep-of_run, read_position-eq}
+use Rattle.lw_fence.proofs.Scheduling.{compiled_schedule-append_events}
 use Rattle.lw_fence.proofs.SourceToMachine.{schedule_replays}
 use Rattle.lw_fence.proofs.schedule.schedule_of.Goals as goal
 
 pub position-index-requires : goal.position-index-requires
 position-index-requires g c =
-    let turn = next_turn _ _ _ _ c.loop-cpu-test.true c.cpu-item.is _ c.loop-cpu.invariant.possible in
+    let turn = NextThreadStep-of_run c.loop-cpu-test.true c.cpu-item.is c.loop-cpu.invariant.possible in
     slice_get_within c.loop-cpu.run.state.threads c.cpu-item.result turn.thread turn.was
 
 pub push_next-requires-clause-there : goal.push_next-requires-clause-there
 push_next-requires-clause-there g c =
-    let turn = next_turn _ _ _ _ c.loop-cpu-test.true c.cpu-item.is _ c.loop-cpu.invariant.possible in
-    rw (placed_in _ _ _ _ c.loop-cpu-test.true c.cpu-item.is _ turn _ c.position-index.ensures) turn.there
+    let turn = NextThreadStep-of_run c.loop-cpu-test.true c.cpu-item.is c.loop-cpu.invariant.possible in
+    rw (read_position-eq c.loop-cpu-test.true c.cpu-item.is turn c.position-index.ensures) turn.position_in_range
 
 pub loop-cpu-preserved : goal.loop-cpu-preserved
 loop-cpu-preserved g c =
     let program = c.loop-cpu.invariant.program in
-    let turn = next_turn _ _ _ _ c.loop-cpu-test.true c.cpu-item.is _ c.loop-cpu.invariant.possible in
-    let one = possible _ _ _ _ _ c.step.ensures.done c.unwrap.ensures in
+    let turn = NextThreadStep-of_run c.loop-cpu-test.true c.cpu-item.is c.loop-cpu.invariant.possible in
+    let one = ReturnsEventResult-ok _ _ _ _ _ c.step.ensures.done c.unwrap.ensures in
     let step = ap (λ codes. source_step codes c.cpu-item.result c.loop-cpu.run.state) (sym program) ∙ one in
     let same : turn.mid ≡ c.step.new.self.state = cc in
     record {
@@ -29,7 +33,7 @@ loop-cpu-preserved g c =
           let rest = map Step (drop (c.loop-cpu.cpu-index + 1) c.args.order.now) in
           subst (λ s. (end : State) × SourceRunsTo c.args.source.now.threads rest s end) same turn.more;
       so_far =
-          one_further _ _ _ _ c.loop-cpu-test.true c.cpu-item.is _ _ _ _ _ c.position-index.ensures step
+          compiled_schedule-append_events _ _ _ _ c.loop-cpu-test.true c.cpu-item.is _ _ _ _ _ c.position-index.ensures step
           c.in_ok-push_next.ensures.ok c.loop-cpu.invariant.so_far;
     }
 
@@ -72,11 +76,11 @@ returns-clause-replays g c = λ o runs.
 
 pub unwrap-requires : goal.unwrap-requires
 unwrap-requires g c =
-    let turn = next_turn _ _ _ _ c.loop-cpu-test.true c.cpu-item.is _ c.loop-cpu.invariant.possible in
+    let turn = NextThreadStep-of_run c.loop-cpu-test.true c.cpu-item.is c.loop-cpu.invariant.possible in
     let step =
     ap (λ (codes : List (List Stmt)). source_step codes c.cpu-item.result c.loop-cpu.run.state) c.loop-cpu.invariant.program
     ∙ turn.step in
-    answered_ok _ c.step.result _ _ turn.mid c.step.ensures.done step
+    IsOk-if_enabled _ c.step.result _ _ turn.mid c.step.ensures.done step
 
 pub push_next-requires-clause-compiled : goal.push_next-requires-clause-compiled
 push_next-requires-clause-compiled g c = c.requires.compiled

@@ -1,3 +1,5 @@
+-- At each round the run has made the first steps of the order and can make the others; the events so far,
+-- followed by the schedule of the others, are the whole schedule.
 use Rattle.lw_fence.proofs.Common.{◌≡◌, ◌++◌, map, drop, Step, State, SourceRunsTo, initial_state, source_of}
 use Rattle.lw_fence.proofs.Common.{compiled_schedule}
 use Rattle.lw_fence.proofs.schedule.schedule_of.Given as goal

@@ -1,11 +1,13 @@
+-- Of `starts_of`, which returns the index of each statement's first instruction, and the number of all.
+-- `starts_from-push` appends the next start. A lowering has at most two instructions, so the sum does not overflow.
 use Rattle.lw_fence.proofs.Common.{ap, ap₂, arith, length, sym, ◌++◌, ◌∙◌, drop_all, instrs_of, starts_from}
-use Rattle.lw_fence.proofs.CodeLayout.{starts_on}
+use Rattle.lw_fence.proofs.CodeLayout.{starts_from-push}
 use Rattle.lw_fence.proofs.starts.starts_of.Goals as goal
 
 pub loop-index-preserved : goal.loop-index-preserved
 loop-index-preserved g c = record {
   so_far =
-      starts_on _ c.args.code.now _ _ c.loop-index-test.true c.requires.as_many c.index-code-index.is c.len-next.result
+      starts_from-push _ c.args.code.now _ _ c.loop-index-test.true c.requires.as_many c.index-code-index.is c.len-next.result
       c.loop-index.next _ c.push.new.self c.loop-index.invariant.so_far
       (c.len-next.ensures.is ∙ ap (λ r. length (instrs_of r)) c.of.ensures) c.in_ok-push.ensures.ok;
   few = omega (arith, c.loop-index.invariant.few, c.len-next.ensures.few);

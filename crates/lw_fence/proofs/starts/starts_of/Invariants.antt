@@ -1,3 +1,5 @@
+-- At each round the starts so far, followed by those of the remaining statements from `next` on, are all; and
+-- `next` is small.
 use Rattle.lw_fence.proofs.Common.{◌≡◌, ◌≤◌, ◌*◌, drop, ◌++◌, starts_from}
 use Rattle.lw_fence.proofs.starts.starts_of.Given as goal
 

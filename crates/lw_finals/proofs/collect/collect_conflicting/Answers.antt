@@ -1,3 +1,7 @@
+-- Of `collect_conflicting`, which collects the outcomes of the enumerated orders of items with conflicts. The
+-- orders that remain in the new iterator are all of them, each is of the items' indices, and no iterator
+-- means that there are too many: three clauses of `Orders::new`, with the reduced constraints put in place of
+-- the argument.
 use Rattle.lw_finals.proofs.collect.collect_conflicting.Goals as goal
 
 pub collect_orders-requires : goal.collect_orders-requires

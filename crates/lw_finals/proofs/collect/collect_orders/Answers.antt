@@ -1,6 +1,9 @@
+-- Of `collect_orders`, which collects the outcomes of all orders that the iterator still has. `CollectedUpTo-next`
+-- moves one order from those that remain to those that are collected. Each order is within the items, since
+-- the iterator only returns what it had at first.
 use Rattle.lw_finals.proofs.Common.{ℕ, List, length, ◌<◌, refl, sym, ◌∙◌, subst, All, Contains, All-contains}
 use Rattle.lw_finals.proofs.Common.{Progress, Contains-head}
-use Rattle.lw_finals.proofs.Gathering.{up_to_more}
+use Rattle.lw_finals.proofs.Gathering.{CollectedUpTo-next}
 use Rattle.lw_finals.proofs.collect.collect_orders.Goals as goal
 
 pub collect_order-requires : goal.collect_order-requires
@@ -12,8 +15,8 @@ collect_order-requires g c =
     let first =
     subst (λ (xs : List (List ℕ)). Contains xs c.in-Some.order) (sym c.in-Some.ensures.steps.first)
     (Contains-head c.in-Some.order c.in-Some.order _ refl) in
-    let there : Contains all c.in-Some.order = c.loop-order.invariant.run.among c.in-Some.order first in
-    subst IsWithin (sym c.as_slice.ensures) (All-contains IsWithin all _ each there)
+    let is_member : Contains all c.in-Some.order = c.loop-order.invariant.run.among c.in-Some.order first in
+    subst IsWithin (sym c.as_slice.ensures) (All-contains IsWithin all _ each is_member)
 
 pub loop-order-preserved : goal.loop-order-preserved
 loop-order-preserved g c =
@@ -23,5 +26,5 @@ loop-order-preserved g c =
     let more = rw (c.loop-order.invariant.same, c.as_slice.ensures) at c.in_ok-collect_order.ensures.gathered in
     record {
       same = c.collect_order.ensures.same ∙ c.loop-order.invariant.same;
-      run = up_to_more ends _ all _ _ _ _ _ _ c.in-Some.ensures.steps.first c.loop-order.invariant.run more;
+      run = CollectedUpTo-next ends _ all _ c.in-Some.ensures.steps.first c.loop-order.invariant.run more;
     }

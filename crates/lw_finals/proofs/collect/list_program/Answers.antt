@@ -1,14 +1,20 @@
+-- Of `list_program`, whose list has the outcomes of all orders of all path assignments, and which fails only
+-- for a true limit. `CollectsOutcomes-all_visits` joins the visits of the path assignments, and `CollectsOutcomes-sorted` says that
+-- sorting loses nothing. A fault of a visit is a limit's, by `LimitFaultOfChoices-visit_fails`: the collector is seen as a
+-- visitor that counts nothing.
 use Rattle.lw_finals.proofs.Common.{◌≡◌, List, refl, arith, All-permutation, err_from_is_err_and}
 use Rattle.lw_finals.proofs.Common.{CollectsOutcomes, OutcomesOfChoice, OutcomesOfProgram, Gatherer}
-use Rattle.lw_finals.proofs.Common.{visit_refused, limit_told, VisitorView, GivesReasons, LimitFaultOfChoice}
-use Rattle.lw_finals.proofs.Gathering.{visits_gather, gathered_sorted}
+use Rattle.lw_finals.proofs.Common.{LimitFaultOfChoices-visit_fails, LimitFaultIsTrue-of_choices, VisitorView}
+use Rattle.lw_finals.proofs.Common.{GivesReasons, LimitFaultOfChoice}
+use Rattle.lw_finals.proofs.Gathering.{CollectsOutcomes-all_visits, CollectsOutcomes-sorted}
 use Rattle.lw_finals.proofs.collect.list_program.Given.{Over}
 use Rattle.lw_finals.proofs.collect.list_program.Goals as goal
 
 -- The collector as a visitor that counts nothing.
-abbrev gathering : (g : Over)
-    → VisitorView g.row.S.Denot (Gatherer g.row.S.Denot g.row.A.Denot g.row.B.Denot g.row.R.Denot g.S.Statement)
-gathering g = record {
+abbrev collector_view : (g : Over)
+    → VisitorView g.row.S.Denot
+    (Gatherer g.row.S.Denot g.row.A.Denot g.row.B.Denot g.row.R.Denot g.row.R-Kept.Denot g.S.Statement g.R.OrderRunner)
+collector_view g = record {
   program = λ v. v.program.now;
   count = λ v. 0;
   visits = λ v paths w.
@@ -20,17 +26,19 @@ gathering g = record {
   refuses = λ v paths e. LimitFaultOfChoice g.S.Statement.language v.program.now 0 paths e;
 }
 
-gathers : (g : Over) → GivesReasons g.S.Statement.language (gathering g)
-gathers g = record { keeps = λ v paths w h. h.0; at_most = λ v paths w h. omega arith; why = λ v paths e h. h }
+-- The collector of outcomes states causes that hold, as a visitor that counts nothing.
+GivesReasons-collector : (g : Over) → GivesReasons g.S.Statement.language (collector_view g)
+GivesReasons-collector g = record { keeps = λ v paths w h. h.0; at_most = λ v paths w h. omega arith; why = λ v paths e h. h }
 
 pub returns-in_err-visit_choices-clause-err : goal.returns-in_err-visit_choices-clause-err
 returns-in_err-visit_choices-clause-err g c =
     let p = err_from_is_err_and c.from_residual-in_err-visit_choices.result c.from_residual-in_err-visit_choices.ensures.1 in
     let told =
-    visit_refused g.S.Statement.language (gathering g) c.args.program.now c.requires.forward (gathers g) _
-    c.in_err-visit_choices.field-0.0 refl refl c.in_err-visit_choices.ensures.err in
+    LimitFaultOfChoices-visit_fails g.S.Statement.language (collector_view g) c.args.program.now c.requires.forward
+    (GivesReasons-collector g) _ c.in_err-visit_choices.field-0.0 refl refl c.in_err-visit_choices.ensures.err in
     rw (p.1, p.2)
-    (limit_told g.S.Statement.language c.args.program.now c.requires.forward c.in_ok-check_limits.ensures.within.0 _ told)
+    (LimitFaultIsTrue-of_choices g.S.Statement.language c.args.program.now c.requires.forward
+    c.in_ok-check_limits.ensures.within.0 _ told)
 
 pub returns-clause-gathered : goal.returns-clause-gathered
 returns-clause-gathered g c =
@@ -38,12 +46,13 @@ returns-clause-gathered g c =
     let gathered : CollectsOutcomes
     (OutcomesOfProgram g.S.Statement.language (g.R.OrderRunner.ends (g.R.OrderRunner.test c.args.runner.now)) c.args.program.now)
     leads c.new-2.result c.visit_choices.new.visitor.found =
-    visits_gather (List (List g.row.S.Denot) × g.R.OrderRunner.Test) (λ v. (v.program.now, g.R.OrderRunner.test v.runner.now))
-    (λ v. v.found) _ (λ t. OutcomesOfChoice g.S.Statement.language (g.R.OrderRunner.ends t.1) t.0)
-    (λ t. g.R.OrderRunner.leads t.1) (λ v paths w h. ((λ i. (h.0 i, h.1 i)), h.2))
-    (c.args.program.now, g.R.OrderRunner.test c.args.runner.now) _ _ _ refl c.in_ok-visit_choices.ensures.ok in
+    CollectsOutcomes-all_visits (List (List g.row.S.Denot) × g.R.OrderRunner.Test)
+    (λ v. (v.program.now, g.R.OrderRunner.test v.runner.now)) (λ v. v.found) _
+    (λ t. OutcomesOfChoice g.S.Statement.language (g.R.OrderRunner.ends t.1) t.0) (λ t. g.R.OrderRunner.leads t.1)
+    (λ v paths w h. ((λ i. (h.0 i, h.1 i)), h.2)) (c.args.program.now, g.R.OrderRunner.test c.args.runner.now) _ _ _ refl
+    c.in_ok-visit_choices.ensures.ok in
     let from_none = rw c.new-2.ensures at gathered in
-    gathered_sorted leads _ _ _ _ c.in_ok-into_listing.ensures.same from_none
+    CollectsOutcomes-sorted leads c.in_ok-into_listing.ensures.same from_none
     (All-permutation (λ e. leads e.1 e.0) _ _ c.in_ok-into_listing.ensures.same)
 
 pub returns-clause-within : goal.returns-clause-within

@@ -1,3 +1,4 @@
+-- At each round what was appended, followed by the events of the remaining items, is the whole schedule.
 use Rattle.lw_finals.proofs.Common.{◌≡◌, ◌++◌, drop, item_events}
 use Rattle.lw_finals.proofs.source_runner.schedule_of_items.Given as goal
 

@@ -1,3 +1,4 @@
+-- At each round the events are those of the first `index` items of the order.
 use Rattle.lw_finals.proofs.Common.{◌≡◌, take, events_of}
 use Rattle.lw_finals.proofs.x86_runner.events_of.Given as goal
 

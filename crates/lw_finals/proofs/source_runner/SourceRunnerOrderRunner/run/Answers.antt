@@ -1,25 +1,30 @@
+-- Of the source runner's `run`: if it returns `true`, the order follows its paths, and `end` is its only
+-- outcome; if `false`, it has none. `RanFirst-next` adds one executed item, since an item has at most one successor
+-- state. An item that is not executed leaves the order without a run (`not-Ran-if_not_enabled`). After the last item
+-- `FollowsPathsToEnd-if_final` and `outcome_at_end-unique` say that the outcome is the order's, and the only one.
 use Rattle.lw_finals.proofs.Common.{arith, ◌≡◌, ◌∙◌, ℕ, List, Ok, ap, sym, subst, true, true≢false}
 use Rattle.lw_finals.proofs.Common.{length-map, Stmt, FinalState, State, is_source_final, source_outcome}
 use Rattle.lw_finals.proofs.Common.{Item, SourceTest, source_of, source_item_system, SourceFollowsPathsToEnd}
 use Rattle.lw_finals.proofs.Common.{RunnerState, CompiledSource, refl, common_steps, SourceItemTransition}
-use Rattle.lw_finals.proofs.OrderSteps.{ran_off, ran_on, ends_alone, ends_so}
+use Rattle.lw_finals.proofs.OrderSteps.{not-Ran-if_not_enabled, RanFirst-next, outcome_at_end-unique}
+use Rattle.lw_finals.proofs.OrderSteps.{FollowsPathsToEnd-if_final}
 use Rattle.lw_finals.proofs.source_runner.SourceRunnerOrderRunner.run.Goals as goal
 
 -- An item has at most one successor state.
-led_once : (program : List (List Stmt)) (item : Item) (now next other : State)
+SourceItemTransition-unique : (program : List (List Stmt)) (item : Item) (now next other : State)
     → SourceItemTransition program item now next
     → SourceItemTransition program item now other
     → other ≡ next
-led_once program item now next other one two = let both : Ok other ≡ Ok next = sym two.1 ∙ one.1 in cc
+SourceItemTransition-unique program item now next other one two = let both : Ok other ≡ Ok next = sym two.1 ∙ one.1 in cc
 
 -- The outcome of a run, for this test and outcome.
-ends_of : (items : List Item) (order : List ℕ) (test given : SourceTest) (o end : FinalState)
+RunResult-same_outcome : (items : List Item) (order : List ℕ) (test given : SourceTest) (o end : FinalState)
     → test ≡ given
     → end ≡ o
     → SourceFollowsPathsToEnd test items order o
     → ((p : FinalState) → SourceFollowsPathsToEnd test items order p → p ≡ o)
     → SourceFollowsPathsToEnd given items order end × ((p : FinalState) → SourceFollowsPathsToEnd given items order p → p ≡ end)
-ends_of items order test given o end same is run alone = (
+RunResult-same_outcome items order test given o end same is run alone = (
   subst (λ (t : SourceTest). SourceFollowsPathsToEnd t items order end) same
       (subst (λ (p : FinalState). SourceFollowsPathsToEnd test items order p) (sym is) run),
   λ p h. alone p (subst (λ (t : SourceTest). SourceFollowsPathsToEnd t items order p) (sym same) h) ∙ sym is,
@@ -46,14 +51,14 @@ loop-index-preserved g c =
       many = c.carry_out.ensures.threads ∙ c.loop-index.invariant.many;
       words = c.carry_out.ensures.words ∙ c.loop-index.invariant.words;
       ran =
-          ran_on _ c.args.items.now c.args.order.now c.loop-index.index-index item now next (record {
+          RanFirst-next _ c.args.items.now c.args.order.now c.loop-index.index-index item now next (record {
             index = c.from.result;
             past = 0;
-            within = c.loop-index-test.true;
+            place_in_range = c.loop-index-test.true;
             is_number = c.from.ensures;
-            there = rw c.from.ensures (c.requires c.loop-index.index-index 0 c.loop-index-test.true);
+            item_in_range = rw c.from.ensures (c.requires c.loop-index.index-index 0 c.loop-index-test.true);
             is_item = c.index-items-from.is;
-          }) carried (λ other. led_once source.threads item now next other carried) c.loop-index.invariant.ran;
+          }) carried (λ other. SourceItemTransition-unique source.threads item now next other carried) c.loop-index.invariant.ran;
     }
 
 -- All items were executed, but the state is not final.
@@ -63,7 +68,7 @@ returns-then-not-is_final-clause-ends g c o stays =
     let run : SourceFollowsPathsToEnd source c.args.items.now c.args.order.now o =
     subst (λ (s : SourceTest). SourceFollowsPathsToEnd s c.args.items.now c.args.order.now o)
     (sym (ap (λ (r : RunnerState CompiledSource). r.test.source) c.self.view_is)) stays in
-    let at_end = ends_alone _ c.args.items.now c.loop-index-test.false c.loop-index.invariant.ran o run in
+    let at_end = outcome_at_end-unique _ c.args.items.now c.loop-index-test.false c.loop-index.invariant.ran o run in
     let final =
     subst (λ (p : List (List Stmt)). is_source_final p c.loop-index.self-inside.run.state ≡ true)
     (sym c.loop-index.invariant.program) at_end.1 in
@@ -76,9 +81,9 @@ returns-clause-ends g c =
     let final =
     subst (λ (p : List (List Stmt)). is_source_final p now ≡ true) c.loop-index.invariant.program
     (sym c.is_final.ensures ∙ c.if-not-is_final.false) in
-    ends_of _ _ source _ (source_outcome now) _ (ap (λ r. r.test.source) c.self.view_is) c.write_outcome.ensures
-    (ends_so (source_item_system source) c.args.items.now c.loop-index-test.false c.loop-index.invariant.ran final)
-    (λ o run. (ends_alone _ _ c.loop-index-test.false c.loop-index.invariant.ran o run).0)
+    RunResult-same_outcome _ _ source _ (source_outcome now) _ (ap (λ r. r.test.source) c.self.view_is) c.write_outcome.ensures
+    (FollowsPathsToEnd-if_final (source_item_system source) c.args.items.now c.loop-index-test.false c.loop-index.invariant.ran
+    final) (λ o run. (outcome_at_end-unique _ _ c.loop-index-test.false c.loop-index.invariant.ran o run).0)
 
 -- An item could not be executed.
 pub returns-then-not-carry_out-clause-ends : goal.returns-then-not-carry_out-clause-ends
@@ -93,12 +98,12 @@ returns-then-not-carry_out-clause-ends g c o stays =
     let none =
     subst (λ (p : List (List Stmt)). (next : State) → SourceItemTransition p c.index-items-from.result now next → ⊥)
     c.loop-index.invariant.program (c.carry_out.ensures.left c.if-not-carry_out.true) in
-    ran_off _ items order k c.index-items-from.result now (record {
+    not-Ran-if_not_enabled _ items order k c.index-items-from.result now (record {
       index = c.from.result;
       past = 0;
-      within = c.loop-index-test.true;
+      place_in_range = c.loop-index-test.true;
       is_number = c.from.ensures;
-      there = rw c.from.ensures (c.requires k 0 c.loop-index-test.true);
+      item_in_range = rw c.from.ensures (c.requires k 0 c.loop-index-test.true);
       is_item = c.index-items-from.is;
     }) none c.loop-index.invariant.ran run.end run.ran
 

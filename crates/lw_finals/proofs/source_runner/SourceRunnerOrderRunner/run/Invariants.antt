@@ -1,3 +1,5 @@
+-- At each round the items before the index were executed from the initial state; test, program and sizes are
+-- unchanged.
 use Rattle.lw_finals.proofs.Common.{◌≡◌, length, source_of, initial_state, source_item_system}
 use Rattle.lw_finals.proofs.OrderSteps.{RanFirst}
 use Rattle.lw_finals.proofs.source_runner.SourceRunnerOrderRunner.run.Given as goal

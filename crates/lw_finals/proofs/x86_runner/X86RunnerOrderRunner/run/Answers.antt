@@ -1,21 +1,25 @@
+-- Of the x86 runner's `run`: if it returns `true`, the order follows its paths over flat memory, and `end` is
+-- its only outcome; if `false`, it has none. The code runs over MESI caches; the law `events_are_flat` says
+-- that each event does the same over flat memory. `RanFlat-next` adds one item; `not-outcome_if_refused` is for an item that
+-- is refused.
 use Rattle.lw_finals.proofs.Common.{IsWellScoped-well_formed, x86_language, arith, ◌≡◌, ◌∙◌, ℕ, List, Err, ap}
 use Rattle.lw_finals.proofs.Common.{subst, sym, true, true≢false, FinalState, Stop, flat_memory, caches_by}
 use Rattle.lw_finals.proofs.Common.{caches_invariant, Mesi, IsAtPosition, MachineTransition, InitialWords}
 use Rattle.lw_finals.proofs.Common.{is_final, Instr, X86Test, program_of, Item, RunnerState, event_of}
 use Rattle.lw_finals.proofs.Common.{X86ItemTransition, common_steps, x86_item_system, X86FollowsPathsToEnd}
-use Rattle.lw_finals.proofs.OrderSteps.{ends_alone, ends_so}
-use Rattle.lw_finals.proofs.X86Runners.{can_start, carried_on, left_off}
+use Rattle.lw_finals.proofs.OrderSteps.{outcome_at_end-unique, FollowsPathsToEnd-if_final}
+use Rattle.lw_finals.proofs.X86Runners.{IsInitialMemory-after_reset, RanFlat-next, not-outcome_if_refused}
 use Rattle.lw_finals.proofs.x86_runner.X86RunnerOrderRunner.run.Goals as goal
 
 -- The outcome of a run, for this test and outcome.
-ends_of : (items : List Item) (order : List ℕ) (test given : X86Test) (o end : FinalState)
+RunResult-same_outcome : (items : List Item) (order : List ℕ) (test given : X86Test) (o end : FinalState)
     → test ≡ given
     → end ≡ o
     → X86FollowsPathsToEnd flat_memory test test.head.init_words items order o
     → ((p : FinalState) → X86FollowsPathsToEnd flat_memory test test.head.init_words items order p → p ≡ o)
     → X86FollowsPathsToEnd flat_memory given given.head.init_words items order end
     × ((p : FinalState) → X86FollowsPathsToEnd flat_memory given given.head.init_words items order p → p ≡ end)
-ends_of items order test given o end same is run alone = (
+RunResult-same_outcome items order test given o end same is run alone = (
   subst (λ (t : X86Test). X86FollowsPathsToEnd flat_memory t t.head.init_words items order end) same
       (subst (λ (p : FinalState). X86FollowsPathsToEnd flat_memory test test.head.init_words items order p) (sym is) run),
   λ p h. alone p (subst (λ t. X86FollowsPathsToEnd flat_memory t t.head.init_words items order p) (sym same) h) ∙ sym is,
@@ -28,8 +32,9 @@ loop-index-preserved g c =
     let test = program_of c.self.inside.program.now in
     let m = c.restart.new.self.state.memory in
     let start =
-    can_start mem test m (caches_invariant Mesi) c.restart.ensures.sound c.restart.ensures.cpus c.restart.ensures.words
-    c.restart.ensures.program c.self.invariant.0 (ap (λ (i : InitialWords). i.words) c.self.invariant.1) in
+    IsInitialMemory-after_reset mem test m (caches_invariant Mesi) c.restart.ensures.sound c.restart.ensures.cpus
+    c.restart.ensures.words c.restart.ensures.program c.self.invariant.0
+    (ap (λ (i : InitialWords). i.words) c.self.invariant.1) in
     let item = c.index-items-from.result in
     let carried =
     subst
@@ -43,15 +48,15 @@ loop-index-preserved g c =
       processors = c.carry_out.ensures.processors ∙ c.loop-index.invariant.processors;
       words = c.carry_out.ensures.words ∙ c.loop-index.invariant.words;
       ran =
-          carried_on _ _ m c.args.items.now (λ events s after e answer.
+          RanFlat-next _ _ m c.args.items.now (λ events s after e answer.
           c.events_are_flat.ensures.over_flat test m events s after e answer
           (IsWellScoped-well_formed x86_language c.self.inside.program.now.well_formed) start) c.args.order.now
           c.loop-index.index-index item _ _ (record {
             index = c.from.result;
             past = 0;
-            within = c.loop-index-test.true;
+            place_in_range = c.loop-index-test.true;
             is_number = c.from.ensures;
-            there = rw c.from.ensures (c.requires c.loop-index.index-index 0 c.loop-index-test.true);
+            item_in_range = rw c.from.ensures (c.requires c.loop-index.index-index 0 c.loop-index-test.true);
             is_item = c.index-items-from.is;
           }) c.loop-index.invariant.ran carried;
     }
@@ -63,8 +68,9 @@ returns-then-not-carry_out-clause-ends g c o stays =
     let test = program_of c.self.inside.program.now in
     let m = c.restart.new.self.state.memory in
     let start =
-    can_start mem test m (caches_invariant Mesi) c.restart.ensures.sound c.restart.ensures.cpus c.restart.ensures.words
-    c.restart.ensures.program c.self.invariant.0 (ap (λ (i : InitialWords). i.words) c.self.invariant.1) in
+    IsInitialMemory-after_reset mem test m (caches_invariant Mesi) c.restart.ensures.sound c.restart.ensures.cpus
+    c.restart.ensures.words c.restart.ensures.program c.self.invariant.0
+    (ap (λ (i : InitialWords). i.words) c.self.invariant.1) in
     let item = c.index-items-from.result in
     let now = c.loop-index.self-inside.machine.state in
     let run =
@@ -75,15 +81,15 @@ returns-then-not-carry_out-clause-ends g c o stays =
     IsAtPosition (event_of item) item.position now
     → (stop : Stop) × MachineTransition mem p (event_of item) now (Err stop) c.carry_out.new.machine.state)
     c.loop-index.invariant.threads (c.carry_out.ensures.left c.if-not-carry_out.true) in
-    left_off mem _ m c.args.items.now (λ events s after e answer.
+    not-outcome_if_refused mem _ m c.args.items.now (λ events s after e answer.
     c.events_are_flat.ensures.over_flat test m events s after e answer
     (IsWellScoped-well_formed x86_language c.self.inside.program.now.well_formed) start) c.args.order.now c.loop-index.index-index
     item now c.carry_out.new.machine.state (record {
       index = c.from.result;
       past = 0;
-      within = c.loop-index-test.true;
+      place_in_range = c.loop-index-test.true;
       is_number = c.from.ensures;
-      there = rw c.from.ensures (c.requires c.loop-index.index-index 0 c.loop-index-test.true);
+      item_in_range = rw c.from.ensures (c.requires c.loop-index.index-index 0 c.loop-index-test.true);
       is_item = c.index-items-from.is;
     }) c.loop-index.invariant.ran refused o run
 
@@ -94,7 +100,7 @@ returns-then-not-is_final-clause-ends g c o stays =
     let run =
     subst (λ (t : X86Test). X86FollowsPathsToEnd flat_memory t t.head.init_words c.args.items.now c.args.order.now o)
     (sym (ap (λ (r : RunnerState X86Test). r.test) c.self.view_is)) stays in
-    let at_end = ends_alone _ _ c.loop-index-test.false c.loop-index.invariant.ran.first o run in
+    let at_end = outcome_at_end-unique _ _ c.loop-index-test.false c.loop-index.invariant.ran.first o run in
     let final =
     subst (λ (p : List (List Instr)). is_final p c.loop-index.self-inside.machine.state ≡ true)
     (sym c.loop-index.invariant.threads) at_end.1 in
@@ -108,9 +114,9 @@ returns-clause-ends g c =
     let final =
     subst (λ (p : List (List Instr)). is_final p now ≡ true) c.loop-index.invariant.threads
     (sym c.is_final.ensures ∙ c.if-not-is_final.false) in
-    ends_of _ _ test _ _ _ (ap (λ r. r.test) c.self.view_is) c.write_outcome.ensures
-    (ends_so system _ c.loop-index-test.false c.loop-index.invariant.ran.first final)
-    (λ o run. (ends_alone system c.args.items.now c.loop-index-test.false c.loop-index.invariant.ran.first o run).0)
+    RunResult-same_outcome _ _ test _ _ _ (ap (λ r. r.test) c.self.view_is) c.write_outcome.ensures
+    (FollowsPathsToEnd-if_final system _ c.loop-index-test.false c.loop-index.invariant.ran.first final)
+    (λ o run. (outcome_at_end-unique system c.args.items.now c.loop-index-test.false c.loop-index.invariant.ran.first o run).0)
 
 pub bounds-items-from : goal.bounds-items-from
 bounds-items-from g c = rw c.from.ensures (c.requires c.loop-index.index-index 0 c.loop-index-test.true)

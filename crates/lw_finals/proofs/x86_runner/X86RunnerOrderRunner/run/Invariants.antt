@@ -1,3 +1,5 @@
+-- At each round the items before the index were executed over flat memory too; test, program and sizes are
+-- unchanged.
 use Rattle.lw_finals.proofs.Common.{◌≡◌, length, caches_by, Mesi, program_of}
 use Rattle.lw_finals.proofs.X86Runners.{RanFlat}
 use Rattle.lw_finals.proofs.x86_runner.X86RunnerOrderRunner.run.Given as goal
