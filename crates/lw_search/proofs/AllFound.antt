@@ -1,4 +1,6 @@
--- If every state found is expanded, all reachable final states are found.
+-- If every state found is expanded, all reachable final states are found. By induction on the length of a run
+-- to the final state: its first event leads to a state that a found one covers, and from there a shorter run
+-- has the same end. The completeness of lists rests on this.
 use Rattle.lw_search.proofs.Common.{◌≡◌, ℕ, zero, suc, ◌≤◌, Some, List, [], ◌∷◌, length, sym, subst, arith}
 use Rattle.lw_search.proofs.Common.{slice_get, IsTrue, slice_get_within, Event, flat_memory, Instr}
 use Rattle.lw_search.proofs.Common.{MachineRunsTo, is_final, State, Components, Visited, IsCovered}
@@ -10,6 +12,7 @@ module _ (program : List (List Instr)) (found : List State)
   abbrev pub IsFound : State → Type 0
   IsFound s = (i : ℕ) × (slice_get found i ≡ Some s)
 
+  -- If the successors of all states found are covered, each final state that a run from one of them reaches is found.
   pub run-found : (n : ℕ) (events : List Event) (s end : State)
       → length events ≤ n
       → IsFound s

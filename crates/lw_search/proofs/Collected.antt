@@ -1,25 +1,28 @@
--- The outcomes and schedules of the states that a search has found.
-use Rattle.lw_search.proofs.Common.{◌≡◌, ℕ, zero, suc, ◌+◌, ◌<◌, ◌≤◌, Bool, true, false, true≢false, inl, inr}
-use Rattle.lw_search.proofs.Common.{Some, None, List, [], ◌∷◌, ◌++◌, length, map, take, refl, sym, ap, ◌∙◌}
-use Rattle.lw_search.proofs.Common.{subst, arith, ap₂, slice_get, slice_index, IsTrue, cases_lt, same_Some}
-use Rattle.lw_search.proofs.Common.{slice_get_within, get_some, map-append, zip_pass, zip_passes}
-use Rattle.lw_search.proofs.Common.{RunsTo-append, get_or, slice_get_read, get_or_from_slice_get, get_or_past}
-use Rattle.lw_search.proofs.Common.{Event, flat_memory, Instr, Processor, MachineTransition, MachineRunsTo}
-use Rattle.lw_search.proofs.Common.{has_terminated, is_final, FinalState, All, machine_outcome, Contains}
-use Rattle.lw_search.proofs.Common.{Contains-append_left, Contains-push, All-push, take_one, OutcomeEntries}
-use Rattle.lw_search.proofs.Common.{outcomes_of, Origin, State, Components, Visited, Represents, events_of}
-use Rattle.lw_search.proofs.Common.{SearchInvariant, ReportsThreadEnd, ReachesOutcome, ReachesIndex}
-use Rattle.lw_search.proofs.Common.{CollectsState, CollectsAll, events_at, All-permutation, IsPermutation}
-use Rattle.lw_search.proofs.Common.{stays_listed}
+-- The outcomes and schedules of the states that a search has found. Lemmas for the functions of `collect.rt`:
+-- whether a state is final, its registers, the schedule along its origins, and one more state whose outcome
+-- is listed.
+use Rattle.lw_search.proofs.Common.{OutcomeEntries, IsScheduleOf, AreSame, ◌≡◌, ℕ, zero, suc, ◌+◌, ◌<◌, ◌≤◌}
+use Rattle.lw_search.proofs.Common.{Bool, true, false, true≢false, inl, inr, Some, None, List, [], ◌∷◌, ◌++◌}
+use Rattle.lw_search.proofs.Common.{length, map, take, refl, sym, ap, ◌∙◌, subst, arith, ap₂, slice_get}
+use Rattle.lw_search.proofs.Common.{slice_index, IsTrue, cases_lt, same_Some, slice_get_within}
+use Rattle.lw_search.proofs.Common.{slice_get-in_range, map-append, list_all_zip-of_each}
+use Rattle.lw_search.proofs.Common.{list_all_zip-at_index, RunsTo-append, get_or, slice_get_read}
+use Rattle.lw_search.proofs.Common.{get_or_from_slice_get, get_or_past, Event, flat_memory, Instr, Processor}
+use Rattle.lw_search.proofs.Common.{MachineTransition, MachineRunsTo, has_terminated, is_final, FinalState}
+use Rattle.lw_search.proofs.Common.{All, machine_outcome, Contains, Contains-append_left, Contains-push}
+use Rattle.lw_search.proofs.Common.{All-push, take-suc, OutcomesWith, outcomes_of, Origin, State, Components}
+use Rattle.lw_search.proofs.Common.{Visited, Represents, events_of, SearchInvariant, ReportsThreadEnd}
+use Rattle.lw_search.proofs.Common.{LeadsTo, ReachesIndex, CollectsState, CollectsAll, events_at}
+use Rattle.lw_search.proofs.Common.{All-permutation, IsPermutation, Contains-permuted_outcomes}
 use Rattle.lw_search.proofs.Start.{length-past}
 
 -- The item of a loop over a list is the list's at the loop's index.
-pub item_at : {X : Type 0} (xs ys : List X) (i : ℕ) (x : X)
+pub slice_get-loop_item : {X : Type 0} (xs ys : List X) (i : ℕ) (x : X)
     → ys ≡ xs
     → i < length xs
     → x ≡ get_or ys i x
     → slice_get xs i ≡ Some x
-item_at xs ys i x same within is = slice_get_read xs _ i x refl within (rw (← same) is)
+slice_get-loop_item xs ys i x same within is = slice_get_read xs _ i x refl within (rw (← same) is)
 
 -- ---- final states
 
@@ -33,6 +36,7 @@ module _ (program : List (List Instr)) (tables : Components) (key : List ℕ) wh
       → slice_get tables.threads (slice_index key (t + 1)) ≡ Some p
       → has_terminated code p ≡ true
 
+  -- If thread n is reported as terminated too, the first n + 1 threads have terminated.
   pub are_done-more : (n : ℕ) (code : List Instr) (answer : Bool)
       → AreDone n
       → slice_get program n ≡ Some code
@@ -49,6 +53,7 @@ module _ (program : List (List Instr)) (tables : Components) (key : List ℕ) wh
         ap (λ l. has_terminated l p) (sym one) ∙ sym (is p there) ∙ passed
   ]
 
+  -- If all threads have terminated, each state that the key represents is final.
   pub is_final-all_done : (n : ℕ)
       → AreDone n
       → length program ≤ n
@@ -57,10 +62,11 @@ module _ (program : List (List Instr)) (tables : Components) (key : List ℕ) wh
       → length s.processors ≡ length program
       → IsTrue (is_final program s)
   is_final-all_done n done few s stands as_many =
-      zip_pass (λ (x : List Instr × Processor). has_terminated x.0 x.1) program s.processors (λ t code p at and.
+      list_all_zip-of_each (λ (x : List Instr × Processor). has_terminated x.0 x.1) program s.processors (λ t code p at and.
       let lt = slice_get_within program t code at in done t code p (omega (arith, lt, few)) at (stands.threads t p and))
 
-  pub not_final : (n : ℕ) (code : List Instr) (answer : Bool)
+  -- If a thread is reported as not terminated, no state that the key represents is final.
+  pub not-is_final_if_unfinished : (n : ℕ) (code : List Instr) (answer : Bool)
       → slice_get program n ≡ Some code
       → ReportsThreadEnd tables key n (length code) answer
       → answer ≡ false
@@ -69,15 +75,17 @@ module _ (program : List (List Instr)) (tables : Components) (key : List ℕ) wh
       → length s.processors ≡ length program
       → IsTrue (is_final program s)
       → ⊥
-  not_final n code answer at is failed s stands as_many final =
+  not-is_final_if_unfinished n code answer at is failed s stands as_many final =
       let lt : n < length s.processors = subst (λ k. n < k) (sym as_many) (slice_get_within program n code at) in
-      let p = get_some s.processors n lt in
+      let p = slice_get-in_range s.processors n lt in
       let done : has_terminated code p.0 ≡ true =
-      zip_passes (λ (x : List Instr × Processor). has_terminated x.0 x.1) program s.processors n code p.0 final at p.1 in
+      list_all_zip-at_index (λ (x : List Instr × Processor). has_terminated x.0 x.1) program s.processors n code p.0 final at
+      p.1 in
       true≢false (sym done ∙ sym (is p.0 (stands.threads n p.0 p.1)) ∙ failed)
 
   -- ---- the outcome
 
+  -- In each state that the key represents, the first n threads have these registers.
   abbrev pub AreRegisters : List (List ℕ) → ℕ → Type 0
   AreRegisters regs n =
       (s : State)
@@ -85,17 +93,18 @@ module _ (program : List (List Instr)) (tables : Components) (key : List ℕ) wh
       → length s.processors ≡ length program
       → regs ≡ map (λ p. p.regs) (take n s.processors)
 
+  -- With the registers of thread n appended, the rows are those of the first n + 1 threads.
   pub registers-more : (regs : List (List ℕ)) (n : ℕ) (r : List ℕ)
       → AreRegisters regs n
       → n < length program
       → ((p : Processor) → slice_get tables.threads (slice_index key (n + 1)) ≡ Some p → r ≡ p.regs)
       → AreRegisters (regs ++ r ∷ []) (n + 1)
   registers-more regs n r are lt is s stands as_many =
-      let p = get_some s.processors n (subst (λ k. n < k) (sym as_many) lt) in
+      let p = slice_get-in_range s.processors n (subst (λ k. n < k) (sym as_many) lt) in
       let next : suc n ≡ n + 1 = omega arith in
       ap₂ (λ l w. l ++ w ∷ []) (are s stands as_many) (is p.0 (stands.threads n p.0 p.1))
       ∙ sym (map-append (λ (q : Processor). q.regs) (take n s.processors) (p.0 ∷ []))
-      ∙ ap (map (λ (q : Processor). q.regs)) (sym (take_one s.processors n p.0 p.1) ∙ ap (λ k. take k s.processors) next)
+      ∙ ap (map (λ (q : Processor). q.regs)) (sym (take-suc s.processors n p.0 p.1) ∙ ap (λ k. take k s.processors) next)
 
 -- ---- schedules
 
@@ -117,7 +126,7 @@ events_at-none runs n none = ap events_of (get_or_past runs n [] (length-past ru
 pub reaches_index-past : (visited : Visited) (index : ℕ) → slice_get visited.origins index ≡ None → ReachesIndex visited index []
 reaches_index-past visited index none program start tables found closed s invariant there =
     let lt = slice_get_within found index s there in
-    let origin = get_some visited.origins index (subst (λ n. index < n) (sym invariant.origin_count) lt) in
+    let origin = slice_get-in_range visited.origins index (subst (λ n. index < n) (sym invariant.origin_count) lt) in
     absurd (let e = sym none ∙ origin.1 in cc)
 
 -- The events to the parent, followed by those of the origin's run, reach the state.
@@ -148,7 +157,7 @@ found-reachable program start tables visited found closed invariant (suc n) zero
     ([], same_Some s start (sym at ∙ invariant.first))
 found-reachable program start tables visited found closed invariant (suc n) (suc i) s lt at =
     let within = slice_get_within found (suc i) s at in
-    let origin = get_some visited.origins (suc i) (subst (λ k. suc i < k) (sym invariant.origin_count) within) in
+    let origin = slice_get-in_range visited.origins (suc i) (subst (λ k. suc i < k) (sym invariant.origin_count) within) in
     let predecessor = invariant.predecessor i origin.0 s origin.1 at in
     let before =
     found-reachable program start tables visited found closed invariant n origin.0.parent predecessor.from
@@ -161,6 +170,7 @@ found-reachable program start tables visited found closed invariant (suc n) (suc
 -- ---- entries
 
 module _ (program : List (List Instr)) (tables : Components) (visited : Visited) where
+  -- If the state's outcome is among the entries already, the state is collected without a change.
   pub collects-known : (at : ℕ) (key : List ℕ) (o : FinalState) (es : OutcomeEntries)
       → slice_get visited.keys at ≡ Some key
       → ((s : State) → Represents tables key s → length s.processors ≡ length program → o ≡ machine_outcome flat_memory s)
@@ -174,14 +184,15 @@ module _ (program : List (List Instr)) (tables : Components) (visited : Visited)
     lead = λ start found closed invariant a. a;
   }
 
-  pub collects-new : (at : ℕ) (key : List ℕ) (o : FinalState) (events : List Event) (es fs : OutcomeEntries)
+  -- Appending a final state's outcome, with a schedule that reaches the state, collects the state.
+  pub collects-new : (at : ℕ) (key : List ℕ) (o : FinalState) (schedule : List Event) (es fs : OutcomeEntries)
       → slice_get visited.keys at ≡ Some key
       → ((s : State) → Represents tables key s → length s.processors ≡ length program → o ≡ machine_outcome flat_memory s)
       → ((s : State) → Represents tables key s → length s.processors ≡ length program → IsTrue (is_final program s))
-      → ReachesIndex visited at events
-      → fs ≡ es ++ (o, events) ∷ []
+      → ReachesIndex visited at schedule
+      → fs ≡ es ++ (o, schedule) ∷ []
       → CollectsState program tables visited at es fs
-  collects-new at key o events es fs keyed is final leads grown = record {
+  collects-new at key o schedule es fs keyed is final leads grown = record {
     covered = λ start found closed s invariant stood ends.
         subst (λ p. Contains (outcomes_of fs) p)
         (is s (invariant.represents at key s keyed stood) (invariant.thread_count at s stood))
@@ -189,17 +200,18 @@ module _ (program : List (List Instr)) (tables : Components) (visited : Visited)
     kept = λ p c. subst (λ ks. Contains ks p) (sym keys) (Contains-append_left (outcomes_of es) (o ∷ []) p c);
     lead = λ start found closed invariant a.
         let lt : at < length found = subst (λ n. at < n) invariant.key_count (slice_get_within visited.keys at key keyed) in
-        let s = get_some found at lt in
+        let s = slice_get-in_range found at lt in
         let stands = invariant.represents at key s.0 keyed s.1 in
         let as_many = invariant.thread_count at s.0 s.1 in
-        let to : ReachesOutcome program start events o =
-        (s.0, leads program start tables found closed s.0 invariant s.1, final s.0 stands as_many, is s.0 stands as_many) in
-        subst (λ gs. All (λ e. ReachesOutcome program start e.1 e.0) gs) (sym grown)
-        (All-push (λ e. ReachesOutcome program start e.1 e.0) es (o, events) a to);
+        let ran = leads program start tables found closed s.0 invariant s.1 in
+        let to : LeadsTo IsScheduleOf program start (o, schedule) =
+        (schedule, refl, (s.0, ran, final s.0 stands as_many, is s.0 stands as_many)) in
+        subst (λ gs. All (LeadsTo IsScheduleOf program start) gs) (sym grown)
+        (All-push (LeadsTo IsScheduleOf program start) es (o, schedule) a to);
   }
     where
       keys : outcomes_of fs ≡ outcomes_of es ++ o ∷ []
-      keys = ap outcomes_of grown ∙ map-append _ es ((o, events) ∷ [])
+      keys = ap outcomes_of grown ∙ map-append _ es ((o, schedule) ∷ [])
 
   -- The outcomes of the first n states are collected.
   pub record CollectsFirst (n : ℕ) (entries : OutcomeEntries) : Type 0 where
@@ -211,8 +223,9 @@ module _ (program : List (List Instr)) (tables : Components) (visited : Visited)
         → Contains (outcomes_of entries) (machine_outcome flat_memory s)
     pub lead : (start : State) (found : List State) (closed : ℕ)
         → SearchInvariant program start tables visited found closed
-        → All (λ e. ReachesOutcome program start e.1 e.0) entries
+        → All (LeadsTo IsScheduleOf program start) entries
 
+  -- If the first n states are collected, and then the state at index n, the first n + 1 are collected.
   pub collects_first-more : (n : ℕ) (es fs : OutcomeEntries)
       → CollectsFirst n es
       → CollectsState program tables visited n es fs
@@ -228,15 +241,16 @@ module _ (program : List (List Instr)) (tables : Components) (visited : Visited)
   }
 
   -- The collected outcomes are those of all states, in any order.
-  pub collects_all : (n : ℕ) (es fs : OutcomeEntries)
+  pub CollectsAll-of_first : (n : ℕ) (es fs : OutcomeEntries)
       → CollectsFirst n es
       → length visited.keys ≤ n
       → IsPermutation es fs
-      → CollectsAll program tables visited fs
-  collects_all n es fs first few same = record {
+      → CollectsAll AreSame IsScheduleOf program tables visited fs
+  CollectsAll-of_first n es fs first few same = record {
     covered = λ start found closed i s invariant at final.
         let lt : i < n = (let h = slice_get_within found i s at in omega (arith, h, few, invariant.key_count)) in
-        (stays_listed es fs (machine_outcome flat_memory s) same).0 (first.covered start found closed i s invariant lt at final);
+        let o = machine_outcome flat_memory s in
+        (o, (Contains-permuted_outcomes es fs o same).0 (first.covered start found closed i s invariant lt at final), refl);
     lead = λ start found closed invariant.
-        All-permutation (λ e. ReachesOutcome program start e.1 e.0) es fs same (first.lead start found closed invariant);
+        All-permutation (LeadsTo IsScheduleOf program start) es fs same (first.lead start found closed invariant);
   }

@@ -1,33 +1,42 @@
 -- What proofs cite of std, of lower crates and of this crate's definitions, passed on from one place. Declares nothing.
 pub use Rattle.std.proofs.Common.{All, Bool, Contains, Decides, IsPermutation, IsTrue, List, None, Ok, Option}
-pub use Rattle.std.proofs.Common.{Some, [], ap, append-nil, append_assoc, ap₂, arith, drop, eq-eqb, eqb-true}
-pub use Rattle.std.proofs.Common.{false, get_or, get_or-set_other, get_or-set_same, if◌then◌else◌, inl, inr}
-pub use Rattle.std.proofs.Common.{leb-true, length, length-append, length-set, map, nat_eq, nat_le, nat_lt}
-pub use Rattle.std.proofs.Common.{not, option_copied, option_to_list, position, refl, set-set, slice_get}
-pub use Rattle.std.proofs.Common.{slice_index, slice_set, subst, suc, sym, take, true, true≢false, zero, ℕ}
-pub use Rattle.std.proofs.Common.{⊎_elim, ◌&&◌, ◌++◌, ◌+◌, ◌<◌, ◌==◌, ◌||◌, ◌↔◌, ◌∙◌, ◌∷◌, ◌≡◌, ◌≢◌, ◌≤◌, ◌⊎◌}
+pub use Rattle.std.proofs.Common.{Some, [], ap, append-nil, append_assoc, ap₂, arith, bit_and, bit_or, drop}
+pub use Rattle.std.proofs.Common.{eq-eqb, eqb-true, false, get_or, get_or-set_other, get_or-set_same}
+pub use Rattle.std.proofs.Common.{if◌then◌else◌, inl, inr, leb-true, length, length-append, length-set}
+pub use Rattle.std.proofs.Common.{length-take-le, lt-ltb, map, nat_eq, nat_le, nat_lt, not, option_copied}
+pub use Rattle.std.proofs.Common.{option_to_list, position, pow_pos, refl, set-set, slice_get, slice_index}
+pub use Rattle.std.proofs.Common.{slice_set, subst, suc, sym, take, true, true≢false, w32, zero, ℕ, ⊎_elim}
+pub use Rattle.std.proofs.Common.{◌%◌, ◌&&◌, ◌*◌, ◌++◌, ◌+◌, ◌<◌, ◌==◌, ◌^◌, ◌||◌, ◌↔◌, ◌∙◌, ◌∷◌, ◌≡◌, ◌≢◌}
+pub use Rattle.std.proofs.Common.{◌≤◌, ◌⊎◌}
+pub use Rattle.std.proofs.Math.Nat.{le-max_left, le-max_right}
 pub use Rattle.std.proofs.lemmas.Bool.{and_parts, cases_eq, cases_lt}
 pub use Rattle.std.proofs.lemmas.List.{get_or_past, length-map, map-append, take_more}
-pub use Rattle.std.proofs.lemmas.List.Elements.{All-cons, All-contains, All-nil, All-push, All-weaker}
-pub use Rattle.std.proofs.lemmas.List.Elements.{Contains-append_left, Contains-push}
+pub use Rattle.std.proofs.lemmas.List.Elements.{All-cons, All-contains, All-map, All-nil, All-push}
+pub use Rattle.std.proofs.lemmas.List.Elements.{All-weaker, Contains-append_left, Contains-push}
 pub use Rattle.std.proofs.lemmas.List.Quantifiers.{position-Some}
 pub use Rattle.std.proofs.lemmas.List.Sorted.{All-permutation}
+pub use Rattle.std.proofs.lemmas.Nat.{one_shl}
+pub use Rattle.std.proofs.lemmas.Nat.Bits.{and_pow, bit_at-lt, bit_at_or, bit_at_set_other, bit_at_set_same}
 pub use Rattle.std.proofs.lemmas.Option.{get_or_from_slice_get, same_Some, slice_get-get_or, slice_get_past}
 pub use Rattle.std.proofs.lemmas.Option.{slice_get_read, slice_get_within}
-pub use Rattle.std.proofs.lemmas.Result.{IfOk-weaker, on_ok_weaker}
+pub use Rattle.std.proofs.lemmas.Result.{IfOk-weaker, err_from_is_err_and, on_ok_weaker}
 pub use Rattle.std.specs.Cmp.{booleans_Decides, first_so, second_so, unsigned_Decides}
 pub use Rattle.std.specs.Cmp.Lexicographic.{pointwise, pointwise_decides}
+pub use Rattle.std.specs.Int.{bit_at}
 pub use Rattle.std.specs.List.{list_any}
 pub use Rattle.std.specs.Option.{option_or}
 pub use mathlib.Core.Bool.{beq}
-pub use Rattle.lw_base.proofs.Common.{FinalState, IsDuplicateFree, IsListedOutcome, thread_code}
-pub use Rattle.lw_base.proofs.api.Lists.{get-append_middle, get-set_other, get-set_same, get_append, get_some}
-pub use Rattle.lw_base.proofs.api.Lists.{set-get_same, take_one}
+pub use Rattle.lw_base.proofs.Common.{ContainsWordsOf, FinalState, HasOutcomeShape, IsDuplicateFree}
+pub use Rattle.lw_base.proofs.Common.{IsListedOutcome, final_word, final_words, thread_code}
+pub use Rattle.lw_base.proofs.api.Lists.{get-append_middle, get-set_other, get-set_same, set-get_same}
+pub use Rattle.lw_base.proofs.api.Lists.{slice_get-append_cases, slice_get-in_range, take-suc}
 pub use Rattle.lw_base.proofs.api.Members.{Contains-cons, Contains-head, Contains-tail, not-Contains-nil}
 pub use Rattle.lw_base.proofs.api.Replays.{RunsTo-append}
-pub use Rattle.lw_base.proofs.api.Zips.{get-map, zip_pass, zip_passes}
+pub use Rattle.lw_base.proofs.api.Zips.{get-map, list_all_zip-at_index, list_all_zip-of_each}
 pub use Rattle.lw_base.specs.declared.event.Event.{Event}
 pub use Rattle.lw_base.specs.declared.event.Event.TheVariants.{Drain, Evict, Step}
+pub use Rattle.lw_base.specs.declared.head.Seen.{Seen}
+pub use Rattle.lw_base.specs.declared.head.Seen.TheVariants.{Register}
 pub use Rattle.lw_base.specs.declared.stop.Stop.{Stop}
 pub use Rattle.lw_base.specs.declared.stop.Stop.TheVariants.{BufferEmpty, Ended, FenceWaits, NoLocation}
 pub use Rattle.lw_base.specs.declared.stop.Stop.TheVariants.{SwapWaits}
@@ -41,34 +50,49 @@ pub use Rattle.lw_litmus.specs.declared.operation.Operation.TheVariants.{Store, 
 pub use Rattle.lw_memory.proofs.Common.{flat_memory}
 pub use Rattle.lw_mesi.specs.declared.protocol.Protocol.{Protocol}
 pub use Rattle.lw_mesi.specs.declared.protocol.Protocol.TheVariants.{Mesi}
-pub use Rattle.lw_tso.proofs.Common.{AreIndependent, DoNotConflict, EffectTransition, EventEffect, Eviction}
-pub use Rattle.lw_tso.proofs.Common.{IsAtPosition, IsMachineOutcome, LocalStep, MachineRunsTo}
-pub use Rattle.lw_tso.proofs.Common.{MachineTransition, MemoryAccess, Processor, Refused, ReplaysTo}
-pub use Rattle.lw_tso.proofs.Common.{TransitionAt, accessed_location, cpu_of, drain_effect, event_effect}
-pub use Rattle.lw_tso.proofs.Common.{event_writes, has_terminated, if_buffer_empty, initial_machine_state}
+pub use Rattle.lw_tso.proofs.Common.{AreIndependent, DoNotConflict, EventEffect, Eviction, IsAtPosition}
+pub use Rattle.lw_tso.proofs.Common.{IsMachineOutcome, LocalStep, MachineRunsTo, MachineTransition}
+pub use Rattle.lw_tso.proofs.Common.{MemoryAccess, Processor, Refused, ReplaysTo, TransitionAt}
+pub use Rattle.lw_tso.proofs.Common.{accessed_location, cpu_of, drain_effect, event_effect, event_writes}
+pub use Rattle.lw_tso.proofs.Common.{has_terminated, if_buffer_empty, initial_machine_state}
 pub use Rattle.lw_tso.proofs.Common.{initial_processor, is_final, load_effect, machine_outcome}
 pub use Rattle.lw_tso.proofs.Common.{newest_buffered, operation_effect, step_effect, without_evictions}
-pub use Rattle.lw_tso.proofs.api.Effects.{EffectLeadsTo, EventOccurrence, MachineTransition-deterministic}
-pub use Rattle.lw_tso.proofs.api.Effects.{done_does, effect_of_event, event_of_effect, no_eviction, state}
-pub use Rattle.lw_tso.proofs.api.Neighbours.{exchanged, position_at}
-pub use Rattle.lw_tso.proofs.api.Operations.{Buffers, OperationTransition, operation_accessed, operation_does}
-pub use Rattle.lw_outcome_map.proofs.api.Listings.{stays_listed}
-pub use Rattle.lw_outcome_map.specs.Listings.{OutcomeEntries, outcomes_of}
-pub use Rattle.lw_tso_caches.proofs.api.CompleteLists.{no_evictions, of_source, on_machine}
-pub use Rattle.lw_tso_caches.specs.CompleteLists.{IsComplete}
+pub use Rattle.lw_tso.proofs.api.Effects.{EffectLeadsTo, EffectLeadsTo-if_done, EventOccurrence}
+pub use Rattle.lw_tso.proofs.api.Effects.{EventOccurrence-of_event, MachineTransition-deterministic}
+pub use Rattle.lw_tso.proofs.api.Effects.{MachineTransition-of_effect, not-EffectLeadsTo-evict_event, state}
+pub use Rattle.lw_tso.proofs.api.Neighbours.{EventsCommute-independent, position_of-in_range}
+pub use Rattle.lw_tso.proofs.api.Operations.{Buffers, OperationTransition, OperationTransition-of_effect}
+pub use Rattle.lw_tso.proofs.api.Operations.{accessed_location-of_operation}
+pub use Rattle.lw_outcome_map.proofs.api.Listings.{Contains-permuted_outcomes}
+pub use Rattle.lw_outcome_map.specs.Listings.{OutcomeEntries, OutcomesWith, outcomes_of}
+pub use Rattle.lw_tso_caches.proofs.api.CompleteLists.{HasOutcomeShape-of_compiled, IsListedOutcome-of_source}
+pub use Rattle.lw_tso_caches.proofs.api.CompleteLists.{on_machine, without_evictions-flat_run}
+pub use Rattle.lw_tso_caches.specs.CompleteLists.{AreAllOutcomes, IsComplete}
 pub use Rattle.lw_tso_caches.specs.OverCaches.{OutcomeOverCaches, ReplaysToOverCaches}
 pub use Rattle.lw_search.specs.Reachability.{AreReachable, ExceedsBudget, IsReachable, Visits}
+pub use Rattle.lw_search.specs.declared.accesses.Outlook.{Outlook}
+pub use Rattle.lw_search.specs.declared.accesses.Outlooks.{Outlooks}
+pub use Rattle.lw_search.specs.declared.fault.SearchFault.{SearchFault}
 pub use Rattle.lw_search.specs.declared.states.Origin.{Origin}
-pub use Rattle.lw_search.specs.inner.Invariant.{CollectsAll, CollectsState, Covers, CoversThread}
-pub use Rattle.lw_search.specs.inner.Invariant.{ExpandsState, ExpandsUpTo, Expansion, HasPredecessor}
-pub use Rattle.lw_search.specs.inner.Invariant.{IsCovered, IsLoaded, IsStarted, IsWorking}
-pub use Rattle.lw_search.specs.inner.Invariant.{OthersNeverConflict, ReachesIndex, ReachesOutcome}
-pub use Rattle.lw_search.specs.inner.Invariant.{ReportsThreadEnd, SearchInvariant, Settled, Settles}
-pub use Rattle.lw_search.specs.inner.Invariant.{SettlesFrom, events_at}
+pub use Rattle.lw_search.specs.declared.transitions.Successor.{Successor}
+pub use Rattle.lw_search.specs.declared.transitions.Transition.{Transition}
+pub use Rattle.lw_search.specs.inner.Accesses.{AvoidsConflicts, DescribeRows, DescribeState, DescribeThread}
+pub use Rattle.lw_search.specs.inner.Accesses.{HasConflictsBetween, HasConflictsOf, HasConflictsOfOthers}
+pub use Rattle.lw_search.specs.inner.Accesses.{Lacks, access_bit}
+pub use Rattle.lw_search.specs.inner.Invariant.{AreSame, CollectsAll, CollectsState, ContainsAgreeing, Covers}
+pub use Rattle.lw_search.specs.inner.Invariant.{CoversThread, ExpandsState, ExpandsUpTo, Expansion}
+pub use Rattle.lw_search.specs.inner.Invariant.{HasPredecessor, HaveSameWords, IsCovered, IsFinished}
+pub use Rattle.lw_search.specs.inner.Invariant.{IsLoaded, IsOfSomeRun, IsScheduleOf, IsStarted, IsWorking}
+pub use Rattle.lw_search.specs.inner.Invariant.{LeadsTo, ListsAgreeing, ReachesIndex, ReportsThreadEnd}
+pub use Rattle.lw_search.specs.inner.Invariant.{SearchInvariant, Settled, Settles, SettlesFrom, events_at}
 pub use Rattle.lw_search.specs.inner.InvisibleEvents.{IsForward, IsInvisible, IsUncontended, NeverConflicts}
 pub use Rattle.lw_search.specs.inner.InvisibleEvents.{drain_access, event_access, operation_access}
 pub use Rattle.lw_search.specs.inner.InvisibleEvents.{step_access}
+pub use Rattle.lw_search.specs.inner.ObservedStates.{AddsOutcome, AreObserved, HasWords, InsertsObserved}
+pub use Rattle.lw_search.specs.inner.ObservedStates.{InsertsOutcome, ObservedWords, ObservesState}
 pub use Rattle.lw_search.specs.inner.StateKeys.{AppendsOrigin, AreDistinct, Components, Extends, InsertsKey}
 pub use Rattle.lw_search.specs.inner.StateKeys.{IsPrefix, Represents, RepresentsOthers, RepresentsThreads}
 pub use Rattle.lw_search.specs.inner.StateKeys.{State, Visited, event_of, events_of, set_thread}
 pub use Rattle.lw_search.specs.inner.ThreadStates.{ActResult}
+pub use Rattle.lw_search.specs.inner.Transitions.{AppendsRows, AreTransitions, Caches, CopiesRow}
+pub use Rattle.lw_search.specs.inner.Transitions.{IsNeverEnabled, IsTransition}

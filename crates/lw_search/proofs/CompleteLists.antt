@@ -1,76 +1,123 @@
--- A search that has expanded all states that it found gives a complete list.
-use Rattle.lw_search.proofs.Common.{◌≡◌, ◌↔◌, List, [], ◌∷◌, length, refl, sym, subst, inl, inr, All, Event}
-use Rattle.lw_search.proofs.Common.{FinalState, flat_memory, ReplaysTo, IsMachineOutcome}
+-- A search that has expanded all states that it found gives a complete list of outcomes with schedules, or all states that a report shows.
+-- The main theorem of this crate, from AllFound.
+use Rattle.lw_search.proofs.Common.{IsFinished, ContainsAgreeing, AreSame, IsScheduleOf, ◌≡◌, ◌↔◌, List, []}
+use Rattle.lw_search.proofs.Common.{◌∷◌, length, refl, sym, subst, inl, inr, All, Event, FinalState}
+use Rattle.lw_search.proofs.Common.{flat_memory, ReplaysTo, IsMachineOutcome, AreAllOutcomes}
 use Rattle.lw_search.proofs.Common.{initial_machine_state, without_evictions, X86Test, Contains, All-weaker}
 use Rattle.lw_search.proofs.Common.{All-contains, not-Contains-nil, Contains-head, Contains-tail}
-use Rattle.lw_search.proofs.Common.{Contains-cons, IsListedOutcome, OutcomeEntries, outcomes_of, Protocol}
-use Rattle.lw_search.proofs.Common.{Mesi, ReplaysToOverCaches, OutcomeOverCaches, no_evictions, IsComplete}
-use Rattle.lw_search.proofs.Common.{State, Components, Visited, SearchInvariant, ReachesOutcome, CollectsAll}
+use Rattle.lw_search.proofs.Common.{Contains-cons, IsListedOutcome, OutcomeEntries, OutcomesWith, outcomes_of}
+use Rattle.lw_search.proofs.Common.{Mesi, Protocol, ReplaysToOverCaches, OutcomeOverCaches}
+use Rattle.lw_search.proofs.Common.{without_evictions-flat_run, State, Components, Visited, SearchInvariant}
+use Rattle.lw_search.proofs.Common.{CollectsAll, LeadsTo, HasOutcomeShape, All-map, IsComplete, ListsAgreeing}
 use Rattle.lw_search.proofs.AllFound.{final_state-found}
 
 -- Each listed outcome is that of an entry.
-entry_of_outcome : (entries : OutcomeEntries) (o : FinalState)
+Contains-entry_of_outcome : {Kept : Type 0} (entries : OutcomesWith Kept) (o : FinalState)
     → Contains (outcomes_of entries) o
-    → (entry : FinalState × List Event) × Contains entries entry × (entry.0 ≡ o)
-entry_of_outcome [] o c = absurd (not-Contains-nil o c)
-entry_of_outcome (entry ∷ entries) o c = elim (Contains-cons entry.0 o (outcomes_of entries) c) [
+    → (entry : FinalState × Kept) × Contains entries entry × (entry.0 ≡ o)
+Contains-entry_of_outcome [] o c = absurd (not-Contains-nil o c)
+Contains-entry_of_outcome (entry ∷ entries) o c = elim (Contains-cons entry.0 o (outcomes_of entries) c) [
   | inl same ↦ (entry, Contains-head entry entry entries refl, same)
-  | inr rest ↦ (let found = entry_of_outcome entries o rest in (found.0, Contains-tail entry found.0 entries found.1, found.2))
+  | inr rest ↦
+      (let found = Contains-entry_of_outcome entries o rest in (found.0, Contains-tail entry found.0 entries found.1, found.2))
 ]
 
 module _ (test : X86Test)
-    (outcomes : (protocol : Protocol) (o : FinalState)
-    → OutcomeOverCaches protocol test o ↔ IsMachineOutcome flat_memory test test.head.init_words o)
     (replay : (protocol : Protocol) (events : List Event) (o : FinalState)
     → without_evictions events ≡ events
     → ReplaysToOverCaches protocol test events o ↔ ReplaysTo flat_memory test test.head.init_words events o)
     (of_test : (protocol : Protocol) (events : List Event) (o : FinalState)
     → ReplaysToOverCaches protocol test events o
-    → IsListedOutcome test.head (o, events)) (tables : Components) (visited : Visited) (found : List State)
-    (entries : OutcomeEntries)
-    (invariant : SearchInvariant test.threads (initial_machine_state test test.head.init_words) tables visited found
-    (length visited.keys)) (collected : CollectsAll test.threads tables visited entries) where
+    → IsListedOutcome test.head (o, events)) where
+  -- The initial state of the test.
   start : State
   start = initial_machine_state test test.head.init_words
 
-  leads : All (λ e. ReplaysTo flat_memory test test.head.init_words e.1 e.0) entries
+  -- A run that was found is a replay over caches.
+  ReplaysToOverCaches-of_entry : {Kept : Type 0} (StandsFor : Kept → List Event → Type 0) (protocol : Protocol)
+      (e : FinalState × Kept) (leads : LeadsTo StandsFor test.threads start e)
+      → ReplaysToOverCaches protocol test leads.0 e.0
   unfolding start
-  leads =
-      All-weaker (λ e. ReachesOutcome test.threads start e.1 e.0) (λ e. ReplaysTo flat_memory test test.head.init_words e.1 e.0)
-      (λ e h. record { end = h.0; ran = h.1; final = h.2; is = h.3 }) entries
-      (collected.lead start found (length visited.keys) invariant)
+  ReplaysToOverCaches-of_entry StandsFor protocol e leads =
+      let reached = leads.2 in
+      (replay protocol leads.0 e.0
+      (without_evictions-flat_run test.threads leads.0 (initial_machine_state test test.head.init_words) reached.0 reached.1)).1 (record {
+        end = reached.0;
+        ran = reached.1;
+        final = reached.2;
+        outcome_is = reached.3;
+      })
 
-  exactly : (o : FinalState) → Contains (outcomes_of entries) o ↔ IsMachineOutcome flat_memory test test.head.init_words o
-  exactly o = (
-    λ c.
-        (let e = entry_of_outcome entries o c in
+  module _ (Agrees : FinalState → FinalState → Type 0) {Kept : Type 0} (StandsFor : Kept → List Event → Type 0)
+      (flat : (protocol : Protocol) (o : FinalState)
+      → OutcomeOverCaches protocol test o ↔ IsMachineOutcome flat_memory test test.head.init_words o) (tables : Components)
+      (visited : Visited) (finished : IsFinished test tables visited) (entries : OutcomesWith Kept)
+      (collected : CollectsAll Agrees StandsFor test.threads tables visited entries) where
+    -- A run from the initial state reaches the outcome of each entry, and the entry represents this run.
+    All-LeadsTo : All (LeadsTo StandsFor test.threads (initial_machine_state test test.head.init_words)) entries
+    All-LeadsTo = collected.lead (initial_machine_state test test.head.init_words) finished.0 (length visited.keys) finished.1
+
+    -- Each listed outcome is one of the test over flat memory.
+    reached : (o : FinalState) → Contains (outcomes_of entries) o → IsMachineOutcome flat_memory test test.head.init_words o
+    reached o c =
+        let e = Contains-entry_of_outcome entries o c in
+        let to =
+        All-contains (LeadsTo StandsFor test.threads (initial_machine_state test test.head.init_words)) entries e.0 All-LeadsTo
+        e.1 in
         subst (IsMachineOutcome flat_memory test test.head.init_words) e.2
-        (e.0.1, All-contains (λ e. ReplaysTo flat_memory test test.head.init_words e.1 e.0) entries e.0 leads e.1)),
-    λ (events, h).
-        (let all : SearchInvariant test.threads (initial_machine_state test test.head.init_words) tables visited found
-        (length found) =
-        subst (λ n. SearchInvariant test.threads (initial_machine_state test test.head.init_words) tables visited found n)
-        invariant.key_count invariant in
+        (to.0, record { end = to.2.0; ran = to.2.1; final = to.2.2; outcome_is = to.2.3 })
+
+    -- For each outcome of the test over flat memory, one is listed that agrees with it.
+    covered : (o : FinalState)
+        → IsMachineOutcome flat_memory test test.head.init_words o
+        → ContainsAgreeing Agrees (outcomes_of entries) o
+    covered o (events, h) =
+        let all : SearchInvariant test.threads (initial_machine_state test test.head.init_words) tables visited finished.0
+        (length finished.0) =
+        subst (λ n. SearchInvariant test.threads (initial_machine_state test test.head.init_words) tables visited finished.0 n)
+        finished.1.key_count finished.1 in
         let at =
-        final_state-found test.threads (initial_machine_state test test.head.init_words) tables visited found all events h.end
-        h.ran h.final in
-        subst (Contains (outcomes_of entries)) (sym h.is)
-        (collected.covered (initial_machine_state test test.head.init_words) found (length visited.keys) at.0 h.end invariant at.1
-        h.final)),
-  )
+        final_state-found test.threads (initial_machine_state test test.head.init_words) tables visited finished.0 all events
+        h.end h.ran h.final in
+        subst (ContainsAgreeing Agrees (outcomes_of entries)) (sym h.outcome_is)
+        (collected.covered (initial_machine_state test test.head.init_words) finished.0 (length visited.keys) at.0 h.end
+        finished.1 at.1 h.final)
 
-  replays : (protocol : Protocol) → All (λ e. ReplaysToOverCaches protocol test e.1 e.0) entries
-  replays protocol =
-      All-weaker (λ e. ReplaysTo flat_memory test test.head.init_words e.1 e.0) (λ e. ReplaysToOverCaches protocol test e.1 e.0)
-      (λ e h.
-      (replay protocol e.1 e.0 (no_evictions test.threads e.1 (initial_machine_state test test.head.init_words) h.end h.ran)).1 h)
-      entries leads
+    -- For each outcome of the test one is listed that agrees with it, and each listed outcome is one of the test.
+    pub lists_agreeing : ListsAgreeing Agrees StandsFor test entries
+    unfolding start
+    lists_agreeing = record {
+      covered = covered;
+      reached = reached;
+      flat = flat;
+      shapes =
+          All-map (HasOutcomeShape test.head.threads (length test.head.locs)) (λ (e : FinalState × Kept). e.0) entries
+          (All-weaker (LeadsTo StandsFor test.threads (initial_machine_state test test.head.init_words))
+          (λ (e : FinalState × Kept). HasOutcomeShape test.head.threads (length test.head.locs) e.0)
+          (λ e to. (of_test Mesi to.0 e.0 (ReplaysToOverCaches-of_entry StandsFor Mesi e to)).outcome) entries All-LeadsTo);
+      lead = All-LeadsTo;
+    }
 
-  pub complete : IsComplete (IsMachineOutcome flat_memory test test.head.init_words) test entries
-  complete = record {
-    exactly = exactly;
-    over_caches =
-        λ protocol o. ((λ c. (outcomes protocol o).1 ((exactly o).0 c)), (λ m. (exactly o).1 ((outcomes protocol o).0 m)));
-    replays = replays;
-    of_program = All-weaker _ _ (λ e h. of_test Mesi e.1 e.0 h) entries (replays Mesi);
-  }
+  -- If each outcome of the test is listed, with a schedule, the list is complete.
+  pub IsComplete-of_schedules : (entries : OutcomeEntries)
+      → ListsAgreeing AreSame IsScheduleOf test entries
+      → IsComplete (IsMachineOutcome flat_memory test test.head.init_words) test entries
+  unfolding start
+  IsComplete-of_schedules entries lists =
+      let replays : (protocol : Protocol) → All (λ e. ReplaysToOverCaches protocol test e.1 e.0) entries = λ protocol.
+      All-weaker (LeadsTo IsScheduleOf test.threads (initial_machine_state test test.head.init_words))
+      (λ e. ReplaysToOverCaches protocol test e.1 e.0) (λ e to.
+      subst (λ events. ReplaysToOverCaches protocol test events e.0) (sym to.1)
+      (ReplaysToOverCaches-of_entry IsScheduleOf protocol e to)) entries lists.lead in
+      let has : (o : FinalState) → IsMachineOutcome flat_memory test test.head.init_words o → Contains (outcomes_of entries) o =
+      λ o m. (let p = lists.covered o m in subst (Contains (outcomes_of entries)) p.2 p.1) in
+      record {
+        all = record {
+          exactly = λ o. (lists.reached o, has o);
+          over_caches =
+              λ protocol o. (λ c. (lists.flat protocol o).1 (lists.reached o c), λ over. has o ((lists.flat protocol o).0 over));
+          shapes = lists.shapes;
+        };
+        replays = replays;
+        of_program = All-weaker _ _ (λ e h. of_test Mesi e.1 e.0 h) entries (replays Mesi);
+      }

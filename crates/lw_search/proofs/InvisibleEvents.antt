@@ -1,53 +1,60 @@
--- Partial-order reduction: an invisible event can be moved to the front of any run to a final state, and the run becomes no longer.
+-- Partial-order reduction: an invisible event can be moved to the front of any run to a final state, and the
+-- run becomes no longer. So the state after the event covers the state before it (`covers-invisible_event`),
+-- the main lemma of this crate.
 use Rattle.lw_search.proofs.Common.{◌≡◌, ◌≢◌, ℕ, suc, ◌<◌, ◌≤◌, inl, inr, ⊎_elim, Bool, true, false}
 use Rattle.lw_search.proofs.Common.{true≢false, Option, Some, None, Ok, List, [], ◌∷◌, length, refl, sym, ap}
 use Rattle.lw_search.proofs.Common.{ap₂, if◌then◌else◌, ◌∙◌, subst, arith, slice_get, slice_set, slice_index}
 use Rattle.lw_search.proofs.Common.{IsTrue, and_parts, leb-true, nat_le, nat_lt, ◌==◌, set-set, get-set_same}
 use Rattle.lw_search.proofs.Common.{get-set_other, cases_eq, same_Some, slice_get_within, length-set}
-use Rattle.lw_search.proofs.Common.{get_some, get_or_from_slice_get, zip_passes, get_or-set_same}
-use Rattle.lw_search.proofs.Common.{get_or-set_other, option_or, Event, Step, Drain, Evict, thread_code}
-use Rattle.lw_search.proofs.Common.{flat_memory, Instr, x86_operation, Operation, NoLocation, Set, Sum}
-use Rattle.lw_search.proofs.Common.{Compare, Store, Load, FetchAdd, Branch, location_of, is_store, is_locked}
-use Rattle.lw_search.proofs.Common.{Processor, EventEffect, LocalStep, MemoryAccess, Refused, Eviction}
-use Rattle.lw_search.proofs.Common.{cpu_of, event_effect, step_effect, drain_effect, operation_effect}
-use Rattle.lw_search.proofs.Common.{load_effect, newest_buffered, MachineTransition, MachineRunsTo}
-use Rattle.lw_search.proofs.Common.{has_terminated, is_final, accessed_location, event_writes, DoNotConflict}
-use Rattle.lw_search.proofs.Common.{AreIndependent, TransitionAt, IsAtPosition, eq-eqb, state, EffectLeadsTo}
-use Rattle.lw_search.proofs.Common.{EventOccurrence, event_of_effect, effect_of_event}
-use Rattle.lw_search.proofs.Common.{MachineTransition-deterministic, no_eviction, exchanged, position_at}
-use Rattle.lw_search.proofs.Common.{OperationTransition, Buffers, operation_accessed, operation_does, Swap}
-use Rattle.lw_search.proofs.Common.{writes, get_append, ◌||◌, eqb-true, operation_access, step_access}
-use Rattle.lw_search.proofs.Common.{drain_access, event_access, NeverConflicts, IsUncontended, IsInvisible}
-use Rattle.lw_search.proofs.Common.{IsForward, State, Covers}
+use Rattle.lw_search.proofs.Common.{slice_get-in_range, get_or_from_slice_get, list_all_zip-at_index}
+use Rattle.lw_search.proofs.Common.{get_or-set_same, get_or-set_other, option_or, Event, Step, Drain, Evict}
+use Rattle.lw_search.proofs.Common.{thread_code, flat_memory, Instr, x86_operation, Operation, NoLocation}
+use Rattle.lw_search.proofs.Common.{Set, Sum, Compare, Store, Load, FetchAdd, Branch, location_of, is_store}
+use Rattle.lw_search.proofs.Common.{is_locked, Processor, EventEffect, LocalStep, MemoryAccess, Refused}
+use Rattle.lw_search.proofs.Common.{Eviction, cpu_of, event_effect, step_effect, drain_effect}
+use Rattle.lw_search.proofs.Common.{operation_effect, load_effect, newest_buffered, MachineTransition}
+use Rattle.lw_search.proofs.Common.{MachineRunsTo, has_terminated, is_final, accessed_location, event_writes}
+use Rattle.lw_search.proofs.Common.{DoNotConflict, AreIndependent, TransitionAt, IsAtPosition, eq-eqb, state}
+use Rattle.lw_search.proofs.Common.{EffectLeadsTo, EventOccurrence, MachineTransition-of_effect}
+use Rattle.lw_search.proofs.Common.{EventOccurrence-of_event, MachineTransition-deterministic}
+use Rattle.lw_search.proofs.Common.{not-EffectLeadsTo-evict_event, EventsCommute-independent}
+use Rattle.lw_search.proofs.Common.{position_of-in_range, OperationTransition, Buffers}
+use Rattle.lw_search.proofs.Common.{accessed_location-of_operation, OperationTransition-of_effect, Swap}
+use Rattle.lw_search.proofs.Common.{writes, slice_get-append_cases, ◌||◌, eqb-true, operation_access}
+use Rattle.lw_search.proofs.Common.{step_access, drain_access, event_access, NeverConflicts, IsUncontended}
+use Rattle.lw_search.proofs.Common.{IsInvisible, IsForward, State, Covers}
 use Rattle.lw_memory.specs.declared.request.Access.TheVariants as to
 
 -- ---- effects on memory
 
 -- No effect changes the number of locations.
-words_length : (act : EventEffect) (m n : List ℕ) (q : Processor) → EffectLeadsTo m act q n → length n ≡ length m
-words_length (LocalStep next) m n q d = ap length d.1
-words_length (MemoryAccess x to.Load next) m n q d = ap length d.1
-words_length (MemoryAccess x (to.Store w) next) m n q d = ap length d.1 ∙ length-set m x w
-words_length (MemoryAccess x (to.Update change) next) m n q d = ap length d.1 ∙ length-set m x _
-words_length _ m n q d = absurd d
+length_words-effect : (act : EventEffect) (m n : List ℕ) (q : Processor) → EffectLeadsTo m act q n → length n ≡ length m
+length_words-effect (LocalStep next) m n q d = ap length d.1
+length_words-effect (MemoryAccess x to.Load next) m n q d = ap length d.1
+length_words-effect (MemoryAccess x (to.Store w) next) m n q d = ap length d.1 ∙ length-set m x w
+length_words-effect (MemoryAccess x (to.Update change) next) m n q d = ap length d.1 ∙ length-set m x _
+length_words-effect _ m n q d = absurd d
 
 -- An effect that is enabled over some memory is enabled over each.
-possible_elsewhere : (act : EventEffect) (m n k : List ℕ) (q : Processor)
+EffectLeadsTo-other_memory : (act : EventEffect) (m n k : List ℕ) (q : Processor)
     → EffectLeadsTo m act q n
     → (r : Processor) × (l : List ℕ) × EffectLeadsTo k act r l
-possible_elsewhere (LocalStep next) m n k q d = (next, k, (refl, refl))
-possible_elsewhere (MemoryAccess x access next) m n k q d = (_, _, (refl, refl))
-possible_elsewhere _ m n k q d = absurd d
+EffectLeadsTo-other_memory (LocalStep next) m n k q d = (next, k, (refl, refl))
+EffectLeadsTo-other_memory (MemoryAccess x access next) m n k q d = (_, _, (refl, refl))
+EffectLeadsTo-other_memory _ m n k q d = absurd d
 
 -- A step that is enabled has an instruction.
 record HasInstr (o : Option Instr) (p q : Processor) (m n : List ℕ) : Type 0 where
   instr : Instr
-  is : o ≡ Some instr
+  instr_is : o ≡ Some instr
   does : EffectLeadsTo m (operation_effect (x86_operation instr) p) q n
 
-has_instr : (o : Option Instr) (p q : Processor) (m n : List ℕ) → EffectLeadsTo m (step_effect o p) q n → HasInstr o p q m n
-has_instr None p q m n d = absurd d
-has_instr (Some i) p q m n d = record { instr = i; is = refl; does = d }
+-- A step that is enabled has an instruction.
+HasInstr-of_step : (o : Option Instr) (p q : Processor) (m n : List ℕ)
+    → EffectLeadsTo m (step_effect o p) q n
+    → HasInstr o p q m n
+HasInstr-of_step None p q m n d = absurd d
+HasInstr-of_step (Some i) p q m n d = record { instr = i; instr_is = refl; does = d }
 
 -- ---- a step and a drain of the same thread
 
@@ -59,10 +66,11 @@ with_oldest entry p = record p { buffer = entry ∷ p.buffer }
 record DrainEffect (p q : Processor) (m n : List ℕ) : Type 0 where
   entry : ℕ × ℕ
   behind : Processor
-  is : p ≡ with_oldest entry behind
+  processor_is : p ≡ with_oldest entry behind
   left : q ≡ behind
   words : n ≡ slice_set m entry.0 entry.1
 
+-- A drain that is enabled has an oldest entry, and writes it to memory.
 DrainEffect-of_drain : (p q : Processor) (m n : List ℕ) → EffectLeadsTo m (drain_effect p.buffer p) q n → DrainEffect p q m n
 DrainEffect-of_drain p q m n does = go p.buffer refl does
   where
@@ -71,16 +79,16 @@ DrainEffect-of_drain p q m n does = go p.buffer refl does
     go (entry ∷ newer) e d = record {
       entry = entry;
       behind = record p { buffer = newer };
-      is = ap (λ b. record p { buffer = b }) e;
+      processor_is = ap (λ b. record p { buffer = b }) e;
       left = d.0;
       words = d.1;
     }
 
 -- An operation that is done while the store buffer has the entry as its oldest preserves that entry and memory, and is enabled after the
 -- drain of the entry too.
-record Passes (entry : ℕ × ℕ) (o : Operation) (behind q : Processor) (m n : List ℕ) : Type 0 where
+record PassesDrain (entry : ℕ × ℕ) (o : Operation) (behind q : Processor) (m n : List ℕ) : Type 0 where
   new : Processor
-  is : q ≡ with_oldest entry new
+  processor_is : q ≡ with_oldest entry new
   kept : n ≡ m
   does : EffectLeadsTo (slice_set m entry.0 entry.1) (operation_effect o behind) new (slice_set m entry.0 entry.1)
 
@@ -105,14 +113,15 @@ load-passes entry x next q m n None false is range d =
     let read : slice_index (slice_set m entry.0 entry.1) x ≡ slice_index m x = get_or-set_other m entry.0 x entry.1 0 apart in
     (next (slice_index m x), d.0, d.1, (ap next (sym read), refl))
 
+-- An operation that does not access memory commutes with the drain of the oldest entry.
 local-passes : (entry : ℕ × ℕ) (o : Operation) (behind next q : Processor) (m n : List ℕ)
     → operation_effect o behind ≡ LocalStep next
     → q ≡ with_oldest entry next
     → n ≡ m
-    → Passes entry o behind q m n
+    → PassesDrain entry o behind q m n
 local-passes entry o behind next q m n act is kept = record {
   new = next;
-  is = is;
+  processor_is = is;
   kept = kept;
   does = subst (λ a. EffectLeadsTo (slice_set m entry.0 entry.1) a next (slice_set m entry.0 entry.1)) (sym act) (refl, refl);
 }
@@ -122,7 +131,7 @@ local-passes entry o behind next q m n act is kept = record {
 operation-passes : (entry : ℕ × ℕ) (o : Operation) (behind q : Processor) (m n : List ℕ)
     → ((x : ℕ) → operation_access o ≡ Some (x, false) → entry.0 ≡ x → x < length m)
     → EffectLeadsTo m (operation_effect o (with_oldest entry behind)) q n
-    → Passes entry o behind q m n
+    → PassesDrain entry o behind q m n
 operation-passes entry (Set d v) behind q m n range does = local-passes entry (Set d v) behind _ q m n refl does.0 does.1
 operation-passes entry (Sum d a v) behind q m n range does = local-passes entry (Sum d a v) behind _ q m n refl does.0 does.1
 operation-passes entry (Compare a v) behind q m n range does = local-passes entry (Compare a v) behind _ q m n refl does.0 does.1
@@ -130,7 +139,7 @@ operation-passes entry (Store x v) behind q m n range does = local-passes entry 
 operation-passes entry (Branch c to) behind q m n range does = local-passes entry (Branch c to) behind _ q m n refl does.0 does.1
 operation-passes entry (Load d x) behind q m n range does =
     let r = load-passes entry x _ q m n (newest_buffered behind.buffer x) (entry.0 == x) refl (range x refl) does in
-    record { new = r.0; is = r.1; kept = r.2; does = r.3 }
+    record { new = r.0; processor_is = r.1; kept = r.2; does = r.3 }
 operation-passes entry _ behind q m n range does = absurd does
 
 -- ---- accesses
@@ -140,34 +149,39 @@ operation_access-is : (o : Operation) (p : Processor) (x : ℕ)
     → accessed_location (operation_effect o p) ≡ Some x
     → operation_access o ≡ Some (x, event_writes (operation_effect o p))
 operation_access-is (Load d y) p x at =
-    let h = operation_accessed (Load d y) p x at in ap₂ (λ z w. Some (z, w)) (same_Some y x h.0) h.1
+    let h = accessed_location-of_operation (Load d y) p x at in ap₂ (λ z w. Some (z, w)) (same_Some y x h.0) h.1
 operation_access-is (Swap d y a) p x at =
-    let h = operation_accessed (Swap d y a) p x at in ap₂ (λ z w. Some (z, w)) (same_Some y x h.0) h.1
+    let h = accessed_location-of_operation (Swap d y a) p x at in ap₂ (λ z w. Some (z, w)) (same_Some y x h.0) h.1
 operation_access-is (FetchAdd d y v) p x at =
-    let h = operation_accessed (FetchAdd d y v) p x at in ap₂ (λ z w. Some (z, w)) (same_Some y x h.0) h.1
+    let h = accessed_location-of_operation (FetchAdd d y v) p x at in ap₂ (λ z w. Some (z, w)) (same_Some y x h.0) h.1
 operation_access-is (Store y v) p x at = absurd cc
-operation_access-is o p x at = absurd (let e = (operation_accessed o p x at).0 in cc)
+operation_access-is o p x at = absurd (let e = (accessed_location-of_operation o p x at).0 in cc)
 
+-- The location that a step accesses is that of its operation's access, and the effect writes it if and only if the access does.
 step_access-is : (o : Option Instr) (p : Processor) (x : ℕ)
     → accessed_location (step_effect o p) ≡ Some x
     → step_access o ≡ Some (x, event_writes (step_effect o p))
 step_access-is None p x at = absurd cc
 step_access-is (Some i) p x at = operation_access-is (x86_operation i) p x at
 
+-- The location that a drain accesses is that of the oldest entry, and it is written.
 drain_access-is : (b : List (ℕ × ℕ)) (p : Processor) (x : ℕ)
     → accessed_location (drain_effect b p) ≡ Some x
     → drain_access b ≡ Some (x, event_writes (drain_effect b p))
 drain_access-is [] p x at = absurd cc
 drain_access-is (entry ∷ newer) p x at = ap (λ z. Some (z, true)) (same_Some entry.0 x at)
 
+-- The effect of an eviction event accesses no location.
 eviction-accesses_none : (b : Bool) (x y : ℕ) → accessed_location (if b then Eviction x else Refused NoLocation) ≡ Some y → ⊥
 eviction-accesses_none true x y at = cc
 eviction-accesses_none false x y at = cc
 
 -- An operation that never conflicts with a write does not access the location, and one that never conflicts with a read does not write it.
-no_conflict : (written : Bool) (o : Operation) → ((written || writes o) ≡ true → ⊥) → (written ≡ false) × (is_locked o ≡ false)
-no_conflict true o never = absurd (never refl)
-no_conflict false o never = (refl, go (is_store o) (is_locked o) never)
+access-if_no_conflict : (written : Bool) (o : Operation)
+    → ((written || writes o) ≡ true → ⊥)
+    → (written ≡ false) × (is_locked o ≡ false)
+access-if_no_conflict true o never = absurd (never refl)
+access-if_no_conflict false o never = (refl, go (is_store o) (is_locked o) never)
   where
     go : (a b : Bool) → ((a || b) ≡ true → ⊥) → b ≡ false
     go true b n = absurd (n refl)
@@ -180,6 +194,7 @@ store-writes true o store = refl
 store-writes false o store = ap (λ b. b || is_locked o) store
 
 module _ (program : List (List Instr)) (forward : IsForward program) where
+  -- The location that an event accesses is that of its access, and the effect writes it if and only if the access does.
   event_access-is : (locs : ℕ) (e : Event) (p : Processor) (x : ℕ)
       → accessed_location (event_effect program locs e p) ≡ Some x
       → event_access (thread_code program (cpu_of e)) e p ≡ Some (x, event_writes (event_effect program locs e p))
@@ -202,8 +217,8 @@ module _ (program : List (List Instr)) (forward : IsForward program) where
           → (written ≡ false) × (event_writes (step_effect o p) ≡ false)
       go None is a = absurd cc
       go (Some i) is a =
-          let h = operation_accessed (x86_operation i) p x a in
-          let n = no_conflict written (x86_operation i) (never.instructions p.position i (omega arith) is h.0) in
+          let h = accessed_location-of_operation (x86_operation i) p x a in
+          let n = access-if_no_conflict written (x86_operation i) (never.instructions p.position i (omega arith) is h.0) in
           (n.0, sym h.1 ∙ n.1)
   never_conflicts-now locs (Drain t) p x written never at = go p.buffer refl at
     where
@@ -215,6 +230,7 @@ module _ (program : List (List Instr)) (forward : IsForward program) where
       go (entry ∷ newer) is a = absurd (never.entries 0 entry (ap (λ b. slice_get b 0) is) (same_Some entry.0 x a))
   never_conflicts-now locs (Evict t y) p x written never at = absurd (eviction-accesses_none (nat_lt y locs) y x at)
 
+  -- A thread that never conflicts with an access still does not after a step.
   never_conflicts-step : (t : ℕ) (p q : Processor) (i : Instr) (x : ℕ) (written : Bool)
       → slice_get (thread_code program t) p.position ≡ Some i
       → OperationTransition (x86_operation i) p q
@@ -223,8 +239,8 @@ module _ (program : List (List Instr)) (forward : IsForward program) where
   never_conflicts-step t p q i x written at went never =
       record { entries = λ k entry is. entries went.buffers k entry is; instructions = instructions }
     where
-      later : p.position < q.position
-      later = forward t p.position q.position i at went.leads
+      position_lt : p.position < q.position
+      position_lt = forward t p.position q.position i at went.leads
 
       entries : Buffers (x86_operation i) p.buffer q.buffer
           → (k : ℕ) (entry : ℕ × ℕ)
@@ -235,7 +251,7 @@ module _ (program : List (List Instr)) (forward : IsForward program) where
           ⊎_elim (λ old. never.entries k entry old e) (λ new.
           never.instructions p.position i (omega arith) at (added.2 ∙ ap (λ (z : ℕ × ℕ). Some z.0) new.1 ∙ ap Some e)
           (store-writes written (x86_operation i) added.1))
-          (get_append p.buffer added.0 entry k (ap (λ b. slice_get b k) (sym added.3) ∙ is))
+          (slice_get-append_cases p.buffer added.0 entry k (ap (λ b. slice_get b k) (sym added.3) ∙ is))
 
       instructions : (j : ℕ) (k : Instr)
           → q.position ≤ j
@@ -243,7 +259,7 @@ module _ (program : List (List Instr)) (forward : IsForward program) where
           → location_of (x86_operation k) ≡ Some x
           → (written || writes (x86_operation k)) ≡ true
           → ⊥
-      instructions j k le is = never.instructions j k (omega (arith, le, later)) is
+      instructions j k le is = never.instructions j k (omega (arith, le, position_lt)) is
 
   -- A thread that never conflicts with an access still does not after its events.
   never_conflicts-after : (locs : ℕ) (f : Event) (p q : Processor) (m n : List ℕ) (x : ℕ) (written : Bool)
@@ -251,21 +267,24 @@ module _ (program : List (List Instr)) (forward : IsForward program) where
       → NeverConflicts (thread_code program (cpu_of f)) p x written
       → NeverConflicts (thread_code program (cpu_of f)) q x written
   never_conflicts-after locs (Step t) p q m n x written does never =
-      let i = has_instr (slice_get (thread_code program t) p.position) p q m n does in
-      never_conflicts-step t p q i.instr x written i.is (operation_does (x86_operation i.instr) p q m n i.does) never
+      let i = HasInstr-of_step (slice_get (thread_code program t) p.position) p q m n does in
+      never_conflicts-step t p q i.instr x written i.instr_is
+      (OperationTransition-of_effect (x86_operation i.instr) p q m n i.does) never
   never_conflicts-after locs (Drain t) p q m n x written does never =
       let d = DrainEffect-of_drain p q m n does in
       record {
         entries = λ k entry is.
             never.entries (suc k) entry
-            (ap (λ (r : Processor). slice_get r.buffer (suc k)) d.is
+            (ap (λ (r : Processor). slice_get r.buffer (suc k)) d.processor_is
             ∙ ap (λ (r : Processor). slice_get r.buffer k) (sym d.left)
             ∙ is);
         instructions = λ j i le.
             never.instructions j i
-            (subst (λ n. n ≤ j) (ap (λ (r : Processor). r.position) d.left ∙ ap (λ (r : Processor). r.position) (sym d.is)) le);
+            (subst (λ n. n ≤ j)
+            (ap (λ (r : Processor). r.position) d.left ∙ ap (λ (r : Processor). r.position) (sym d.processor_is)) le);
       }
-  never_conflicts-after locs (Evict t y) p q m n x written does never = absurd (no_eviction program locs t y p q m n does)
+  never_conflicts-after locs (Evict t y) p q m n x written does never =
+      absurd (not-EffectLeadsTo-evict_event program locs t y p q m n does)
 
   -- An access that is uncontended still is after any event.
   uncontended-after : (f : Event) (s mid : State) (t : ℕ) (access : ℕ × Bool)
@@ -275,8 +294,8 @@ module _ (program : List (List Instr)) (forward : IsForward program) where
   uncontended-after f s mid t access d free = record {
     in_range =
         let size : length mid.memory ≡ length s.memory =
-        ap (λ (z : State). length z.memory) d.is
-        ∙ words_length (event_effect program (length s.memory) f d.from) s.memory d.words d.to d.does in
+        ap (λ (z : State). length z.memory) d.state_is
+        ∙ length_words-effect (event_effect program (length s.memory) f d.from) s.memory d.words d.to d.does in
         subst (λ n. access.0 < n) (sym size) free.in_range;
     others = others;
   }
@@ -291,7 +310,7 @@ module _ (program : List (List Instr)) (forward : IsForward program) where
             same_Some d.to p
             (sym (get-set_same s.processors (cpu_of f) d.to d.from d.was)
             ∙ ap (λ v. slice_get (slice_set s.processors (cpu_of f) d.to) v) (sym same)
-            ∙ ap (λ (z : State). slice_get z.processors u) (sym d.is)
+            ∙ ap (λ (z : State). slice_get z.processors u) (sym d.state_is)
             ∙ at) in
             let before : NeverConflicts (thread_code program (cpu_of f)) d.from access.0 access.1 =
             free.others (cpu_of f) d.from (λ e. ne (same ∙ e)) d.was in
@@ -302,7 +321,7 @@ module _ (program : List (List Instr)) (forward : IsForward program) where
         | inr apart ↦
             free.others u p ne
             (sym (get-set_other s.processors (cpu_of f) u d.to (λ e. apart (sym e)))
-            ∙ ap (λ (z : State). slice_get z.processors u) (sym d.is)
+            ∙ ap (λ (z : State). slice_get z.processors u) (sym d.state_is)
             ∙ at)
       ]
 
@@ -310,51 +329,59 @@ module _ (program : List (List Instr)) (forward : IsForward program) where
 
   -- Events e and f are enabled in the same state, and lead to `first` and `mid`: each is enabled after the other, with the same end, and e
   -- is still invisible.
-  record Exchanged (e f : Event) (first mid : State) : Type 0 where
+  record AreExchangedInvisibly (e f : Event) (first mid : State) : Type 0 where
     end : State
     again : MachineTransition flat_memory program e mid (Ok tt) end
     behind : MachineTransition flat_memory program f first (Ok tt) end
     still : IsInvisible program e mid
 
   -- The position of a thread whose next instruction is to be executed.
-  stands : (e : Event) (s : State) (p : Processor) → slice_get s.processors (cpu_of e) ≡ Some p → (j : ℕ) × IsAtPosition e j s
-  stands (Step t) s p at = (p.position, position_at s t at)
-  stands (Drain t) s p at = (0, tt)
-  stands (Evict t x) s p at = (0, tt)
+  IsAtPosition-exists : (e : Event) (s : State) (p : Processor)
+      → slice_get s.processors (cpu_of e) ≡ Some p
+      → (j : ℕ) × IsAtPosition e j s
+  IsAtPosition-exists (Step t) s p at = (p.position, position_of-in_range s t at)
+  IsAtPosition-exists (Drain t) s p at = (0, tt)
+  IsAtPosition-exists (Evict t x) s p at = (0, tt)
 
   -- An event is enabled in each state with the same state of its thread.
-  possible_in : (e : Event) (s first mid : State) (p : Processor)
+  MachineTransition-same_thread : (e : Event) (s first mid : State) (p : Processor)
       → MachineTransition flat_memory program e s (Ok tt) first
       → slice_get s.processors (cpu_of e) ≡ Some p
       → slice_get mid.processors (cpu_of e) ≡ Some p
       → (end : State) × MachineTransition flat_memory program e mid (Ok tt) end
-  possible_in (Step t) s first mid p done at and =
-      let d = effect_of_event program (Step t) s first done in
+  MachineTransition-same_thread (Step t) s first mid p done at and =
+      let d = EventOccurrence-of_event program (Step t) s first done in
       let same : d.from ≡ p = same_Some d.from p (sym d.was ∙ at) in
       let r =
-      possible_elsewhere (step_effect (slice_get (thread_code program t) p.position) p) s.memory d.words mid.memory d.to
+      EffectLeadsTo-other_memory (step_effect (slice_get (thread_code program t) p.position) p) s.memory d.words mid.memory d.to
       (subst
       (λ (r : Processor). EffectLeadsTo s.memory (step_effect (slice_get (thread_code program t) r.position) r) d.to d.words) same
-      d.does) in
-      (state (slice_set mid.processors t r.0) r.1, event_of_effect program (Step t) mid.processors p r.0 mid.memory r.1 and r.2)
-  possible_in (Drain t) s first mid p done at and =
-      let d = effect_of_event program (Drain t) s first done in
+      d.does) in (
+        state (slice_set mid.processors t r.0) r.1,
+        MachineTransition-of_effect program (Step t) mid.processors p r.0 mid.memory r.1 and r.2,
+      )
+  MachineTransition-same_thread (Drain t) s first mid p done at and =
+      let d = EventOccurrence-of_event program (Drain t) s first done in
       let same : d.from ≡ p = same_Some d.from p (sym d.was ∙ at) in
       let r =
-      possible_elsewhere (drain_effect p.buffer p) s.memory d.words mid.memory d.to
-      (subst (λ (r : Processor). EffectLeadsTo s.memory (drain_effect r.buffer r) d.to d.words) same d.does) in
-      (state (slice_set mid.processors t r.0) r.1, event_of_effect program (Drain t) mid.processors p r.0 mid.memory r.1 and r.2)
-  possible_in (Evict t x) s first mid p done at and =
-      let d = effect_of_event program (Evict t x) s first done in
-      absurd (no_eviction program (length s.memory) t x d.from d.to s.memory d.words d.does)
+      EffectLeadsTo-other_memory (drain_effect p.buffer p) s.memory d.words mid.memory d.to
+      (subst (λ (r : Processor). EffectLeadsTo s.memory (drain_effect r.buffer r) d.to d.words) same d.does) in (
+        state (slice_set mid.processors t r.0) r.1,
+        MachineTransition-of_effect program (Drain t) mid.processors p r.0 mid.memory r.1 and r.2,
+      )
+  MachineTransition-same_thread (Evict t x) s first mid p done at and =
+      let d = EventOccurrence-of_event program (Evict t x) s first done in
+      absurd (not-EffectLeadsTo-evict_event program (length s.memory) t x d.from d.to s.memory d.words d.does)
 
   module _ (e f : Event) (s first mid : State) (enabled : MachineTransition flat_memory program e s (Ok tt) first)
       (invisible : IsInvisible program e s) (done : MachineTransition flat_memory program f s (Ok tt) mid) where
+    -- The occurrence of e in the state s.
     d : EventOccurrence program e s first
-    d = effect_of_event program e s first enabled
+    d = EventOccurrence-of_event program e s first enabled
 
+    -- The occurrence of f in the state s.
     g : EventOccurrence program f s mid
-    g = effect_of_event program f s mid done
+    g = EventOccurrence-of_event program f s mid done
 
     -- The effects of an invisible event and of another thread's event do not conflict.
     apart : cpu_of f ≢ cpu_of e
@@ -370,8 +397,9 @@ module _ (program : List (List Instr)) (forward : IsForward program) where
         (free.others (cpu_of f) r ne at) a in
         (n.1, n.0)
 
-    other_thread : cpu_of f ≢ cpu_of e → Exchanged e f first mid
-    other_thread ne = record {
+    -- An invisible event can be exchanged with an event of another thread, and is invisible after it.
+    AreExchangedInvisibly-other_thread : cpu_of f ≢ cpu_of e → AreExchangedInvisibly e f first mid
+    AreExchangedInvisibly-other_thread ne = record {
       end = z.0;
       again = z.1;
       behind = subst (λ o. MachineTransition flat_memory program f o (Ok tt) z.0) once x.2.done;
@@ -381,30 +409,30 @@ module _ (program : List (List Instr)) (forward : IsForward program) where
         there : (p : Processor) → slice_get mid.processors (cpu_of e) ≡ Some p → slice_get s.processors (cpu_of e) ≡ Some p
         there p at =
             sym (get-set_other s.processors (cpu_of f) (cpu_of e) g.to ne)
-            ∙ ap (λ (y : State). slice_get y.processors (cpu_of e)) (sym g.is)
+            ∙ ap (λ (y : State). slice_get y.processors (cpu_of e)) (sym g.state_is)
             ∙ at
 
         here : slice_get mid.processors (cpu_of e) ≡ Some d.from
         here =
-            ap (λ (y : State). slice_get y.processors (cpu_of e)) g.is
+            ap (λ (y : State). slice_get y.processors (cpu_of e)) g.state_is
             ∙ get-set_other s.processors (cpu_of f) (cpu_of e) g.to ne
             ∙ d.was
 
         z : (end : State) × MachineTransition flat_memory program e mid (Ok tt) end
-        z = possible_in e s first mid d.from enabled d.was here
+        z = MachineTransition-same_thread e s first mid d.from enabled d.was here
 
         independent : AreIndependent program f e s
         independent = record { of_two = λ n r p at and. apart ne r p at and; of_one = λ same. absurd (ne same) }
 
         j : (j : ℕ) × IsAtPosition f j s
-        j = stands f s g.from g.was
+        j = IsAtPosition-exists f s g.from g.was
 
         k : (k : ℕ) × IsAtPosition e k mid
-        k = stands e mid d.from here
+        k = IsAtPosition-exists e mid d.from here
 
         x : (other : State) × TransitionAt flat_memory program e k.0 s other × TransitionAt flat_memory program f j.0 other z.0
         x =
-            exchanged program f e s independent j.0 k.0 mid z.0 (record { stands = j.1; done = done })
+            EventsCommute-independent program f e s independent j.0 k.0 mid z.0 (record { stands = j.1; done = done })
             (record { stands = k.1; done = z.1 })
 
         once : x.0 ≡ first
@@ -413,7 +441,7 @@ module _ (program : List (List Instr)) (forward : IsForward program) where
   -- ---- the step and the drain of one thread
 
   -- The step and the drain of a thread, both enabled in s, lead to the same state in either order.
-  record Diamond (t : ℕ) (s stepped drained : State) : Type 0 where
+  record StepDrainDiamond (t : ℕ) (s stepped drained : State) : Type 0 where
     entry : ℕ × ℕ
     behind : Processor
     new : Processor
@@ -424,7 +452,8 @@ module _ (program : List (List Instr)) (forward : IsForward program) where
     drains : MachineTransition flat_memory program (Drain t) stepped (Ok tt) end
     steps : MachineTransition flat_memory program (Step t) drained (Ok tt) end
 
-  diamond : (t : ℕ) (s stepped drained : State)
+  -- The step and the drain of a thread commute, if a location that the step loads and the drain writes is in range.
+  StepDrainDiamond-of_thread : (t : ℕ) (s stepped drained : State)
       → ((p : Processor) (x : ℕ)
       → slice_get s.processors t ≡ Some p
       → step_access (slice_get (thread_code program t) p.position) ≡ Some (x, false)
@@ -432,8 +461,8 @@ module _ (program : List (List Instr)) (forward : IsForward program) where
       → x < length s.memory)
       → MachineTransition flat_memory program (Step t) s (Ok tt) stepped
       → MachineTransition flat_memory program (Drain t) s (Ok tt) drained
-      → Diamond t s stepped drained
-  diamond t s stepped drained range step drain = record {
+      → StepDrainDiamond t s stepped drained
+  StepDrainDiamond-of_thread t s stepped drained range step drain = record {
     entry = b.entry;
     behind = b.behind;
     new = i.new;
@@ -451,7 +480,7 @@ module _ (program : List (List Instr)) (forward : IsForward program) where
         (subst (λ ps.
         MachineTransition flat_memory program (Drain t) (state (slice_set s.processors t held) s.memory) (Ok tt)
         (state ps written)) (set-set s.processors t held i.new)
-        (event_of_effect program (Drain t) (slice_set s.processors t held) held i.new s.memory written
+        (MachineTransition-of_effect program (Drain t) (slice_set s.processors t held) held i.new s.memory written
         (get-set_same s.processors t held (with_oldest b.entry b.behind) was) (refl, refl)));
     steps =
         subst (λ z. MachineTransition flat_memory program (Step t) z (Ok tt) (state (slice_set s.processors t i.new) written))
@@ -459,16 +488,16 @@ module _ (program : List (List Instr)) (forward : IsForward program) where
         (subst (λ ps.
         MachineTransition flat_memory program (Step t) (state (slice_set s.processors t b.behind) written) (Ok tt)
         (state ps written)) (set-set s.processors t b.behind i.new)
-        (event_of_effect program (Step t) (slice_set s.processors t b.behind) b.behind i.new written written
+        (MachineTransition-of_effect program (Step t) (slice_set s.processors t b.behind) b.behind i.new written written
         (get-set_same s.processors t b.behind (with_oldest b.entry b.behind) was)
-        (subst (λ o. EffectLeadsTo written (step_effect o b.behind) i.new written) (sym instr.is) i.does)));
+        (subst (λ o. EffectLeadsTo written (step_effect o b.behind) i.new written) (sym instr.instr_is) i.does)));
   }
     where
       x : EventOccurrence program (Step t) s stepped
-      x = effect_of_event program (Step t) s stepped step
+      x = EventOccurrence-of_event program (Step t) s stepped step
 
       y : EventOccurrence program (Drain t) s drained
-      y = effect_of_event program (Drain t) s drained drain
+      y = EventOccurrence-of_event program (Drain t) s drained drain
 
       same : y.from ≡ x.from
       same = same_Some y.from x.from (sym y.was ∙ x.was)
@@ -479,19 +508,21 @@ module _ (program : List (List Instr)) (forward : IsForward program) where
           (subst (λ (r : Processor). EffectLeadsTo s.memory (drain_effect r.buffer r) y.to y.words) same y.does)
 
       was : slice_get s.processors t ≡ Some (with_oldest b.entry b.behind)
-      was = x.was ∙ ap Some b.is
+      was = x.was ∙ ap Some b.processor_is
 
       instr : HasInstr (slice_get (thread_code program t) b.behind.position) (with_oldest b.entry b.behind) x.to s.memory x.words
       instr =
-          has_instr (slice_get (thread_code program t) b.behind.position) (with_oldest b.entry b.behind) x.to s.memory x.words
+          HasInstr-of_step (slice_get (thread_code program t) b.behind.position) (with_oldest b.entry b.behind) x.to s.memory
+          x.words
           (subst
           (λ (r : Processor). EffectLeadsTo s.memory (step_effect (slice_get (thread_code program t) r.position) r) x.to x.words)
-          b.is x.does)
+          b.processor_is x.does)
 
-      i : Passes b.entry (x86_operation instr.instr) b.behind x.to s.memory x.words
+      i : PassesDrain b.entry (x86_operation instr.instr) b.behind x.to s.memory x.words
       i =
           operation-passes b.entry (x86_operation instr.instr) b.behind x.to s.memory x.words (λ l access e.
-          range (with_oldest b.entry b.behind) l was (ap step_access instr.is ∙ access) (ap (λ z. Some (z, true)) e)) instr.does
+          range (with_oldest b.entry b.behind) l was (ap step_access instr.instr_is ∙ access) (ap (λ z. Some (z, true)) e))
+          instr.does
 
       held : Processor
       held = with_oldest b.entry i.new
@@ -500,45 +531,48 @@ module _ (program : List (List Instr)) (forward : IsForward program) where
       written = slice_set s.memory b.entry.0 b.entry.1
 
       stepped_is : stepped ≡ state (slice_set s.processors t held) s.memory
-      stepped_is = x.is ∙ ap₂ (λ q m. state (slice_set s.processors t q) m) i.is i.kept
+      stepped_is = x.state_is ∙ ap₂ (λ q m. state (slice_set s.processors t q) m) i.processor_is i.kept
 
       drained_is : drained ≡ state (slice_set s.processors t b.behind) written
-      drained_is = y.is ∙ ap₂ (λ q m. state (slice_set s.processors t q) m) b.left b.words
+      drained_is = y.state_is ∙ ap₂ (λ q m. state (slice_set s.processors t q) m) b.left b.words
 
   -- The step is invisible, and the drain comes first.
-  own_drain : (t : ℕ) (s first mid : State)
+  AreExchangedInvisibly-own_drain : (t : ℕ) (s first mid : State)
       → MachineTransition flat_memory program (Step t) s (Ok tt) first
       → IsInvisible program (Step t) s
       → MachineTransition flat_memory program (Drain t) s (Ok tt) mid
-      → Exchanged (Step t) (Drain t) first mid
-  own_drain t s first mid enabled invisible done =
-      let d = diamond t s first mid (λ p x at access entry. (invisible p (x, false) at access).in_range) enabled done in
+      → AreExchangedInvisibly (Step t) (Drain t) first mid
+  AreExchangedInvisibly-own_drain t s first mid enabled invisible done =
+      let d =
+      StepDrainDiamond-of_thread t s first mid (λ p x at access entry. (invisible p (x, false) at access).in_range) enabled
+      done in
       record {
         end = d.end;
         again = d.steps;
         behind = d.drains;
         still = λ p access at is.
             let same : d.behind ≡ p = same_Some d.behind p (sym d.drained_at ∙ at) in
-            uncontended-after (Drain t) s mid t access (effect_of_event program (Drain t) s mid done)
+            uncontended-after (Drain t) s mid t access (EventOccurrence-of_event program (Drain t) s mid done)
             (invisible (with_oldest d.entry d.behind) access d.was
             (ap (λ (r : Processor). step_access (slice_get (thread_code program t) r.position)) same ∙ is));
       }
 
   -- The drain is invisible, and the step comes first.
-  own_step : (t : ℕ) (s first mid : State)
+  AreExchangedInvisibly-own_step : (t : ℕ) (s first mid : State)
       → MachineTransition flat_memory program (Drain t) s (Ok tt) first
       → IsInvisible program (Drain t) s
       → MachineTransition flat_memory program (Step t) s (Ok tt) mid
-      → Exchanged (Drain t) (Step t) first mid
-  own_step t s first mid enabled invisible done =
-      let d = diamond t s mid first (λ p x at access entry. (invisible p (x, true) at entry).in_range) done enabled in
+      → AreExchangedInvisibly (Drain t) (Step t) first mid
+  AreExchangedInvisibly-own_step t s first mid enabled invisible done =
+      let d =
+      StepDrainDiamond-of_thread t s mid first (λ p x at access entry. (invisible p (x, true) at entry).in_range) done enabled in
       record {
         end = d.end;
         again = d.drains;
         behind = d.steps;
         still = λ p access at is.
             let same : with_oldest d.entry d.new ≡ p = same_Some (with_oldest d.entry d.new) p (sym d.stepped_at ∙ at) in
-            uncontended-after (Step t) s mid t access (effect_of_event program (Step t) s mid done)
+            uncontended-after (Step t) s mid t access (EventOccurrence-of_event program (Step t) s mid done)
             (invisible (with_oldest d.entry d.behind) access d.was (ap (λ (r : Processor). drain_access r.buffer) same ∙ is));
       }
 
@@ -547,32 +581,34 @@ module _ (program : List (List Instr)) (forward : IsForward program) where
   -- A run that is at most as long.
   record ShorterRun (events : List Event) (from end : State) : Type 0 where
     more : List Event
-    few : length more ≤ length events
+    no_longer : length more ≤ length events
     ran : MachineRunsTo flat_memory program more from end
 
   module _ (es : List Event) (s first mid end : State) (ran : MachineRunsTo flat_memory program es mid end) where
-    itself : (e : Event)
+    -- If the run's first event is the invisible one, the rest of the run starts after it, and is shorter.
+    ShorterRun-same_event : (e : Event)
         → MachineTransition flat_memory program e s (Ok tt) first
         → MachineTransition flat_memory program e s (Ok tt) mid
         → ShorterRun (e ∷ es) first end
-    itself e enabled done = record {
+    ShorterRun-same_event e enabled done = record {
       more = es;
-      few = omega arith;
+      no_longer = omega arith;
       ran =
           subst (λ z. MachineRunsTo flat_memory program es z end)
           (MachineTransition-deterministic program e s mid first (Ok tt) (Ok tt) done enabled).1 ran;
     }
 
-    behind_other : (e f : Event)
+    -- If the run's first event can be exchanged with the invisible one, and the claim holds for the rest of the run, it holds for the run.
+    ShorterRun-exchanged : (e f : Event)
         → ((next : State)
         → MachineTransition flat_memory program e mid (Ok tt) next
         → IsInvisible program e mid
         → ShorterRun es next end)
-        → Exchanged e f first mid
+        → AreExchangedInvisibly e f first mid
         → ShorterRun (f ∷ es) first end
-    behind_other e f rest both =
+    ShorterRun-exchanged e f rest both =
         let r = rest both.end both.again both.still in
-        record { more = f ∷ r.more; few = omega (arith, r.few); ran = (both.end, both.behind, r.ran) }
+        record { more = f ∷ r.more; no_longer = omega (arith, r.no_longer); ran = (both.end, both.behind, r.ran) }
 
     -- The run's first event, if the claim holds for the rest of the run.
     event-first : (e f : Event)
@@ -585,11 +621,11 @@ module _ (program : List (List Instr)) (forward : IsForward program) where
         → ShorterRun es next end)
         → ShorterRun (f ∷ es) first end
     event-first e f enabled invisible done rest = elim (cases_eq (cpu_of f) (cpu_of e)) [
-      | inr ne ↦ behind_other e f rest (other_thread e f s first mid enabled invisible done ne)
-      | inl same ↦ own e f same enabled invisible done rest
+      | inr ne ↦ ShorterRun-exchanged e f rest (AreExchangedInvisibly-other_thread e f s first mid enabled invisible done ne)
+      | inl same ↦ ShorterRun-own_thread e f same enabled invisible done rest
     ]
       where
-        own : (e f : Event)
+        ShorterRun-own_thread : (e f : Event)
             → cpu_of f ≡ cpu_of e
             → MachineTransition flat_memory program e s (Ok tt) first
             → IsInvisible program e s
@@ -599,38 +635,42 @@ module _ (program : List (List Instr)) (forward : IsForward program) where
             → IsInvisible program e mid
             → ShorterRun es next end)
             → ShorterRun (f ∷ es) first end
-        own (Step t) (Step u) is a i b r =
-            itself (Step u) (subst (λ v. MachineTransition flat_memory program (Step v) s (Ok tt) first) (sym is) a) b
-        own (Drain t) (Drain u) is a i b r =
-            itself (Drain u) (subst (λ v. MachineTransition flat_memory program (Drain v) s (Ok tt) first) (sym is) a) b
-        own (Step t) (Drain u) is a i b r =
-            behind_other (Step t) (Drain u) r
-            (subst (λ v. MachineTransition flat_memory program (Drain v) s (Ok tt) mid → Exchanged (Step t) (Drain v) first mid)
-            (sym is) (own_drain t s first mid a i) b)
-        own (Drain t) (Step u) is a i b r =
-            behind_other (Drain t) (Step u) r
-            (subst (λ v. MachineTransition flat_memory program (Step v) s (Ok tt) mid → Exchanged (Drain t) (Step v) first mid)
-            (sym is) (own_step t s first mid a i) b)
-        own (Evict t x) g is a i b r =
-            let h = effect_of_event program (Evict t x) s first a in
-            absurd (no_eviction program (length s.memory) t x h.from h.to s.memory h.words h.does)
-        own g (Evict u x) is a i b r =
-            let h = effect_of_event program (Evict u x) s mid b in
-            absurd (no_eviction program (length s.memory) u x h.from h.to s.memory h.words h.does)
+        ShorterRun-own_thread (Step t) (Step u) is a i b r =
+            ShorterRun-same_event (Step u)
+            (subst (λ v. MachineTransition flat_memory program (Step v) s (Ok tt) first) (sym is) a) b
+        ShorterRun-own_thread (Drain t) (Drain u) is a i b r =
+            ShorterRun-same_event (Drain u)
+            (subst (λ v. MachineTransition flat_memory program (Drain v) s (Ok tt) first) (sym is) a) b
+        ShorterRun-own_thread (Step t) (Drain u) is a i b r =
+            ShorterRun-exchanged (Step t) (Drain u) r
+            (subst (λ v.
+            MachineTransition flat_memory program (Drain v) s (Ok tt) mid → AreExchangedInvisibly (Step t) (Drain v) first mid)
+            (sym is) (AreExchangedInvisibly-own_drain t s first mid a i) b)
+        ShorterRun-own_thread (Drain t) (Step u) is a i b r =
+            ShorterRun-exchanged (Drain t) (Step u) r
+            (subst (λ v.
+            MachineTransition flat_memory program (Step v) s (Ok tt) mid → AreExchangedInvisibly (Drain t) (Step v) first mid)
+            (sym is) (AreExchangedInvisibly-own_step t s first mid a i) b)
+        ShorterRun-own_thread (Evict t x) g is a i b r =
+            let h = EventOccurrence-of_event program (Evict t x) s first a in
+            absurd (not-EffectLeadsTo-evict_event program (length s.memory) t x h.from h.to s.memory h.words h.does)
+        ShorterRun-own_thread g (Evict u x) is a i b r =
+            let h = EventOccurrence-of_event program (Evict u x) s mid b in
+            absurd (not-EffectLeadsTo-evict_event program (length s.memory) u x h.from h.to s.memory h.words h.does)
 
   -- No state in which an event of a thread is enabled is final.
-  not_final : (e : Event) (s first : State)
+  not-is_final_if_enabled : (e : Event) (s first : State)
       → MachineTransition flat_memory program e s (Ok tt) first
       → cpu_of e < length program
       → IsTrue (is_final program s)
       → ⊥
-  not_final e s first enabled lt final =
-      let d = effect_of_event program e s first enabled in
-      let code = get_some program (cpu_of e) lt in
+  not-is_final_if_enabled e s first enabled lt final =
+      let d = EventOccurrence-of_event program e s first enabled in
+      let code = slice_get-in_range program (cpu_of e) lt in
       let is : thread_code program (cpu_of e) ≡ code.0 = get_or_from_slice_get program (cpu_of e) code.0 [] code.1 in
       let done : has_terminated code.0 d.from ≡ true =
-      zip_passes (λ (x : List Instr × Processor). has_terminated x.0 x.1) program s.processors (cpu_of e) code.0 d.from final
-      code.1 d.was in
+      list_all_zip-at_index (λ (x : List Instr × Processor). has_terminated x.0 x.1) program s.processors (cpu_of e) code.0 d.from
+      final code.1 d.was in
       let parts = and_parts (nat_le (length code.0) d.from.position) (length d.from.buffer == 0) done in
       go e d (subst (λ c. length c ≤ d.from.position) (sym is) (leb-true (length code.0) d.from.position parts.0)) parts.1
     where
@@ -639,16 +679,20 @@ module _ (program : List (List Instr)) (forward : IsForward program) where
           → (length a.from.buffer == 0) ≡ true
           → ⊥
       go (Step t) a past empty =
-          let i = has_instr (slice_get (thread_code program t) a.from.position) a.from a.to s.memory a.words a.does in
-          let within = slice_get_within (thread_code program t) a.from.position i.instr i.is in
+          let i = HasInstr-of_step (slice_get (thread_code program t) a.from.position) a.from a.to s.memory a.words a.does in
+          let within = slice_get_within (thread_code program t) a.from.position i.instr i.instr_is in
           absurd (omega (arith, past, within))
       go (Drain t) a past empty =
           let b = DrainEffect-of_drain a.from a.to s.memory a.words a.does in
-          let size : length a.from.buffer ≡ length (b.entry ∷ b.behind.buffer) = ap (λ (r : Processor). length r.buffer) b.is in
+          let size : length a.from.buffer ≡ length (b.entry ∷ b.behind.buffer) =
+          ap (λ (r : Processor). length r.buffer) b.processor_is in
           let none : length a.from.buffer ≡ 0 = eqb-true (length a.from.buffer) 0 empty in
           absurd (omega (arith, size, none))
-      go (Evict t x) a past empty = no_eviction program (length s.memory) t x a.from a.to s.memory a.words a.does
+      go (Evict t x) a past empty =
+          not-EffectLeadsTo-evict_event program (length s.memory) t x a.from a.to s.memory a.words a.does
 
+  -- An invisible event can be moved to the front of a run to a final state: from the state after it, a run that is no longer has the same
+  -- end.
   invisible_event-first : (e : Event) (events : List Event) (s first end : State)
       → MachineTransition flat_memory program e s (Ok tt) first
       → IsInvisible program e s
@@ -657,7 +701,7 @@ module _ (program : List (List Instr)) (forward : IsForward program) where
       → IsTrue (is_final program end)
       → ShorterRun events first end
   invisible_event-first e [] s first end enabled invisible lt ran final =
-      absurd (not_final e s first enabled lt (subst (λ z. IsTrue (is_final program z)) ran final))
+      absurd (not-is_final_if_enabled e s first enabled lt (subst (λ z. IsTrue (is_final program z)) ran final))
   invisible_event-first e (f ∷ es) s first end enabled invisible lt (mid, done, ran) final =
       event-first es s first mid end ran e f enabled invisible done
       (λ next again still. invisible_event-first e es mid next end again still lt ran final)
@@ -669,4 +713,4 @@ module _ (program : List (List Instr)) (forward : IsForward program) where
       → cpu_of e < length program
       → Covers program next s
   covers-invisible_event e s next enabled invisible lt events end ran final =
-      let rest = invisible_event-first e events s next end enabled invisible lt ran final in (rest.more, rest.few, rest.ran)
+      let rest = invisible_event-first e events s next end enabled invisible lt ran final in (rest.more, rest.no_longer, rest.ran)

@@ -1,11 +1,13 @@
 pub mod Common
 pub mod InvisibleEvents
 pub mod Settling
-pub mod Conflicts
+pub mod AccessSets
 pub mod AllFound
 pub mod ThreadStates
 pub mod Rows
+pub mod ObservedOutcomes
 pub mod Successors
+pub mod ThreadTransitions
 pub mod Start
 pub mod Collected
 pub mod Reachable

@@ -1,4 +1,5 @@
--- The states that a search has found are different from each other, and each is reachable.
+-- The states that a search has found are different from each other, and each is reachable. So the returned
+-- number of visited states is right, and the budget is exceeded only if that many states are reachable.
 use Rattle.lw_search.proofs.Common.{◌≡◌, ◌<◌, ℕ, zero, suc, List, [], ◌∷◌, length, inl, inr, subst, sym, refl}
 use Rattle.lw_search.proofs.Common.{arith, slice_get, Some, All, X86Test, initial_machine_state, Contains}
 use Rattle.lw_search.proofs.Common.{All-cons, All-nil, not-Contains-nil, Contains-head, Contains-tail}
@@ -20,10 +21,10 @@ Contains-index (y ∷ xs) x c = elim (Contains-cons y x xs c) [
 -- An item at an index is a member.
 slice_get-Contains : {X : Type 0} (xs : List X) (i : ℕ) (x : X) → slice_get xs i ≡ Some x → Contains xs x
 slice_get-Contains [] i x at = absurd cc
-slice_get-Contains (y ∷ xs) zero x at = Contains-head y x xs (same_item y x at)
+slice_get-Contains (y ∷ xs) zero x at = Contains-head y x xs (Some-injective y x at)
   where
-    same_item : {X : Type 0} (y x : X) → Some y ≡ Some x → y ≡ x
-    same_item y x e = cc
+    Some-injective : {X : Type 0} (y x : X) → Some y ≡ Some x → y ≡ x
+    Some-injective y x e = cc
 slice_get-Contains (y ∷ xs) (suc i) x at = Contains-tail y x xs (slice_get-Contains xs i x at)
 
 -- A list of which each item has only one index has no duplicates.

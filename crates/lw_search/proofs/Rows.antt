@@ -1,11 +1,12 @@
--- Tables of values without duplicates, in which a value's number is its index.
+-- Tables of values without duplicates, in which a value's number is its index. For the hash sets of
+-- `tables.rt` and `states.rt`: a look-up finds an equal value, and an insertion keeps all numbers.
 use Rattle.lw_search.proofs.Common.{◌≡◌, ℕ, zero, suc, Bool, true, false, true≢false, Option, Some, List, []}
 use Rattle.lw_search.proofs.Common.{◌∷◌, ◌++◌, refl, sym, ap, ◌∙◌, subst, not, slice_get, get_or}
 use Rattle.lw_search.proofs.Common.{if◌then◌else◌, length, ◌⊎◌, inl, inr, same_Some, position, nat_eq}
 use Rattle.lw_search.proofs.Common.{Decides, ◌&&◌, ◌||◌, unsigned_Decides, booleans_Decides, first_so}
-use Rattle.lw_search.proofs.Common.{second_so, pointwise, pointwise_decides, beq, get_append, Processor}
-use Rattle.lw_search.proofs.Common.{list_any, position-Some, slice_get-get_or, IsPrefix, AreDistinct, Extends}
-use Rattle.lw_search.proofs.Common.{Components}
+use Rattle.lw_search.proofs.Common.{second_so, pointwise, pointwise_decides, beq, slice_get-append_cases}
+use Rattle.lw_search.proofs.Common.{Processor, list_any, position-Some, slice_get-get_or, IsPrefix}
+use Rattle.lw_search.proofs.Common.{AreDistinct, Extends, Components}
 
 -- The item at the position of x is x.
 pub position-item : {X : Type 0} (eq : X → X → Bool)
@@ -26,12 +27,14 @@ slice_get-append_left [] ys i x at = absurd cc
 slice_get-append_left (y ∷ xs) ys zero x at = at
 slice_get-append_left (y ∷ xs) ys (suc i) x at = slice_get-append_left xs ys i x at
 
+-- A list is a prefix of itself.
 pub prefix-refl : {X : Type 0} (xs : List X) → IsPrefix xs xs
 prefix-refl xs i x at = at
 
-or_false : (a b : Bool) → (a || b) ≡ false → (a ≡ false) × (b ≡ false)
-or_false true b e = absurd (true≢false e)
-or_false false b e = (refl, e)
+-- If a disjunction is false, both parts are.
+or-false_inv : (a b : Bool) → (a || b) ≡ false → (a ≡ false) × (b ≡ false)
+or-false_inv true b e = absurd (true≢false e)
+or-false_inv false b e = (refl, e)
 
 -- No item equals x if `list_any` finds none.
 pub absent-any : {X : Type 0} (eq : X → X → Bool)
@@ -43,16 +46,17 @@ pub absent-any : {X : Type 0} (eq : X → X → Bool)
     → ⊥
 absent-any eq decides [] x none i at = absurd cc
 absent-any {X} eq decides (y ∷ xs) x none zero at =
-    true≢false (sym ((decides x y).1 (sym (same_Some y x at))) ∙ (or_false (eq x y) (list_any (eq x) xs) none).0)
+    true≢false (sym ((decides x y).1 (sym (same_Some y x at))) ∙ (or-false_inv (eq x y) (list_any (eq x) xs) none).0)
 absent-any {X} eq decides (y ∷ xs) x none (suc i) at =
-    absent-any eq decides xs x (or_false (eq x y) (list_any (eq x) xs) none).1 i at
+    absent-any eq decides xs x (or-false_inv (eq x y) (list_any (eq x) xs) none).1 i at
 
 -- Appending a new item preserves that a list has no duplicates.
 pub distinct-append : {X : Type 0} (xs : List X) (x : X)
     → ((i : ℕ) → slice_get xs i ≡ Some x → ⊥)
     → AreDistinct xs
     → AreDistinct (xs ++ x ∷ [])
-distinct-append {X} xs x absent distinct i j y at and = go (get_append xs x y i at) (get_append xs x y j and)
+distinct-append {X} xs x absent distinct i j y at and =
+    go (slice_get-append_cases xs x y i at) (slice_get-append_cases xs x y j and)
   where
     go : (slice_get xs i ≡ Some y) ⊎ ((i ≡ length xs) × (x ≡ y)) → (slice_get xs j ≡ Some y) ⊎ ((j ≡ length xs) × (x ≡ y)) → i ≡ j
     go (inl a) (inl b) = distinct i j y a b
@@ -67,6 +71,7 @@ pub prefix-insert_if : {X : Type 0} (b : Bool) (ks new : List X) (k : X)
 prefix-insert_if true ks new k e i x at = ap (λ l. slice_get l i) e ∙ at
 prefix-insert_if false ks new k e i x at = ap (λ l. slice_get l i) e ∙ slice_get-append_left ks (k ∷ []) i x at
 
+-- Inserting an item, unless it is present, preserves that a list has no duplicates.
 pub distinct-insert : {X : Type 0} (eq : X → X → Bool)
     → ((x y : X) → Decides (eq x y) (x ≡ y))
     → (ks new : List X) (k : X)
@@ -88,6 +93,7 @@ thread_eq p q =
     && (pointwise nat_eq p.regs q.regs
     && (beq p.zero_flag q.zero_flag && pointwise (λ x y. nat_eq x.0 y.0 && nat_eq x.1 y.1) p.buffer q.buffer))
 
+-- The test of two entries decides whether they are equal.
 entry_eq-decides : (x y : ℕ × ℕ) → Decides (nat_eq x.0 y.0 && nat_eq x.1 y.1) (x ≡ y)
 entry_eq-decides x y = (
   λ e. λ i. ((unsigned_Decides x.0 y.0).0 (first_so _ _ e) i, (unsigned_Decides x.1 y.1).0 (second_so _ _ e) i),
@@ -95,8 +101,9 @@ entry_eq-decides x y = (
       (unsigned_Decides x.0 y.0).1 (ap (λ (z : ℕ × ℕ). z.0) e) i && (unsigned_Decides x.1 y.1).1 (ap (λ (z : ℕ × ℕ). z.1) e) i,
 )
 
-pub thread_same : (p q : Processor) → thread_eq p q ≡ true → p ≡ q
-thread_same p q e =
+-- Thread states that pass the test are equal.
+pub thread_eq-sound : (p q : Processor) → thread_eq p q ≡ true → p ≡ q
+thread_eq-sound p q e =
     let others : (pointwise nat_eq p.regs q.regs
     && (beq p.zero_flag q.zero_flag && pointwise (λ x y. nat_eq x.0 y.0 && nat_eq x.1 y.1) p.buffer q.buffer))
     ≡ true = second_so _ _ e in
@@ -108,9 +115,10 @@ thread_same p q e =
     let buffer : p.buffer ≡ q.buffer = (pointwise_decides entry_eq-decides p.buffer q.buffer).0 (second_so _ _ last) in
     λ i. record { position = position i; regs = regs i; zero_flag = flag i; buffer = buffer i }
 
-pub thread_decides : (p q : Processor) → Decides (thread_eq p q) (p ≡ q)
-thread_decides p q = (
-  thread_same p q,
+-- The test of two thread states decides whether they are equal.
+pub thread_eq-Decides : (p q : Processor) → Decides (thread_eq p q) (p ≡ q)
+thread_eq-Decides p q = (
+  thread_eq-sound p q,
   λ e. λ i.
       (unsigned_Decides p.position q.position).1 (ap (λ (z : Processor). z.position) e) i
       && ((pointwise_decides unsigned_Decides p.regs q.regs).1 (ap (λ (z : Processor). z.regs) e) i
@@ -122,6 +130,7 @@ thread_decides p q = (
 abbrev pub run_eq : List (ℕ × Bool) → List (ℕ × Bool) → Bool
 run_eq run other = pointwise (λ x y. nat_eq x.0 y.0 && beq x.1 y.1) run other
 
+-- The test of two rows of a run decides whether they are equal.
 event_eq-decides : (x y : ℕ × Bool) → Decides (nat_eq x.0 y.0 && beq x.1 y.1) (x ≡ y)
 event_eq-decides x y = (
   λ e. λ i. ((unsigned_Decides x.0 y.0).0 (first_so _ _ e) i, (booleans_Decides x.1 y.1).0 (second_so _ _ e) i),
@@ -130,19 +139,24 @@ event_eq-decides x y = (
       && (booleans_Decides x.1 y.1).1 (ap (λ (z : ℕ × Bool). z.1) e) i,
 )
 
-pub run_same : (run other : List (ℕ × Bool)) → run_eq run other ≡ true → run ≡ other
-run_same run other = (pointwise_decides event_eq-decides run other).0
+-- Runs that pass the test are equal.
+pub run_eq-sound : (run other : List (ℕ × Bool)) → run_eq run other ≡ true → run ≡ other
+run_eq-sound run other = (pointwise_decides event_eq-decides run other).0
 
+-- Tables extend themselves.
 pub extends-refl : (t : Components) → Extends t t
 extends-refl t = record {
+  program = refl;
   threads = prefix-refl t.threads;
   memories = prefix-refl t.memories;
   distinct_threads = λ d. d;
   distinct_memories = λ d. d;
 }
 
+-- Extending tables is transitive.
 pub extends-trans : {a b d : Components} → Extends a b → Extends b d → Extends a d
 extends-trans first second = record {
+  program = second.program ∙ first.program;
   threads = λ i x at. second.threads i x (first.threads i x at);
   memories = λ i x at. second.memories i x (first.memories i x at);
   distinct_threads = λ x. second.distinct_threads (first.distinct_threads x);
@@ -150,6 +164,6 @@ extends-trans first second = record {
 }
 
 -- What is not true is false.
-pub not_true : (b : Bool) → not b ≡ true → b ≡ false
-not_true true e = absurd (true≢false (sym e))
-not_true false e = refl
+pub false-if_not_true : (b : Bool) → not b ≡ true → b ≡ false
+false-if_not_true true e = absurd (true≢false (sym e))
+false-if_not_true false e = refl

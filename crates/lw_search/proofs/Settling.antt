@@ -1,5 +1,7 @@
--- Invisible events that a thread takes at once: the state after them covers the state before them.
-use Rattle.lw_search.proofs.Common.{cases_eq, inl, inr, slice_set, get_some, ◌≢◌, ◌+◌, slice_index}
+-- Invisible events that a thread takes at once: the state after them covers the state before them. Lemmas for
+-- `settle` and for the functions of `search.rt` that call it: events taken in sequence, by one thread and by
+-- all.
+use Rattle.lw_search.proofs.Common.{cases_eq, inl, inr, slice_set, slice_get-in_range, ◌≢◌, ◌+◌, slice_index}
 use Rattle.lw_search.proofs.Common.{length-append, ◌≡◌, ℕ, ◌<◌, ◌≤◌, ⊎_elim, Bool, true, false, Option, Some}
 use Rattle.lw_search.proofs.Common.{Ok, List, [], ◌∷◌, ◌++◌, length, refl, sym, ap, ap₂, ◌∙◌, subst, arith}
 use Rattle.lw_search.proofs.Common.{slice_get, length-set, map-append, set-set, set-get_same, get-set_same}
@@ -8,12 +10,13 @@ use Rattle.lw_search.proofs.Common.{cases_lt, Event, Step, Drain, thread_code, f
 use Rattle.lw_search.proofs.Common.{cpu_of, MachineTransition, MachineRunsTo, RunsTo-append, if◌then◌else◌}
 use Rattle.lw_search.proofs.Common.{operation_effect, x86_operation, event_effect, drain_effect, step_effect}
 use Rattle.lw_search.proofs.Common.{IsWellFormedThread, IsWellFormedProgram, X86Test, x86_language}
-use Rattle.lw_search.proofs.Common.{get_or_past, append-nil, state, EffectLeadsTo, event_of_effect, done_does}
-use Rattle.lw_search.proofs.Common.{option_to_list, operation_access, step_access, drain_access, event_access}
-use Rattle.lw_search.proofs.Common.{IsInvisible, IsForward, ActResult, State, Components, Extends, Represents}
+use Rattle.lw_search.proofs.Common.{get_or_past, append-nil, state, EffectLeadsTo}
+use Rattle.lw_search.proofs.Common.{MachineTransition-of_effect, EffectLeadsTo-if_done, option_to_list}
+use Rattle.lw_search.proofs.Common.{operation_access, step_access, drain_access, event_access, IsInvisible}
+use Rattle.lw_search.proofs.Common.{IsForward, ActResult, State, Components, Extends, Represents}
 use Rattle.lw_search.proofs.Common.{RepresentsOthers, RepresentsThreads, event_of, events_of, set_thread}
-use Rattle.lw_search.proofs.Common.{Covers, Settles, Settled, SettlesFrom, IsLoaded, IsWorking}
-use Rattle.lw_search.proofs.Common.{OthersNeverConflict, append_assoc}
+use Rattle.lw_search.proofs.Common.{Covers, Settles, Settled, SettlesFrom, IsLoaded, IsWorking, DescribeState}
+use Rattle.lw_search.proofs.Common.{HasConflictsOfOthers, AvoidsConflicts, Outlook, append_assoc}
 use Rattle.lw_search.proofs.InvisibleEvents.{covers-invisible_event}
 use Rattle.lw_search.proofs.Rows.{extends-refl, extends-trans}
 
@@ -27,12 +30,15 @@ well_formed-forward test formed t k j i at leads =
     absurd (let e = ap (λ c. slice_get c k) (sym none) ∙ at in cc)) (cases_lt t (length test.threads))
 
 module _ (program : List (List Instr)) where
+  -- A state covers itself.
   covers-refl : (s : State) → Covers program s s
   covers-refl s events end ran final = (events, omega arith, ran)
 
+  -- A state covers an equal one.
   pub covers-eq : (r s : State) → r ≡ s → Covers program r s
   covers-eq r s same = subst (λ z. Covers program z s) (sym same) (covers-refl s)
 
+  -- Covering is transitive.
   pub covers-trans : (r s t : State) → Covers program r s → Covers program s t → Covers program r t
   covers-trans r s t first second events end ran final =
       let a = second events end ran final in
@@ -40,34 +46,36 @@ module _ (program : List (List Instr)) where
       (b.0, omega (arith, a.1, b.1), b.2)
 
   module _ (tables : Components) (key : List ℕ) (t : ℕ) where
-    -- The other threads are represented, whatever the state of thread t and the memory.
-    others-set_thread : (s : State) (q : Processor) (n : List ℕ)
-        → RepresentsOthers tables key t s
-        → RepresentsOthers tables key t (set_thread s t q n)
-    others-set_thread s q n stands = record {
-      size = stands.size;
-      threads = λ u p ne at. stands.threads u p ne (sym (get-set_other s.processors t u q (λ e. ne (sym e))) ∙ at);
-      unused = λ u le. stands.unused u (subst (λ k. k ≤ u) (length-set s.processors t q) le);
-    }
-
+    -- If a key represents a state, it represents the other threads, whatever thread t and the memory become.
     pub represents-others : (s : State) (q : Processor) (n : List ℕ)
         → Represents tables key s
         → RepresentsOthers tables key t (set_thread s t q n)
-    represents-others s q n stands =
-        others-set_thread s q n
-        (record { size = stands.size; threads = λ u p ne at. stands.threads u p at; unused = stands.unused })
+    represents-others s q n stands = record {
+      size = stands.size;
+      threads = λ u p ne at. stands.threads u p (sym (get-set_other s.processors t u q (λ e. ne (sym e))) ∙ at);
+      unused = λ u le. stands.unused u (subst (λ k. k ≤ u) (length-set s.processors t q) le);
+    }
 
-    pub settles-none : (p : Processor) (m : List ℕ) → Settles program tables key t [] p m p m
-    settles-none p m s stands size at words = (same, covers-eq (set_thread s t p m) s same)
+  module _ (set t : ℕ) where
+    -- The conflicts of the other threads do not depend on the state of thread t and on the memory.
+    pub conflicts-set_thread : (s : State) (q : Processor) (n : List ℕ)
+        → HasConflictsOfOthers program s t set
+        → HasConflictsOfOthers program (set_thread s t q n) t set
+    conflicts-set_thread s q n has u p ne at = has u p ne (sym (get-set_other s.processors t u q (λ e. ne (sym e))) ∙ at)
+
+    -- Without events a thread and the memory are unchanged.
+    pub settles-none : (p : Processor) (m : List ℕ) → Settles program set t [] p m p m
+    settles-none p m s has size at words = (same, covers-eq (set_thread s t p m) s same)
       where
         same : set_thread s t p m ≡ s
         same = ap₂ (λ ps k. state ps k) (set-get_same s.processors t p at) (sym words)
 
+    -- Events that take a thread to one state, and then to another, take it there in sequence.
     pub settles-append : (es fs : List Event) (p q r : Processor) (m n o : List ℕ)
-        → Settles program tables key t es p m q n
-        → Settles program tables key t fs q n r o
-        → Settles program tables key t (es ++ fs) p m r o
-    settles-append es fs p q r m n o first second s stands size at words = (
+        → Settles program set t es p m q n
+        → Settles program set t fs q n r o
+        → Settles program set t (es ++ fs) p m r o
+    settles-append es fs p q r m n o first second s has size at words = (
       RunsTo-append (MachineTransition flat_memory program) es fs s mid end a.0
           (subst (λ z. MachineRunsTo flat_memory program fs mid z) same b.0),
       covers-trans end mid s (subst (λ z. Covers program z mid) same b.1) a.1,
@@ -80,11 +88,11 @@ module _ (program : List (List Instr)) where
         end = set_thread s t r o
 
         a : MachineRunsTo flat_memory program es s (set_thread s t q n) × Covers program (set_thread s t q n) s
-        a = first s stands size at words
+        a = first s has size at words
 
         b : MachineRunsTo flat_memory program fs mid (set_thread mid t r o) × Covers program (set_thread mid t r o) mid
         b =
-            second mid (others-set_thread s q n stands) (length-set s.processors t q ∙ size) (get-set_same s.processors t q p at)
+            second mid (conflicts-set_thread s q n has) (length-set s.processors t q ∙ size) (get-set_same s.processors t q p at)
             refl
 
         same : set_thread mid t r o ≡ end
@@ -92,38 +100,37 @@ module _ (program : List (List Instr)) where
 
     -- A run of invisible events, extended by at most one event.
     pub settles-more : (run : List (ℕ × Bool)) (event : Option (ℕ × Bool)) (p q r : Processor) (m n o : List ℕ)
-        → Settles program tables key t (events_of run) p m q n
-        → Settles program tables key t (events_of (option_to_list event)) q n r o
-        → Settles program tables key t (events_of (run ++ option_to_list event)) p m r o
+        → Settles program set t (events_of run) p m q n
+        → Settles program set t (events_of (option_to_list event)) q n r o
+        → Settles program set t (events_of (run ++ option_to_list event)) p m r o
     settles-more run event p q r m n o first second =
-        subst (λ es. Settles program tables key t es p m r o) (sym (map-append event_of run (option_to_list event)))
+        subst (λ es. Settles program set t es p m r o) (sym (map-append event_of run (option_to_list event)))
         (settles-append (events_of run) (events_of (option_to_list event)) p q r m n o first second)
 
+    -- A run of invisible events, followed by no event, leads to the same state.
     pub settles-end : (run : List (ℕ × Bool)) (p q r : Processor) (m n o : List ℕ)
-        → Settles program tables key t (events_of run) p m q n
-        → Settles program tables key t [] q n r o
-        → Settles program tables key t (events_of run) p m r o
+        → Settles program set t (events_of run) p m q n
+        → Settles program set t [] q n r o
+        → Settles program set t (events_of run) p m r o
     settles-end run p q r m n o first second =
-        subst (λ es. Settles program tables key t es p m r o) (append-nil (events_of run))
+        subst (λ es. Settles program set t es p m r o) (append-nil (events_of run))
         (settles-append (events_of run) [] p q r m n o first second)
 
-  module _ (forward : IsForward program) (tables : Components) (key : List ℕ) where
+  module _ (forward : IsForward program) (set : ℕ) where
     -- An invisible event that is enabled is taken at once.
     settles-event : (e : Event) (p q : Processor) (m n : List ℕ)
         → cpu_of e < length program
         → ((locs : ℕ) → EffectLeadsTo m (event_effect program locs e p) q n)
-        → ((a : ℕ × Bool)
-        → event_access (thread_code program (cpu_of e)) e p ≡ Some a
-        → (a.0 < length m) × OthersNeverConflict program tables key (cpu_of e) a.0 a.1)
-        → Settles program tables key (cpu_of e) (e ∷ []) p m q n
-    settles-event e p q m n lt does free s stands size at words = (
+        → AvoidsConflicts set m (event_access (thread_code program (cpu_of e)) e p)
+        → Settles program set (cpu_of e) (e ∷ []) p m q n
+    settles-event e p q m n lt does free s has size at words = (
       (set_thread s (cpu_of e) q n, done, refl),
       covers-invisible_event program forward e s (set_thread s (cpu_of e) q n) done invisible lt,
     )
       where
         done : MachineTransition flat_memory program e s (Ok tt) (set_thread s (cpu_of e) q n)
         done =
-            event_of_effect program e s.processors p q s.memory n at
+            MachineTransition-of_effect program e s.processors p q s.memory n at
             (subst (λ k. EffectLeadsTo k (event_effect program (length s.memory) e p) q n) (sym words) (does (length s.memory)))
 
         invisible : IsInvisible program e s
@@ -132,44 +139,62 @@ module _ (program : List (List Instr)) where
             let f = free a (subst (λ z. event_access (thread_code program (cpu_of e)) e z ≡ Some a) same access) in
             record {
               in_range = subst (λ k. a.0 < length k) (sym words) f.0;
-              others = λ u z ne there.
-                  f.1 u z (subst (λ k. u < k) size (slice_get_within s.processors u z there)) ne (stands.threads u z ne there);
+              others = λ u z ne there. has u z ne there a.0 a.1 f.1 f.2;
             }
 
+    -- If the access of a step is none of the conflicts with other threads, the step is taken at once if it is executed. If it is refused, nothing
+    -- changes.
     pub settles-step : (t : ℕ) (code : List Instr) (i : Instr) (p q : Processor) (m n : List ℕ) (done : Bool)
         → slice_get program t ≡ Some code
         → slice_get code p.position ≡ Some i
-        → ((a : ℕ × Bool)
-        → operation_access (x86_operation i) ≡ Some a
-        → (a.0 < length m) × OthersNeverConflict program tables key t a.0 a.1)
+        → AvoidsConflicts set m (operation_access (x86_operation i))
         → ActResult (operation_effect (x86_operation i) p) p m done q n
-        → Settles program tables key t (if done then Step t ∷ [] else []) p m q n
+        → Settles program set t (if done then Step t ∷ [] else []) p m q n
     settles-step t code i p q m n true coded next free result =
         settles-event (Step t) p q m n (slice_get_within program t code coded) (λ locs.
         subst (λ o. EffectLeadsTo m (step_effect o p) q n) (sym here)
-        (done_does t (operation_effect (x86_operation i) p) p q m n (result t)))
+        (EffectLeadsTo-if_done t (operation_effect (x86_operation i) p) p q m n (result t)))
         (λ a access. free a (ap step_access (sym here) ∙ access))
       where
         here : slice_get (thread_code program t) p.position ≡ Some i
         here = ap (λ c. slice_get c p.position) (get_or_from_slice_get program t code [] coded) ∙ next
     settles-step t code i p q m n false coded next free result =
-        subst (λ r. Settles program tables key t [] p m r n) (sym result.1)
-        (subst (λ k. Settles program tables key t [] p m p k) (sym result.2) (settles-none tables key t p m))
+        subst (λ r. Settles program set t [] p m r n) (sym result.1)
+        (subst (λ k. Settles program set t [] p m p k) (sym result.2) (settles-none set t p m))
 
+    -- If the access of a drain is none of the conflicts with other threads, the drain is taken at once if it is executed. If it is refused, nothing
+    -- changes.
     pub settles-drain : (t : ℕ) (p q : Processor) (m n : List ℕ) (done : Bool)
         → t < length program
-        → ((a : ℕ × Bool) → drain_access p.buffer ≡ Some a → (a.0 < length m) × OthersNeverConflict program tables key t a.0 a.1)
+        → AvoidsConflicts set m (drain_access p.buffer)
         → ActResult (drain_effect p.buffer p) p m done q n
-        → Settles program tables key t (if done then Drain t ∷ [] else []) p m q n
+        → Settles program set t (if done then Drain t ∷ [] else []) p m q n
     settles-drain t p q m n true lt free result =
-        settles-event (Drain t) p q m n lt (λ locs. done_does t (drain_effect p.buffer p) p q m n (result t)) free
+        settles-event (Drain t) p q m n lt (λ locs. EffectLeadsTo-if_done t (drain_effect p.buffer p) p q m n (result t)) free
     settles-drain t p q m n false lt free result =
-        subst (λ r. Settles program tables key t [] p m r n) (sym result.1)
-        (subst (λ k. Settles program tables key t [] p m p k) (sym result.2) (settles-none tables key t p m))
+        subst (λ r. Settles program set t [] p m r n) (sym result.1)
+        (subst (λ k. Settles program set t [] p m p k) (sym result.2) (settles-none set t p m))
 
 -- ---- keys
 
 module _ (program : List (List Instr)) where
+  -- Outlooks that describe a state of a key by the tables' program describe it by the search's, which is the same.
+  pub describe-same_program : {tables : Components} (key : List ℕ) (outlooks : List Outlook) (s : State)
+      → tables.program ≡ program
+      → (RepresentsThreads tables key s → length s.processors ≡ length tables.program → DescribeState tables.program s outlooks)
+      → RepresentsThreads tables key s
+      → length s.processors ≡ length program
+      → DescribeState program s outlooks
+  describe-same_program key outlooks s same describe stands as_many =
+      subst (λ p. DescribeState p s outlooks) same (describe stands (as_many ∙ ap length (sym same)))
+
+  -- A key that represents a state represents its threads.
+  pub represents-threads : (tables : Components) (key : List ℕ) (s : State)
+      → Represents tables key s
+      → RepresentsThreads tables key s
+  represents-threads tables key s stands =
+      record { size = stands.size; threads = λ u p at. stands.threads u p at; unused = stands.unused }
+
   -- With the loaded thread's number, the key represents all threads.
   represents-loaded : {old new : Components} (key next : List ℕ) (t : ℕ) (s : State) (p q : Processor) (n : List ℕ)
       → RepresentsOthers old key t s
@@ -203,21 +228,21 @@ module _ (program : List (List Instr)) where
       ]
 
   -- What a loaded thread did, with its number in the key.
-  pub settles_from-loaded : {old new : Components} (key next : List ℕ) (t : ℕ) (p q : Processor) (m n : List ℕ)
+  pub settles_from-loaded : {old new : Components} (key next : List ℕ) (set t : ℕ) (p q : Processor) (m n : List ℕ)
       (run longer more : List (ℕ × Bool))
       → longer ≡ run ++ more
-      → Settles program old key t (events_of more) p m q n
+      → Settles program set t (events_of more) p m q n
       → Extends old new
       → length next ≡ length key
       → slice_get new.threads (slice_index next (t + 1)) ≡ Some q
       → ((u : ℕ) → u ≢ t → slice_index next (u + 1) ≡ slice_index key (u + 1))
-      → SettlesFrom program (IsLoaded program old key t p m) old new next n run longer
-  settles_from-loaded {old} {new} key next t p q m n run longer more appended settles extended size thread others = record {
+      → SettlesFrom program (IsLoaded program old key set t p m) old new next n run longer
+  settles_from-loaded {old} {new} key next set t p q m n run longer more appended settles extended size thread others = record {
     extended = extended;
     more = more;
     appended = appended;
     settled = λ s loaded.
-        let a = settles s loaded.represented loaded.thread_count loaded.thread loaded.words in
+        let a = settles s loaded.conflicts loaded.thread_count loaded.thread loaded.words in
         record {
           end = set_thread s t q n;
           working = record {
@@ -231,25 +256,29 @@ module _ (program : List (List Instr)) where
   }
 
   -- A thread that is loaded from its row.
-  pub working-loaded : {tables : Components} (key : List ℕ) (t : ℕ) (code : List Instr) (p : Processor) (m : List ℕ) (s : State)
+  pub working-loaded : {tables : Components} (key : List ℕ) (set t : ℕ) (code : List Instr) (p : Processor) (m : List ℕ)
+      (s : State)
       → slice_get program t ≡ Some code
       → ((r : Processor) → slice_get tables.threads (slice_index key (t + 1)) ≡ Some r → p ≡ r)
+      → (RepresentsThreads tables key s → length s.processors ≡ length program → HasConflictsOfOthers program s t set)
       → IsWorking program tables key m s
-      → IsLoaded program tables key t p m s
-  working-loaded key t code p m s coded loaded working =
+      → IsLoaded program tables key set t p m s
+  working-loaded key set t code p m s coded loaded beside working =
       let lt : t < length s.processors = subst (λ k. t < k) (sym working.thread_count) (slice_get_within program t code coded) in
-      let r = get_some s.processors t lt in
+      let r = slice_get-in_range s.processors t lt in
       record {
         represented = record {
           size = working.represented.size;
           threads = λ u z ne at. working.represented.threads u z at;
           unused = working.represented.unused;
         };
+        conflicts = beside working.represented working.thread_count;
         thread_count = working.thread_count;
         thread = r.1 ∙ ap Some (sym (loaded r.0 (working.represented.threads t r.0 r.1)));
         words = working.words;
       }
 
+  -- What is taken from each state with one property is taken from each state with a stronger one.
   pub settles_from-weaker : {old new : Components} (From Other : State → Type 0) (key : List ℕ) (m : List ℕ)
       (run longer : List (ℕ × Bool))
       → ((s : State) → Other s → From s)
@@ -259,14 +288,14 @@ module _ (program : List (List Instr)) where
       record { extended = a.extended; more = a.more; appended = a.appended; settled = λ s other. a.settled s (weaker s other) }
 
   -- If no event was taken, the key is the same.
-  pub settles_from-unmoved : {tables : Components} (key : List ℕ) (t : ℕ) (p q : Processor) (m n : List ℕ)
+  pub settles_from-unmoved : {tables : Components} (key : List ℕ) (set t : ℕ) (p q : Processor) (m n : List ℕ)
       (run longer more : List (ℕ × Bool))
       → longer ≡ run ++ more
       → length longer ≡ length run
-      → Settles program tables key t (events_of more) p m q n
-      → ((s : State) → IsWorking program tables key m s → IsLoaded program tables key t p m s)
+      → Settles program set t (events_of more) p m q n
+      → ((s : State) → IsWorking program tables key m s → IsLoaded program tables key set t p m s)
       → SettlesFrom program (IsWorking program tables key m) tables tables key n run longer
-  settles_from-unmoved {tables} key t p q m n run longer more appended size settles load = record {
+  settles_from-unmoved {tables} key set t p q m n run longer more appended size settles load = record {
     extended = extends-refl tables;
     more = more;
     appended = appended;
@@ -282,10 +311,10 @@ module _ (program : List (List Instr)) where
 
       unmoved : (s : State)
           → IsWorking program tables key m s
-          → IsLoaded program tables key t p m s
+          → IsLoaded program tables key set t p m s
           → Settled program tables key n (events_of more) s
       unmoved s working loaded =
-          let a = settles s loaded.represented loaded.thread_count loaded.thread loaded.words in
+          let a = settles s loaded.conflicts loaded.thread_count loaded.thread loaded.words in
           let same : set_thread s t q n ≡ s =
           subst (λ es. MachineRunsTo flat_memory program (events_of es) s (set_thread s t q n)) none a.0 in
           record {
@@ -299,6 +328,7 @@ module _ (program : List (List Instr)) where
             covers = covers-refl program s;
           }
 
+  -- Without events the run, the key and the memory are unchanged.
   pub settles_from-none : {tables : Components} (key : List ℕ) (m : List ℕ) (run : List (ℕ × Bool))
       → SettlesFrom program (IsWorking program tables key m) tables tables key m run run
   settles_from-none {tables} key m run = record {
@@ -308,6 +338,7 @@ module _ (program : List (List Instr)) where
     settled = λ s working. record { end = s; working = working; ran = refl; covers = covers-refl program s };
   }
 
+  -- Events that lead to one key, and then to another, lead there in sequence.
   pub settles_from-trans : {t0 t1 t2 : Components} {From : State → Type 0} (key next : List ℕ) (m n : List ℕ)
       (r0 r1 r2 : List (ℕ × Bool))
       → SettlesFrom program From t0 t1 key m r0 r1

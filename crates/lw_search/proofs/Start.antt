@@ -1,4 +1,5 @@
--- A search starts with the initial state of the program.
+-- A search starts with the initial state of the program. Lemmas for `start_key`, thread by thread, and for
+-- the search's invariant before any state is visited.
 use Rattle.lw_search.proofs.Common.{◌≡◌, ◌≢◌, ℕ, zero, suc, ◌+◌, ◌<◌, ◌≤◌, Bool, inl, inr, Some, None, List}
 use Rattle.lw_search.proofs.Common.{[], ◌∷◌, length, refl, sym, ap, ◌∙◌, subst, arith, slice_get, slice_index}
 use Rattle.lw_search.proofs.Common.{cases_lt, slice_get_past, slice_get_within, same_Some, initial_processor}
@@ -40,6 +41,7 @@ start_key-none {tables} memory words regs at = record {
         slice_index-past (memory ∷ 0 ∷ 0 ∷ 0 ∷ 0 ∷ []) (suc (suc (suc (suc t))) + 1)
         (slice_get_past (memory ∷ 0 ∷ 0 ∷ 0 ∷ 0 ∷ []) (suc (suc (suc (suc t))) + 1) (omega arith))
 
+-- With the number of thread n's initial state set in the key, it has those of the first n + 1 threads.
 pub start_key-more : {old new : Components} (memory : ℕ) (key next : List ℕ) (words : List ℕ) (regs : List (List ℕ))
     (n thread : ℕ) (r : List ℕ)
     → Extends old new
@@ -76,6 +78,7 @@ start_key-more {old} {new} memory key next words regs n thread r extended begun 
           ∙ ap (λ z. Some (initial_processor z)) one
     ]
 
+-- A key with the numbers of all threads represents the initial state.
 pub start_key-represents : {tables : Components} (test : X86Test) (memory : ℕ) (key : List ℕ) (n : ℕ)
     → IsStartKey tables memory key test.head.init_words test.head.init_regs n
     → n ≡ length test.head.init_regs
@@ -101,7 +104,7 @@ pub start-invariant : {tables : Components} (test : X86Test) (key : List ℕ) (p
     (visited : Visited)
     → IsWellFormedProgram test
     → Represents tables key (initial_machine_state test test.head.init_words)
-    → Extends (record { threads = []; memories = [] }) tables
+    → Extends (record { program = test.threads; threads = []; memories = [] }) tables
     → InsertsKey (record { keys = []; origins = []; runs = [] }) key parent run visited
     → IsStarted test tables visited
 start-invariant {tables} test key parent run visited formed stands extended (inr there) = absurd (let h = there.1 in cc)

@@ -1,20 +1,22 @@
--- The invariant of a search after a state is expanded: all states found remain found, and the successors are covered.
+-- The invariant of a search after a state is expanded: all states found remain found, and the successors are
+-- covered. Lemmas for `add_successor` and `expand`: a new or a known key, a refused event, and one thread
+-- after the other.
 use Rattle.lw_search.proofs.Common.{◌≡◌, ℕ, zero, suc, ◌+◌, ◌<◌, ◌≤◌, ◌⊎◌, inl, inr, Some, None, Ok, List, []}
 use Rattle.lw_search.proofs.Common.{◌∷◌, ◌++◌, length, refl, sym, ap, ap₂, ◌∙◌, subst, arith, slice_get}
-use Rattle.lw_search.proofs.Common.{slice_set, slice_index, length-append, length-set, get-set_same, cases_lt}
-use Rattle.lw_search.proofs.Common.{slice_get_past, same_Some, slice_get_within, get_some}
+use Rattle.lw_search.proofs.Common.{slice_index, length-append, length-set, get-set_same, cases_lt}
+use Rattle.lw_search.proofs.Common.{slice_get_past, same_Some, slice_get_within, slice_get-in_range}
 use Rattle.lw_search.proofs.Common.{get_or_from_slice_get, Event, Step, Drain, Evict, flat_memory, Instr}
 use Rattle.lw_search.proofs.Common.{Processor, cpu_of, MachineTransition, MachineRunsTo, Bool, true, false}
-use Rattle.lw_search.proofs.Common.{Operation, operation_effect, x86_operation, Ended, EventEffect, Refused}
-use Rattle.lw_search.proofs.Common.{event_effect, step_effect, EffectTransition, Stop, state, EffectLeadsTo}
-use Rattle.lw_search.proofs.Common.{EventOccurrence, event_of_effect, effect_of_event}
-use Rattle.lw_search.proofs.Common.{MachineTransition-deterministic, no_eviction, done_does, get_append}
-use Rattle.lw_search.proofs.Common.{get-append_middle, Origin, ActResult, State, Components, Visited, Extends}
-use Rattle.lw_search.proofs.Common.{Represents, IsPrefix, AreDistinct, InsertsKey, AppendsOrigin, event_of}
-use Rattle.lw_search.proofs.Common.{events_of, set_thread, Covers, IsCovered, HasPredecessor, SearchInvariant}
-use Rattle.lw_search.proofs.Common.{Expansion, ExpandsState, ExpandsUpTo, CoversThread, Settled, SettlesFrom}
-use Rattle.lw_search.proofs.Common.{IsLoaded}
-use Rattle.lw_search.proofs.Settling.{represents-others, represents-working}
+use Rattle.lw_search.proofs.Common.{Operation, operation_effect, x86_operation, Ended, Refused, event_effect}
+use Rattle.lw_search.proofs.Common.{step_effect, Stop, state, EffectLeadsTo, EventOccurrence}
+use Rattle.lw_search.proofs.Common.{EventOccurrence-of_event, MachineTransition-deterministic}
+use Rattle.lw_search.proofs.Common.{not-EffectLeadsTo-evict_event, slice_get-append_cases, get-append_middle}
+use Rattle.lw_search.proofs.Common.{Origin, State, Components, Visited, Extends, Represents, IsPrefix}
+use Rattle.lw_search.proofs.Common.{AreDistinct, InsertsKey, AppendsOrigin, event_of, events_of, set_thread}
+use Rattle.lw_search.proofs.Common.{Covers, IsCovered, HasPredecessor, SearchInvariant, Expansion}
+use Rattle.lw_search.proofs.Common.{HasConflictsOfOthers, ExpandsState, ExpandsUpTo, CoversThread, Settled}
+use Rattle.lw_search.proofs.Common.{SettlesFrom, IsLoaded}
+use Rattle.lw_search.proofs.Settling.{conflicts-set_thread, represents-others, represents-working}
 use Rattle.lw_search.proofs.Rows.{slice_get-append_left, distinct-append, extends-trans}
 
 -- ---- keys
@@ -63,7 +65,7 @@ key-unique tables key other s distinct_threads distinct_memories a b =
         subst (λ n. slice_index key n ≡ slice_index other n) (let e : t + 1 ≡ suc t = omega arith in e)
         (elim (cases_lt t (length s.processors)) [
           | inl lt ↦
-              (let p = get_some s.processors t lt in
+              (let p = slice_get-in_range s.processors t lt in
               distinct_threads (slice_index key (t + 1)) (slice_index other (t + 1)) p.0 (a.threads t p.0 p.1)
               (b.threads t p.0 p.1))
           | inr ge ↦ a.unused t ge ∙ sym (b.unused t ge)
@@ -73,6 +75,7 @@ key-unique tables key other s distinct_threads distinct_memories a b =
     same zero = distinct_memories (slice_index key 0) (slice_index other 0) s.memory a.memory b.memory
     same (suc t) = at_thread t
 
+-- A key represents a state by larger tables too.
 represents-extended : {old new : Components} (key : List ℕ) (s : State)
     → Extends old new
     → Represents old key s
@@ -84,6 +87,7 @@ represents-extended key s extended stands = record {
   unused = stands.unused;
 }
 
+-- Inserting a key preserves the keys at their indices, whether the key is new or known.
 prefix-inserted : (old new : Visited) (key : List ℕ) (parent : ℕ) (run : List (ℕ × Bool))
     → InsertsKey old key parent run new
     → IsPrefix old.keys new.keys
@@ -92,7 +96,7 @@ prefix-inserted old new key parent run (inl a) i x at =
 prefix-inserted old new key parent run (inr a) i x at = ap (λ (v : Visited). slice_get v.keys i) a.2 ∙ at
 
 -- The thread of the event of a row of a run.
-cpu_of-event : (r : ℕ × Bool) → cpu_of (event_of r) ≡ r.0
+pub cpu_of-event : (r : ℕ × Bool) → cpu_of (event_of r) ≡ r.0
 cpu_of-event r = go r.0 r.1
   where
     go : (t : ℕ) (b : Bool) → cpu_of (event_of (t, b)) ≡ t
@@ -100,13 +104,15 @@ cpu_of-event r = go r.0 r.1
     go t false = refl
 
 module _ (program : List (List Instr)) where
+  -- A successor that is covered is so still when more states are found.
   covered-prefix : (found more : List State) (s : State) (e : Event)
       → IsPrefix found more
       → IsCovered program found s e
       → IsCovered program more s e
   covered-prefix found more s e longer served next done = let r = served next done in (r.0, r.1, longer r.1 r.0 r.2, r.3)
 
-  predecessor-prefix : {runs longer_runs : List (List (ℕ × Bool))} {found more : List State} {at : ℕ} {origin : Origin}
+  -- A state's predecessor is so still when more states and more runs are found.
+  pub predecessor-prefix : {runs longer_runs : List (List (ℕ × Bool))} {found more : List State} {at : ℕ} {origin : Origin}
       {s : State}
       → IsPrefix runs longer_runs
       → IsPrefix found more
@@ -151,17 +157,18 @@ module _ (program : List (List Instr)) where
     longer : IsPrefix found more
     invariant : SearchInvariant program start new now more closed
     index : ℕ
-    there : slice_get more index ≡ Some end
+    found_at_index : slice_get more index ≡ Some end
 
   module _ (old new : Components) (visited now : Visited) (start : State) (found : List State) (closed : ℕ) (at : ℕ)
       (s end : State) (next : List ℕ) (parent : ℕ) (run : List (ℕ × Bool)) (extended : Extends old new)
       (invariant : SearchInvariant program start old visited found closed) (stood : slice_get found at ≡ Some s)
       (stands : Represents new next end) (size : length end.processors ≡ length program) (parent_is : parent ≡ at)
       (ran : MachineRunsTo flat_memory program (events_of run) s end) where
-    known_key : (i : ℕ) → slice_get visited.keys i ≡ Some next → now ≡ visited → Inserted start new now found closed end
-    known_key i key unchanged =
+    -- If the key is known, nothing changes, and its state is the one that the run reaches.
+    Inserted-known_key : (i : ℕ) → slice_get visited.keys i ≡ Some next → now ≡ visited → Inserted start new now found closed end
+    Inserted-known_key i key unchanged =
         let lt : i < length found = subst (λ n. i < n) invariant.key_count (slice_get_within visited.keys i next key) in
-        let r = get_some found i lt in
+        let r = slice_get-in_range found i lt in
         let same : r.0 ≡ end =
         represents-unique new next r.0 end (represents-extended next r.0 extended (invariant.represents i next r.0 key r.1))
         stands (invariant.thread_count i r.0 r.1 ∙ sym size) in
@@ -172,19 +179,21 @@ module _ (program : List (List Instr)) where
               subst (λ v. SearchInvariant program start new v found closed) (sym unchanged)
               (invariant-extended extended invariant);
           index = i;
-          there = r.1 ∙ ap Some same;
+          found_at_index = r.1 ∙ ap Some same;
         }
 
-    found_prefix : IsPrefix found (append_state found end)
-    found_prefix i x is = slice_get-append_left found (end ∷ []) i x is
+    -- Appending a state preserves the states found at their indices.
+    IsPrefix-append_state : IsPrefix found (append_state found end)
+    IsPrefix-append_state i x is = slice_get-append_left found (end ∷ []) i x is
 
-    added : ((i : ℕ) → slice_get visited.keys i ≡ Some next → ⊥)
+    -- If the key is new, the state that the run reaches is appended to those found.
+    Inserted-new_key : ((i : ℕ) → slice_get visited.keys i ≡ Some next → ⊥)
         → now.keys ≡ visited.keys ++ next ∷ []
         → AppendsOrigin visited parent run now
         → Inserted start new now found closed end
-    added absent keys appended = record {
+    Inserted-new_key absent keys appended = record {
       more = append_state found end;
-      longer = found_prefix;
+      longer = IsPrefix-append_state;
       invariant = record {
         key_count =
             ap length keys
@@ -197,35 +206,37 @@ module _ (program : List (List Instr)) where
             ∙ ap (λ n. n + 1) invariant.origin_count
             ∙ sym (length-append found (end ∷ []));
         within = let e = length-append found (end ∷ []) in omega (arith, invariant.within, e);
-        represents = stand;
+        represents = represents_each;
         thread_count = threads;
-        distinct = distinct-append found end unknown invariant.distinct;
+        distinct = distinct-append found end found_state_new invariant.distinct;
         distinct_threads = extended.distinct_threads invariant.distinct_threads;
         distinct_memories = extended.distinct_memories invariant.distinct_memories;
-        first = found_prefix 0 start invariant.first;
-        predecessor = came;
-        covered = served;
+        first = IsPrefix-append_state 0 start invariant.first;
+        predecessor = predecessor_each;
+        covered = covered_each;
       };
       index = length found;
-      there = get-append_middle found end [] (length found) refl;
+      found_at_index = get-append_middle found end [] (length found) refl;
     }
       where
         -- The state is new, since its key is.
-        unknown : (i : ℕ) → slice_get found i ≡ Some end → ⊥
-        unknown i at =
-            let key = get_some visited.keys i (subst (λ n. i < n) (sym invariant.key_count) (slice_get_within found i end at)) in
+        found_state_new : (i : ℕ) → slice_get found i ≡ Some end → ⊥
+        found_state_new i at =
+            let key =
+            slice_get-in_range visited.keys i (subst (λ n. i < n) (sym invariant.key_count) (slice_get_within found i end at)) in
             let same : key.0 ≡ next =
             key-unique new key.0 next end (extended.distinct_threads invariant.distinct_threads)
             (extended.distinct_memories invariant.distinct_memories)
             (represents-extended key.0 end extended (invariant.represents i key.0 end key.1 at)) stands in
             absent i (key.1 ∙ ap Some same)
 
-        stand : (i : ℕ) (key : List ℕ) (z : State)
+        represents_each : (i : ℕ) (key : List ℕ) (z : State)
             → slice_get now.keys i ≡ Some key
             → slice_get (append_state found end) i ≡ Some z
             → Represents new key z
-        stand i key z is and =
-            go (get_append visited.keys next key i (ap (λ l. slice_get l i) (sym keys) ∙ is)) (get_append found end z i and)
+        represents_each i key z is and =
+            go (slice_get-append_cases visited.keys next key i (ap (λ l. slice_get l i) (sym keys) ∙ is))
+            (slice_get-append_cases found end z i and)
           where
             go : (slice_get visited.keys i ≡ Some key) ⊎ ((i ≡ length visited.keys) × (next ≡ key))
                 → (slice_get found i ≡ Some z) ⊎ ((i ≡ length found) × (end ≡ z))
@@ -237,24 +248,25 @@ module _ (program : List (List Instr)) where
             go (inr a) (inl b) = absurd (let lt = slice_get_within found i z b in omega (arith, lt, a.0, invariant.key_count))
 
         threads : (i : ℕ) (z : State) → slice_get (append_state found end) i ≡ Some z → length z.processors ≡ length program
-        threads i z is = go (get_append found end z i is)
+        threads i z is = go (slice_get-append_cases found end z i is)
           where
             go : (slice_get found i ≡ Some z) ⊎ ((i ≡ length found) × (end ≡ z)) → length z.processors ≡ length program
             go (inl a) = invariant.thread_count i z a
             go (inr a) = ap (λ (y : State). length y.processors) (sym a.1) ∙ size
 
-        came : (i : ℕ) (o : Origin) (z : State)
+        predecessor_each : (i : ℕ) (o : Origin) (z : State)
             → slice_get now.origins (suc i) ≡ Some o
             → slice_get (append_state found end) (suc i) ≡ Some z
             → HasPredecessor program now.runs (append_state found end) (suc i) o z
-        came i o z is and =
-            go (get_append visited.origins appended.origin o (suc i) (ap (λ l. slice_get l (suc i)) (sym appended.origins) ∙ is))
-            (get_append found end z (suc i) and)
+        predecessor_each i o z is and =
+            go
+            (slice_get-append_cases visited.origins appended.origin o (suc i)
+            (ap (λ l. slice_get l (suc i)) (sym appended.origins) ∙ is)) (slice_get-append_cases found end z (suc i) and)
           where
             go : (slice_get visited.origins (suc i) ≡ Some o) ⊎ ((suc i ≡ length visited.origins) × (appended.origin ≡ o))
                 → (slice_get found (suc i) ≡ Some z) ⊎ ((suc i ≡ length found) × (end ≡ z))
                 → HasPredecessor program now.runs (append_state found end) (suc i) o z
-            go (inl a) (inl b) = predecessor-prefix appended.runs found_prefix (invariant.predecessor i o z a b)
+            go (inl a) (inl b) = predecessor-prefix appended.runs IsPrefix-append_state (invariant.predecessor i o z a b)
             go (inr a) (inr b) =
                 let lt = slice_get_within found at s stood in
                 let parent_at : appended.origin.parent ≡ at = appended.parent_is ∙ parent_is in
@@ -262,7 +274,7 @@ module _ (program : List (List Instr)) where
                 (subst (λ y. HasPredecessor program now.runs (append_state found end) (suc i) appended.origin y) b.1 (record {
                   before = omega (arith, parent_at, lt, b.0);
                   from = s;
-                  stood = ap (slice_get (append_state found end)) parent_at ∙ found_prefix at s stood;
+                  stood = ap (slice_get (append_state found end)) parent_at ∙ IsPrefix-append_state at s stood;
                   run = run;
                   listed = appended.listed;
                   ran = ran;
@@ -272,46 +284,50 @@ module _ (program : List (List Instr)) where
             go (inr a) (inl b) =
                 absurd (let lt = slice_get_within found (suc i) z b in omega (arith, lt, a.0, invariant.origin_count))
 
-        served : (i : ℕ) (z : State)
+        covered_each : (i : ℕ) (z : State)
             → i < closed
             → slice_get (append_state found end) i ≡ Some z
             → (e : Event)
             → IsCovered program (append_state found end) z e
-        served i z lt is e = go (get_append found end z i is)
+        covered_each i z lt is e = go (slice_get-append_cases found end z i is)
           where
             go : (slice_get found i ≡ Some z) ⊎ ((i ≡ length found) × (end ≡ z)) → IsCovered program (append_state found end) z e
-            go (inl a) = covered-prefix found (append_state found end) z e found_prefix (invariant.covered i z lt a e)
+            go (inl a) = covered-prefix found (append_state found end) z e IsPrefix-append_state (invariant.covered i z lt a e)
             go (inr a) = absurd (omega (arith, lt, a.0, invariant.within))
 
-    either : InsertsKey visited next parent run now → Inserted start new now found closed end
-    either (inl new_key) = added new_key.0 new_key.1 new_key.2
-    either (inr old_key) = known_key old_key.0 old_key.1 old_key.2
+    -- Whether the key is new or known, the invariant holds and the state that the run reaches is found.
+    Inserted-either_case : InsertsKey visited next parent run now → Inserted start new now found closed end
+    Inserted-either_case (inl new_key) = Inserted-new_key new_key.0 new_key.1 new_key.2
+    Inserted-either_case (inr old_key) = Inserted-known_key old_key.0 old_key.1 old_key.2
 
   -- The state that an event, followed by invisible events, reaches is found.
-  pub successor_covered : {old settled_tables new : Components} {visited now : Visited} (at t : ℕ) (e : ℕ × Bool)
+  pub IsCovered-after_event : {old settled_tables new : Components} {visited now : Visited} (at set t : ℕ) (e : ℕ × Bool)
       (key all next : List ℕ) (p : Processor) (m n : List ℕ) (parent : ℕ) (run : List (ℕ × Bool))
       → e.0 ≡ t
-      → SettlesFrom program (IsLoaded program old key t p m) old settled_tables all n (e ∷ []) run
+      → SettlesFrom program (IsLoaded program old key set t p m) old settled_tables all n (e ∷ []) run
       → Extends settled_tables new
       → length next ≡ length all
       → slice_get new.memories (slice_index next 0) ≡ Some n
       → ((u : ℕ) → slice_index next (u + 1) ≡ slice_index all (u + 1))
       → parent ≡ at
       → InsertsKey visited next parent run now
-      → ExpandsState program old visited new now at key
-      (λ s. MachineTransition flat_memory program (event_of e) s (Ok tt) (set_thread s t p m))
+      → ExpandsState program old visited new now at key (λ s.
+      MachineTransition flat_memory program (event_of e) s (Ok tt) (set_thread s t p m) × HasConflictsOfOthers program s t set)
       (λ s more. IsCovered program more s (event_of e))
-  successor_covered {old} {settled_tables} {new} {visited} {now} at t e key all next p m n parent run cpu settles extended size memory threads parent_is adds start found closed s invariant stood keyed done =
+  IsCovered-after_event {old} {settled_tables} {new} {visited} {now} at set t e key all next p m n parent run cpu settles extended size memory threads parent_is adds start found closed s invariant stood keyed is =
       record {
         more = a.more;
         longer = a.longer;
         keys = prefix-inserted visited now next parent run adds;
         invariant = a.invariant;
-        holds = served;
+        holds = covered_each;
       }
     where
+      done : MachineTransition flat_memory program (event_of e) s (Ok tt) (set_thread s t p m)
+      done = is.0
+
       d : EventOccurrence program (event_of e) s (set_thread s t p m)
-      d = effect_of_event program (event_of e) s (set_thread s t p m) done
+      d = EventOccurrence-of_event program (event_of e) s (set_thread s t p m) done
 
       was : slice_get s.processors t ≡ Some d.from
       was = ap (slice_get s.processors) (sym (cpu_of-event e ∙ cpu)) ∙ d.was
@@ -322,6 +338,7 @@ module _ (program : List (List Instr)) where
       taken : Settled program settled_tables all n (events_of settles.more) mid
       taken = settles.settled mid (record {
         represented = represents-others program old key t s p m (invariant.represents at key s keyed stood);
+        conflicts = conflicts-set_thread program set t s p m is.1;
         thread_count = length-set s.processors t p ∙ invariant.thread_count at s stood;
         thread = get-set_same s.processors t p d.from was;
         words = refl;
@@ -335,13 +352,13 @@ module _ (program : List (List Instr)) where
 
       a : Inserted start new now found closed taken.end
       a =
-          either old new visited now start found closed at s taken.end next parent run (extends-trans settles.extended extended)
-          invariant stood stands taken.working.thread_count parent_is ran adds
+          Inserted-either_case old new visited now start found closed at s taken.end next parent run
+          (extends-trans settles.extended extended) invariant stood stands taken.working.thread_count parent_is ran adds
 
-      served : IsCovered program a.more s (event_of e)
-      served after f =
+      covered_each : IsCovered program a.more s (event_of e)
+      covered_each after f =
           let once = MachineTransition-deterministic program (event_of e) s mid after (Ok tt) (Ok tt) done f in
-          (taken.end, a.index, a.there, subst (λ z. Covers program taken.end z) once.1 taken.covers)
+          (taken.end, a.index, a.found_at_index, subst (λ z. Covers program taken.end z) once.1 taken.covers)
 
   -- ---- events that are not enabled
 
@@ -370,10 +387,10 @@ module _ (program : List (List Instr)) where
       → MachineTransition flat_memory program e s (Ok tt) next
       → ⊥
   no_event-without_thread e s next as_many none done =
-      let d : EventOccurrence program e s next = effect_of_event program e s next done in
+      let d : EventOccurrence program e s next = EventOccurrence-of_event program e s next done in
       let lt : cpu_of e < length program =
       subst (λ n. cpu_of e < n) as_many (slice_get_within s.processors (cpu_of e) d.from d.was) in
-      let there = get_some program (cpu_of e) lt in
+      let there = slice_get-in_range program (cpu_of e) lt in
       absurd (let both = sym none ∙ there.1 in cc)
 
   -- No event whose effect is refused is enabled.
@@ -383,48 +400,22 @@ module _ (program : List (List Instr)) where
       → MachineTransition flat_memory program e s (Ok tt) next
       → ⊥
   no_event-refused e s next p stop at act done =
-      let d : EventOccurrence program e s next = effect_of_event program e s next done in
+      let d : EventOccurrence program e s next = EventOccurrence-of_event program e s next done in
       let same : d.from ≡ p = same_Some d.from p (sym d.was ∙ at) in
       subst (λ a. EffectLeadsTo s.memory a d.to d.words) act
       (subst (λ (r : Processor). EffectLeadsTo s.memory (event_effect program (length s.memory) e r) d.to d.words) same d.does)
 
   -- The loaded thread state is the thread's.
-  pub loaded_thread : {tables : Components} (key : List ℕ) (s : State) (t : ℕ) (code : List Instr) (p : Processor)
+  pub slice_get-loaded_thread : {tables : Components} (key : List ℕ) (s : State) (t : ℕ) (code : List Instr) (p : Processor)
       → Represents tables key s
       → length s.processors ≡ length program
       → slice_get program t ≡ Some code
       → ((r : Processor) → slice_get tables.threads (slice_index key (t + 1)) ≡ Some r → p ≡ r)
       → slice_get s.processors t ≡ Some p
-  loaded_thread {tables} key s t code p stands as_many coded loaded =
+  slice_get-loaded_thread {tables} key s t code p stands as_many coded loaded =
       let lt : t < length s.processors = subst (λ n. t < n) (sym as_many) (slice_get_within program t code coded) in
-      let r = get_some s.processors t lt in
+      let r = slice_get-in_range s.processors t lt in
       r.1 ∙ ap Some (sym (loaded r.0 (stands.threads t r.0 r.1)))
-
-  -- An event that is enabled in the loaded thread state is enabled in each state with the key.
-  pub expands-done : {old new : Components} {visited now : Visited} (at t : ℕ) (e : Event) (key : List ℕ) (code : List Instr)
-      (p q : Processor) (m n : List ℕ) (act : EventEffect) (Served : State → List State → Type 0)
-      → cpu_of e ≡ t
-      → slice_get program t ≡ Some code
-      → ((r : Processor) → slice_get old.threads (slice_index key (t + 1)) ≡ Some r → p ≡ r)
-      → ((r : List ℕ) → slice_get old.memories (slice_index key 0) ≡ Some r → m ≡ r)
-      → ((locs : ℕ) → event_effect program locs e p ≡ act)
-      → ((u : ℕ) → EffectTransition flat_memory u act p m (Ok tt) q n)
-      → ExpandsState program old visited new now at key
-      (λ s. MachineTransition flat_memory program e s (Ok tt) (set_thread s t q n)) Served
-      → ExpandsState program old visited new now at key (λ s. Unit {0}) Served
-  expands-done at t e key code p q m n act Served cpu coded thread memory is done add_successor start found closed s invariant stood keyed u =
-      let stands = invariant.represents at key s keyed stood in
-      let there : slice_get s.processors t ≡ Some p =
-      loaded_thread key s t code p stands (invariant.thread_count at s stood) coded thread in
-      let same : s.memory ≡ m = sym (memory s.memory stands.memory) in
-      let does : EffectLeadsTo m act q n = done_does t act p q m n (done t) in
-      let does_too : EffectLeadsTo s.memory (event_effect program (length s.memory) e p) q n =
-      subst (λ a. EffectLeadsTo s.memory a q n) (sym (is (length s.memory)))
-      (subst (λ l. EffectLeadsTo l act q n) (sym same) does) in
-      let led : MachineTransition flat_memory program e s (Ok tt) (state (slice_set s.processors (cpu_of e) q) n) =
-      event_of_effect program e s.processors p q s.memory n (ap (slice_get s.processors) cpu ∙ there) does_too in
-      add_successor start found closed s invariant stood keyed
-      (subst (λ v. MachineTransition flat_memory program e s (Ok tt) (state (slice_set s.processors v q) n)) cpu led)
 
   -- An event that is refused in the loaded thread state is refused in each state with the key.
   pub expands-refused : {tables : Components} {visited : Visited} (at t : ℕ) (e : Event) (key : List ℕ) (code : List Instr)
@@ -433,11 +424,13 @@ module _ (program : List (List Instr)) where
       → slice_get program t ≡ Some code
       → ((r : Processor) → slice_get tables.threads (slice_index key (t + 1)) ≡ Some r → p ≡ r)
       → ((locs : ℕ) → event_effect program locs e p ≡ Refused stop)
-      → ExpandsState program tables visited tables visited at key (λ s. Unit {0}) (λ s more. IsCovered program more s e)
-  expands-refused at t e key code p stop cpu coded thread is =
-      covered-impossible at key e (λ s. Unit {0}) (λ s next found stands as_many done.
+      → (Is : State → Type 0)
+      → ExpandsState program tables visited tables visited at key Is (λ s more. IsCovered program more s e)
+  expands-refused at t e key code p stop cpu coded thread is Is =
+      covered-impossible at key e Is (λ s next found stands as_many done.
       no_event-refused e s next p stop
-      (ap (slice_get s.processors) cpu ∙ loaded_thread key s t code p stands as_many coded thread) (is (length s.memory)) done)
+      (ap (slice_get s.processors) cpu ∙ slice_get-loaded_thread key s t code p stands as_many coded thread)
+      (is (length s.memory)) done)
 
   -- ---- events in sequence
 
@@ -445,12 +438,14 @@ module _ (program : List (List Instr)) where
   abbrev pub IsMonotone : (State → List State → Type 0) → Type 0
   IsMonotone Served = (s : State) (found more : List State) → IsPrefix found more → Served s found → Served s more
 
-  pub expands-both : {t0 t1 t2 : Components} {m0 m1 m2 : Visited} (at : ℕ) (key : List ℕ) (A B : State → List State → Type 0)
+  -- If two parts of an expansion give A and B, in sequence they give both, since A holds still when more states are found.
+  pub expands-both : {t0 t1 t2 : Components} {m0 m1 m2 : Visited} (at : ℕ) (key : List ℕ) (Is : State → Type 0)
+      (A B : State → List State → Type 0)
       → IsMonotone A
-      → ExpandsState program t0 m0 t1 m1 at key (λ s. Unit {0}) A
-      → ExpandsState program t1 m1 t2 m2 at key (λ s. Unit {0}) B
-      → ExpandsState program t0 m0 t2 m2 at key (λ s. Unit {0}) (λ s more. A s more × B s more)
-  expands-both at key A B monotone first second start found closed s invariant stood keyed u =
+      → ExpandsState program t0 m0 t1 m1 at key Is A
+      → ExpandsState program t1 m1 t2 m2 at key Is B
+      → ExpandsState program t0 m0 t2 m2 at key Is (λ s more. A s more × B s more)
+  expands-both at key Is A B monotone first second start found closed s invariant stood keyed u =
       let a = first start found closed s invariant stood keyed u in
       let b = second start a.more closed s a.invariant (a.longer at s stood) (a.keys at key keyed) u in
       record {
@@ -461,14 +456,26 @@ module _ (program : List (List Instr)) where
         holds = (monotone s a.more b.more b.longer a.holds, b.holds);
       }
 
-  pub expands-weaker : {t0 t1 : Components} {m0 m1 : Visited} (at : ℕ) (key : List ℕ) (A B : State → List State → Type 0)
+  -- An expansion that gives A gives what follows from A.
+  pub expands-weaker : {t0 t1 : Components} {m0 m1 : Visited} (at : ℕ) (key : List ℕ) (Is : State → Type 0)
+      (A B : State → List State → Type 0)
       → ((s : State) (more : List State) → A s more → B s more)
-      → ExpandsState program t0 m0 t1 m1 at key (λ s. Unit {0}) A
-      → ExpandsState program t0 m0 t1 m1 at key (λ s. Unit {0}) B
-  expands-weaker at key A B weaker first start found closed s invariant stood keyed u =
+      → ExpandsState program t0 m0 t1 m1 at key Is A
+      → ExpandsState program t0 m0 t1 m1 at key Is B
+  expands-weaker at key Is A B weaker first start found closed s invariant stood keyed u =
       let a = first start found closed s invariant stood keyed u in
       record { more = a.more; longer = a.longer; keys = a.keys; invariant = a.invariant; holds = weaker s a.more a.holds }
 
+  -- What is expanded in each state of which one thing holds is expanded in each of which more holds.
+  pub expands-if_more_holds : {t0 t1 : Components} {m0 m1 : Visited} (at : ℕ) (key : List ℕ) (Is Other : State → Type 0)
+      (A : State → List State → Type 0)
+      → ((s : State) → Other s → Is s)
+      → ExpandsState program t0 m0 t1 m1 at key Is A
+      → ExpandsState program t0 m0 t1 m1 at key Other A
+  expands-if_more_holds at key Is Other A weaker goes start found closed s invariant stood keyed other =
+      goes start found closed s invariant stood keyed (weaker s other)
+
+  -- A successor that is covered is so when more states are found.
   pub covered-monotone : (e : Event) → IsMonotone (λ s more. IsCovered program more s e)
   covered-monotone e s found more longer served = covered-prefix found more s e longer served
 
@@ -476,10 +483,12 @@ module _ (program : List (List Instr)) where
   abbrev pub CoversThreads : ℕ → State → List State → Type 0
   CoversThreads n s more = (t : ℕ) → t < n → CoversThread program t s more
 
+  -- Successors by the first n threads that are covered are so when more states are found.
   pub covers_threads-monotone : (n : ℕ) → IsMonotone (CoversThreads n)
   covers_threads-monotone n s found more longer served t lt =
       let a = served t lt in (covered-prefix found more s (Step t) longer a.0, covered-prefix found more s (Drain t) longer a.1)
 
+  -- If the successors by the first n threads and by thread n are covered, so are those by the first n + 1.
   pub covers_threads-more : (n : ℕ) (s : State) (more : List State)
       → CoversThreads n s more × CoversThread program n s more
       → CoversThreads (n + 1) s more
@@ -506,22 +515,25 @@ module _ (program : List (List Instr)) where
         absurd (no_event-without_thread (Drain t) s next as_many (slice_get_past program t (omega (arith, few, ge))) done)
   ]
   covered-all n s more few as_many of (Evict t x) = λ next done.
-      let d : EventOccurrence program (Evict t x) s next = effect_of_event program (Evict t x) s next done in
-      absurd (no_eviction program (length s.memory) t x d.from d.to s.memory d.words d.does)
+      let d : EventOccurrence program (Evict t x) s next = EventOccurrence-of_event program (Evict t x) s next done in
+      absurd (not-EffectLeadsTo-evict_event program (length s.memory) t x d.from d.to s.memory d.words d.does)
 
   -- The state is expanded.
-  pub state_expanded : {t0 t1 : Components} {m0 m1 : Visited} (at n : ℕ) (key : List ℕ)
+  pub ExpandsUpTo-all_threads : {t0 t1 : Components} {m0 m1 : Visited} (at n : ℕ) (key : List ℕ) (Is : State → Type 0)
       → length program ≤ n
       → slice_get m0.keys at ≡ Some key
-      → ExpandsState program t0 m0 t1 m1 at key (λ s. Unit {0}) (CoversThreads n)
+      → ((s : State) → Represents t0 key s → length s.processors ≡ length program → Is s)
+      → ExpandsState program t0 m0 t1 m1 at key Is (CoversThreads n)
       → ExpandsUpTo program t0 m0 at t1 m1 (at + 1)
-  state_expanded {t0} {t1} {m0} {m1} at n key few keyed goes start found invariant = (a.more, now)
+  ExpandsUpTo-all_threads {t0} {t1} {m0} {m1} at n key Is few keyed is goes start found invariant = (a.more, now)
     where
       there : (s : State) × (slice_get found at ≡ Some s)
-      there = get_some found at (subst (λ k. at < k) invariant.key_count (slice_get_within m0.keys at key keyed))
+      there = slice_get-in_range found at (subst (λ k. at < k) invariant.key_count (slice_get_within m0.keys at key keyed))
 
       a : Expansion program start t1 m0 m1 found at (CoversThreads n there.0)
-      a = goes start found at there.0 invariant there.1 keyed tt
+      a =
+          goes start found at there.0 invariant there.1 keyed
+          (is there.0 (invariant.represents at key there.0 keyed there.1) (invariant.thread_count at there.0 there.1))
 
       now : SearchInvariant program start t1 m1 a.more (at + 1)
       now = record {
@@ -563,6 +575,7 @@ step_effect-is program t code p i o coded next is locs =
     ∙ ap (λ x. step_effect x p) next
     ∙ ap (λ x. operation_effect x p) (sym is)
 
+-- At the end of a thread's code its step is refused.
 pub step_effect-ended : (program : List (List Instr)) (t : ℕ) (code : List Instr) (p : Processor)
     → slice_get program t ≡ Some code
     → slice_get code p.position ≡ None
@@ -572,15 +585,10 @@ step_effect-ended program t code p coded end locs =
     ap (λ c. step_effect (slice_get c p.position) p) (get_or_from_slice_get program t code [] coded)
     ∙ ap (λ x. step_effect x p) end
 
-pub act_result-true : (act : EventEffect) (p q : Processor) (m n : List ℕ) (b : Bool)
-    → ActResult act p m b q n
-    → b ≡ true
-    → (t : ℕ)
-    → EffectTransition flat_memory t act p m (Ok tt) q n
-act_result-true act p q m n b done is = subst (λ c. ActResult act p m c q n) is done
-
-pub act_result-false : (act : EventEffect) (p q : Processor) (m n : List ℕ) (b : Bool)
-    → ActResult act p m b q n
-    → b ≡ false
-    → (stop : Stop) × (act ≡ Refused stop)
-act_result-false act p q m n b done is = (subst (λ c. ActResult act p m c q n) is done).0
+-- The effect of a thread's step is that of its code.
+pub step_effect-of_code : (program : List (List Instr)) (t : ℕ) (code : List Instr) (p : Processor)
+    → slice_get program t ≡ Some code
+    → (locs : ℕ)
+    → event_effect program locs (Step t) p ≡ step_effect (slice_get code p.position) p
+step_effect-of_code program t code p coded locs =
+    ap (λ c. step_effect (slice_get c p.position) p) (get_or_from_slice_get program t code [] coded)

@@ -7,7 +7,7 @@ ghost use Rattle.lw_tso.specs.Runs as runs;
 ghost use Rattle.lw_tso.specs.Runs.{machine_outcome};
 ghost use Rattle.lw_outcome_map.specs.Listings.{IsStrictlySorted};
 ghost use Rattle.lw_search.specs.inner.StateKeys.{State, Represents, events_of};
-ghost use Rattle.lw_search.specs.inner.Invariant.{ReportsThreadEnd, ReachesIndex, CollectsState, CollectsAll, events_at};
+ghost use Rattle.lw_search.specs.inner.Invariant.{ReportsThreadEnd, ReachesIndex, CollectsState, CollectsAll, IsScheduleOf, AreSame, events_at};
 
 use crate::run::RunEvent;
 use crate::search::{Search, cpu_at};
@@ -19,7 +19,11 @@ use lw_outcome_map::{Listing, OutcomeMap};
 use std::alloc::{AllocError, Allocator};
 
 /// Returns whether a state is final: all threads are at their ends, and their store buffers are empty.
-fn is_final<A: Allocator>(program: &Program<A>, tables: &Tables<A>, key: &StateKey) -> bool
+pub(crate) fn is_final<A: Allocator>(
+    program: &Program<A>,
+    tables: &Tables<'_, A>,
+    key: &StateKey,
+) -> bool
     ensures yes { result ≡ true → (s : State) → Represents tables.now key.now s → length s.processors ≡ length program.now.threads
         → IsTrue (runs.is_final program.now.threads s) }
     ensures no { result ≡ false → (s : State) → Represents tables.now key.now s → length s.processors ≡ length program.now.threads
@@ -34,7 +38,7 @@ fn is_final<A: Allocator>(program: &Program<A>, tables: &Tables<A>, key: &StateK
 }
 
 /// Returns whether a thread of a state is past the last of `count` instructions, with an empty store buffer.
-fn is_done<A: Allocator>(tables: &Tables<A>, key: &StateKey, cpu: Cpu, count: usize) -> bool
+fn is_done<A: Allocator>(tables: &Tables<'_, A>, key: &StateKey, cpu: Cpu, count: usize) -> bool
     ensures { ReportsThreadEnd tables.now key.now cpu count result }
 {
     match tables.thread(key[cpu.index() + 1]) {
@@ -44,7 +48,11 @@ fn is_done<A: Allocator>(tables: &Tables<A>, key: &StateKey, cpu: Cpu, count: us
 }
 
 /// Returns the registers of a thread of a state, or 0 in each if the key's number has no row.
-fn registers_of<A: Allocator>(tables: &Tables<A>, key: &StateKey, cpu: Cpu) -> [Word; REGISTERS]
+pub(crate) fn registers_of<A: Allocator>(
+    tables: &Tables<'_, A>,
+    key: &StateKey,
+    cpu: Cpu,
+) -> [Word; REGISTERS]
     ensures { (p : Processor) → slice_get tables.now.threads (slice_index key.now (cpu + 1)) ≡ Some p → result ≡ p.regs }
 {
     match tables.thread(key[cpu.index() + 1]) {
@@ -56,7 +64,7 @@ fn registers_of<A: Allocator>(tables: &Tables<A>, key: &StateKey, cpu: Cpu) -> [
 /// Returns the words of a state's memory, or none if the key's number has no row.
 fn words_of<A: Allocator + Copy>(
     alloc: A,
-    tables: &Tables<A>,
+    tables: &Tables<'_, A>,
     key: &StateKey,
 ) -> Result<Sequence<Word, A>, AllocError>
     ensures { IfOk result (λ words. (m : List ℕ) → slice_get tables.now.memories (slice_index key.now 0) ≡ Some m → words ≡ m) }
@@ -68,10 +76,10 @@ fn words_of<A: Allocator + Copy>(
 }
 
 /// Returns the outcome of a state: its registers and its words.
-fn outcome_of<A: Allocator + Copy>(
+pub(crate) fn outcome_of<A: Allocator + Copy>(
     alloc: A,
     program: &Program<A>,
-    tables: &Tables<A>,
+    tables: &Tables<'_, A>,
     key: &StateKey,
 ) -> Result<Outcome<A>, AllocError>
     ensures { IfOk result (λ o. (s : State) → Represents tables.now key.now s → length s.processors ≡ length program.now.threads
@@ -142,7 +150,7 @@ fn schedule_to<A: Allocator + Copy>(
     Ok(Sequence::from(events))
 }
 
-/// Adds the outcome of the state at an index, with a schedule, if the state is final and its outcome is new.
+/// Adds the outcome of the state at an index, with a schedule that leads to the state, if the state is final and its outcome is new.
 fn collect_state<A: Allocator + Copy>(
     alloc: A,
     search: &Search<'_, A>,
@@ -164,13 +172,13 @@ fn collect_state<A: Allocator + Copy>(
     found.insert_new(outcome, schedule)
 }
 
-/// Returns the list of the outcomes of all final states that a search has found.
+/// Returns the list of the outcomes of all final states that a search has found, each with a schedule.
 pub(crate) fn collect_outcomes<A: Allocator + Copy>(
     alloc: A,
     search: &Search<'_, A>,
 ) -> Result<Listing<A>, AllocError>
     ensures sorted { IfOk result (λ l. IsStrictlySorted l) }
-    ensures collected { IfOk result (CollectsAll search.now.program.now.threads search.now.tables search.now.states) }
+    ensures collected { IfOk result (CollectsAll AreSame IsScheduleOf search.now.program.now.threads search.now.tables search.now.states) }
 {
     let mut found = OutcomeMap::new(alloc);
     for at in 0..search.states.len() {

@@ -6,8 +6,10 @@
 //! 2. `invisible`: an event is invisible if no other thread, now or later, conflicts with its access (partial-order
 //!    reduction). `accesses` is a quick test that most visible events fail.
 //! 3. `states`, `tables` and `run`: a state is a key of five numbers: that of its memory, and that of the state of
-//!    each thread; and it has the run that led there from the state before.
-//! 4. `collect`: each final state's outcome is listed once, with the schedule along the states before it.
+//!    each thread; and it has the run that led there from the state before. `transitions`: what an event does to its thread and to memory
+//!    is computed once for all states that have both.
+//! 4. `collect`: each final state's outcome is listed once, with the schedule along the states before it. `observed`: for a report
+//!    one outcome is kept for each list of words that the observed names have.
 //!
 //! Why nothing is missing: `laws`. An invisible event can be taken first in every run that ends, and the run gets no longer by it; so
 //! each final state that some run reaches is reached from a visited state, by induction on the length of the run.
@@ -23,11 +25,16 @@ mod fault;
 mod invisible;
 mod laws;
 mod list;
+mod observed;
 mod run;
 mod search;
 mod states;
 mod tables;
 mod thread_state;
+mod transitions;
 
 pub use fault::SearchFault;
-pub use list::{Searched, reach_program, reach_source};
+pub use list::{
+    Searched, SearchedOutcomes, reach_program, reach_program_states, reach_source,
+    reach_source_states,
+};

@@ -50,6 +50,18 @@ impl RunEvent {
         }
     }
 
+    /// Returns a number that no other event of a run has.
+    pub(crate) fn code(self) -> u32 {
+        u32::from(self.thread).wrapping_shl(1) | u32::from(self.is_drain)
+    }
+
+    /// Returns whether the event is a drain.
+    pub(crate) fn is_drain(self) -> bool
+        ensures { result ≡ self.1 }
+    {
+        self.is_drain
+    }
+
     /// Returns the event.
     pub(crate) fn event(self) -> Event
         ensures { result ≡ event_of self }

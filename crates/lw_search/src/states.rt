@@ -1,5 +1,5 @@
 //! The states that a search has visited or is to visit, packed, each with the state before it.
-ghost use Rattle.std.specs.Prelude.{◌≡◌, ◌<◌, [], Some, length, slice_get, option_copied, IfOk, OnOk};
+ghost use Rattle.std.specs.Prelude.{◌≡◌, ◌<◌, ℕ, Bool, List, [], Some, length, slice_get, option_copied, IfOk, OnOk};
 ghost use Rattle.lw_search.specs.inner.StateKeys.{InsertsKey, AppendsOrigin, IsPrefix};
 
 use crate::run::Run;
@@ -53,7 +53,7 @@ impl<A: Allocator + Copy> StateTable<A> {
     }
 
     /// Returns the number of a run, which is inserted if it has none.
-    fn run_number(&mut self, run: &Run<A>) -> Result<u32, AllocError>
+    pub(crate) fn run_number(&mut self, run: &Run<A>) -> Result<u32, AllocError>
         ensures keys { OnOk result (self.new.keys ≡ self.old.keys) }
         ensures origins { OnOk result (self.new.origins ≡ self.old.origins) }
         ensures runs { OnOk result (IsPrefix self.old.runs self.new.runs) }
@@ -90,6 +90,22 @@ impl<A: Allocator + Copy> StateTable<A> {
         let (_, is_new) = self.keys.insert_full(key)?;
         if is_new {
             return self.push_origin(parent, run);
+        }
+        Ok(())
+    }
+
+    /// Appends the key of a state with its parent and the number of the run that led from there, unless the table has the key.
+    pub(crate) fn insert_numbered(
+        &mut self,
+        key: StateKey,
+        parent: u32,
+        run: u32,
+    ) -> Result<(), AllocError>
+        ensures { OnOk result ((events : List (ℕ × Bool)) → slice_get self.old.runs run ≡ Some events → InsertsKey self.old key parent events self.new) }
+    {
+        let (_, is_new) = self.keys.insert_full(key)?;
+        if is_new {
+            self.origins.push(Origin { parent, run })?;
         }
         Ok(())
     }

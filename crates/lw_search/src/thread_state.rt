@@ -5,15 +5,16 @@ ghost use Rattle.lw_base.specs.Threads.{operand_value};
 ghost use Rattle.lw_base.specs.declared.stop.Stop.{Stop};
 ghost use Rattle.lw_litmus.specs.Operations.{guard_holds};
 ghost use Rattle.lw_memory.specs.Flat.{flat_memory};
-ghost use Rattle.lw_tso.specs.Processors.{initial_processor, advance_processor, set_register, set_zero_flag, enqueue_store, jump_or_advance_processor};
+ghost use Rattle.lw_tso.specs.Processors.{Processor, initial_processor, advance_processor, set_register, set_zero_flag, enqueue_store, jump_or_advance_processor};
 ghost use Rattle.lw_tso.specs.EventEffects.{LocalStep, Refused, operation_effect, drain_effect};
 ghost use Rattle.lw_tso.specs.Machines.{EffectTransition};
 ghost use Rattle.lw_litmus.specs.declared.operation.Operation.TheVariants as Operation;
-ghost use Rattle.lw_search.specs.inner.ThreadStates.{ActResult};
+ghost use Rattle.lw_search.specs.inner.ThreadStates.{ActResult, RefusesStep};
 
 use crate::buffer::{Queue, newest_in};
+use crate::search::instr_at;
 use lw_base::{Loc, Operand, REGISTERS, Reg, Sequence, Word};
-use lw_litmus::Operation;
+use lw_litmus::{Instr, Operation, Statement};
 use std::alloc::{AllocError, Allocator, Global};
 use std::marker::Model;
 
@@ -41,7 +42,7 @@ impl<A: Allocator> Model for ThreadState<A> {
 }
 
 /// Returns the word of a location, or 0 if there is no such location.
-fn word_at<A: Allocator>(words: &Sequence<Word, A>, loc: usize) -> Word
+pub(crate) fn word_at<A: Allocator>(words: &Sequence<Word, A>, loc: usize) -> Word
     ensures { result ≡ slice_index words.now loc }
 {
     match words.get(loc) {
@@ -64,6 +65,19 @@ fn byte_of(loc: Loc) -> u8
     ensures { result ≡ loc }
 {
     loc.index() as u8
+}
+
+/// Returns whether an operation waits until the store buffer is empty: a fence, or a locked instruction.
+pub(crate) fn waits_for_drains(operation: Operation) -> bool
+    ensures { result ≡ true → (p : Processor) → (length p.buffer == 0) ≡ false
+        → (stop : Stop) × (operation_effect operation p ≡ Refused stop) }
+{
+    match operation {
+        Operation::Fence => true,
+        Operation::Swap { .. } => true,
+        Operation::FetchAdd(_, _, _) => true,
+        _ => false,
+    }
 }
 
 impl<A: Allocator> ThreadState<A> {
@@ -108,6 +122,26 @@ impl<A: Allocator> ThreadState<A> {
         self.position
     }
 
+    /// Returns whether the next step is rejected: the thread is at the end of its code, or its operation waits.
+    pub(crate) fn refuses_step(&self, code: &[Instr]) -> bool
+        ensures { result ≡ true → RefusesStep code.now self.now }
+    {
+        let Some(instr) = instr_at(code, self.position) else {
+            return true;
+        };
+        if self.buffer.is_empty() {
+            return false;
+        }
+        waits_for_drains(instr.operation())
+    }
+
+    /// Returns whether the store buffer is empty.
+    pub(crate) fn has_empty_buffer(&self) -> bool
+        ensures { result ≡ (length self.now.buffer == 0) }
+    {
+        self.buffer.is_empty()
+    }
+
     /// Returns the registers.
     pub(crate) fn regs(&self) -> [Word; REGISTERS]
         ensures { result ≡ self.now.regs }
@@ -120,16 +154,6 @@ impl<A: Allocator> ThreadState<A> {
         ensures { result ≡ (nat_le count self.now.position && (length self.now.buffer == 0)) }
     {
         count <= self.position && self.buffer.is_empty()
-    }
-
-    /// Returns whether the store buffer is as an operation needs it: empty, if it is a fence or locked.
-    pub(crate) fn is_ready(&self, operation: Operation) -> bool {
-        match operation {
-            Operation::Fence | Operation::Swap { .. } | Operation::FetchAdd(_, _, _) => {
-                self.buffer.is_empty()
-            }
-            _ => true,
-        }
     }
 
     /// Returns the word of an operand.

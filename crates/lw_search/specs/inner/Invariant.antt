@@ -1,19 +1,23 @@
 -- The invariant of a search. It speaks of a list `found` of machine states that the code does not store: one for each key of the table.
 -- Used only within the crate.
-use Rattle.std.specs.Prelude.{◌≡◌, ◌≢◌, ℕ, suc, ◌+◌, ◌<◌, ◌≤◌, ◌==◌, ◌&&◌, Bool, true, false, nat_le, Some, Ok, List, [], ◌++◌, length, slice_get, slice_index, slice_index_or, IsTrue, All, Contains}
+use Rattle.std.specs.Prelude.{◌≡◌, ◌≢◌, ◌↔◌, ℕ, suc, ◌+◌, ◌<◌, ◌≤◌, ◌==◌, ◌&&◌, Bool, true, false, nat_le, Some, Ok, List, [], ◌++◌, length, slice_get, slice_index, slice_index_or, IsTrue, All, Contains}
 use Rattle.lw_base.specs.Threads.{thread_code}
 use Rattle.lw_base.specs.declared.event.Event.{Event}
 use Rattle.lw_base.specs.declared.event.Event.TheVariants.{Step, Drain}
-use Rattle.lw_base.specs.Outcomes.{FinalState}
-use Rattle.lw_outcome_map.specs.Listings.{OutcomeEntries, outcomes_of}
+use Rattle.lw_base.specs.FinalWords.{final_words}
+use Rattle.lw_base.specs.Outcomes.{FinalState, HasOutcomeShape}
+use Rattle.lw_base.specs.declared.head.Seen.{Seen}
+use Rattle.lw_mesi.specs.declared.protocol.Protocol.{Protocol}
+use Rattle.lw_outcome_map.specs.Listings.{OutcomeEntries, OutcomesWith, outcomes_of}
 use Rattle.lw_litmus.specs.declared.instr.Instr.{Instr}
 use Rattle.lw_litmus.specs.Tests.{X86Test}
 use Rattle.lw_memory.specs.Flat.{flat_memory}
 use Rattle.lw_tso.specs.Machines.{MachineTransition}
 use Rattle.lw_tso.specs.Processors.{Processor}
-use Rattle.lw_tso.specs.Runs.{MachineRunsTo, is_final, initial_machine_state, machine_outcome}
+use Rattle.lw_tso.specs.Runs.{IsMachineOutcome, MachineRunsTo, is_final, initial_machine_state, machine_outcome}
+use Rattle.lw_tso_caches.specs.OverCaches.{OutcomeOverCaches}
 use Rattle.lw_search.specs.declared.states.Origin.{Origin}
-use Rattle.lw_search.specs.inner.InvisibleEvents.{NeverConflicts}
+use Rattle.lw_search.specs.inner.Accesses.{HasConflictsOfOthers}
 use Rattle.lw_search.specs.inner.StateKeys.{State, Components, Visited, Extends, Represents, RepresentsOthers, RepresentsThreads, IsPrefix, AreDistinct, events_of, set_thread}
 
 -- The events of the run that has a number, or none if no run has it.
@@ -94,11 +98,11 @@ module _ (program : List (List Instr)) where
       (start : State) (found : List State) → SearchInvariant start old_tables old_visited found 0
       → (more : List State) × (closed : ℕ) × SearchInvariant start new_tables new_visited more closed × (budget < length more)
 
--- Invisible events of thread t take it from state p with memory m to state q with memory n, beside the other threads of a key: in each
--- such state they lead to the state with q and n, which covers it.
-abbrev pub Settles : List (List Instr) → Components → List ℕ → ℕ → List Event → Processor → List ℕ → Processor → List ℕ → Type 0
-Settles program tables key t events p m q n =
-    (s : State) → RepresentsOthers tables key t s → length s.processors ≡ length program → slice_get s.processors t ≡ Some p → s.memory ≡ m
+-- Beside other threads of which a set has the conflicts, invisible events of thread t take it from state p with memory m to state q with
+-- memory n: in each such state they lead to the state with q and n, which covers it.
+abbrev pub Settles : List (List Instr) → ℕ → ℕ → List Event → Processor → List ℕ → Processor → List ℕ → Type 0
+Settles program set t events p m q n =
+    (s : State) → HasConflictsOfOthers program s t set → length s.processors ≡ length program → slice_get s.processors t ≡ Some p → s.memory ≡ m
     → MachineRunsTo flat_memory program events s (set_thread s t q n) × Covers program (set_thread s t q n) s
 
 -- State s of a program has the threads of a key and these words of memory.
@@ -107,9 +111,10 @@ pub record IsWorking (program : List (List Instr)) (tables : Components) (key : 
   pub thread_count : length s.processors ≡ length program
   pub words : s.memory ≡ m
 
--- State s of a program has thread t in state p, the other threads of a key, and these words of memory.
-pub record IsLoaded (program : List (List Instr)) (tables : Components) (key : List ℕ) (t : ℕ) (p : Processor) (m : List ℕ) (s : State) : Type 0 where
+-- State s of a program has thread t in state p, the other threads of a key, of which a set has the conflicts, and these words of memory.
+pub record IsLoaded (program : List (List Instr)) (tables : Components) (key : List ℕ) (set t : ℕ) (p : Processor) (m : List ℕ) (s : State) : Type 0 where
   pub represented : RepresentsOthers tables key t s
+  pub conflicts : HasConflictsOfOthers program s t set
   pub thread_count : length s.processors ≡ length program
   pub thread : slice_get s.processors t ≡ Some p
   pub words : s.memory ≡ m
@@ -129,16 +134,16 @@ pub record SettlesFrom (program : List (List Instr)) (From : State → Type 0) (
   pub appended : longer ≡ run ++ more
   pub settled : (s : State) → From s → Settled program new key m (events_of more) s
 
--- No event of another thread of a key than t, now or later, conflicts with an access of location x that writes it (true) or reads it.
-abbrev pub OthersNeverConflict : List (List Instr) → Components → List ℕ → ℕ → ℕ → Bool → Type 0
-OthersNeverConflict program tables key t x written =
-    (u : ℕ) (p : Processor) → u < length program → u ≢ t → slice_get tables.threads (slice_index key (u + 1)) ≡ Some p
-    → NeverConflicts (thread_code program u) p x written
-
 -- A search has found some states of a test, and has visited none.
 abbrev pub IsStarted : X86Test → Components → Visited → Type 0
 IsStarted test tables visited =
     (found : List State) × SearchInvariant test.threads (initial_machine_state test test.head.init_words) tables visited found 0
+
+-- A search of a test has visited all states that it has found.
+abbrev pub IsFinished : X86Test → Components → Visited → Type 0
+IsFinished test tables visited =
+    (found : List State)
+    × SearchInvariant test.threads (initial_machine_state test test.head.init_words) tables visited found (length visited.keys)
 
 -- The events lead from the start to a final state with this outcome.
 abbrev pub ReachesOutcome : List (List Instr) → State → List Event → FinalState → Type 0
@@ -157,18 +162,52 @@ ReportsThreadEnd tables key t count answer =
     (p : Processor) → slice_get tables.threads (slice_index key (t + 1)) ≡ Some p
     → answer ≡ (nat_le count p.position && (length p.buffer == 0))
 
--- The outcome of the state at an index is among the new entries, if the state is final; the old outcomes still are; and if all old
--- schedules lead to their outcomes, so do the new ones.
+-- A schedule is the events of a run.
+abbrev pub IsScheduleOf : List Event → List Event → Type 0
+IsScheduleOf schedule events = schedule ≡ events
+
+-- For lists without schedules: what is kept says nothing of the run. So an entry of such a list says that some run leads to its outcome.
+abbrev pub IsOfSomeRun : Unit {0} → List Event → Type 0
+IsOfSomeRun nothing events = Unit {0}
+
+-- What is kept for an outcome stands for the events of some run from the start to a final state with this outcome.
+abbrev pub LeadsTo : {Kept : Type 0} → (Kept → List Event → Type 0) → List (List Instr) → State → FinalState × Kept → Type 0
+LeadsTo StandsFor program start e = (events : List Event) × StandsFor e.1 events × ReachesOutcome program start events e.0
+
+-- The outcome of the state at an index is among the new entries, if the state is final; the old outcomes still are; and if the schedules
+-- reach all old outcomes, they reach all new ones.
 pub record CollectsState (program : List (List Instr)) (tables : Components) (visited : Visited) (at : ℕ) (old new : OutcomeEntries) : Type 0 where
   pub covered : (start : State) (found : List State) (closed : ℕ) (s : State) → SearchInvariant program start tables visited found closed
       → slice_get found at ≡ Some s → IsTrue (is_final program s) → Contains (outcomes_of new) (machine_outcome flat_memory s)
   pub kept : (o : FinalState) → Contains (outcomes_of old) o → Contains (outcomes_of new) o
   pub lead : (start : State) (found : List State) (closed : ℕ) → SearchInvariant program start tables visited found closed
-      → All (λ e. ReachesOutcome program start e.1 e.0) old → All (λ e. ReachesOutcome program start e.1 e.0) new
+      → All (LeadsTo IsScheduleOf program start) old → All (LeadsTo IsScheduleOf program start) new
 
--- All final states that were found have their outcomes listed, each with a schedule that leads to it.
-pub record CollectsAll (program : List (List Instr)) (tables : Components) (visited : Visited) (entries : OutcomeEntries) : Type 0 where
-  pub covered : (start : State) (found : List State) (closed : ℕ) (i : ℕ) (s : State) → SearchInvariant program start tables visited found closed
-      → slice_get found i ≡ Some s → IsTrue (is_final program s) → Contains (outcomes_of entries) (machine_outcome flat_memory s)
-  pub lead : (start : State) (found : List State) (closed : ℕ) → SearchInvariant program start tables visited found closed
-      → All (λ e. ReachesOutcome program start e.1 e.0) entries
+-- Some outcome of a list agrees with outcome o.
+abbrev pub ContainsAgreeing : (FinalState → FinalState → Type 0) → List FinalState → FinalState → Type 0
+ContainsAgreeing Agrees outcomes o = (p : FinalState) × Contains outcomes p × Agrees p o
+
+-- Two outcomes are the same.
+abbrev pub AreSame : FinalState → FinalState → Type 0
+AreSame p o = p ≡ o
+
+-- Two outcomes have the same words at these names.
+abbrev pub HaveSameWords : List Seen → FinalState → FinalState → Type 0
+HaveSameWords names p o = final_words names p ≡ final_words names o
+
+module _ (Agrees : FinalState → FinalState → Type 0) {Kept : Type 0} (StandsFor : Kept → List Event → Type 0) where
+  -- For each final state that was found an outcome is listed that agrees with the state's; and something leads to each listed outcome.
+  pub record CollectsAll (program : List (List Instr)) (tables : Components) (visited : Visited) (entries : OutcomesWith Kept) : Type 0 where
+    pub covered : (start : State) (found : List State) (closed : ℕ) (i : ℕ) (s : State) → SearchInvariant program start tables visited found closed
+        → slice_get found i ≡ Some s → IsTrue (is_final program s) → ContainsAgreeing Agrees (outcomes_of entries) (machine_outcome flat_memory s)
+    pub lead : (start : State) (found : List State) (closed : ℕ) → SearchInvariant program start tables visited found closed
+        → All (LeadsTo StandsFor program start) entries
+
+  -- For each outcome of a test one is listed that agrees with it. Each listed outcome is one of the test, over caches of each protocol too,
+  -- has its threads and locations, and something leads to it.
+  pub record ListsAgreeing (test : X86Test) (entries : OutcomesWith Kept) : Type 0 where
+    pub covered : (o : FinalState) → IsMachineOutcome flat_memory test test.head.init_words o → ContainsAgreeing Agrees (outcomes_of entries) o
+    pub reached : (o : FinalState) → Contains (outcomes_of entries) o → IsMachineOutcome flat_memory test test.head.init_words o
+    pub flat : (protocol : Protocol) (o : FinalState) → OutcomeOverCaches protocol test o ↔ IsMachineOutcome flat_memory test test.head.init_words o
+    pub shapes : All (HasOutcomeShape test.head.threads (length test.head.locs)) (outcomes_of entries)
+    pub lead : All (LeadsTo StandsFor test.threads (initial_machine_state test test.head.init_words)) entries

@@ -2,6 +2,7 @@
 use Rattle.std.specs.Prelude.{◌≡◌, ◌≢◌, ◌⊎◌, ◌≤◌, ℕ, ◌+◌, Bool, if◌then◌else◌, Some, List, [], ◌∷◌, ◌++◌, length, map, slice_get, slice_index, slice_set}
 use Rattle.lw_base.specs.declared.event.Event.{Event}
 use Rattle.lw_base.specs.declared.event.Event.TheVariants.{Step, Drain}
+use Rattle.lw_litmus.specs.declared.instr.Instr.{Instr}
 use Rattle.lw_tso.specs.Processors.{Processor}
 use Rattle.lw_tso.specs.Machines.{MachineState}
 use Rattle.lw_search.specs.declared.states.Origin.{Origin}
@@ -10,8 +11,9 @@ use Rattle.lw_search.specs.declared.states.Origin.{Origin}
 abbrev pub State : Type 0
 State = MachineState (List ℕ)
 
--- The states of threads and the memories that have numbers, each at the index that is its number.
+-- The threads of a program; and their states and the memories that have numbers, each at the index that is its number.
 pub record Components : Type 0 where
+  pub program : List (List Instr)
   pub threads : List Processor
   pub memories : List (List ℕ)
 
@@ -25,6 +27,7 @@ AreDistinct {X} xs = (i j : ℕ) (x : X) → slice_get xs i ≡ Some x → slice
 
 -- Rows were appended to the tables: numbers stay, and values without duplicates stay so.
 pub record Extends (old new : Components) : Type 0 where
+  pub program : new.program ≡ old.program
   pub threads : IsPrefix old.threads new.threads
   pub memories : IsPrefix old.memories new.memories
   pub distinct_threads : AreDistinct old.threads → AreDistinct new.threads

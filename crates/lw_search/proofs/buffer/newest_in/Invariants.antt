@@ -1,3 +1,4 @@
+-- At each round `found` is the newest word for the location among the first `index` entries.
 use Rattle.lw_search.proofs.Common.{◌≡◌, take, newest_buffered}
 use Rattle.lw_search.proofs.buffer.newest_in.Given as goal
 

@@ -1,3 +1,7 @@
+-- Of `push_schedule`, which appends to `events` a schedule from the start to the state at an index, along the
+-- chain of parents. Three exits: past the table, and at the start, which is its own parent, nothing is
+-- appended, and that is right; otherwise `reaches_index-next` puts the schedule of the parent, by the
+-- recursive call, before the run of the origin.
 use Rattle.lw_search.proofs.Common.{◌++◌, ◌∙◌, [], arith, ap, sym, append-nil, append_assoc, on_ok_weaker}
 use Rattle.lw_search.proofs.Common.{events_at}
 use Rattle.lw_search.proofs.Collected.{reaches_index-start, reaches_index-past, reaches_index-next}

@@ -1,3 +1,4 @@
+-- After each round of `collect_outcomes` the outcomes of the states before the index are collected, each with a schedule.
 use Rattle.lw_search.proofs.Collected.{CollectsFirst}
 use Rattle.lw_search.proofs.collect.collect_outcomes.Given as goal
 

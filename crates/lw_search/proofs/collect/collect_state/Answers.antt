@@ -1,3 +1,5 @@
+-- `collect_state` adds the outcome of one state if the state is final and the outcome is new. If the outcome is listed already, the list
+-- has what it has to have; otherwise the schedule to the state becomes that of the outcome.
 use Rattle.lw_search.proofs.Common.{on_ok_weaker}
 use Rattle.lw_search.proofs.Collected.{collects-known, collects-new}
 use Rattle.lw_search.proofs.collect.collect_state.Goals as goal

@@ -1,3 +1,5 @@
+-- Of `outcome_of`, which returns the registers and words of each state that the key represents.
+-- `registers-more` adds one thread's registers to the list; the rest is proved by the search.
 use Rattle.lw_search.proofs.Common.{◌<◌, ◌+◌, arith, sym, subst, length}
 use Rattle.lw_search.proofs.Collected.{registers-more, AreRegisters}
 use Rattle.lw_search.proofs.collect.outcome_of.Goals as goal

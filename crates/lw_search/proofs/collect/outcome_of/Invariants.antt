@@ -1,3 +1,4 @@
+-- At each round `regs` has the registers of the first `thread` threads of each state that the key represents.
 use Rattle.lw_search.proofs.Collected.{AreRegisters}
 use Rattle.lw_search.proofs.collect.outcome_of.Given as goal
 

@@ -1,3 +1,6 @@
+-- Of `take_event`, which takes the thread's step if it is invisible, otherwise its drain if that is, and
+-- returns which. The first of the two calls has then taken no event, so `settles-append` joins no event with
+-- the one of the second call, or with none.
 use Rattle.lw_search.proofs.Common.{◌∷◌, [], Bool, Step, Drain, sym, subst, if◌then◌else◌, event_of, Settles}
 use Rattle.lw_search.proofs.Settling.{settles-append}
 use Rattle.lw_search.proofs.invisible.take_event.Goals as goal
@@ -5,36 +8,34 @@ use Rattle.lw_search.proofs.invisible.take_event.Goals as goal
 pub returns-then-take_drain : goal.returns-then-take_drain
 returns-then-take_drain g c =
     let program = c.args.program.now.threads in
-    let tables = c.args.tables.now in
-    let key = c.args.key.now in
+    let conflicts = c.args.conflicts in
     let t = c.args.cpu in
     let first =
     subst (λ (b : Bool).
-    Settles program tables key t (if b then Step t ∷ [] else []) c.args.thread.now c.args.words.now c.take_step.new.thread
+    Settles program conflicts t (if b then Step t ∷ [] else []) c.args.thread.now c.args.words.now c.take_step.new.thread
     c.take_step.new.words) c.if-branch.false c.in_ok-take_step.ensures in
     let second =
     subst (λ (b : Bool).
-    Settles program tables key t (if b then Drain t ∷ [] else []) c.take_step.new.thread c.take_step.new.words
+    Settles program conflicts t (if b then Drain t ∷ [] else []) c.take_step.new.thread c.take_step.new.words
     c.take_drain.new.thread c.take_drain.new.words) c.if-take_drain.true c.take_drain.ensures in
     subst (λ r.
-    Settles program tables key t (event_of r ∷ []) c.args.thread.now c.args.words.now c.take_drain.new.thread
+    Settles program conflicts t (event_of r ∷ []) c.args.thread.now c.args.words.now c.take_drain.new.thread
     c.take_drain.new.words) (sym c.drain.ensures)
-    (settles-append program tables key t [] (Drain t ∷ []) c.args.thread.now c.take_step.new.thread c.take_drain.new.thread
+    (settles-append program conflicts t [] (Drain t ∷ []) c.args.thread.now c.take_step.new.thread c.take_drain.new.thread
     c.args.words.now c.take_step.new.words c.take_drain.new.words first second)
 
 pub returns : goal.returns
 returns g c =
     let program = c.args.program.now.threads in
-    let tables = c.args.tables.now in
-    let key = c.args.key.now in
+    let conflicts = c.args.conflicts in
     let t = c.args.cpu in
     let first =
     subst (λ (b : Bool).
-    Settles program tables key t (if b then Step t ∷ [] else []) c.args.thread.now c.args.words.now c.take_step.new.thread
+    Settles program conflicts t (if b then Step t ∷ [] else []) c.args.thread.now c.args.words.now c.take_step.new.thread
     c.take_step.new.words) c.if-branch.false c.in_ok-take_step.ensures in
     let second =
     subst (λ (b : Bool).
-    Settles program tables key t (if b then Drain t ∷ [] else []) c.take_step.new.thread c.take_step.new.words
+    Settles program conflicts t (if b then Drain t ∷ [] else []) c.take_step.new.thread c.take_step.new.words
     c.take_drain.new.thread c.take_drain.new.words) c.if-take_drain.false c.take_drain.ensures in
-    settles-append program tables key t [] [] c.args.thread.now c.take_step.new.thread c.take_drain.new.thread c.args.words.now
+    settles-append program conflicts t [] [] c.args.thread.now c.take_step.new.thread c.take_drain.new.thread c.args.words.now
     c.take_step.new.words c.take_drain.new.words first second

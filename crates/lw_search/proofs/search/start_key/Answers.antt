@@ -1,3 +1,6 @@
+-- Of `start_key`, which returns the key of the initial state, and only appends rows to the tables.
+-- `start_key-more` adds the number of one thread's initial state; at the end `start_key-represents` says that
+-- the key represents the initial state.
 use Rattle.lw_search.proofs.Common.{◌≡◌, ◌<◌, ◌∙◌, [], Some, arith, ap, slice_get, get_or, length}
 use Rattle.lw_search.proofs.Common.{slice_get-get_or, program_of}
 use Rattle.lw_search.proofs.Rows.{extends-trans}

@@ -1,3 +1,5 @@
+-- At each round the key has the number of the memory and those of the first `thread` threads' initial states,
+-- and 0 for the others.
 use Rattle.lw_search.proofs.Common.{Extends}
 use Rattle.lw_search.proofs.Start.{IsStartKey}
 use Rattle.lw_search.proofs.search.start_key.Given as goal

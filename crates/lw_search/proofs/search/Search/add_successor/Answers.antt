@@ -1,20 +1,55 @@
-use Rattle.lw_search.proofs.Common.{◌∙◌, ◌∷◌, [], ap, slice_get, on_ok_weaker}
-use Rattle.lw_search.proofs.Settling.{settles_from-trans}
-use Rattle.lw_search.proofs.Successors.{successor_covered}
+-- Of `add_successor`, which inserts the state after an event, the local steps and the invisible events that follow: if the event is
+-- enabled, the successor is covered. An event that is enabled in no state of the key needs nothing. If no thread has an invisible event,
+-- the state after the transition is inserted as it is; otherwise `add_settled` promises the rest. `expands-prepared` says that the rows
+-- that `successor` appended change nothing.
+use Rattle.lw_search.proofs.Common.{◌∙◌, ◌∷◌, ap, sym, refl, slice_get, slice_index, on_ok_weaker, Transition}
+use Rattle.lw_search.proofs.Common.{IsCovered, HasConflictsOfOthers, event_of}
+use Rattle.lw_search.proofs.Rows.{extends-refl}
+use Rattle.lw_search.proofs.Settling.{settles_from-none}
+use Rattle.lw_search.proofs.ThreadTransitions.{AreTransitions-extended, IsCovered-transition}
+use Rattle.lw_search.proofs.ThreadTransitions.{IsPrefix-inserted_runs, expands-never_enabled}
+use Rattle.lw_search.proofs.ThreadTransitions.{expands-prepared}
 use Rattle.lw_search.proofs.search.Search.add_successor.Goals as goal
+
+pub returns-in_default-clause-covered : goal.returns-in_default-clause-covered
+returns-in_default-clause-covered g c =
+    let program = c.args.self.now.program.now.threads in
+    expands-prepared program c.args.at c.args.key.now (λ s. HasConflictsOfOthers program s c.args.cpu c.args.conflicts)
+    (λ s more. IsCovered program more s (event_of c.args.event)) c.in_ok-next.ensures.appended
+    (expands-never_enabled program c.args.at c.args.key.now c.args.event
+    (λ s. HasConflictsOfOthers program s c.args.cpu c.args.conflicts) (rw c.in_default.is at c.in_ok-next.ensures.taken))
+
+pub returns-then-not-may_settle-clause-covered : goal.returns-then-not-may_settle-clause-covered
+returns-then-not-may_settle-clause-covered g c =
+    let program = c.args.self.now.program.now.threads in
+    let tables = c.successor.new.self.tables in
+    let is = rw c.in-Some.is at c.in_ok-next.ensures.taken in
+    let t : Transition =
+    record { event = c.args.event; thread = _; memory = _; conflicts = c.args.conflicts; next = c.in-Some.next } in
+    on_ok_weaker c.insert_numbered.result (λ adds.
+    expands-prepared program c.args.at c.args.key.now (λ s. HasConflictsOfOthers program s c.args.cpu c.args.conflicts)
+    (λ s more. IsCovered program more s (event_of c.args.event)) c.in_ok-next.ensures.appended
+    (IsCovered-transition program c.args.at c.args.cpu t c.args.code.now c.args.key.now c.with_numbers-own.result
+    c.with_numbers-own.result c.with_numbers-own.result is.left c.in_ok-row_number.field-0 (c.args.event ∷ is.more) is
+    c.requires.cpu c.requires.code refl refl c.with_numbers-own.ensures.size c.with_numbers-own.ensures.thread
+    c.with_numbers-own.ensures.others (settles_from-none program c.with_numbers-own.result is.left (c.args.event ∷ is.more))
+    (extends-refl tables) refl (ap (slice_get tables.memories) c.with_numbers-own.ensures.memory ∙ is.next_memory_row) (λ u. refl)
+    c.in_ok-row_number.ensures (adds (c.args.event ∷ is.more) is.next_run_row))) c.insert_numbered.ensures
+
+pub returns-then-not-may_settle-clause-kept : goal.returns-then-not-may_settle-clause-kept
+returns-then-not-may_settle-clause-kept g c =
+    let program = c.args.self.now.program.now.threads in
+    let is = rw c.in-Some.is at c.in_ok-next.ensures.taken in
+    on_ok_weaker c.insert_numbered.result (λ adds.
+    AreTransitions-extended program c.successor.new.self.transitions (extends-refl c.successor.new.self.tables)
+    (IsPrefix-inserted_runs c.successor.new.self.states c.insert_numbered.new.self c.with_numbers-own.result
+    c.in_ok-row_number.field-0 (c.args.event ∷ is.more) (adds (c.args.event ∷ is.more) is.next_run_row))
+    c.in_ok-next.ensures.kept) c.insert_numbered.ensures
 
 pub returns-clause-covered : goal.returns-clause-covered
 returns-clause-covered g c =
     let program = c.args.self.now.program.now.threads in
-    let new = c.memory_number.new.self in
-    let first = rw c.in_ok-restart.ensures at c.in_ok-own.ensures.settled in
-    let second = rw c.in_ok-own.ensures.program at c.in_ok-all.ensures.settled in
-    let both =
-    settles_from-trans program c.in_ok-own.own c.in_ok-all.all c.settle_loaded.new.self.words c.settle_all.new.self.words
-    (c.args.event ∷ []) c.settle_loaded.new.self.run c.settle_all.new.self.run first second in
-    on_ok_weaker c.insert.result
-    (successor_covered program c.args.at c.args.cpu c.args.event c.args.key.now c.in_ok-all.all c.with_memory.result
-    c.args.self.now.thread c.args.self.now.words c.settle_all.new.self.words c.in_ok-row_number.field-0 c.settle_all.new.self.run
-    c.requires.cpu both c.in_ok-memory.ensures.extended c.with_memory.ensures.size
-    (ap (slice_get new.memories) c.with_memory.ensures.memory ∙ c.in_ok-memory.ensures.found) c.with_memory.ensures.threads
-    c.in_ok-row_number.ensures) (rw (c.in_ok-all.ensures.states, c.in_ok-own.ensures.states) at c.insert.ensures)
+    on_ok_weaker c.add_settled.result
+    (expands-prepared program c.args.at c.args.key.now (λ s. HasConflictsOfOthers program s c.args.cpu c.args.conflicts)
+    (λ s more. IsCovered program more s (event_of c.args.event)) c.in_ok-next.ensures.appended)
+    (rw c.in_ok-next.ensures.program at c.add_settled.ensures.covered)

@@ -1,6 +1,12 @@
-use Rattle.lw_search.proofs.Common.{◌+◌, ◌∙◌, arith, ap, length, CoversThread}
-use Rattle.lw_search.proofs.Successors.{expands-both, expands-weaker, covers_threads-monotone}
-use Rattle.lw_search.proofs.Successors.{covers_threads-more, state_expanded, CoversThreads}
+-- Of `expand`, which finds all successors of the state at an index, so that one more state counts as visited.
+-- Each round covers the events of one more thread. `expands-both` is the reason that this is enough: states
+-- found later keep what was covered before.
+use Rattle.lw_search.proofs.Common.{◌+◌, ◌∙◌, arith, ap, length, CoversThread, DescribeState}
+use Rattle.lw_search.proofs.Common.{HasConflictsOfOthers, State}
+use Rattle.lw_search.proofs.Settling.{describe-same_program, represents-threads}
+use Rattle.lw_search.proofs.Successors.{expands-both, expands-if_more_holds, expands-weaker}
+use Rattle.lw_search.proofs.Successors.{covers_threads-monotone, covers_threads-more, ExpandsUpTo-all_threads}
+use Rattle.lw_search.proofs.Successors.{CoversThreads}
 use Rattle.lw_search.proofs.search.Search.expand.Goals as goal
 
 pub loop-thread-preserved : goal.loop-thread-preserved
@@ -8,19 +14,30 @@ loop-thread-preserved g c =
     let program = c.args.self.now.program.now.threads in
     let n = c.loop-thread.thread in
     let key = c.key-key.result in
-    let thread = rw (c.loop-thread.invariant.same, c.cpu_at.ensures) at c.in_ok-expand_thread.ensures.covered in
+    let outlooks = c.outlooks-outlooks.result.threads in
+    let is : State → Type 0 = λ s. DescribeState program s outlooks in
+    let thread = rw (c.loop-thread.invariant.same, c.cpu_at-cpu.ensures) at c.in_ok-expand_thread.ensures.covered in
+    let beside = rw c.cpu_at-cpu.ensures at c.conflicts_with_others-conflicts.ensures in
     record {
       same = c.in_ok-expand_thread.ensures.program ∙ c.loop-thread.invariant.same;
       expands =
-          expands-weaker program c.args.at key (λ s more. CoversThreads program n s more × CoversThread program n s more)
+          expands-weaker program c.args.at key is (λ s more. CoversThreads program n s more × CoversThread program n s more)
           (CoversThreads program (n + 1)) (covers_threads-more program n)
-          (expands-both program c.args.at key (CoversThreads program n) (CoversThread program n)
-          (covers_threads-monotone program n) c.loop-thread.invariant.expands thread);
+          (expands-both program c.args.at key is (CoversThreads program n) (CoversThread program n)
+          (covers_threads-monotone program n) c.loop-thread.invariant.expands
+          (expands-if_more_holds program c.args.at key
+          (λ s. HasConflictsOfOthers program s n c.conflicts_with_others-conflicts.result) is (CoversThread program n)
+          (beside program) thread));
+      kept = rw c.loop-thread.invariant.same at c.in_ok-expand_thread.ensures.kept;
     }
 
 pub returns-clause-expanded : goal.returns-clause-expanded
 returns-clause-expanded g c =
     let program = c.args.self.now.program.now.threads in
-    state_expanded program c.args.at c.loop-thread.thread c.key-key.result
-    (omega (arith, c.loop-thread-test.false, ap length c.as_slice-code-items.ensures)) c.key-key.ensures
-    c.loop-thread.invariant.expands
+    let tables = c.args.self.now.tables in
+    let key = c.key-key.result in
+    let outlooks = c.outlooks-outlooks.result.threads in
+    ExpandsUpTo-all_threads program c.args.at c.loop-thread.thread key (λ s. DescribeState program s outlooks)
+    (omega (arith, c.loop-thread-test.false, ap length c.as_slice-code-items.ensures)) c.key-key.ensures (λ s stands.
+    describe-same_program program key outlooks s c.requires.kept.of_program (c.outlooks-outlooks.ensures s)
+    (represents-threads program tables key s stands)) c.loop-thread.invariant.expands

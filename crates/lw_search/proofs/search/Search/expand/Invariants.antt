@@ -1,4 +1,6 @@
-use Rattle.lw_search.proofs.Common.{◌≡◌, ExpandsState}
+-- At each round the successors by steps and drains of the first `thread` threads are covered, the program is
+-- unchanged, and the cache holds transitions of the program.
+use Rattle.lw_search.proofs.Common.{◌≡◌, AreTransitions, DescribeState, ExpandsState}
 use Rattle.lw_search.proofs.Successors.{CoversThreads}
 use Rattle.lw_search.proofs.search.Search.expand.Given as goal
 
@@ -7,5 +9,7 @@ invariant-loop-thread g l = record {
   same : l.self.program ≡ l.initial.self.program;
   expands :
       ExpandsState l.initial.self.program.now.threads l.initial.self.tables l.initial.self.states l.self.tables l.self.states l.at
-      l.key (λ s. Unit {0}) (CoversThreads l.initial.self.program.now.threads l.thread);
+      l.key (λ s. DescribeState l.initial.self.program.now.threads s l.outlooks.threads)
+      (CoversThreads l.initial.self.program.now.threads l.thread);
+  kept : AreTransitions l.initial.self.program.now.threads l.self.tables l.self.states.runs l.self.transitions;
 }

@@ -1,3 +1,6 @@
+-- Of `insert_start`, after which the search has found exactly the initial state of the program.
+-- `start-invariant` shows that empty tables with this one key satisfy the search's invariant; only the key
+-- has to represent the initial state (`start_key`).
 use Rattle.lw_search.proofs.Common.{program_of, on_ok_weaker}
 use Rattle.lw_search.proofs.Start.{start-invariant}
 use Rattle.lw_search.proofs.search.Search.insert_start.Goals as goal

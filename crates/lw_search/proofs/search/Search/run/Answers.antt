@@ -1,10 +1,16 @@
+-- Of `run`: if it returns `true`, all found states are visited; if `false`, more are found than the budget
+-- allows. The state to expand exists, since the invariant bounds `at`. The exits compare the number of keys
+-- with `at` and with the budget, which gives the claim.
 use Rattle.lw_search.proofs.Common.{◌≡◌, ◌∙◌, ◌+◌, arith, subst, length, SearchInvariant}
 use Rattle.lw_search.proofs.search.Search.run.Goals as goal
 
 pub expand-requires : goal.expand-requires
 expand-requires g c =
-    let a = c.loop-at.invariant.expands _ c.requires.0 c.requires.1 in
-    omega (arith, a.1.within, a.1.key_count, c.if-at-len.false, c.len.ensures)
+    let a = c.loop-at.invariant.expands _ c.requires.started.0 c.requires.started.1 in
+    record {
+      found = omega (arith, a.1.within, a.1.key_count, c.if-at-len.false, c.len.ensures);
+      kept = rw (← c.loop-at.invariant.same) at c.loop-at.invariant.kept;
+    }
 
 pub loop-at-preserved : goal.loop-at-preserved
 loop-at-preserved g c = record {
@@ -12,6 +18,7 @@ loop-at-preserved g c = record {
   expands = λ start found invariant.
       let a = c.loop-at.invariant.expands start found invariant in
       (rw c.loop-at.invariant.same at c.in_ok-expand.ensures.expanded) start a.0 a.1;
+  kept = rw c.loop-at.invariant.same at c.in_ok-expand.ensures.kept;
 }
 
 pub returns-then-at-len-clause-progress : goal.returns-then-at-len-clause-progress

@@ -1,3 +1,6 @@
+-- Of `settle_all`, which takes invisible events of all threads, round by round: the appended events lead to a
+-- state that covers the first one. `settles_from-trans` joins the rounds. That no invisible event is left is
+-- not claimed, so each early exit is right.
 use Rattle.lw_search.proofs.Common.{◌∙◌, refl}
 use Rattle.lw_search.proofs.Settling.{settles_from-none, settles_from-trans}
 use Rattle.lw_search.proofs.search.Search.settle_all.Goals as goal
@@ -6,6 +9,7 @@ pub loop-init : goal.loop-init
 loop-init g c = record {
   same = refl;
   states = refl;
+  transitions = refl;
   settled = settles_from-none c.args.self.now.program.now.threads c.args.key.now c.args.self.now.words c.args.self.now.run;
 }
 
@@ -13,6 +17,7 @@ pub loop-preserved : goal.loop-preserved
 loop-preserved g c = record {
   same = c.in_ok-next.ensures.program ∙ c.loop.invariant.same;
   states = c.in_ok-next.ensures.states ∙ c.loop.invariant.states;
+  transitions = c.in_ok-next.ensures.transitions ∙ c.loop.invariant.transitions;
   settled =
       settles_from-trans c.args.self.now.program.now.threads c.loop.next c.in_ok-next.next c.loop.self.words
       c.settle_in_turn.new.self.words c.args.self.now.run c.loop.self.run c.settle_in_turn.new.self.run c.loop.invariant.settled
@@ -27,3 +32,6 @@ returns-then-len-count-clause-settled g c =
 
 pub returns-clause-settled : goal.returns-clause-settled
 returns-clause-settled g c = c.loop.invariant.settled
+
+pub settle_in_turn-requires : goal.settle_in_turn-requires
+settle_in_turn-requires g c = rw c.loop.invariant.same (c.loop.invariant.settled.extended.program ∙ c.requires)

@@ -1,6 +1,11 @@
-use Rattle.lw_search.proofs.Common.{◌∙◌, ap, sym, slice_get, IsLoaded, IsWorking}
-use Rattle.lw_search.proofs.Settling.{settles_from-loaded, settles_from-none, settles_from-unmoved}
-use Rattle.lw_search.proofs.Settling.{settles_from-weaker, working-loaded}
+-- Of `settle_thread`, which loads a thread of a key and takes its invisible events. From a state in
+-- which the thread has its row (`working-loaded`) they lead to one with the thread's new row (`settles_from-loaded`). If the run did not grow, no event was taken,
+-- and the old key is right (`settles_from-unmoved`).
+use Rattle.lw_search.proofs.Common.{◌≡◌, ◌∙◌, length, ap, sym, slice_get, IsLoaded, IsWorking, State}
+use Rattle.lw_search.proofs.Common.{RepresentsThreads, HasConflictsOfOthers}
+use Rattle.lw_search.proofs.Settling.{describe-same_program, settles_from-loaded, settles_from-none}
+use Rattle.lw_search.proofs.Settling.{settles_from-unmoved, settles_from-weaker, working-loaded}
+use Rattle.lw_search.proofs.ThreadTransitions.{copied-row}
 use Rattle.lw_search.proofs.search.Search.settle_thread.Goals as goal
 
 pub returns-then-not-may_settle-clause-settled : goal.returns-then-not-may_settle-clause-settled
@@ -10,24 +15,42 @@ returns-then-not-may_settle-clause-settled g c =
 pub returns-then-len-count-clause-settled : goal.returns-then-len-count-clause-settled
 returns-then-len-count-clause-settled g c =
     let program = c.args.self.now.program.now.threads in
+    let tables = c.args.self.now.tables in
+    let set = c.conflicts_with_others.result in
+    let beside : (s : State)
+    → RepresentsThreads tables c.args.key.now s
+    → length s.processors ≡ length program
+    → HasConflictsOfOthers program s c.args.cpu set = λ s stands as_many.
+    c.conflicts_with_others.ensures program s
+    (describe-same_program program c.args.key.now c.outlooks-outlooks.result.threads s c.requires.of_program
+    (c.outlooks-outlooks.ensures s) stands as_many) in
     let a = c.in_ok-settle.ensures in
-    settles_from-unmoved program c.args.key.now c.args.cpu c.load_thread.new.thread c.settle.new.thread c.args.self.now.words
+    settles_from-unmoved program c.args.key.now set c.args.cpu c.load_thread.new.thread c.settle.new.thread c.args.self.now.words
     c.settle.new.words c.args.self.now.run c.settle.new.run a.0 a.1
     (sym c.len.ensures ∙ c.if-len-count.true ∙ c.len-count.ensures) a.2 (λ s.
-    working-loaded program c.args.key.now c.args.cpu c.args.code.now c.load_thread.new.thread c.args.self.now.words s c.requires
-    c.in_ok-load_thread.ensures)
+    working-loaded program c.args.key.now set c.args.cpu c.args.code.now c.load_thread.new.thread c.args.self.now.words s
+    c.requires.code (copied-row _ _ _ c.in_ok-load_thread.ensures) (beside s))
 
 pub returns-clause-settled : goal.returns-clause-settled
 returns-clause-settled g c =
     let program = c.args.self.now.program.now.threads in
     let tables = c.args.self.now.tables in
+    let set = c.conflicts_with_others.result in
+    let beside : (s : State)
+    → RepresentsThreads tables c.args.key.now s
+    → length s.processors ≡ length program
+    → HasConflictsOfOthers program s c.args.cpu set = λ s stands as_many.
+    c.conflicts_with_others.ensures program s
+    (describe-same_program program c.args.key.now c.outlooks-outlooks.result.threads s c.requires.of_program
+    (c.outlooks-outlooks.ensures s) stands as_many) in
     let a = c.in_ok-settle.ensures in
-    settles_from-weaker program (IsLoaded program tables c.args.key.now c.args.cpu c.load_thread.new.thread c.args.self.now.words)
+    settles_from-weaker program
+    (IsLoaded program tables c.args.key.now set c.args.cpu c.load_thread.new.thread c.args.self.now.words)
     (IsWorking program tables c.args.key.now c.args.self.now.words) c.with_numbers.result c.settle.new.words c.args.self.now.run
     c.settle.new.run (λ s.
-    working-loaded program c.args.key.now c.args.cpu c.args.code.now c.load_thread.new.thread c.args.self.now.words s c.requires
-    c.in_ok-load_thread.ensures)
-    (settles_from-loaded program c.args.key.now c.with_numbers.result c.args.cpu c.load_thread.new.thread c.settle.new.thread
+    working-loaded program c.args.key.now set c.args.cpu c.args.code.now c.load_thread.new.thread c.args.self.now.words s
+    c.requires.code (copied-row _ _ _ c.in_ok-load_thread.ensures) (beside s))
+    (settles_from-loaded program c.args.key.now c.with_numbers.result set c.args.cpu c.load_thread.new.thread c.settle.new.thread
     c.args.self.now.words c.settle.new.words c.args.self.now.run c.settle.new.run a.0 a.1 a.2 c.in_ok-thread.ensures.extended
     c.with_numbers.ensures.size
     (ap (slice_get c.thread_number.new.self.threads) c.with_numbers.ensures.thread ∙ c.in_ok-thread.ensures.found)

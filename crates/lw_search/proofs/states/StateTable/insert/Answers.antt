@@ -1,13 +1,15 @@
+-- Of `StateTable::insert`, which appends a key and its origin unless the table has the key. This is the case
+-- of a new key: by `absent-any` the set's test, that no key compares equal, means that no row has it.
 use Rattle.lw_search.proofs.Common.{◌≡◌, ◌∙◌, Bool, false, ◌++◌, ◌∷◌, [], if◌then◌else◌, sym, ap, inl, nat_eq}
 use Rattle.lw_search.proofs.Common.{on_ok_weaker, unsigned_Decides, pointwise, pointwise_decides, list_any}
-use Rattle.lw_search.proofs.Rows.{absent-any, not_true}
+use Rattle.lw_search.proofs.Rows.{absent-any, false-if_not_true}
 use Rattle.lw_search.proofs.states.StateTable.insert.Goals as goal
 
 pub returns-then-is_new : goal.returns-then-is_new
 returns-then-is_new g c =
     let keys = c.self.inside.keys.keys in
     let new : list_any (pointwise nat_eq c.args.key) keys ≡ false =
-    not_true _ (sym c.in_ok-is_new.ensures.added ∙ c.if-is_new.true) in
+    false-if_not_true _ (sym c.in_ok-is_new.ensures.added ∙ c.if-is_new.true) in
     rw (← c.self.view_is)
     (on_ok_weaker c.push_origin.result (λ h. inl (
       absent-any (pointwise nat_eq) (pointwise_decides unsigned_Decides) keys c.args.key new,

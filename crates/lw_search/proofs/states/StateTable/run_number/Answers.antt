@@ -1,11 +1,14 @@
+-- Of `run_number`, which returns the number of a run and inserts the run if it has none; keys and origins are
+-- unchanged. `position-item` shows that a found index is that of an equal run; `prefix-insert_if` that an
+-- insertion keeps all earlier numbers.
 use Rattle.lw_search.proofs.Common.{◌≡◌, ◌∙◌, Some, sym, ap, slice_get, IfOk-weaker, Visited}
-use Rattle.lw_search.proofs.Rows.{run_eq, run_same, position-item, prefix-insert_if}
+use Rattle.lw_search.proofs.Rows.{run_eq, run_eq-sound, position-item, prefix-insert_if}
 use Rattle.lw_search.proofs.states.StateTable.run_number.Goals as goal
 
 pub returns-in-Some-clause-found : goal.returns-in-Some-clause-found
 returns-in-Some-clause-found g c =
     let at =
-    position-item run_eq run_same c.self.inside.runs.keys c.args.run.now c.get_index_of.result c.in-Some.index
+    position-item run_eq run_eq-sound c.self.inside.runs.keys c.args.run.now c.get_index_of.result c.in-Some.index
     c.get_index_of.ensures.index c.in-Some.is in
     IfOk-weaker c.row_number.result _ _
     (λ n is. ap (λ (t : Visited). slice_get t.runs n) (sym c.self.view_is) ∙ ap (slice_get c.self.inside.runs.keys) is ∙ at)
@@ -30,6 +33,6 @@ pub returns-in_ok-index-in-None-clause-found : goal.returns-in_ok-index-in-None-
 returns-in_ok-index-in-None-clause-found g c =
     let keys = c.insert_full.new.self.keys in
     let stored = c.in_ok-index-in-None.ensures.stored in
-    let same : stored.0 ≡ c.args.run.now = sym (run_same _ _ stored.2) ∙ c.in_ok-copy-in-None.ensures in
+    let same : stored.0 ≡ c.args.run.now = sym (run_eq-sound _ _ stored.2) ∙ c.in_ok-copy-in-None.ensures in
     IfOk-weaker c.row_number-in-None.result _ _ (λ n is. ap (slice_get keys) is ∙ stored.1 ∙ ap Some same)
     c.row_number-in-None.ensures

@@ -1,4 +1,7 @@
-use Rattle.lw_search.proofs.Common.{◌≡◌, ◌∙◌, Some, sym, ap, slice_get, IfOk-weaker, unsigned_Decides}
+-- Of `memory_number`, which returns the number of a memory and inserts the memory if it has none. A found
+-- index has equal words (`position-item`); an insertion keeps earlier numbers and makes no duplicate
+-- (`distinct-insert`), since it happens only if no row compares equal.
+use Rattle.lw_search.proofs.Common.{◌≡◌, ◌∙◌, Some, refl, sym, ap, slice_get, IfOk-weaker, unsigned_Decides}
 use Rattle.lw_search.proofs.Common.{pointwise, pointwise_decides, nat_eq, Components}
 use Rattle.lw_search.proofs.Rows.{position-item, prefix-insert_if, prefix-refl, distinct-insert, extends-refl}
 use Rattle.lw_search.proofs.tables.Tables.memory_number.Goals as goal
@@ -16,6 +19,7 @@ pub returns-in_ok-index-in-None-clause-extended : goal.returns-in_ok-index-in-No
 returns-in_ok-index-in-None-clause-extended g c =
     rw (← c.self.view_is)
     (IfOk-weaker c.row_number-in-None.result _ _ (λ n is. record {
+      program = refl;
       threads = prefix-refl _;
       memories = prefix-insert_if _ _ _ _ c.in_ok-index-in-None.ensures.keys;
       distinct_threads = λ d. d;

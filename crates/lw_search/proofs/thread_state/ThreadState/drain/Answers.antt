@@ -1,3 +1,6 @@
+-- Of `ThreadState::drain`, which does to the thread and the words what the machine's drain does. This is the
+-- case of an empty buffer: the machine refuses the drain (`drain_effect-refused`), and `pop` has left the
+-- buffer as it was.
 use Rattle.lw_search.proofs.Common.{◌≡◌, ◌∙◌, ap, sym, refl, Processor, None, slice_get}
 use Rattle.lw_search.proofs.ThreadStates.{drain_effect-refused, drop_one-none}
 use Rattle.lw_search.proofs.thread_state.ThreadState.drain.Goals as goal

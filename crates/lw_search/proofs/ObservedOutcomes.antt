@@ -1,0 +1,217 @@
+-- The states that a report shows: an outcome is kept for each list of words that a final state has for some names. The words of the kept
+-- outcomes are those of all final states that were looked at.
+use Rattle.lw_search.proofs.Common.{Register, zero, same_Some, Processor, slice_index, get_or_from_slice_get}
+use Rattle.lw_search.proofs.Common.{ObservesState, take, final_word, ap₂, map, take-suc, Bool, List}
+use Rattle.lw_search.proofs.Common.{if◌then◌else◌, ◌++◌, ◌∷◌, [], ℕ, slice_get, Some, ◌⊎◌, true, inl, ap, sym}
+use Rattle.lw_search.proofs.Common.{◌∙◌, false, slice_get-append_cases, inr, OutcomesWith, FinalState}
+use Rattle.lw_search.proofs.Common.{AddsOutcome, Contains, outcomes_of, subst, map-append, Contains-push}
+use Rattle.lw_search.proofs.Common.{Contains-append_left, All, All-push, Seen, Instr, Components, Visited}
+use Rattle.lw_search.proofs.Common.{ObservedWords, State, Represents, length, IsTrue, is_final, final_words}
+use Rattle.lw_search.proofs.Common.{machine_outcome, flat_memory, HasWords, InsertsObserved, suc, arith}
+use Rattle.lw_search.proofs.Common.{LeadsTo, IsOfSomeRun, SearchInvariant, ◌<◌, slice_get_within}
+use Rattle.lw_search.proofs.Common.{slice_get-in_range, AreObserved, ContainsWordsOf, All-nil, ◌+◌, cases_lt}
+use Rattle.lw_search.proofs.Common.{◌≤◌, IsPermutation, CollectsAll, HaveSameWords}
+use Rattle.lw_search.proofs.Common.{Contains-permuted_outcomes, All-permutation, ◌≡◌}
+use Rattle.lw_search.proofs.Collected.{found-reachable}
+
+-- ---- the words of a state
+
+-- The item at an index of a mapped list is the image of the item there.
+slice_get-map : {X Y : Type 0} (f : X → Y) (xs : List X) (i : ℕ) (x : X)
+    → slice_get xs i ≡ Some x
+    → slice_get (map f xs) i ≡ Some (f x)
+slice_get-map f [] i x at = absurd cc
+slice_get-map f (y ∷ xs) zero x at = ap Some (ap f (same_Some y x at))
+slice_get-map f (y ∷ xs) (suc i) x at = slice_get-map f xs i x at
+
+-- The word of a thread's register in a final state is that of the thread.
+pub final_word-register : (s : State) (t r : ℕ) (p : Processor)
+    → slice_get s.processors t ≡ Some p
+    → slice_index p.regs r ≡ final_word (machine_outcome flat_memory s) (Register t r)
+final_word-register s t r p at =
+    let f : Processor → List ℕ = λ q. q.regs in
+    sym (ap (λ l. slice_index l r) (get_or_from_slice_get (map f s.processors) t p.regs [] (slice_get-map f s.processors t p at)))
+
+module _ (program : List (List Instr)) (tables : Components) (key : List ℕ) (names : List Seen) where
+  -- In each state that the key represents, the first n names have these words.
+  abbrev pub AreWordsOfFirst : ℕ → List ℕ → Type 0
+  AreWordsOfFirst n words =
+      (s : State)
+      → Represents tables key s
+      → length s.processors ≡ length program
+      → words ≡ final_words (take n names) (machine_outcome flat_memory s)
+
+-- ---- inserting
+
+-- Inserting a list of words that may be present adds nothing but this list.
+pub words-inserted : {X : Type 0} (b : Bool) (ks new : List X) (k : X)
+    → new ≡ (if b then ks else (ks ++ k ∷ []))
+    → (i : ℕ) (other : X)
+    → slice_get new i ≡ Some other
+    → (slice_get ks i ≡ Some other) ⊎ (other ≡ k)
+words-inserted true ks new k e i other at = inl (ap (λ l. slice_get l i) (sym e) ∙ at)
+words-inserted false ks new k e i other at = elim (slice_get-append_cases ks k other i (ap (λ l. slice_get l i) (sym e) ∙ at)) [
+  | inl old ↦ inl old
+  | inr last ↦ inr (sym last.1)
+]
+
+-- After an insertion the outcome is among the others, which are kept.
+pub Contains-inserted_outcome : (old new : OutcomesWith (Unit {0})) (o : FinalState)
+    → AddsOutcome old o new
+    → Contains (outcomes_of new) o
+Contains-inserted_outcome old new o (inl there) = subst (λ es. Contains (outcomes_of es) o) (sym there.1) there.0
+Contains-inserted_outcome old new o (inr grown) =
+    subst (λ ks. Contains ks o) (sym (ap outcomes_of grown ∙ map-append _ old ((o, tt) ∷ []))) (Contains-push (outcomes_of old) o)
+
+-- An insertion preserves the outcomes that are listed.
+pub outcomes-kept : (old new : OutcomesWith (Unit {0})) (o p : FinalState)
+    → AddsOutcome old o new
+    → Contains (outcomes_of old) p
+    → Contains (outcomes_of new) p
+outcomes-kept old new o p (inl there) has = subst (λ es. Contains (outcomes_of es) p) (sym there.1) has
+outcomes-kept old new o p (inr grown) has =
+    subst (λ ks. Contains ks p) (sym (ap outcomes_of grown ∙ map-append _ old ((o, tt) ∷ [])))
+    (Contains-append_left (outcomes_of old) (o ∷ []) p has)
+
+-- What holds of the old entries and of the new one holds of all.
+pub All-inserted_entries : (P : FinalState × Unit {0} → Type 0) (old new : OutcomesWith (Unit {0})) (o : FinalState)
+    → AddsOutcome old o new
+    → All P old
+    → P (o, tt)
+    → All P new
+All-inserted_entries P old new o (inl there) all one = subst (λ es. All P es) (sym there.1) all
+All-inserted_entries P old new o (inr grown) all one = subst (λ es. All P es) (sym grown) (All-push P old (o, tt) all one)
+
+-- ---- one state
+
+module _ (names : List Seen) (program : List (List Instr)) (tables : Components) (visited : Visited) where
+  -- The state at an index is not final, so nothing changes.
+  pub observes-not_final : (at : ℕ) (key : List ℕ) (observed : ObservedWords)
+      → slice_get visited.keys at ≡ Some key
+      → ((s : State) → Represents tables key s → length s.processors ≡ length program → IsTrue (is_final program s) → ⊥)
+      → ObservesState names program tables visited at observed observed
+  observes-not_final at key observed keyed not = record {
+    observed = λ start found closed invariant are. are;
+    covered = λ start found closed s invariant are stood final.
+        absurd (not s (invariant.represents at key s keyed stood) (invariant.thread_count at s stood) final);
+    kept = λ p c. c;
+    lead = λ start found closed invariant all. all;
+  }
+
+  -- The words of the state at an index are observed already, so nothing changes.
+  pub observes-known : (at : ℕ) (key words : List ℕ) (observed : ObservedWords)
+      → slice_get visited.keys at ≡ Some key
+      → ((s : State)
+      → Represents tables key s
+      → length s.processors ≡ length program
+      → words ≡ final_words names (machine_outcome flat_memory s))
+      → HasWords observed words
+      → ObservesState names program tables visited at observed observed
+  observes-known at key words observed keyed are_words has = record {
+    observed = λ start found closed invariant are. are;
+    covered = λ start found closed s invariant are stood final.
+        let is = are_words s (invariant.represents at key s keyed stood) (invariant.thread_count at s stood) in
+        let p = are has.0 words has.1 in
+        (p.0, p.1, p.2 ∙ is);
+    kept = λ p c. c;
+    lead = λ start found closed invariant all. all;
+  }
+
+  -- The outcome of the state at an index is inserted, with its words.
+  pub observes-new : (at : ℕ) (key words : List ℕ) (o : FinalState) (old new : ObservedWords)
+      → slice_get visited.keys at ≡ Some key
+      → ((s : State)
+      → Represents tables key s
+      → length s.processors ≡ length program
+      → words ≡ final_words names (machine_outcome flat_memory s))
+      → ((s : State) → Represents tables key s → length s.processors ≡ length program → o ≡ machine_outcome flat_memory s)
+      → ((s : State) → Represents tables key s → length s.processors ≡ length program → IsTrue (is_final program s))
+      → InsertsObserved old words o new
+      → ObservesState names program tables visited at old new
+  observes-new at key words o old new keyed are_words is final inserts = record {
+    observed = λ start found closed invariant are i others there. elim (inserts.words_are i others there) [
+      | inl before ↦ let p = are i others before in (p.0, outcomes-kept old.outcomes new.outcomes o p.0 inserts.outcomes p.1, p.2)
+      | inr last ↦
+          let s = state_at start found closed invariant in
+          let words_is = are_words s.0 s.1 s.2 in
+          (o, added, ap (final_words names) (is s.0 s.1 s.2) ∙ sym words_is ∙ sym last)
+    ];
+    covered = λ start found closed s invariant are stood ends.
+        let same = is s (invariant.represents at key s keyed stood) (invariant.thread_count at s stood) in
+        (o, added, ap (final_words names) same);
+    kept = λ p c. outcomes-kept old.outcomes new.outcomes o p inserts.outcomes c;
+    lead = λ start found closed invariant all.
+        let s = state_at start found closed invariant in
+        let ran = found-reachable program start tables visited found closed invariant (suc at) at s.0 (omega arith) s.3 in
+        let to : LeadsTo IsOfSomeRun program start (o, tt) = (ran.0, tt, (s.0, ran.1, final s.0 s.1 s.2, is s.0 s.1 s.2)) in
+        All-inserted_entries (LeadsTo IsOfSomeRun program start) old.outcomes new.outcomes o inserts.outcomes all to;
+  }
+    where
+      added : Contains (outcomes_of new.outcomes) o
+      added = Contains-inserted_outcome old.outcomes new.outcomes o inserts.outcomes
+
+      state_at : (start : State) (found : List State) (closed : ℕ)
+          (invariant : SearchInvariant program start tables visited found closed)
+          → (s : State) × Represents tables key s × (length s.processors ≡ length program) × (slice_get found at ≡ Some s)
+      state_at start found closed invariant =
+          let lt : at < length found = subst (λ n. at < n) invariant.key_count (slice_get_within visited.keys at key keyed) in
+          let s = slice_get-in_range found at lt in
+          (s.0, invariant.represents at key s.0 keyed s.1, invariant.thread_count at s.0 s.1, s.1)
+
+  -- ---- the first states
+
+  -- The final ones of the first n states are observed.
+  pub record ObservesFirst (n : ℕ) (observed : ObservedWords) : Type 0 where
+    pub words : (start : State) (found : List State) (closed : ℕ)
+        → SearchInvariant program start tables visited found closed
+        → AreObserved names observed
+    pub covered : (start : State) (found : List State) (closed : ℕ) (i : ℕ) (s : State)
+        → SearchInvariant program start tables visited found closed
+        → i < n
+        → slice_get found i ≡ Some s
+        → IsTrue (is_final program s)
+        → ContainsWordsOf names (outcomes_of observed.outcomes) (machine_outcome flat_memory s)
+    pub lead : (start : State) (found : List State) (closed : ℕ)
+        → SearchInvariant program start tables visited found closed
+        → All (LeadsTo IsOfSomeRun program start) observed.outcomes
+
+  -- Of the first 0 states nothing is observed.
+  pub observes_first-none : ObservesFirst 0 (record { words = []; outcomes = [] })
+  observes_first-none = record {
+    words = λ start found closed invariant i words at. absurd cc;
+    covered = λ start found closed i s invariant lt at final. absurd (omega (arith, lt));
+    lead = λ start found closed invariant. All-nil (LeadsTo IsOfSomeRun program start);
+  }
+
+  -- If the first n states are observed, and then the state at index n, the first n + 1 are observed.
+  pub observes_first-more : (n : ℕ) (old new : ObservedWords)
+      → ObservesFirst n old
+      → ObservesState names program tables visited n old new
+      → ObservesFirst (n + 1) new
+  observes_first-more n old new first here = record {
+    words = λ start found closed invariant. here.observed start found closed invariant (first.words start found closed invariant);
+    covered = λ start found closed i s invariant lt at final. elim (cases_lt i n) [
+      | inl less ↦ (let p = first.covered start found closed i s invariant less at final in (p.0, here.kept p.0 p.1, p.2))
+      | inr not ↦
+          let same : i ≡ n = omega arith in
+          here.covered start found closed s invariant (first.words start found closed invariant)
+          (ap (slice_get found) (sym same) ∙ at) final
+    ];
+    lead = λ start found closed invariant. here.lead start found closed invariant (first.lead start found closed invariant);
+  }
+
+  -- The outcomes that are observed of all states, in any order, are collected.
+  pub observed-collected : (n : ℕ) (observed : ObservedWords) (entries : OutcomesWith (Unit {0}))
+      → ObservesFirst n observed
+      → length visited.keys ≤ n
+      → IsPermutation observed.outcomes entries
+      → CollectsAll (HaveSameWords names) IsOfSomeRun program tables visited entries
+  observed-collected n observed entries first few same = record {
+    covered = λ start found closed i s invariant at final.
+        let lt : i < n = (let h = slice_get_within found i s at in omega (arith, h, few, invariant.key_count)) in
+        let p = first.covered start found closed i s invariant lt at final in
+        (p.0, (Contains-permuted_outcomes observed.outcomes entries p.0 same).0 p.1, p.2);
+    lead = λ start found closed invariant.
+        All-permutation (LeadsTo IsOfSomeRun program start) observed.outcomes entries same
+        (first.lead start found closed invariant);
+  }

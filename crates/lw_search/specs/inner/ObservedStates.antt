@@ -1,0 +1,53 @@
+-- The final states that a report shows, while a search's states are looked at one after another. Used only within the crate.
+use Rattle.std.specs.Prelude.{◌≡◌, ◌⊎◌, ℕ, List, [], ◌∷◌, ◌++◌, Some, slice_get, IsTrue, All, Contains}
+use Rattle.lw_base.specs.FinalWords.{final_words, ContainsWordsOf}
+use Rattle.lw_base.specs.Outcomes.{FinalState}
+use Rattle.lw_base.specs.declared.head.Seen.{Seen}
+use Rattle.lw_litmus.specs.declared.instr.Instr.{Instr}
+use Rattle.lw_memory.specs.Flat.{flat_memory}
+use Rattle.lw_outcome_map.specs.Listings.{OutcomesWith, outcomes_of}
+use Rattle.lw_tso.specs.Runs.{is_final, machine_outcome}
+use Rattle.lw_search.specs.inner.StateKeys.{State, Components, Visited}
+use Rattle.lw_search.specs.inner.Invariant.{SearchInvariant, LeadsTo, IsOfSomeRun}
+
+-- Lists of words, and outcomes that have them.
+pub record ObservedWords : Type 0 where
+  pub words : List (List ℕ)
+  pub outcomes : OutcomesWith (Unit {0})
+
+-- Each list of words is that of one of the outcomes at these names.
+abbrev pub AreObserved : List Seen → ObservedWords → Type 0
+AreObserved names observed =
+    (i : ℕ) (words : List ℕ) → slice_get observed.words i ≡ Some words
+    → (p : FinalState) × Contains (outcomes_of observed.outcomes) p × (final_words names p ≡ words)
+
+-- The set has these words.
+abbrev pub HasWords : ObservedWords → List ℕ → Type 0
+HasWords observed words = (i : ℕ) × (slice_get observed.words i ≡ Some words)
+
+-- An outcome is among the new ones: it was among the old ones, or was appended.
+abbrev pub AddsOutcome : OutcomesWith (Unit {0}) → FinalState → OutcomesWith (Unit {0}) → Type 0
+AddsOutcome old o new = (Contains (outcomes_of old) o × (new ≡ old)) ⊎ (new ≡ old ++ (o, tt) ∷ [])
+
+-- An outcome was inserted, unless the set has it.
+pub record InsertsOutcome (old : ObservedWords) (o : FinalState) (new : ObservedWords) : Type 0 where
+  pub outcomes : AddsOutcome old.outcomes o new.outcomes
+  pub words : new.words ≡ old.words
+
+-- An outcome was inserted, unless the set has it, and so were its words.
+pub record InsertsObserved (old : ObservedWords) (words : List ℕ) (o : FinalState) (new : ObservedWords) : Type 0 where
+  pub outcomes : AddsOutcome old.outcomes o new.outcomes
+  pub words_are : (i : ℕ) (others : List ℕ) → slice_get new.words i ≡ Some others → (slice_get old.words i ≡ Some others) ⊎ (others ≡ words)
+
+module _ (names : List Seen) (program : List (List Instr)) (tables : Components) (visited : Visited) where
+  -- If the words are those of the outcomes, they still are, and the state at an index is observed if it is final; the old outcomes are kept,
+  -- and if some run leads to each old one, so it does to each new one.
+  pub record ObservesState (at : ℕ) (old new : ObservedWords) : Type 0 where
+    pub observed : (start : State) (found : List State) (closed : ℕ) → SearchInvariant program start tables visited found closed
+        → AreObserved names old → AreObserved names new
+    pub covered : (start : State) (found : List State) (closed : ℕ) (s : State) → SearchInvariant program start tables visited found closed
+        → AreObserved names old → slice_get found at ≡ Some s → IsTrue (is_final program s)
+        → ContainsWordsOf names (outcomes_of new.outcomes) (machine_outcome flat_memory s)
+    pub kept : (o : FinalState) → Contains (outcomes_of old.outcomes) o → Contains (outcomes_of new.outcomes) o
+    pub lead : (start : State) (found : List State) (closed : ℕ) → SearchInvariant program start tables visited found closed
+        → All (LeadsTo IsOfSomeRun program start) old.outcomes → All (LeadsTo IsOfSomeRun program start) new.outcomes
