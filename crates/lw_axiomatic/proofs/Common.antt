@@ -20,9 +20,9 @@ pub use Rattle.std.specs.List.{AllByRecursion}
 pub use Rattle.std.specs.Option.{ForSome, option_map_or, option_or}
 pub use Rattle.lw_base.proofs.Common.{Bytes, FinalState, HasOutcomeShape, TestHead, most_threads}
 pub use Rattle.lw_base.proofs.Common.{operand_value, registers, thread_code, word_or_zero, wrapping_sum}
-pub use Rattle.lw_base.proofs.api.Lists.{AtEach, cut_at, get-set_other, get-set_same, get_some}
-pub use Rattle.lw_base.proofs.api.Lists.{length-set_word_if_some}
-pub use Rattle.lw_base.proofs.api.Zips.{get-map, zip_pass, zip_passes}
+pub use Rattle.lw_base.proofs.api.Lists.{AtEach, get-set_other, get-set_same, length-set_word_if_some}
+pub use Rattle.lw_base.proofs.api.Lists.{slice_get-in_range, take_drop-at}
+pub use Rattle.lw_base.proofs.api.Zips.{get-map, list_all_zip-at_index, list_all_zip-of_each}
 pub use Rattle.lw_base.specs.declared.event.Event.TheVariants.{Drain, Step}
 pub use Rattle.lw_base.specs.declared.operand.Operand.TheVariants.{Number, Register}
 pub use Rattle.lw_base.specs.declared.stop.Stop.TheVariants.{FenceWaits, SwapWaits}
@@ -32,7 +32,7 @@ pub use Rattle.lw_litmus.proofs.Common.{IsWellScopedThread, Language, SourceTest
 pub use Rattle.lw_litmus.proofs.Common.{is_load, is_locked, is_same_location, is_store, location_of}
 pub use Rattle.lw_litmus.proofs.Common.{needs_empty_buffer, source_language, source_operation, writes}
 pub use Rattle.lw_litmus.proofs.Common.{x86_language, x86_operation}
-pub use Rattle.lw_litmus.proofs.api.Kinds.{locked_located, locked_no_store}
+pub use Rattle.lw_litmus.proofs.api.Kinds.{is_store-false_if_locked, location_of-if_locked}
 pub use Rattle.lw_litmus.proofs.api.WellScoped.{IsWellScoped-well_formed}
 pub use Rattle.lw_litmus.specs.declared.instr.Instr.{Instr}
 pub use Rattle.lw_litmus.specs.declared.instr.Instr.TheVariants.{Je, Jmp, Jne, Mfence}
@@ -45,7 +45,7 @@ pub use Rattle.lw_litmus.specs.declared.stmt.Stmt.{Stmt}
 pub use Rattle.lw_interleaving.proofs.Common.{SourceOutcome, SourceRunsTo, State, initial_state}
 pub use Rattle.lw_interleaving.proofs.Common.{initial_thread, is_source_final, source_outcome, source_step}
 pub use Rattle.lw_interleaving.proofs.Common.{state_after_step, thread_after, thread_step}
-pub use Rattle.lw_interleaving.proofs.api.Commutation.{Stepped, step-decompose}
+pub use Rattle.lw_interleaving.proofs.api.Commutation.{StepEffect, step-decompose}
 pub use Rattle.lw_interleaving.specs.declared.thread.Thread.{Thread}
 pub use Rattle.lw_memory.proofs.Common.{flat_memory}
 pub use Rattle.lw_tso.proofs.Common.{EndsBlock, IsFencedCode, IsFencedTest, IsInserted, IsMachineOutcome}
@@ -54,32 +54,37 @@ pub use Rattle.lw_tso.proofs.Common.{code_without, drain_effect, has_terminated,
 pub use Rattle.lw_tso.proofs.Common.{initial_processor, is_final, load_effect, machine_outcome}
 pub use Rattle.lw_tso.proofs.Common.{newest_buffered, operation_effect, retarget_to_blocks, set_register}
 pub use Rattle.lw_tso.proofs.Common.{step_effect}
-pub use Rattle.lw_tso.proofs.api.Effects.{EffectLeadsTo, event_of_effect}
-pub use Rattle.lw_tso.proofs.api.Operations.{branch_leads, can_step, once_done}
-pub use Rattle.lw_tso.proofs.api.Replaying.{outcome_of_test}
+pub use Rattle.lw_tso.proofs.api.Effects.{EffectLeadsTo, MachineTransition-of_effect}
+pub use Rattle.lw_tso.proofs.api.Operations.{EffectLeadsTo-if_buffer_empty, IsEnabledEffect-operation}
+pub use Rattle.lw_tso.proofs.api.Operations.{IsSuccessor-branch}
+pub use Rattle.lw_tso.proofs.api.Replaying.{HasOutcomeShape-flat_outcome}
 pub use Rattle.lw_fence.proofs.Common.{IsCompiled}
-pub use Rattle.lw_fence.proofs.api.Compilations.{is_well_scoped, same_outcomes}
+pub use Rattle.lw_fence.proofs.api.Compilations.{IsMachineOutcome-compiled_iff, IsWellScopedProgram-compiled}
 pub use Rattle.lw_orders.proofs.Common.{Before, IsLinearExtension, IsOrder, index_in}
-pub use Rattle.lw_orders.proofs.api.Indices.{order_split, same_index}
+pub use Rattle.lw_orders.proofs.api.Indices.{index_in-injective, index_in-order_split}
 pub use Rattle.lw_paths.proofs.Common.{IsPathAssignment, JumpsForward, constraints_of, item_at, items_of}
 pub use Rattle.lw_paths.proofs.Common.{statement_needs_empty_buffer, statement_of}
-pub use Rattle.lw_paths.proofs.api.FixedOrder.{AreOrdered, keeps_all, kept}
-pub use Rattle.lw_paths.proofs.api.Members.{Contains-cons, Contains-head, Contains-map, Contains-tail}
-pub use Rattle.lw_paths.proofs.api.Members.{from_map, not-Contains-nil}
-pub use Rattle.lw_paths.proofs.api.Numbering.{HasItem, IsAscendingFrom, IsAscendingFrom-lower_bound}
+pub use Rattle.lw_paths.proofs.api.FixedOrder.{AreOrdered, HasOrdered-if_respected, Respects-if_ordered}
+pub use Rattle.lw_paths.proofs.api.Members.{Contains-cons, Contains-head, Contains-map, Contains-map_inv}
+pub use Rattle.lw_paths.proofs.api.Members.{Contains-tail, not-Contains-nil}
+pub use Rattle.lw_paths.proofs.api.Numbering.{HasItem, HasItem-on_path, IsAscendingFrom}
+pub use Rattle.lw_paths.proofs.api.Numbering.{IsAscendingFrom-flow_path, IsAscendingFrom-lower_bound}
 pub use Rattle.lw_paths.proofs.api.Numbering.{IsItemOnPath, IsItemOnPath-of_member, IsMember, IsStoring}
-pub use Rattle.lw_paths.proofs.api.Numbering.{as_many, item, item_there, number_less, path_up, same_number}
-pub use Rattle.lw_paths.proofs.api.Numbering.{slot_by, slot_goes_up, slot_less, store_slot, thread_rank}
-pub use Rattle.lw_paths.proofs.api.Successors.{follows_within}
-pub use Rattle.lw_paths.proofs.api.Visitable.{forward_of}
+pub use Rattle.lw_paths.proofs.api.Numbering.{index_lt-if_rank_lt, item, item_index-unique, item_slot}
+pub use Rattle.lw_paths.proofs.api.Numbering.{item_slot-increasing, item_slot-store_before_drain}
+pub use Rattle.lw_paths.proofs.api.Numbering.{length-path_assignment, thread_rank, thread_rank-increasing}
+pub use Rattle.lw_paths.proofs.api.Successors.{IsFlowSuccessor-in_range}
+pub use Rattle.lw_paths.proofs.api.Visitable.{JumpsForward-thread}
 pub use Rattle.lw_paths.specs.declared.item.Item.{Item}
 pub use Rattle.lw_finals.proofs.Common.{IsX86ChoiceOutcome, ItemsRunTo, X86FollowsPathsToEnd}
 pub use Rattle.lw_finals.proofs.Common.{X86ItemTransition, event_by, x86_item_system}
-pub use Rattle.lw_finals.proofs.api.Waiting.{IsAscendingBetween, climbs_in, entry_location, own_waits}
-pub use Rattle.lw_finals.proofs.api.Waiting.{waits_after, waits_other, waits_same}
-pub use Rattle.lw_finals.proofs.api.X86Prefix.{Coming, Waiting, oldest, waiting_first, waiting_next}
-pub use Rattle.lw_finals.proofs.api.X86Waiting.{AllHold, BufferHolds, Holds, ItemStep, all_hold, carried}
-pub use Rattle.lw_finals.proofs.api.X86Waiting.{hold_first}
+pub use Rattle.lw_finals.proofs.api.Waiting.{IsAscendingBetween, IsAscendingBetween-member, entry_location}
+pub use Rattle.lw_finals.proofs.api.Waiting.{own_waits, waits_after, waits_after-other_thread}
+pub use Rattle.lw_finals.proofs.api.Waiting.{waits_after-same_thread}
+pub use Rattle.lw_finals.proofs.api.X86Prefix.{AreWaitingStores, AreWaitingStores-next}
+pub use Rattle.lw_finals.proofs.api.X86Prefix.{AreWaitingStores-start, DrainsOldest-at_turn, IsComing}
+pub use Rattle.lw_finals.proofs.api.X86Waiting.{AllHold, AllHold-after_item, AllHold-start, BufferHolds}
+pub use Rattle.lw_finals.proofs.api.X86Waiting.{HoldsStores, ItemStep, ItemStep-of_transition}
 pub use Rattle.lw_report.proofs.Common.{IsReport, is_true}
 pub use Rattle.lw_report.specs.declared.judgement.Claim.TheVariants.{Exact}
 pub use Rattle.lw_bench.proofs.Common.{HasTest, IsOutputOf, IsStatesReport, IsWellFormedTest}
@@ -88,6 +93,7 @@ pub use Rattle.lw_bench.proofs.Common.{head_of_test, message_passing_in_x86, sto
 pub use Rattle.lw_axiomatic.specs.Axioms.{Acyclic, Coherence, GlobalHappensBefore, HappensBefore, IsAllowed}
 pub use Rattle.lw_axiomatic.specs.Axioms.{OnOneLocation, SatisfiesAxioms}
 pub use Rattle.lw_axiomatic.specs.Candidates.{IsCandidate, IsLast, IsReadFrom, ThreadExecutes}
+pub use Rattle.lw_axiomatic.specs.Candidates.{ThreadExecutesTo}
 pub use Rattle.lw_axiomatic.specs.CoherenceLaws.{CoRR, CoRW, CoWR, CoWW}
 pub use Rattle.lw_axiomatic.specs.CoherenceOrders.{IsCoherenceOrder}
 pub use Rattle.lw_axiomatic.specs.Cycles.{HasNoCycle, Walk}
@@ -107,7 +113,7 @@ pub use Rattle.lw_axiomatic.specs.Races.{HasTriangularRace, IsNext, RunsToWithou
 pub use Rattle.lw_axiomatic.specs.Sequential.{IsScOutcome, IsSequentiallyConsistent, ScOrder}
 pub use Rattle.lw_axiomatic.specs.SpareFences.{AreSpare, HasOtherFence, IsInsertedAt}
 pub use Rattle.lw_axiomatic.specs.SplitEvents.{AreHalves, AreOfTwoThreads, Half, HalfReads, HalfWrites}
-pub use Rattle.lw_axiomatic.specs.SplitEvents.{HalvesCo, HalvesFr, HalvesPoLoc, HalvesPpo, HalvesRf}
+pub use Rattle.lw_axiomatic.specs.SplitEvents.{HalvesCo, HalvesFr, HalvesPo, HalvesPoLoc, HalvesPpo, HalvesRf}
 pub use Rattle.lw_axiomatic.specs.SplitEvents.{IsAllowedBySplitAxioms, IsHalf, SatisfiesSplitAxioms}
 pub use Rattle.lw_axiomatic.specs.SplitEvents.{holds_all, reads_first, writes_last}
 pub use Rattle.lw_axiomatic.specs.ThreadStates.{ThreadState, at_next, first_state, state_after, word_written}

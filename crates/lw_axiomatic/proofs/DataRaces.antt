@@ -1,16 +1,18 @@
--- A test with a triangular race has a data race: the load and the write at the end of the triangle.
-use Rattle.lw_axiomatic.proofs.Common.{◌≡◌, ℕ, List, [], ◌∷◌, ◌++◌, ap, subst, sym, ◌∙◌, or_left, X86Test}
-use Rattle.lw_axiomatic.proofs.Common.{x86_language, x86_operation, is_load, is_store, Instr, Interleaved}
-use Rattle.lw_axiomatic.proofs.Common.{IsStep, InterleavedRunsTo, IsNext, RunsToWithoutBarrier}
-use Rattle.lw_axiomatic.proofs.Common.{HasTriangularRace, HasDataRace, is_plain}
+-- A test with a triangular race has a data race: the load and the write at the end of the triangle. So the
+-- law of data races follows from that of triangular races.
+use Rattle.lw_axiomatic.proofs.Common.{ℕ, List, [], ◌∷◌, ◌++◌, subst, or_left, X86Test, x86_language}
+use Rattle.lw_axiomatic.proofs.Common.{x86_operation, is_load, is_store, Interleaved, InterleavedRunsTo}
+use Rattle.lw_axiomatic.proofs.Common.{IsNext, RunsToWithoutBarrier, HasTriangularRace, HasDataRace, is_plain}
 
 module _ (test : X86Test) where
+  -- A quiet run is a run.
   ran-quiet : (q : ℕ) (order : List ℕ) (s end : Interleaved)
       → RunsToWithoutBarrier test q order s end
       → InterleavedRunsTo x86_language test.threads order s end
   ran-quiet q [] s end same = same
   ran-quiet q (t ∷ order) s end run = (run.0, run.1, ran-quiet q order run.0 end run.3)
 
+  -- Two runs in sequence are a run.
   ran-append : (order more : List ℕ) (s mid end : Interleaved)
       → InterleavedRunsTo x86_language test.threads order s mid
       → InterleavedRunsTo x86_language test.threads more mid end
@@ -18,21 +20,23 @@ module _ (test : X86Test) where
   ran-append [] more s mid end same run = subst (λ z. InterleavedRunsTo x86_language test.threads more z end) same run
   ran-append (t ∷ order) more s mid end first run = (first.0, first.1, ran-append order more first.0 mid end first.2 run)
 
+  -- A load is a plain access.
   next-plain : (l t : ℕ) (s : Interleaved) → IsNext test is_load l t s → IsNext test is_plain l t s
   next-plain l t s load = record {
     thread = load.thread;
     instruction = load.instruction;
     was = load.was;
     at = load.at;
-    is = or_left (is_load (x86_operation load.instruction)) (is_store (x86_operation load.instruction)) load.is;
+    has_kind = or_left (is_load (x86_operation load.instruction)) (is_store (x86_operation load.instruction)) load.has_kind;
     on = load.on;
   }
 
+  -- The load and the write at the end of a triangular race are a data race.
   pub data_race-triangular : HasTriangularRace test → HasDataRace test
   data_race-triangular race = record {
     q = race.q;
     p = race.p;
-    two = race.two;
+    threads_differ = race.threads_differ;
     before = race.before ++ race.q ∷ race.since;
     now = race.now;
     reached =

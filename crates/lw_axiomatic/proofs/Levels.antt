@@ -1,5 +1,7 @@
--- Numbers in levels, each of so many numbers: to order pairs of numbers first by the one and then by the other, whatever bounds the other.
-use Rattle.lw_axiomatic.proofs.Common.{◌≡◌, ℕ, zero, suc, ◌+◌, ◌<◌, ◌≤◌, ◌⊎◌, inl, inr, List, [], ◌∷◌, length}
+-- Numbers in levels of equal size: they order pairs of numbers by the first and then by the second, without a
+-- bound on either. Ranks of events are made so: by a number in global happens-before, and among equal ones by
+-- position or thread.
+use Rattle.lw_axiomatic.proofs.Common.{◌≡◌, ℕ, zero, suc, ◌+◌, ◌<◌, ◌≤◌, inl, inr, List, [], ◌∷◌, length}
 use Rattle.lw_axiomatic.proofs.Common.{refl, ap, arith, cases_order, Instr, thread_code}
 
 -- Returns the first number of the n-th level, if each level has `width` numbers.
@@ -36,8 +38,8 @@ level-below width a b s low le = elim (cases_order a b) [
 ]
 
 -- A number has one level, and one place in it.
-pub level-apart : (width a b s t : ℕ) → s < width → t < width → level width a + s ≡ level width b + t → (a ≡ b) × (s ≡ t)
-level-apart width a b s t low lower same = elim (cases_order a b) [
+pub level-unique : (width a b s t : ℕ) → s < width → t < width → level width a + s ≡ level width b + t → (a ≡ b) × (s ≡ t)
+level-unique width a b s t low lower same = elim (cases_order a b) [
   | inl one ↦ (one, omega (arith, same, ap (level width) one))
   | inr (inl less) ↦ absurd (omega (arith, level-lt width a b less, low, same))
   | inr (inr more) ↦ absurd (omega (arith, level-lt width b a more, lower, same))
@@ -51,7 +53,7 @@ size (code ∷ program) = length code + size program
 -- No thread of a program has more instructions than all threads have together.
 pub length-size : (program : List (List Instr)) (t : ℕ) → length (thread_code program t) ≤ size program
 unfolding size
-length-size [] t = let none : thread_code {S = Instr} [] t ≡ [] = refl in omega (arith, ap length none)
+length-size [] t = let is_nil : thread_code {S = Instr} [] t ≡ [] = refl in omega (arith, ap length is_nil)
 length-size (code ∷ program) zero = let first : thread_code (code ∷ program) zero ≡ code = refl in omega (arith, ap length first)
 length-size (code ∷ program) (suc t) =
     let later : thread_code (code ∷ program) (suc t) ≡ thread_code program t = refl in

@@ -1,22 +1,24 @@
--- Numberings and cycles: a relation along which ranks increase has no cycle; and a decidable relation of finitely many events that has no
--- cycle increases some numbers.
+-- Numberings and cycles: a relation along which ranks increase has no cycle; and a decidable relation of
+-- finitely many events that has no cycle increases some numbers. So acyclicity by ranks and by cycles agree
+-- (Cycles).
 use Rattle.lw_axiomatic.proofs.Common.{◌≡◌, ℕ, zero, suc, ◌+◌, ◌*◌, ◌<◌, ◌≤◌, ◌⊎◌, inl, inr, refl, sym, ap}
 use Rattle.lw_axiomatic.proofs.Common.{◌∙◌, subst, arith, List, [], ◌∷◌, Contains, cases_lt, not-Contains-nil}
 use Rattle.lw_axiomatic.proofs.Common.{Contains-head, Contains-tail, Contains-cons, Acyclic, Walk, HasNoCycle}
 use Rattle.lw_axiomatic.proofs.Common.{MemoryEvent, Execution, IsEvent}
-use Rattle.lw_axiomatic.proofs.EventLists.{events_from, listed}
-use Rattle.lw_axiomatic.proofs.Decisions.{Decidable, decided_or, decided_and, same_event}
+use Rattle.lw_axiomatic.proofs.EventLists.{events_from, events_from-contains}
+use Rattle.lw_axiomatic.proofs.Decisions.{Decidable, decided_or, decided_and, decided_event_equal}
 
 -- ---- increasing relations have no cycle
 
 module _ {E : Type 0} (R : E → E → Type 0) (acyclic : Acyclic R) where
-  walk_up : (n : ℕ) (a b : E) → Walk R n a b → acyclic.0 a + n ≤ acyclic.0 b
-  walk_up zero a b same = omega (arith, ap acyclic.0 same)
-  walk_up (suc n) a b (c, step, walk) = omega (arith, acyclic.1 a c step, walk_up n c b walk)
+  -- A walk of n steps increases the ranks by at least n.
+  rank_increases-Walk : (n : ℕ) (a b : E) → Walk R n a b → acyclic.rank a + n ≤ acyclic.rank b
+  rank_increases-Walk zero a b same = omega (arith, ap acyclic.rank same)
+  rank_increases-Walk (suc n) a b (c, step, walk) = omega (arith, acyclic.increases a c step, rank_increases-Walk n c b walk)
 
   -- A relation along which ranks increase has no cycle.
-  pub no_cycle : HasNoCycle R
-  no_cycle n e walk = omega (arith, walk_up (suc n) e e walk)
+  pub HasNoCycle-Acyclic : HasNoCycle R
+  HasNoCycle-Acyclic n e walk = omega (arith, rank_increases-Walk (suc n) e e walk)
 
 -- ---- the ranks of the events related to an event
 
@@ -28,28 +30,28 @@ record Top (R : MemoryEvent → MemoryEvent → Type 0) (rank : MemoryEvent → 
   least : (m : ℕ) → ((a : MemoryEvent) → Contains events a → R a b → rank a < m) → top ≤ m
 
 -- If the relation is decidable, there is a least number above the ranks of the events related to b.
-top_of : (R : MemoryEvent → MemoryEvent → Type 0)
+Top-exists : (R : MemoryEvent → MemoryEvent → Type 0)
     → ((a b : MemoryEvent) → Decidable (R a b))
     → (rank : MemoryEvent → ℕ) (b : MemoryEvent) (events : List MemoryEvent)
     → Top R rank b events
-top_of R decide rank b [] = record { top = 0; above = λ a c r. absurd (not-Contains-nil a c); least = λ m each. omega arith }
-top_of R decide rank b (e ∷ events) =
-    let rest : Top R rank b events = top_of R decide rank b events in
+Top-exists R decide rank b [] = record { top = 0; above = λ a c r. absurd (not-Contains-nil a c); least = λ m each. omega arith }
+Top-exists R decide rank b (e ∷ events) =
+    let rest : Top R rank b events = Top-exists R decide rank b events in
     elim (decide e b) [
       | inl first ↦ elim (cases_lt (rank e) rest.top) [
         | inl low ↦ record {
           top = rest.top;
           above = λ a c r. elim (Contains-cons e a events c) [
-            | inl same ↦ omega (arith, low, ap rank same)
-            | inr there ↦ rest.above a there r
+            | inl is_head ↦ omega (arith, low, ap rank is_head)
+            | inr in_tail ↦ rest.above a in_tail r
           ];
           least = λ m each. rest.least m (λ a c. each a (Contains-tail e a events c));
         }
         | inr high ↦ record {
           top = suc (rank e);
           above = λ a c r. elim (Contains-cons e a events c) [
-            | inl same ↦ omega (arith, ap rank same)
-            | inr there ↦ omega (arith, high, rest.above a there r)
+            | inl is_head ↦ omega (arith, ap rank is_head)
+            | inr in_tail ↦ omega (arith, high, rest.above a in_tail r)
           ];
           least = λ m each. omega (arith, each e (Contains-head e e events refl) first);
         }
@@ -57,8 +59,8 @@ top_of R decide rank b (e ∷ events) =
       | inr not ↦ record {
         top = rest.top;
         above = λ a c r. elim (Contains-cons e a events c) [
-          | inl same ↦ absurd (not (subst (λ (z : MemoryEvent). R z b) (sym same) r))
-          | inr there ↦ rest.above a there r
+          | inl is_head ↦ absurd (not (subst (λ (z : MemoryEvent). R z b) (sym is_head) r))
+          | inr in_tail ↦ rest.above a in_tail r
         ];
         least = λ m each. rest.least m (λ a c. each a (Contains-tail e a events c));
       }
@@ -67,37 +69,40 @@ top_of R decide rank b (e ∷ events) =
 -- ---- without an event, its neighbours are related through it
 
 module _ (R : MemoryEvent → MemoryEvent → Type 0) (e : MemoryEvent) where
+  -- Two events are related, perhaps by way of a third one that is left out.
   abbrev Past : MemoryEvent → MemoryEvent → Type 0
   Past a b = R a b ⊎ (R a e × R e b)
 
-  -- A walk through it is no shorter.
-  longer : (n : ℕ) (a b : MemoryEvent) → Walk Past n a b → (m : ℕ) × (n ≤ m) × Walk R m a b
-  longer zero a b same = (0, omega arith, same)
-  longer (suc n) a b (c, inl step, walk) = let w = longer n c b walk in (suc w.0, omega (arith, w.1), (c, step, w.2))
-  longer (suc n) a b (c, inr (to, from), walk) =
-      let w = longer n c b walk in (suc (suc w.0), omega (arith, w.1), (e, to, (c, from, w.2)))
+  -- A walk that may step past the event gives a walk of the relation that is at least as long.
+  Walk-of_Past : (n : ℕ) (a b : MemoryEvent) → Walk Past n a b → (m : ℕ) × (n ≤ m) × Walk R m a b
+  Walk-of_Past zero a b same = (0, omega arith, same)
+  Walk-of_Past (suc n) a b (c, inl step, walk) = let w = Walk-of_Past n c b walk in (suc w.0, omega (arith, w.1), (c, step, w.2))
+  Walk-of_Past (suc n) a b (c, inr (to, from), walk) =
+      let w = Walk-of_Past n c b walk in (suc (suc w.0), omega (arith, w.1), (e, to, (c, from, w.2)))
 
-  no_cycle_past : HasNoCycle R → HasNoCycle Past
-  no_cycle_past none n a walk = (let w = longer (suc n) a a walk in by_length w.0 w.1 w.2)
+  -- If the relation has no cycle, it has none with steps past the event.
+  Past-has_no_cycle : HasNoCycle R → HasNoCycle Past
+  Past-has_no_cycle none n a walk = (let w = Walk-of_Past (suc n) a a walk in no_cycle-by_length w.0 w.1 w.2)
     where
-      by_length : (m : ℕ) → suc n ≤ m → Walk R m a a → ⊥
-      by_length zero le w = omega (arith, le)
-      by_length (suc m) le w = none m a w
+      -- A walk of one step or more does not return.
+      no_cycle-by_length : (m : ℕ) → suc n ≤ m → Walk R m a a → ⊥
+      no_cycle-by_length zero le w = omega (arith, le)
+      no_cycle-by_length (suc m) le w = none m a w
 
 -- The first of two numbers if a decidable statement holds, and the second otherwise.
-abbrev chosen : {P : Type 0} → Decidable P → ℕ → ℕ → ℕ
-chosen (inl p) m n = m
-chosen (inr not) m n = n
+abbrev number_if : {P : Type 0} → Decidable P → ℕ → ℕ → ℕ
+number_if (inl p) m n = m
+number_if (inr not) m n = n
 
 -- If the statement holds, the first number is selected.
-is_chosen : {P : Type 0} (d : Decidable P) (m n : ℕ) → P → chosen d m n ≡ m
-is_chosen (inl p) m n h = refl
-is_chosen (inr not) m n h = absurd (not h)
+number_if-holds : {P : Type 0} (d : Decidable P) (m n : ℕ) → P → number_if d m n ≡ m
+number_if-holds (inl p) m n h = refl
+number_if-holds (inr not) m n h = absurd (not h)
 
 -- If the statement does not hold, the second number is selected.
-not_chosen : {P : Type 0} (d : Decidable P) (m n : ℕ) → (P → ⊥) → chosen d m n ≡ n
-not_chosen (inl p) m n h = absurd (h p)
-not_chosen (inr not) m n h = refl
+number_if-fails : {P : Type 0} (d : Decidable P) (m n : ℕ) → (P → ⊥) → number_if d m n ≡ n
+number_if-fails (inl p) m n h = absurd (h p)
+number_if-fails (inr not) m n h = refl
 
 -- ---- numbers for the events of a list
 
@@ -108,62 +113,82 @@ Numbered events R =
 
 module _ (R : MemoryEvent → MemoryEvent → Type 0) (decide : (a b : MemoryEvent) → Decidable (R a b)) (none : HasNoCycle R)
     (e : MemoryEvent) (events : List MemoryEvent) (rest : Numbered events (Past R e)) where
-  t : Top R rest.0 e events
-  t = top_of R decide rest.0 e events
+  -- The least number above the ranks of what is related to the event.
+  least_above : Top R rest.0 e events
+  least_above = Top-exists R decide rest.0 e events
 
   -- The rank immediately above those of all related events.
   abbrev rank : MemoryEvent → ℕ
-  rank a = chosen (same_event a e) (2 * t.top + 1) (2 * rest.0 a + 2)
+  rank a = number_if (decided_event_equal a e) (2 * least_above.top + 1) (2 * rest.0 a + 2)
 
-  first : (a : MemoryEvent) → a ≡ e → rank a ≡ 2 * t.top + 1
-  first a same = is_chosen (same_event a e) (2 * t.top + 1) (2 * rest.0 a + 2) same
+  -- The first event has the odd number above the numbers of all events related to it.
+  rank-of_first : (a : MemoryEvent) → a ≡ e → rank a ≡ 2 * least_above.top + 1
+  rank-of_first a same = number_if-holds (decided_event_equal a e) (2 * least_above.top + 1) (2 * rest.0 a + 2) same
 
-  other : (a : MemoryEvent) → (a ≡ e → ⊥) → rank a ≡ 2 * rest.0 a + 2
-  other a differ = not_chosen (same_event a e) (2 * t.top + 1) (2 * rest.0 a + 2) differ
+  -- Each event but the first has an even number.
+  rank-of_others : (a : MemoryEvent) → (a ≡ e → ⊥) → rank a ≡ 2 * rest.0 a + 2
+  rank-of_others a differ = number_if-fails (decided_event_equal a e) (2 * least_above.top + 1) (2 * rest.0 a + 2) differ
 
-  behind : (a : MemoryEvent) → Contains (e ∷ events) a → (a ≡ e → ⊥) → Contains events a
-  behind a c differ = elim (Contains-cons e a events c) [ inl same ↦ absurd (differ (sym same)) | inr there ↦ there ]
+  -- An event other than the first is in the rest of the list.
+  contains_tail : (a : MemoryEvent) → Contains (e ∷ events) a → (a ≡ e → ⊥) → Contains events a
+  contains_tail a is_member differ =
+      elim (Contains-cons e a events is_member) [ inl is_head ↦ absurd (differ (sym is_head)) | inr in_tail ↦ in_tail ]
 
-  goes_up : (a b : MemoryEvent) → Contains (e ∷ events) a → Contains (e ∷ events) b → R a b → rank a < rank b
-  goes_up a b ca cb r = elim (same_event a e) [
-    | inl sa ↦ elim (same_event b e) [
-      | inl sb ↦ absurd (none 0 a (b, r, sb ∙ sym sa))
-      | inr nb ↦
-          (let from : R e b = subst (λ (z : MemoryEvent). R z b) sa r in
-          let least : t.top ≤ rest.0 b = t.least (rest.0 b) (λ p c to. rest.1 p b c (behind b cb nb) (inr (to, from))) in
-          omega (arith, first a sa, other b nb, least))
+  -- The numbers increase along the relation.
+  rank_increases-R : (a b : MemoryEvent) → Contains (e ∷ events) a → Contains (e ∷ events) b → R a b → rank a < rank b
+  rank_increases-R a b ca cb r = elim (decided_event_equal a e) [
+    | inl same_event ↦ elim (decided_event_equal b e) [
+      | inl sb ↦ absurd (none 0 a (b, r, sb ∙ sym same_event))
+      | inr events_differ ↦
+          (let from : R e b = subst (λ (z : MemoryEvent). R z b) same_event r in
+          let least : least_above.top ≤ rest.0 b =
+          least_above.least (rest.0 b) (λ p c to. rest.1 p b c (contains_tail b cb events_differ) (inr (to, from))) in
+          omega (arith, rank-of_first a same_event, rank-of_others b events_differ, least))
     ]
-    | inr na ↦ elim (same_event b e) [
-      | inl sb ↦ (let to : R a e = subst (R a) sb r in omega (arith, other a na, first b sb, t.above a (behind a ca na) to))
-      | inr nb ↦ omega (arith, other a na, other b nb, rest.1 a b (behind a ca na) (behind b cb nb) (inl r))
+    | inr events_differ ↦ elim (decided_event_equal b e) [
+      | inl same_event ↦
+          (let to : R a e = subst (R a) same_event r in
+          omega (
+            arith,
+            rank-of_others a events_differ,
+            rank-of_first b same_event,
+            least_above.above a (contains_tail a ca events_differ) to,
+          ))
+      | inr nb ↦ omega (
+        arith,
+        rank-of_others a events_differ,
+        rank-of_others b nb,
+        rest.1 a b (contains_tail a ca events_differ) (contains_tail b cb nb) (inl r),
+      )
     ]
   ]
 
 -- If a relation is decidable and has no cycle, the events of a list have numbers that increase along it.
-numbered : (events : List MemoryEvent) (R : MemoryEvent → MemoryEvent → Type 0)
+Numbered-HasNoCycle : (events : List MemoryEvent) (R : MemoryEvent → MemoryEvent → Type 0)
     → ((a b : MemoryEvent) → Decidable (R a b))
     → HasNoCycle R
     → Numbered events R
-numbered [] R decide none = ((λ e. 0), λ a b ca cb r. absurd (not-Contains-nil a ca))
-numbered (e ∷ events) R decide none =
+Numbered-HasNoCycle [] R decide none = ((λ e. 0), λ a b ca cb r. absurd (not-Contains-nil a ca))
+Numbered-HasNoCycle (e ∷ events) R decide none =
     let rest =
-    numbered events (Past R e) (λ a b. decided_or (decide a b) (decided_and (decide a e) (decide e b)))
-    (no_cycle_past R e none) in
-    (rank R decide none e events rest, goes_up R decide none e events rest)
+    Numbered-HasNoCycle events (Past R e) (λ a b. decided_or (decide a b) (decided_and (decide a e) (decide e b)))
+    (Past-has_no_cycle R e none) in
+    (rank R decide none e events rest, rank_increases-R R decide none e events rest)
 
 -- ---- the events of an execution
 
 -- A decidable relation of an execution's events that has no cycle increases some ranks.
-pub numbering : (x : Execution) (R : MemoryEvent → MemoryEvent → Type 0)
+pub Acyclic-HasNoCycle : (x : Execution) (R : MemoryEvent → MemoryEvent → Type 0)
     → ((a b : MemoryEvent) → Decidable (R a b))
     → ((a b : MemoryEvent) → R a b → IsEvent x a × IsEvent x b)
     → HasNoCycle R
     → Acyclic R
-numbering x R decide within none =
-    let n = numbered (events_from 0 x.paths) R decide none in (
-      n.0,
-      λ a b r.
+Acyclic-HasNoCycle x R decide within none =
+    let n = Numbered-HasNoCycle (events_from 0 x.paths) R decide none in
+    record {
+      rank = n.0;
+      increases = λ a b r.
           (let w = within a b r in
-          n.1 a b (listed 0 a.thread a.thread x.paths a.position (omega arith) w.0)
-          (listed 0 b.thread b.thread x.paths b.position (omega arith) w.1) r),
-    )
+          n.1 a b (events_from-contains 0 a.thread a.thread x.paths a.position (omega arith) w.0)
+          (events_from-contains 0 b.thread b.thread x.paths b.position (omega arith) w.1) r);
+    }

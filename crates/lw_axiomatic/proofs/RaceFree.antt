@@ -1,189 +1,279 @@
--- An execution that keeps the axioms is sequentially consistent, or its test has a triangular race. Of the from-reads that do
--- not go up by the anchored numbers take one with the first read, and of that the first write: up to the write all others, and
--- the reading thread up to its read, are a run by interleaving; there both are next, behind a store that no fence followed.
+-- An execution that satisfies the axioms is sequentially consistent, or its test has a triangular race. Of the from-reads along
+-- which the ranks do not increase, take one with the first read, and of that read the first write. Up to the write
+-- all other threads, and the reading thread up to its read, are a run by interleaving. After it both are next, and the read's
+-- thread has a store that no fence followed.
 use Rattle.lw_axiomatic.proofs.Common.{IsWellScopedProgram, IsAllowed, InterleavingOutcome, IsScOutcome, ◌↔◌}
-use Rattle.lw_axiomatic.proofs.Common.{◌≡◌, ◌≢◌, ℕ, suc, ◌*◌, ◌<◌, ◌≤◌, ◌⊎◌, ◌||◌, ◌==◌, inl, inr, Bool, true}
+use Rattle.lw_axiomatic.proofs.Common.{◌≡◌, ◌≢◌, ℕ, suc, ◌<◌, ◌≤◌, ◌⊎◌, ◌||◌, ◌==◌, inl, inr, Bool, true}
 use Rattle.lw_axiomatic.proofs.Common.{false, Option, Some, None, List, [], ◌∷◌, ◌++◌, map, refl, sym, ap}
 use Rattle.lw_axiomatic.proofs.Common.{ap₂, ◌∙◌, subst, arith, true≢false, eq-eqb, eqb-true, Contains}
 use Rattle.lw_axiomatic.proofs.Common.{slice_get, lt-ltb, ltb-true, ◌&&◌, nat_lt, option_map, option_and_then}
 use Rattle.lw_axiomatic.proofs.Common.{option_map_or, cases_Bool, cases_eq, cases_lt, cases_order, or_left}
-use Rattle.lw_axiomatic.proofs.Common.{or_right, or_cases, and_from, and_parts, false_from_ne_true, get_some}
-use Rattle.lw_axiomatic.proofs.Common.{FinalState, thread_code, Contains-head, IsAscendingFrom, path_up}
-use Rattle.lw_axiomatic.proofs.Common.{forward_of, Operation, Store, location_of, is_store, is_load}
-use Rattle.lw_axiomatic.proofs.Common.{needs_empty_buffer, writes, x86_language, x86_operation, X86Test}
-use Rattle.lw_axiomatic.proofs.Common.{SatisfiesAxioms, ThreadExecutes, IsCandidate, MemoryEvent, Execution}
-use Rattle.lw_axiomatic.proofs.Common.{IsEvent, Po, reads, operation_is, location, Writes, Rf, Fr, start}
-use Rattle.lw_axiomatic.proofs.Common.{IsNext, HasTriangularRace, IsSequentiallyConsistent}
-use Rattle.lw_axiomatic.proofs.Decisions.{Decidable, decided_and, decided_fr}
-use Rattle.lw_axiomatic.proofs.EventKinds.{write_or_load, low, write_stores_or_reads, store_waits_not}
-use Rattle.lw_axiomatic.proofs.EventLists.{least_event}
+use Rattle.lw_axiomatic.proofs.Common.{or_right, or_cases, and_from, and_parts, false_from_ne_true}
+use Rattle.lw_axiomatic.proofs.Common.{slice_get-in_range, FinalState, thread_code, Contains-head}
+use Rattle.lw_axiomatic.proofs.Common.{IsAscendingFrom, IsAscendingFrom-flow_path, JumpsForward-thread}
+use Rattle.lw_axiomatic.proofs.Common.{Operation, Store, location_of, is_store, is_load, needs_empty_buffer}
+use Rattle.lw_axiomatic.proofs.Common.{writes, x86_language, x86_operation, X86Test, SatisfiesAxioms}
+use Rattle.lw_axiomatic.proofs.Common.{ThreadExecutes, IsCandidate, MemoryEvent, Execution, IsEvent, Po}
+use Rattle.lw_axiomatic.proofs.Common.{reads, operation_is, location, Writes, Rf, Fr, start, IsNext}
+use Rattle.lw_axiomatic.proofs.Common.{HasTriangularRace, IsSequentiallyConsistent}
+use Rattle.lw_axiomatic.proofs.EventLists.{event, least_of_paths_or_none}
+use Rattle.lw_axiomatic.proofs.Decisions.{Decidable, decided_and, decided_iff, decided_fr}
+use Rattle.lw_axiomatic.proofs.EventKinds.{write_or_load, position_below_size, write_stores_or_reads}
+use Rattle.lw_axiomatic.proofs.EventKinds.{store_event_does_not_wait}
 use Rattle.lw_axiomatic.proofs.Levels.{level, level-le, level-lt, level-below}
-use Rattle.lw_axiomatic.proofs.FencedTests.{thread_there, path_of}
-use Rattle.lw_axiomatic.proofs.Fronts.{fronts, tails, as_many_fronts, parted_at, from_fronts, to_fronts}
-use Rattle.lw_axiomatic.proofs.Fronts.{tail_from}
-use Rattle.lw_axiomatic.proofs.RaceRuns.{Split, split, quietly}
+use Rattle.lw_axiomatic.proofs.FencedTests.{event_thread_in_range, path_is_flow_path}
+use Rattle.lw_axiomatic.proofs.Fronts.{fronts, tails, fronts-length, fronts_append_tails, fronts-contains_inv}
+use Rattle.lw_axiomatic.proofs.Fronts.{fronts-contains, tails-head}
+use Rattle.lw_axiomatic.proofs.RaceRuns.{Split, Split-of_run, RunsToWithoutBarrier-Runs}
 use Rattle.lw_axiomatic.proofs.Timing.{anchor_reached}
-use Rattle.lw_axiomatic.proofs.Walks.{AreFronts, Ends, walked}
+use Rattle.lw_axiomatic.proofs.Walks.{AreFronts, CompleteWalk, CompleteWalk-from_start}
 use Rattle.lw_axiomatic.proofs.Anchored as anchored_by
 
-module _ {test : X86Test} (ok : IsWellScopedProgram test) {x : Execution} {o : FinalState}
+module _ {test : X86Test} (well_scoped : IsWellScopedProgram test) {x : Execution} {o : FinalState}
     (candidate : IsCandidate x86_language test x o) (axioms : SatisfiesAxioms test x) where
-  abbrev n : MemoryEvent → ℕ
-  n = anchored_by.rank axioms
+  -- An event's rank, by its anchored number and its position.
+  abbrev rank : MemoryEvent → ℕ
+  rank = anchored_by.rank axioms
 
-  abbrev g : MemoryEvent → ℕ
-  g = axioms.happens_before.0
+  -- The rank of an event in global happens-before, which the axiom gives.
+  abbrev ghb_rank : MemoryEvent → ℕ
+  ghb_rank = axioms.happens_before.rank
 
-  abbrev at : ℕ → ℕ → MemoryEvent
-  at t j = record { thread = t; position = j }
+  -- The ranks increase along program order.
+  rank_increases-Po : (a b : MemoryEvent) → Po x a b → rank a < rank b
+  rank_increases-Po = anchored_by.rank_increases-Po axioms
 
-  po_up : (a b : MemoryEvent) → Po x a b → n a < n b
-  po_up = anchored_by.po_up axioms
+  -- From-reads along which the ranks do not increase.
+  record IsLate (b c : MemoryEvent) : Type 0 where
+    fr : Fr x86_language test x b c
+    rank_at_most : rank c ≤ rank b
 
-  -- from-reads that do not go up
-  abbrev IsLate : MemoryEvent → MemoryEvent → Type 0
-  IsLate b c = Fr x86_language test x b c × (n c ≤ n b)
+  -- Whether the ranks do not increase along a from-reads is decidable.
+  IsLate-decidable : (b c : MemoryEvent) → Decidable (IsLate b c)
+  IsLate-decidable b c =
+      decided_iff (λ h. record { fr = h.0; rank_at_most = h.1 }) (λ h. (h.fr, h.rank_at_most))
+      (decided_and (decided_fr x86_language test x b c)
+      (elim (cases_lt (rank b) (rank c)) [ inl less ↦ inr (λ le. omega (arith, less, le)) | inr le ↦ inl le ]))
 
-  late : (b c : MemoryEvent) → Decidable (IsLate b c)
-  late b c =
-      decided_and (decided_fr x86_language test x b c)
-      (elim (cases_lt (n b) (n c)) [ inl less ↦ inr (λ le. omega (arith, less, le)) | inr le ↦ inl le ])
-
-  -- the first write of a read that is late
+  -- The first write of a read that is late.
   record FirstWrite (b : MemoryEvent) : Type 0 where
-    c : MemoryEvent
-    is_late : IsLate b c
-    least : (w : MemoryEvent) → IsLate b w → n c ≤ n w
+    write : MemoryEvent
+    is_late : IsLate b write
+    least : (w : MemoryEvent) → IsLate b w → rank write ≤ rank w
 
-  first_write : (b : MemoryEvent) → Decidable (FirstWrite b)
-  first_write b = elim (least_event n (IsLate b) (late b) x.paths) [
-    | inl none ↦ inr (λ f. none f.c f.is_late.0.2.0 f.is_late)
-    | inr (c, is, least) ↦ inl (record { c = c; is_late = is; least = λ w l. least w l.0.2.0 l })
+  -- Whether a read has such a write, and then the first one, is decidable.
+  FirstWrite-decidable : (b : MemoryEvent) → Decidable (FirstWrite b)
+  FirstWrite-decidable b = elim (least_of_paths_or_none rank (IsLate b) (IsLate-decidable b) x.paths) [
+    | inl none ↦ inr (λ f. none f.write f.is_late.fr.write.is_event f.is_late)
+    | inr (c, is, least) ↦ inl (record { write = c; is_late = is; least = λ w l. least w l.fr.write.is_event l })
   ]
 
   -- ---- the first read that is late, and its first write
 
-  module _ (b : MemoryEvent) (f : FirstWrite b) (least : (r : MemoryEvent) → IsEvent x r → FirstWrite r → n b ≤ n r) where
-    abbrev c : MemoryEvent
-    c = f.c
+  module _ (late_read : MemoryEvent) (first_write : FirstWrite late_read)
+      (least : (r : MemoryEvent) → IsEvent x r → FirstWrite r → rank late_read ≤ rank r) where
+    -- The write.
+    abbrev late_write : MemoryEvent
+    late_write = first_write.write
 
-    abbrev fr : Fr x86_language test x b c
-    fr = f.is_late.0
+    -- The read is before it in from-reads.
+    abbrev first_fr : Fr x86_language test x late_read late_write
+    first_fr = first_write.is_late.fr
 
-    abbrev l : ℕ
-    l = fr.0
+    -- The location of the read and the write.
+    abbrev raced_location : ℕ
+    raced_location = first_fr.on_location
 
-    first_read : (r w : MemoryEvent) → IsLate r w → n b ≤ n r
-    first_read r w is = elim (first_write r) [
-      | inl some ↦ least r is.0.1.0 some
-      | inr none ↦ absurd (elim (least_event n (IsLate r) (late r) x.paths) [
-        | inl never ↦ never w is.0.2.0 is
-        | inr (v, late_v, first) ↦ none (record { c = v; is_late = late_v; least = λ u lu. first u lu.0.2.0 lu })
+    -- No read with such a from-reads has a lower rank.
+    first_read_is_least : (r w : MemoryEvent) → IsLate r w → rank late_read ≤ rank r
+    first_read_is_least r w is = elim (FirstWrite-decidable r) [
+      | inl some ↦ least r is.fr.read.is_event some
+      | inr none ↦ absurd (elim (least_of_paths_or_none rank (IsLate r) (IsLate-decidable r) x.paths) [
+        | inl never ↦ never w is.fr.write.is_event is
+        | inr (v, late_v, first) ↦ none (record { write = v; is_late = late_v; least = λ u lu. first u lu.fr.write.is_event lu })
       ])
     ]
 
-    two : b.thread ≢ c.thread
-    two one = let up : n b < n c = anchored_by.fr_own axioms b c fr one in omega (arith, up, f.is_late.1)
+    -- The read and the write are of two threads.
+    threads_differ : late_read.thread ≢ late_write.thread
+    threads_differ one =
+        let up : rank late_read < rank late_write =
+        anchored_by.rank_increases-Fr_in_thread axioms late_read late_write first_fr one in
+        omega (arith, up, first_write.is_late.rank_at_most)
 
-    g_up : g b < g c
-    g_up = axioms.happens_before.1 b c (inr (inr (inr fr)))
+    -- Global happens-before has the read before the write.
+    ghb_rank_increases-Fr : ghb_rank late_read < ghb_rank late_write
+    ghb_rank_increases-Fr = axioms.happens_before.increases late_read late_write (inr (inr (inr first_fr)))
 
+    -- A number above all positions.
     abbrev width : ℕ
     width = anchored_by.width axioms
 
-    c_above : level width (suc (g c)) ≤ n c
-    c_above =
-        let up = anchored_by.above axioms c fr.2.0 (anchored_by.writing_accesses axioms c fr.2.2) in
-        omega (arith, level-le width (suc (g c)) (anchored_by.anchored axioms c) up)
+    -- The write's rank is that of its own number.
+    write_rank_at_least : level width (suc (ghb_rank late_write)) ≤ rank late_write
+    write_rank_at_least =
+        let up =
+        anchored_by.anchored_at_least_top axioms late_write first_fr.write.is_event
+        (anchored_by.is_access-of_write axioms late_write first_fr.write.is_write) in
+        omega (arith, level-le width (suc (ghb_rank late_write)) (anchored_by.anchored axioms late_write) up)
 
     -- What the read is anchored by is no lower than the write.
-    late_high : suc (g c) ≤ anchored_by.anchored axioms b
-    late_high =
-        level-below width (suc (g c)) (anchored_by.anchored axioms b) b.position (low test b l fr.1.1)
-        (omega (arith, c_above, f.is_late.1))
+    read_anchored_at_least_write : suc (ghb_rank late_write) ≤ anchored_by.anchored axioms late_read
+    read_anchored_at_least_write =
+        level-below width (suc (ghb_rank late_write)) (anchored_by.anchored axioms late_read) late_read.position
+        (position_below_size test late_read raced_location first_fr.read.location_is)
+        (omega (arith, write_rank_at_least, first_write.is_late.rank_at_most))
 
-    load : operation_is x86_language test is_load b ≡ true
-    load = elim (write_or_load test b l fr.1.1) [
-      | inl writing ↦
-          absurd (let up : n b < n c = anchored_by.fr_when axioms b c fr (anchored_by.own_write axioms b fr.1.0 writing) in
-          omega (arith, up, f.is_late.1))
-      | inr is ↦ is
+    -- The read is a load: a locked instruction's rank would increase.
+    is_load-of_read : operation_is x86_language test is_load late_read ≡ true
+    is_load-of_read = elim (write_or_load test late_read raced_location first_fr.read.location_is) [
+      | inl late_read_writes ↦
+          absurd (let up : rank late_read < rank late_write =
+          anchored_by.rank_increases-Fr_of_low_anchor axioms late_read late_write first_fr
+          (anchored_by.anchored_at_most_top-of_write axioms late_read first_fr.read.is_event late_read_writes) in
+          omega (arith, up, first_write.is_late.rank_at_most))
+      | inr late_read_loads ↦ late_read_loads
     ]
 
     -- ---- the store
 
+    -- A store precedes the read b in program order, and its number in global happens-before is at least that of c.
     record Stored : Type 0 where
-      k : ℕ
-      po : Po x (at b.thread k) b
-      store : operation_is x86_language test is_store (at b.thread k) ≡ true
-      high : g c ≤ g (at b.thread k)
+      position : ℕ
+      po : Po x (event late_read.thread position) late_read
+      store : operation_is x86_language test is_store (event late_read.thread position) ≡ true
+      high : ghb_rank late_write ≤ ghb_rank (event late_read.thread position)
 
-    stored : Stored
-    stored = elim (anchor_reached (anchored_by.top axioms b.thread) (thread_code x.paths b.thread) b.position) [
-      | inr none ↦ absurd (omega (arith, none, late_high))
-      | inl (k, on, le, is) ↦ by_access k on le is (cases_Bool (anchored_by.accesses axioms (at b.thread k)))
-    ]
+    -- The read is anchored by a store before it.
+    Stored-of_read : Stored
+    Stored-of_read =
+        elim (anchor_reached (anchored_by.top axioms late_read.thread) (thread_code x.paths late_read.thread)
+        late_read.position) [
+          | inr none ↦ absurd (omega (arith, none, read_anchored_at_least_write))
+          | inl (k, on, le, is) ↦
+              Stored-of_access k on le is (cases_Bool (anchored_by.accesses axioms (event late_read.thread k)))
+        ]
       where
-        by_access : (k : ℕ)
-            → Contains (thread_code x.paths b.thread) k
-            → k ≤ b.position
-            → anchored_by.top axioms b.thread k ≡ anchored_by.anchored axioms b
-            → (anchored_by.accesses axioms (at b.thread k) ≡ true) ⊎ (anchored_by.accesses axioms (at b.thread k) ≡ false)
+        -- By whether the event at the anchoring position is an access.
+        Stored-of_access : (k : ℕ)
+            → Contains (thread_code x.paths late_read.thread) k
+            → k ≤ late_read.position
+            → anchored_by.top axioms late_read.thread k ≡ anchored_by.anchored axioms late_read
+            → (anchored_by.accesses axioms (event late_read.thread k) ≡ true)
+            ⊎ (anchored_by.accesses axioms (event late_read.thread k) ≡ false)
             → Stored
-        by_access k on le is (inr none) = absurd (omega (arith, is, anchored_by.top_other axioms (at b.thread k) none, late_high))
-        by_access k on le is (inl a) =
-            let own : anchored_by.top axioms b.thread k ≡ suc (g (at b.thread k)) =
-            anchored_by.top_access axioms (at b.thread k) a in
-            let high : g c ≤ g (at b.thread k) = omega (arith, is, own, late_high) in
-            elim (cases_eq k b.position) [
-              | inl same ↦ absurd (let this : at b.thread k ≡ b = ap (at b.thread) same in omega (arith, ap g this, high, g_up))
-              | inr ne ↦
-                  (let po : Po x (at b.thread k) b = (on, fr.1.0, refl, omega (arith, le, ne)) in
+        Stored-of_access k on_path le is (inr none) =
+            absurd (omega (arith, is, anchored_by.top_other axioms (event late_read.thread k) none, read_anchored_at_least_write))
+        Stored-of_access k on_path le is (inl a) =
+            let own : anchored_by.top axioms late_read.thread k ≡ suc (ghb_rank (event late_read.thread k)) =
+            anchored_by.top_access axioms (event late_read.thread k) a in
+            let high : ghb_rank late_write ≤ ghb_rank (event late_read.thread k) =
+            omega (arith, is, own, read_anchored_at_least_write) in
+            elim (cases_eq k late_read.position) [
+              | inl same_position ↦
+                  absurd (let same_event : event late_read.thread k ≡ late_read = ap (event late_read.thread) same_position in
+                  omega (arith, ap ghb_rank same_event, high, ghb_rank_increases-Fr))
+              | inr positions_differ ↦
+                  (let po : Po x (event late_read.thread k) late_read = record {
+                    first_event = on_path;
+                    second_event = first_fr.read.is_event;
+                    same_thread = refl;
+                    position_lt = omega (arith, le, positions_differ);
+                  } in
                   record {
-                    k = k;
+                    position = k;
                     po = po;
-                    store = elim (or_cases (operation_is x86_language test reads (at b.thread k)) _ a) [
-                      | inl r ↦ absurd (omega (arith, anchored_by.kept_reading axioms (at b.thread k) b po r, high, g_up))
-                      | inr w ↦ elim (write_stores_or_reads test (at b.thread k) w) [
+                    store = elim (or_cases (operation_is x86_language test reads (event late_read.thread k)) _ a) [
+                      | inl r ↦ absurd (omega (
+                        arith,
+                        anchored_by.ghb_rank_increases-Po_from_read axioms (event late_read.thread k) late_read po r,
+                        high,
+                        ghb_rank_increases-Fr,
+                      ))
+                      | inr w ↦ elim (write_stores_or_reads test (event late_read.thread k) w) [
                         | inl s ↦ s
-                        | inr r ↦ absurd (omega (arith, anchored_by.kept_reading axioms (at b.thread k) b po r, high, g_up))
+                        | inr r ↦ absurd (omega (
+                          arith,
+                          anchored_by.ghb_rank_increases-Po_from_read axioms (event late_read.thread k) late_read po r,
+                          high,
+                          ghb_rank_increases-Fr,
+                        ))
                       ]
                     ];
                     high = high;
                   })
             ]
 
-    abbrev k : MemoryEvent
-    k = at b.thread stored.k
+    -- The store that anchors the read.
+    abbrev earlier_store : MemoryEvent
+    earlier_store = event late_read.thread Stored-of_read.position
 
-    -- nothing between them waits
-    none_waits : (h : MemoryEvent) → Po x k h → Po x h b → operation_is x86_language test needs_empty_buffer h ≡ true → ⊥
-    none_waits h first second w =
-        omega (
-          arith,
-          anchored_by.behind_waiting axioms k h first w,
-          anchored_by.before_waiting axioms h b second w,
-          stored.high,
-          g_up,
-        )
+    -- No event between the store and the read waits for an empty buffer.
+    none_waits_between : (h : MemoryEvent)
+        → Po x earlier_store h
+        → Po x h late_read
+        → operation_is x86_language test needs_empty_buffer h ≡ true
+        → ⊥
+    none_waits_between h first second w = omega (
+      arith,
+      anchored_by.ghb_rank_increases-Po_to_waiting axioms earlier_store h first w,
+      anchored_by.ghb_rank_increases-Po_from_waiting axioms h late_read second w,
+      Stored-of_read.high,
+      ghb_rank_increases-Fr,
+    )
 
-    -- and the store is to another location
-    apart : location x86_language test k ≡ Some l → ⊥
-    apart same =
-        let writing : Writes x86_language test x k l = (stored.po.0, same, store_kind k stored.store) in
-        let up : axioms.coherence.0 k < axioms.coherence.0 b = axioms.coherence.1 k b (inl (stored.po, l, same, fr.1.1)) in
-        let more : axioms.coherence.0 b < axioms.coherence.0 c = axioms.coherence.1 b c (inr (inr (inr fr))) in
-        elim (cases_order (x.co k) (x.co c)) [
-          | inl is ↦ (let one : k ≡ c = candidate.co k c l writing fr.2 is in two (ap (λ (z : MemoryEvent). z.thread) one))
-          | inr (inl less) ↦ omega (arith, axioms.happens_before.1 k c (inr (inr (inl (l, writing, fr.2, less)))), stored.high)
-          | inr (inr back) ↦ omega (arith, axioms.coherence.1 c k (inr (inr (inl (l, fr.2, writing, back)))), up, more)
+    -- The store is to another location.
+    location_ne : location x86_language test earlier_store ≡ Some raced_location → ⊥
+    location_ne location_is =
+        let writing : Writes x86_language test x earlier_store raced_location = record {
+          is_event = Stored-of_read.po.first_event;
+          location_is = location_is;
+          is_write = store_kind earlier_store Stored-of_read.store;
+        } in
+        let up : axioms.coherence.rank earlier_store < axioms.coherence.rank late_read =
+        axioms.coherence.increases earlier_store late_read (inl (record {
+          po = Stored-of_read.po;
+          on_location = raced_location;
+          first_location_is = location_is;
+          second_location_is = first_fr.read.location_is;
+        })) in
+        let more : axioms.coherence.rank late_read < axioms.coherence.rank late_write =
+        axioms.coherence.increases late_read late_write (inr (inr (inr first_fr))) in
+        elim (cases_order (x.co earlier_store) (x.co late_write)) [
+          | inl same_co ↦
+              (let one : earlier_store ≡ late_write =
+              candidate.co earlier_store late_write raced_location writing first_fr.write same_co in
+              threads_differ (ap (λ (z : MemoryEvent). z.thread) one))
+          | inr (inl co_lt) ↦ omega (
+            arith,
+            axioms.happens_before.increases earlier_store late_write (inr (inr (inl (record {
+              on_location = raced_location;
+              first_write = writing;
+              second_write = first_fr.write;
+              co_lt = co_lt;
+            })))),
+            Stored-of_read.high,
+          )
+          | inr (inr co_gt) ↦ omega (
+            arith,
+            axioms.coherence.increases late_write earlier_store (inr (inr (inl (record {
+              on_location = raced_location;
+              first_write = first_fr.write;
+              second_write = writing;
+              co_lt = co_gt;
+            })))),
+            up,
+            more,
+          )
         ]
       where
+        -- A store writes.
         store_writes : (q : Option Operation) → option_map_or is_store q false ≡ true → option_map_or writes q false ≡ true
         store_writes None e = absurd (true≢false (sym e))
         store_writes (Some (Store y v)) e = refl
         store_writes (Some _) e = absurd (true≢false (sym e))
 
+        -- An event that is a store writes.
         store_kind : (e : MemoryEvent)
             → operation_is x86_language test is_store e ≡ true
             → operation_is x86_language test writes e ≡ true
@@ -191,226 +281,322 @@ module _ {test : X86Test} (ok : IsWellScopedProgram test) {x : Execution} {o : F
 
     -- ---- the fronts: what comes before the write, and the reading thread up to its read
 
+    -- Tests whether an event is executed before the race: it has a lower rank than the write, or precedes the
+    -- read in its thread.
     abbrev passes : ℕ → ℕ → Bool
-    passes t j = nat_lt (n (at t j)) (n c) || ((t == b.thread) && nat_lt j b.position)
+    passes t j = nat_lt (rank (event t j)) (rank late_write) || ((t == late_read.thread) && nat_lt j late_read.position)
 
-    by_number : (t j : ℕ) → n (at t j) < n c → passes t j ≡ true
-    by_number t j less = or_left (nat_lt (n (at t j)) (n c)) _ (lt-ltb (n (at t j)) (n c) less)
+    -- An event with a lower rank than the write passes.
+    passes-of_number : (t j : ℕ) → rank (event t j) < rank late_write → passes t j ≡ true
+    passes-of_number t j less =
+        or_left (nat_lt (rank (event t j)) (rank late_write)) _ (lt-ltb (rank (event t j)) (rank late_write) less)
 
-    by_thread : (t j : ℕ) → t ≡ b.thread → j < b.position → passes t j ≡ true
-    by_thread t j one less =
-        or_right (nat_lt (n (at t j)) (n c)) _ (and_from (t == b.thread) _ (eq-eqb t b.thread one) (lt-ltb j b.position less))
+    -- What precedes the read in its thread passes.
+    passes-of_thread : (t j : ℕ) → t ≡ late_read.thread → j < late_read.position → passes t j ≡ true
+    passes-of_thread t j same_thread less =
+        or_right (nat_lt (rank (event t j)) (rank late_write)) _
+        (and_from (t == late_read.thread) _ (eq-eqb t late_read.thread same_thread) (lt-ltb j late_read.position less))
 
-    passing : (t j : ℕ) → passes t j ≡ true → (n (at t j) < n c) ⊎ ((t ≡ b.thread) × (j < b.position))
-    passing t j p = elim (or_cases (nat_lt (n (at t j)) (n c)) _ p) [
-      | inl less ↦ inl (ltb-true (n (at t j)) (n c) less)
+    -- An event that passes has a lower rank than the write, or precedes the read in its thread.
+    passes_inv : (t j : ℕ)
+        → passes t j ≡ true
+        → (rank (event t j) < rank late_write) ⊎ ((t ≡ late_read.thread) × (j < late_read.position))
+    passes_inv t j p = elim (or_cases (nat_lt (rank (event t j)) (rank late_write)) _ p) [
+      | inl less ↦ inl (ltb-true (rank (event t j)) (rank late_write) less)
       | inr own ↦
-          (let both = and_parts (t == b.thread) (nat_lt j b.position) own in
-          inr (eqb-true t b.thread both.0, ltb-true j b.position both.1))
+          (let both = and_parts (t == late_read.thread) (nat_lt j late_read.position) own in
+          inr (eqb-true t late_read.thread both.0, ltb-true j late_read.position both.1))
     ]
 
-    down : (t h j : ℕ)
+    -- What precedes an event that passes, passes.
+    passes-downward_closed : (t h j : ℕ)
         → Contains (thread_code x.paths t) h
         → Contains (thread_code x.paths t) j
         → h < j
         → passes t j ≡ true
         → passes t h ≡ true
-    down t h j ch cj less p = elim (passing t j p) [
-      | inl early ↦ by_number t h (omega (arith, po_up (at t h) (at t j) (ch, cj, refl, less), early))
-      | inr (one, before) ↦ by_thread t h one (omega (arith, less, before))
+    passes-downward_closed t h j ch cj less p = elim (passes_inv t j p) [
+      | inl early ↦ passes-of_number t h (omega (
+        arith,
+        rank_increases-Po (event t h) (event t j)
+            (record { first_event = ch; second_event = cj; same_thread = refl; position_lt = less }),
+        early,
+      ))
+      | inr (one, before) ↦ passes-of_thread t h one (omega (arith, less, before))
     ]
 
-    goes_up : (t j : ℕ) → Contains (thread_code x.paths t) j → IsAscendingFrom 0 (thread_code x.paths t)
-    goes_up t j c =
-        path_up x86_language (thread_code test.threads t) 0 (thread_code x.paths t) (forward_of x86_language test ok t)
-        (path_of candidate t (thread_there candidate (at t j) c))
+    -- A path's positions increase.
+    path_is_ascending : (t j : ℕ) → Contains (thread_code x.paths t) j → IsAscendingFrom 0 (thread_code x.paths t)
+    path_is_ascending t j on_path =
+        IsAscendingFrom-flow_path x86_language (thread_code test.threads t) 0 (thread_code x.paths t)
+        (JumpsForward-thread x86_language test well_scoped t)
+        (path_is_flow_path candidate t (event_thread_in_range candidate (event t j) on_path))
 
+    -- The event is in the front of its thread's path.
     abbrev IsIn : MemoryEvent → Type 0
     IsIn e = Contains (thread_code (fronts passes 0 x.paths) e.thread) e.position
 
-    to_in : (e : MemoryEvent) → IsEvent x e → passes e.thread e.position ≡ true → IsIn e
-    to_in e there p = to_fronts passes e.thread e.position x.paths (goes_up e.thread e.position there) (down e.thread) there p
+    -- An event that passes is in the front.
+    IsIn-passes : (e : MemoryEvent) → IsEvent x e → passes e.thread e.position ≡ true → IsIn e
+    IsIn-passes e is_event p =
+        fronts-contains passes e.thread e.position x.paths (path_is_ascending e.thread e.position is_event)
+        (passes-downward_closed e.thread) is_event p
 
-    from_in : (e : MemoryEvent) → IsIn e → IsEvent x e × (passes e.thread e.position ≡ true)
-    from_in e c = from_fronts passes e.thread e.position x.paths c
+    -- What is in the front is an event that passes.
+    IsIn_inv : (e : MemoryEvent) → IsIn e → IsEvent x e × (passes e.thread e.position ≡ true)
+    IsIn_inv e c = fronts-contains_inv passes e.thread e.position x.paths c
 
-    fr_goes_up : (r w : MemoryEvent) → IsIn r → Fr x86_language test x r w → n r < n w
-    fr_goes_up r w ir from = elim (cases_lt (n r) (n w)) [
+    -- The ranks increase along from-reads of what is in front.
+    rank_increases-Fr : (r w : MemoryEvent) → IsIn r → Fr x86_language test x r w → rank r < rank w
+    rank_increases-Fr r w ir from = elim (cases_lt (rank r) (rank w)) [
       | inl less ↦ less
       | inr le ↦
-          absurd (let first : n b ≤ n r = first_read r w (from, le) in
-          let is = from_in r ir in
-          elim (passing r.thread r.position is.1) [
-            | inl early ↦ omega (arith, early, first, f.is_late.1)
-            | inr (one, before) ↦ omega (arith, po_up r b (is.0, fr.1.0, one, before), first)
+          absurd (let first : rank late_read ≤ rank r = first_read_is_least r w (record { fr = from; rank_at_most = le }) in
+          let is = IsIn_inv r ir in
+          elim (passes_inv r.thread r.position is.1) [
+            | inl early ↦ omega (arith, early, first, first_write.is_late.rank_at_most)
+            | inr (one, before) ↦ omega (
+              arith,
+              rank_increases-Po r late_read
+                  (record { first_event = is.0; second_event = first_fr.read.is_event; same_thread = one; position_lt = before }),
+              first,
+            )
           ])
     ]
 
-    closed : (w r : MemoryEvent) → IsIn r → Rf x86_language test x w r → IsIn w
-    closed w r ir rf =
-        let is = from_in r ir in
-        to_in w rf.1.0 (elim (passing r.thread r.position is.1) [
-          | inl early ↦ by_number w.thread w.position (omega (arith, anchored_by.rf_up axioms w r rf, early))
+    -- What is read in front was written in front.
+    IsIn-Rf_closed : (w r : MemoryEvent) → IsIn r → Rf x86_language test x w r → IsIn w
+    IsIn-Rf_closed w r ir rf =
+        let is = IsIn_inv r ir in
+        IsIn-passes w rf.write.is_event (elim (passes_inv r.thread r.position is.1) [
+          | inl early ↦ passes-of_number w.thread w.position (omega (arith, anchored_by.rank_increases-Rf axioms w r rf, early))
           | inr (one, before) ↦ elim (cases_eq w.thread r.thread) [
-            | inl own ↦
-                (let po : Po x w r = anchored_by.rf_own axioms w r rf own in
-                by_thread w.thread w.position (own ∙ one) (omega (arith, po.3, before)))
-            | inr far ↦
-                (let lower : anchored_by.anchored axioms w < suc (g c) = omega (
+            | inl same_thread ↦
+                (let po : Po x w r = anchored_by.Po-Rf_in_thread axioms w r rf same_thread in
+                passes-of_thread w.thread w.position (same_thread ∙ one) (omega (arith, po.position_lt, before)))
+            | inr threads_differ ↦
+                (let lower : anchored_by.anchored axioms w < suc (ghb_rank late_write) = omega (
                   arith,
-                  axioms.happens_before.1 w r (inr (inl (rf, far))),
-                  anchored_by.kept_reading axioms r b (is.0, fr.1.0, one, before) rf.2.2,
-                  g_up,
-                  anchored_by.own_write axioms w rf.1.0 rf.1.2,
+                  axioms.happens_before.increases w r (inr (inl (record { rf = rf; threads_differ = threads_differ }))),
+                  anchored_by.ghb_rank_increases-Po_from_read axioms r late_read (record {
+                    first_event = is.0;
+                    second_event = first_fr.read.is_event;
+                    same_thread = one;
+                    position_lt = before;
+                  }) rf.read.is_read,
+                  ghb_rank_increases-Fr,
+                  anchored_by.anchored_at_most_top-of_write axioms w rf.write.is_event rf.write.is_write,
                 ) in
-                by_number w.thread w.position (omega (
+                passes-of_number w.thread w.position (omega (
                   arith,
-                  level-lt width (anchored_by.anchored axioms w) (suc (g c)) lower,
-                  c_above,
-                  low test w rf.0 rf.1.1,
+                  level-lt width (anchored_by.anchored axioms w) (suc (ghb_rank late_write)) lower,
+                  write_rank_at_least,
+                  position_below_size test w rf.on_location rf.write.location_is,
                 )))
           ]
         ])
 
-    are : AreFronts x86_language test x n (fronts passes 0 x.paths) (tails passes 0 x.paths)
-    are = record {
-      many = as_many_fronts passes 0 x.paths ∙ candidate.as_many;
-      parted = λ t. parted_at passes t x.paths;
+    -- The fronts of the paths can be walked.
+    AreFronts-of_passes : AreFronts x86_language test x rank (fronts passes 0 x.paths) (tails passes 0 x.paths)
+    AreFronts-of_passes = record {
+      path_count = fronts-length passes 0 x.paths ∙ candidate.as_many;
+      parted = λ t. fronts_append_tails passes t x.paths;
       up = λ r w ir iw. elim [
-        | inl po ↦ po_up r w po
-        | inr (inl rf) ↦ anchored_by.rf_up axioms r w rf
-        | inr (inr (inl co)) ↦ anchored_by.co_up axioms r w co
-        | inr (inr (inr from)) ↦ fr_goes_up r w ir from
+        | inl po ↦ rank_increases-Po r w po
+        | inr (inl rf) ↦ anchored_by.rank_increases-Rf axioms r w rf
+        | inr (inr (inl co)) ↦ anchored_by.rank_increases-Co axioms r w co
+        | inr (inr (inr from)) ↦ rank_increases-Fr r w ir from
       ];
-      closed = closed;
+      closed = IsIn-Rf_closed;
     }
 
-    abbrev run : Ends ok candidate are (fronts passes 0 x.paths) (start x86_language test)
-    run = walked ok candidate are
+    -- The fronts are a run by interleaving.
+    abbrev walk_of_fronts :
+        CompleteWalk well_scoped candidate AreFronts-of_passes (fronts passes 0 x.paths) (start x86_language test)
+    walk_of_fronts = CompleteWalk-from_start well_scoped candidate AreFronts-of_passes
 
-    -- ---- behind the fronts both are next
+    -- ---- after the fronts both are next
 
-    next_at : (kind : Operation → Bool) (e : MemoryEvent)
+    -- The first event of a thread that does not pass is next after this run.
+    IsNext-first_not_passing : (kind : Operation → Bool) (e : MemoryEvent)
         → IsEvent x e
         → operation_is x86_language test kind e ≡ true
-        → location x86_language test e ≡ Some l
+        → location x86_language test e ≡ Some raced_location
         → passes e.thread e.position ≡ false
         → ((h : ℕ) → Contains (thread_code x.paths e.thread) h → h < e.position → passes e.thread h ≡ true)
-        → IsNext test kind l e.thread run.end
-    next_at kind e on is index_in not before =
-        let th = get_some run.end.threads e.thread (omega (arith, thread_there candidate e on, run.at.good.many)) in
-        let now = run.at.threads e.thread th.0 th.1 in
-        let tail = tail_from passes e.thread e.position x.paths (goes_up e.thread e.position on) on not before in
-        let none : thread_code run.left e.thread ≡ [] = nothing (thread_code run.left e.thread) refl in
-        let goes : ThreadExecutes x86_language x e.thread (thread_code test.threads e.thread) (e.position ∷ tail.0) th.0 now.0 =
-        subst (λ (path : List ℕ). ThreadExecutes x86_language x e.thread (thread_code test.threads e.thread) path th.0 now.0)
-        (ap₂ (λ (p q : List ℕ). p ++ q) none tail.1) now.1 in
+        → IsNext test kind raced_location e.thread walk_of_fronts.end
+    IsNext-first_not_passing kind e is_event is location_is not before =
+        let th =
+        slice_get-in_range walk_of_fronts.end.threads e.thread
+        (omega (arith, event_thread_in_range candidate e is_event, walk_of_fronts.at.good.thread_count)) in
+        let now = walk_of_fronts.at.threads e.thread th.0 th.1 in
+        let tail =
+        tails-head passes e.thread e.position x.paths (path_is_ascending e.thread e.position is_event) is_event not before in
+        let is_nil : thread_code walk_of_fronts.left e.thread ≡ [] =
+        no_path_left (thread_code walk_of_fronts.left e.thread) refl in
+        let executes : ThreadExecutes x86_language x e.thread (thread_code test.threads e.thread) (e.position ∷ tail.0) th.0
+        now.end =
+        subst (λ (path : List ℕ). ThreadExecutes x86_language x e.thread (thread_code test.threads e.thread) path th.0 now.end)
+        (ap₂ (λ (p q : List ℕ). p ++ q) is_nil tail.1) now.executes in
         record {
           thread = th.0;
-          instruction = goes.1;
+          instruction = executes.statement;
           was = th.1;
-          at = ap (slice_get (thread_code test.threads e.thread)) goes.0 ∙ goes.2;
-          is = sym (ap (λ o. option_map_or kind (option_map x86_operation o) false) goes.2) ∙ is;
-          on = sym (ap (λ o. option_and_then location_of (option_map x86_operation o)) goes.2) ∙ index_in;
+          at = ap (slice_get (thread_code test.threads e.thread)) executes.position_is ∙ executes.statement_at;
+          has_kind = sym (ap (λ o. option_map_or kind (option_map x86_operation o) false) executes.statement_at) ∙ is;
+          on = sym (ap (λ o. option_and_then location_of (option_map x86_operation o)) executes.statement_at) ∙ location_is;
         }
       where
-        nothing : (path : List ℕ) → thread_code run.left e.thread ≡ path → path ≡ []
-        nothing [] same = refl
-        nothing (h ∷ more) same =
-            absurd (run.none (at e.thread h)
+        -- At the end of the run nothing is left of the fronts.
+        no_path_left : (path : List ℕ) → thread_code walk_of_fronts.left e.thread ≡ path → path ≡ []
+        no_path_left [] same = refl
+        no_path_left (h ∷ more) same =
+            absurd (walk_of_fronts.none (event e.thread h)
             (subst (λ (path : List ℕ). Contains path h) (sym same) (Contains-head h h more refl)))
 
-    not_passing : (e : MemoryEvent)
-        → ((n e < n c) → ⊥)
-        → ((e.thread ≡ b.thread) × (e.position < b.position) → ⊥)
+    -- An event with neither property does not pass.
+    passes-false : (e : MemoryEvent)
+        → ((rank e < rank late_write) → ⊥)
+        → ((e.thread ≡ late_read.thread) × (e.position < late_read.position) → ⊥)
         → passes e.thread e.position ≡ false
-    not_passing e late_e other =
+    passes-false e late_e other =
         false_from_ne_true (passes e.thread e.position)
-        (λ p. elim (passing e.thread e.position p) [ inl early ↦ late_e early | inr own ↦ other own ])
+        (λ p. elim (passes_inv e.thread e.position p) [ inl early ↦ late_e early | inr own ↦ other own ])
 
-    loads : IsNext test is_load l b.thread run.end
-    loads =
-        next_at is_load b fr.1.0 load fr.1.1
-        (not_passing b (λ early. omega (arith, early, f.is_late.1)) (λ own. omega (arith, own.1)))
-        (λ h on less. by_thread b.thread h refl less)
+    -- After the run of the fronts the read is next in its thread.
+    IsNext-load : IsNext test is_load raced_location late_read.thread walk_of_fronts.end
+    IsNext-load =
+        IsNext-first_not_passing is_load late_read first_fr.read.is_event is_load-of_read first_fr.read.location_is
+        (passes-false late_read (λ early. omega (arith, early, first_write.is_late.rank_at_most)) (λ own. omega (arith, own.1)))
+        (λ h on less. passes-of_thread late_read.thread h refl less)
 
-    written : IsNext test writes l c.thread run.end
-    written =
-        next_at writes c fr.2.0 fr.2.2 fr.2.1 (not_passing c (λ early. omega (arith, early)) (λ own. two (sym own.0)))
-        (λ h on less. by_number c.thread h (po_up (at c.thread h) c (on, fr.2.0, refl, less)))
+    -- After the run of the fronts the write is next in its thread.
+    IsNext-write : IsNext test writes raced_location late_write.thread walk_of_fronts.end
+    IsNext-write =
+        IsNext-first_not_passing writes late_write first_fr.write.is_event first_fr.write.is_write first_fr.write.location_is
+        (passes-false late_write (λ early. omega (arith, early)) (λ own. threads_differ (sym own.0)))
+        (λ h on less. passes-of_number late_write.thread h (rank_increases-Po (event late_write.thread h) late_write
+        (record { first_event = on; second_event = first_fr.write.is_event; same_thread = refl; position_lt = less })))
 
     -- ---- the run from the store on
 
-    k_in : IsIn k
-    k_in = to_in k stored.po.0 (by_thread b.thread stored.k refl stored.po.3)
+    -- The store is in the front of its thread's path.
+    IsIn-earlier_store : IsIn earlier_store
+    IsIn-earlier_store =
+        IsIn-passes earlier_store Stored-of_read.po.first_event
+        (passes-of_thread late_read.thread Stored-of_read.position refl Stored-of_read.po.position_lt)
 
-    parts : Split ok candidate are run.events (start x86_language test) run.end k
-    parts = split ok candidate are run.events (start x86_language test) run.end k run.ran (run.has k k_in)
+    -- The run can be split at the store.
+    split_run : Split well_scoped candidate AreFronts-of_passes walk_of_fronts.events (start x86_language test) walk_of_fronts.end
+        earlier_store
+    split_run =
+        Split-of_run well_scoped candidate AreFronts-of_passes walk_of_fronts.events (start x86_language test) walk_of_fronts.end
+        earlier_store walk_of_fronts.ran (walk_of_fronts.has earlier_store IsIn-earlier_store)
 
+    -- Since then the read's thread has done nothing that waits for an empty buffer.
     quiet_since : (h : MemoryEvent)
-        → Contains parts.since h
-        → h.thread ≡ b.thread
+        → Contains split_run.since h
+        → h.thread ≡ late_read.thread
         → operation_is x86_language test needs_empty_buffer h ≡ false
-    quiet_since h c_h own =
-        let is = from_in h (run.all h (parts.among h c_h)) in
-        let later : n k ≤ n h = parts.later h c_h in
-        let before : h.position < b.position = elim (passing h.thread h.position is.1) [
+    quiet_since h c_h same_thread =
+        let is = IsIn_inv h (walk_of_fronts.all h (split_run.among h c_h)) in
+        let later : rank earlier_store ≤ rank h = split_run.later h c_h in
+        let before : h.position < late_read.position = elim (passes_inv h.thread h.position is.1) [
           | inr own_h ↦ own_h.1
-          | inl early ↦ elim (cases_order h.position b.position) [
-            | inl same ↦ absurd (let one : h ≡ b = ap₂ at own same in omega (arith, ap n one, early, f.is_late.1))
-            | inr (inl less) ↦ less
-            | inr (inr more) ↦ absurd (omega (arith, po_up b h (fr.1.0, is.0, sym own, more), early, f.is_late.1))
+          | inl early ↦ elim (cases_order h.position late_read.position) [
+            | inl same_position ↦
+                absurd (let same_event : h ≡ late_read = ap₂ event same_thread same_position in
+                omega (arith, ap rank same_event, early, first_write.is_late.rank_at_most))
+            | inr (inl position_lt) ↦ position_lt
+            | inr (inr position_gt) ↦ absurd (omega (
+              arith,
+              rank_increases-Po late_read h (record {
+                first_event = first_fr.read.is_event;
+                second_event = is.0;
+                same_thread = sym same_thread;
+                position_lt = position_gt;
+              }),
+              early,
+              first_write.is_late.rank_at_most,
+            ))
           ]
         ] in
-        elim (cases_order h.position stored.k) [
-          | inl same ↦
-              (let one : h ≡ k = ap₂ at own same in
-              ap (operation_is x86_language test needs_empty_buffer) one ∙ store_waits_not test k stored.store)
-          | inr (inl less) ↦ absurd (omega (arith, po_up h k (is.0, stored.po.0, own, less), later))
-          | inr (inr more) ↦
+        elim (cases_order h.position Stored-of_read.position) [
+          | inl same_position ↦
+              (let same_event : h ≡ earlier_store = ap₂ event same_thread same_position in
+              ap (operation_is x86_language test needs_empty_buffer) same_event
+              ∙ store_event_does_not_wait test earlier_store Stored-of_read.store)
+          | inr (inl position_lt) ↦ absurd (omega (
+            arith,
+            rank_increases-Po h earlier_store (record {
+              first_event = is.0;
+              second_event = Stored-of_read.po.first_event;
+              same_thread = same_thread;
+              position_lt = position_lt;
+            }),
+            later,
+          ))
+          | inr (inr position_gt) ↦
               false_from_ne_true (operation_is x86_language test needs_empty_buffer h)
-              (none_waits h (stored.po.0, is.0, sym own, more) (is.0, fr.1.0, own, before))
+              (none_waits_between h (record {
+                first_event = Stored-of_read.po.first_event;
+                second_event = is.0;
+                same_thread = sym same_thread;
+                position_lt = position_gt;
+              }) (record {
+                first_event = is.0;
+                second_event = first_fr.read.is_event;
+                same_thread = same_thread;
+                position_lt = before;
+              }))
         ]
 
-    there_is : slice_get (thread_code test.threads b.thread) stored.k ≡ Some parts.step.statement
-    there_is = ap (slice_get (thread_code test.threads b.thread)) (sym parts.stands) ∙ parts.step.at
+    -- The instruction at the store's position is the store.
+    statement_at_store : slice_get (thread_code test.threads late_read.thread) Stored-of_read.position
+        ≡ Some split_run.step.statement
+    statement_at_store = ap (slice_get (thread_code test.threads late_read.thread)) (sym split_run.stands) ∙ split_run.step.at
 
-    race : HasTriangularRace test
-    race = record {
-      q = b.thread;
-      p = c.thread;
-      two = λ one. two (sym one);
-      before = parts.before;
-      first = parts.first;
-      reached = parts.reached;
-      stored = parts.mid;
-      store = parts.step;
-      stores = sym (ap (λ o. option_map_or is_store (option_map x86_operation o) false) there_is) ∙ stored.store;
-      since = map (λ (e : MemoryEvent). e.thread) parts.since;
-      now = run.end;
-      quiet = quietly ok candidate are b.thread parts.since parts.mid run.end parts.ran quiet_since;
-      l = l;
-      apart = λ same. apart (ap (λ o. option_and_then location_of (option_map x86_operation o)) there_is ∙ same);
-      loads = loads;
-      written = written;
+    -- The test has a triangular race.
+    HasTriangularRace-of_late_read : HasTriangularRace test
+    HasTriangularRace-of_late_read = record {
+      q = late_read.thread;
+      p = late_write.thread;
+      threads_differ = λ one. threads_differ (sym one);
+      before = split_run.before;
+      first = split_run.first;
+      reached = split_run.reached;
+      stored = split_run.mid;
+      store = split_run.step;
+      stores =
+          sym (ap (λ o. option_map_or is_store (option_map x86_operation o) false) statement_at_store) ∙ Stored-of_read.store;
+      since = map (λ (e : MemoryEvent). e.thread) split_run.since;
+      now = walk_of_fronts.end;
+      quiet =
+          RunsToWithoutBarrier-Runs well_scoped candidate AreFronts-of_passes late_read.thread split_run.since split_run.mid
+          walk_of_fronts.end split_run.ran quiet_since;
+      l = raced_location;
+      apart = λ same. location_ne (ap (λ o. option_and_then location_of (option_map x86_operation o)) statement_at_store ∙ same);
+      loads = IsNext-load;
+      written = IsNext-write;
     }
 
   -- ---- one or the other
 
-  -- an execution that keeps the axioms is sequentially consistent, or its test has a triangular race
+  -- An execution that satisfies the axioms is sequentially consistent, or its test has a triangular race.
   pub sequential_or_race : IsSequentiallyConsistent x86_language test x ⊎ HasTriangularRace test
-  sequential_or_race = elim (least_event n FirstWrite first_write x.paths) [
-    | inl none ↦ inl (anchored_by.sequential_if axioms (λ r w from. elim (cases_lt (n r) (n w)) [
+  sequential_or_race = elim (least_of_paths_or_none rank FirstWrite FirstWrite-decidable x.paths) [
+    | inl none ↦ inl (anchored_by.IsSequentiallyConsistent-rank_increases axioms (λ r w from. elim (cases_lt (rank r) (rank w)) [
       | inl less ↦ less
-      | inr le ↦ absurd (elim (first_write r) [
-        | inl some ↦ none r from.1.0 some
-        | inr never ↦ elim (least_event n (IsLate r) (late r) x.paths) [
-          | inl nothing ↦ nothing w from.2.0 (from, le)
-          | inr (v, late_v, first) ↦ never (record { c = v; is_late = late_v; least = λ u lu. first u lu.0.2.0 lu })
+      | inr le ↦ absurd (elim (FirstWrite-decidable r) [
+        | inl some ↦ none r from.read.is_event some
+        | inr never ↦ elim (least_of_paths_or_none rank (IsLate r) (IsLate-decidable r) x.paths) [
+          | inl nothing ↦ nothing w from.write.is_event (record { fr = from; rank_at_most = le })
+          | inr (v, late_v, first) ↦
+              never (record { write = v; is_late = late_v; least = λ u lu. first u lu.fr.write.is_event lu })
         ]
       ])
     ]))
-    | inr (b, f, least) ↦ inr (race b f least)
+    | inr (b, f, least) ↦ inr (HasTriangularRace-of_late_read b f least)
   ]
 
 -- ---- of tests
@@ -419,24 +605,24 @@ module _
     (same : (test : X86Test) (o : FinalState)
     → IsWellScopedProgram test
     → InterleavingOutcome x86_language test o ↔ IsScOutcome x86_language test o) where
-  -- an outcome that the axioms allow is one by interleaving, or the test has a triangular race
+  -- An outcome that the axioms allow is one by interleaving, or the test has a triangular race.
   pub interleaving_or_race : (test : X86Test) (o : FinalState)
       → IsWellScopedProgram test
       → IsAllowed test o
       → InterleavingOutcome x86_language test o ⊎ HasTriangularRace test
-  interleaving_or_race test o ok a = elim (sequential_or_race ok a.candidate a.axioms) [
+  interleaving_or_race test o well_scoped a = elim (sequential_or_race well_scoped a.candidate a.axioms) [
     | inl sequential ↦
-        inl ((same test o ok).1 (record { execution = a.execution; candidate = a.candidate; sequential = sequential }))
+        inl ((same test o well_scoped).1 (record { execution = a.execution; candidate = a.candidate; sequential = sequential }))
     | inr race ↦ inr race
   ]
 
-  -- the axioms allow a test without triangular races exactly its outcomes by interleaving
-  pub race_free : ((test : X86Test) (o : FinalState) → IsScOutcome x86_language test o → IsAllowed test o)
+  -- The axioms allow a test without triangular races exactly its outcomes by interleaving.
+  pub IsAllowed-iff_InterleavingOutcome : ((test : X86Test) (o : FinalState) → IsScOutcome x86_language test o → IsAllowed test o)
       → (test : X86Test) (o : FinalState)
       → IsWellScopedProgram test
       → (HasTriangularRace test → ⊥)
       → IsAllowed test o ↔ InterleavingOutcome x86_language test o
-  race_free allowed test o ok raceless = (
-    λ a. elim (interleaving_or_race test o ok a) [ inl run ↦ run | inr race ↦ absurd (raceless race) ],
-    λ run. allowed test o ((same test o ok).0 run),
+  IsAllowed-iff_InterleavingOutcome allowed test o well_scoped raceless = (
+    λ a. elim (interleaving_or_race test o well_scoped a) [ inl run ↦ run | inr race ↦ absurd (raceless race) ],
+    λ run. allowed test o ((same test o well_scoped).0 run),
   )

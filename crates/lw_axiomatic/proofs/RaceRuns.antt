@@ -1,4 +1,5 @@
--- A run that is walked along an execution, seen from one of its events: what was done before it, and what since.
+-- A run that is walked along an execution, seen from one of its events: what was done before it, and what
+-- since. RaceFree reads off such a run that the read's thread has a store and no fence since.
 use Rattle.lw_axiomatic.proofs.Common.{IsWellScopedProgram, ◌≡◌, ℕ, ◌≤◌, inl, inr, false, List, [], ◌∷◌, map}
 use Rattle.lw_axiomatic.proofs.Common.{refl, sym, ap, ◌∙◌, subst, Contains, slice_get, option_map}
 use Rattle.lw_axiomatic.proofs.Common.{option_map_or, FinalState, thread_code, not-Contains-nil}
@@ -8,11 +9,12 @@ use Rattle.lw_axiomatic.proofs.Common.{Execution, operation_is, Interleaved, IsS
 use Rattle.lw_axiomatic.proofs.Common.{RunsToWithoutBarrier}
 use Rattle.lw_axiomatic.proofs.Walks.{AreFronts, RanBy}
 
-module _ {test : X86Test} (ok : IsWellScopedProgram test) {x : Execution} {o : FinalState}
+module _ {test : X86Test} (well_scoped : IsWellScopedProgram test) {x : Execution} {o : FinalState}
     (candidate : IsCandidate x86_language test x o) {rank : MemoryEvent → ℕ} {fronts tails : List (List ℕ)}
     (are : AreFronts x86_language test x rank fronts tails) where
+  -- The events of the list are executed one after another, each by a step of its thread.
   abbrev Runs : List MemoryEvent → Interleaved → Interleaved → Type 0
-  Runs = RanBy ok candidate are
+  Runs = RanBy well_scoped candidate are
 
   -- A run, split at one of its events: the steps before it, its own step, and the events since.
   pub record Split (events : List MemoryEvent) (s end : Interleaved) (e : MemoryEvent) : Type 0 where
@@ -27,14 +29,14 @@ module _ {test : X86Test} (ok : IsWellScopedProgram test) {x : Execution} {o : F
     pub later : (f : MemoryEvent) → Contains since f → rank e ≤ rank f
     pub among : (f : MemoryEvent) → Contains since f → Contains events f
 
-  -- a run can be split at each of its events
-  pub split : (events : List MemoryEvent) (s end : Interleaved) (e : MemoryEvent)
+  -- A run can be split at each of its events.
+  pub Split-of_run : (events : List MemoryEvent) (s end : Interleaved) (e : MemoryEvent)
       → Runs events s end
       → Contains events e
       → Split events s end e
-  split [] s end e ran c = absurd (not-Contains-nil e c)
-  split (f ∷ events) s last e (next, step, at, least, ran) c = elim (Contains-cons f e events c) [
-    | inl same ↦ subst (Split (f ∷ events) s last) same (record {
+  Split-of_run [] s end e ran is_member = absurd (not-Contains-nil e is_member)
+  Split-of_run (f ∷ events) s last e (next, step, at, least, ran) is_member = elim (Contains-cons f e events is_member) [
+    | inl is_head ↦ subst (Split (f ∷ events) s last) is_head (record {
       before = [];
       first = s;
       reached = refl;
@@ -46,8 +48,8 @@ module _ {test : X86Test} (ok : IsWellScopedProgram test) {x : Execution} {o : F
       later = least;
       among = λ g there. Contains-tail f g events there;
     })
-    | inr rest ↦
-        (let more : Split events next last e = split events next last e ran rest in
+    | inr in_tail ↦
+        (let more : Split events next last e = Split-of_run events next last e ran in_tail in
         record {
           before = f.thread ∷ more.before;
           first = more.first;
@@ -62,18 +64,18 @@ module _ {test : X86Test} (ok : IsWellScopedProgram test) {x : Execution} {o : F
         })
   ]
 
-  -- a run in which none of a thread's events waits for an empty store buffer is quiet for that thread
-  pub quietly : (q : ℕ) (events : List MemoryEvent) (s end : Interleaved)
+  -- A run in which none of a thread's events waits for an empty store buffer is quiet for that thread.
+  pub RunsToWithoutBarrier-Runs : (q : ℕ) (events : List MemoryEvent) (s end : Interleaved)
       → Runs events s end
       → ((f : MemoryEvent) → Contains events f → f.thread ≡ q → operation_is x86_language test needs_empty_buffer f ≡ false)
       → RunsToWithoutBarrier test q (map (λ (e : MemoryEvent). e.thread) events) s end
-  quietly q [] s end ran each = ran
-  quietly q (f ∷ events) s last (next, step, at, least, ran) each = (
+  RunsToWithoutBarrier-Runs q [] s end ran each = ran
+  RunsToWithoutBarrier-Runs q (f ∷ events) s last (next, step, at, least, ran) each = (
     next,
     step,
     λ own.
         sym (ap (λ o. option_map_or needs_empty_buffer (option_map x86_operation o) false)
         (ap (slice_get (thread_code test.threads f.thread)) (sym at) ∙ step.at))
         ∙ each f (Contains-head f f events refl) own,
-    quietly q events next last ran (λ g there. each g (Contains-tail f g events there)),
+    RunsToWithoutBarrier-Runs q events next last ran (λ g there. each g (Contains-tail f g events there)),
   )

@@ -1,83 +1,108 @@
--- Which executions that keep the axioms are sequentially consistent: those with a fence between each store and each later load that
--- reads what another thread then overwrites. And each sequentially consistent execution keeps the axioms.
+-- Which executions that satisfy the axioms are sequentially consistent: those with a fence between each store
+-- and each later load that reads what another thread then overwrites. Each sequentially consistent execution
+-- satisfies the axioms. The laws of fenced executions and tests cite this file.
 use Rattle.lw_axiomatic.proofs.Common.{◌≢◌, suc, ◌≤◌, inl, inr, sym, arith, cases_eq, or_cases, FinalState}
 use Rattle.lw_axiomatic.proofs.Common.{x86_language, X86Test, SatisfiesAxioms, IsAllowed, IsCandidate}
 use Rattle.lw_axiomatic.proofs.Common.{MemoryEvent, Execution, reads, operation_is, Fr, HasFenceBetween}
 use Rattle.lw_axiomatic.proofs.Common.{IsFenced, IsFencedWhereShared, IsFencedWhereOverwritten}
 use Rattle.lw_axiomatic.proofs.Common.{IsSequentiallyConsistent, IsScOutcome}
 use Rattle.lw_axiomatic.proofs.EventKinds.{write_or_load, write_stores_or_reads}
-use Rattle.lw_axiomatic.proofs.Anchored.{g, anchored, own, own_write, reading_accesses, kept_reading}
-use Rattle.lw_axiomatic.proofs.Anchored.{behind_waiting, before_waiting, sequential_if, fr_own, fr_when}
+use Rattle.lw_axiomatic.proofs.Anchored.{ghb_rank, anchored, anchored_at_most_top}
+use Rattle.lw_axiomatic.proofs.Anchored.{anchored_at_most_top-of_write, is_access-of_read}
+use Rattle.lw_axiomatic.proofs.Anchored.{ghb_rank_increases-Po_from_read, ghb_rank_increases-Po_to_waiting}
+use Rattle.lw_axiomatic.proofs.Anchored.{ghb_rank_increases-Po_from_waiting}
+use Rattle.lw_axiomatic.proofs.Anchored.{IsSequentiallyConsistent-rank_increases, rank_increases-Fr_in_thread}
+use Rattle.lw_axiomatic.proofs.Anchored.{rank_increases-Fr_of_low_anchor}
 
--- ---- every sequentially consistent execution keeps the axioms
+-- ---- every sequentially consistent execution satisfies the axioms
 
--- a sequentially consistent execution keeps the axioms
-pub sequential_keeps : (test : X86Test) (x : Execution) → IsSequentiallyConsistent x86_language test x → SatisfiesAxioms test x
-sequential_keeps test x (rank, up) = record {
-  coherence = (rank, λ a b. elim [ inl po ↦ up a b (inl po.0) | inr rest ↦ up a b (inr rest) ]);
-  happens_before = (
-    rank,
-    λ a b. elim [
-      | inl ppo ↦ up a b (inl ppo.0)
-      | inr (inl rfe) ↦ up a b (inr (inl rfe.0))
-      | inr (inr rest) ↦ up a b (inr (inr rest))
-    ],
-  );
+-- A sequentially consistent execution satisfies the axioms.
+pub SatisfiesAxioms-IsSequentiallyConsistent : (test : X86Test) (x : Execution)
+    → IsSequentiallyConsistent x86_language test x
+    → SatisfiesAxioms test x
+SatisfiesAxioms-IsSequentiallyConsistent test x acyclic = record {
+  coherence = record {
+    rank = acyclic.rank;
+    increases = λ a b. elim [ inl poloc ↦ acyclic.increases a b (inl poloc.po) | inr rest ↦ acyclic.increases a b (inr rest) ];
+  };
+  happens_before = record {
+    rank = acyclic.rank;
+    increases = λ a b. elim [
+      | inl ppo ↦ acyclic.increases a b (inl ppo.po)
+      | inr (inl rfe) ↦ acyclic.increases a b (inr (inl rfe.rf))
+      | inr (inr rest) ↦ acyclic.increases a b (inr (inr rest))
+    ];
+  };
 }
 
--- a sequentially consistent outcome is allowed
-pub sequential_is_allowed : (test : X86Test) (o : FinalState) → IsScOutcome x86_language test o → IsAllowed test o
-sequential_is_allowed test o s =
-    record { execution = s.execution; candidate = s.candidate; axioms = sequential_keeps test s.execution s.sequential }
+-- A sequentially consistent outcome is allowed.
+pub IsAllowed-IsScOutcome : (test : X86Test) (o : FinalState) → IsScOutcome x86_language test o → IsAllowed test o
+IsAllowed-IsScOutcome test o s = record {
+  execution = s.execution;
+  candidate = s.candidate;
+  axioms = SatisfiesAxioms-IsSequentiallyConsistent test s.execution s.sequential;
+}
 
 -- ---- fenced where another thread overwrites what is read
 
 module _ {test : X86Test} {x : Execution} (axioms : SatisfiesAxioms test x) (overwritten : IsFencedWhereOverwritten test x) where
-  -- a load that reads what was there before another thread's write has a fence behind each store before it
-  own_read : (r w : MemoryEvent) → Fr x86_language test x r w → r.thread ≢ w.thread → anchored axioms r ≤ suc (g axioms r)
-  own_read r w fr two = elim (write_or_load test r fr.0 fr.1.1) [
-    | inl writing ↦ own_write axioms r fr.1.0 writing
-    | inr load ↦
-        own axioms r fr.1.0 (reading_accesses axioms r fr.1.2)
+  -- A load that reads what was there before another thread's write has a fence after each store before it.
+  anchored_at_most_top-Fr_of_fenced : (r w : MemoryEvent)
+      → Fr x86_language test x r w
+      → r.thread ≢ w.thread
+      → anchored axioms r ≤ suc (ghb_rank axioms r)
+  anchored_at_most_top-Fr_of_fenced r w fr two = elim (write_or_load test r fr.on_location fr.read.location_is) [
+    | inl r_writes ↦ anchored_at_most_top-of_write axioms r fr.read.is_event r_writes
+    | inr r_loads ↦
+        anchored_at_most_top axioms r fr.read.is_event (is_access-of_read axioms r fr.read.is_read)
         (λ k po a. elim (or_cases (operation_is x86_language test reads k) _ a) [
-          | inl reading ↦ kept_reading axioms k r po reading
+          | inl reading ↦ ghb_rank_increases-Po_from_read axioms k r po reading
           | inr writing ↦ elim (write_stores_or_reads test k writing) [
-            | inr reading ↦ kept_reading axioms k r po reading
+            | inr reading ↦ ghb_rank_increases-Po_from_read axioms k r po reading
             | inl store ↦
-                (let f : HasFenceBetween test x k r = overwritten k r w (record { po = po; store = store; load = load }) fr two in
-                omega (arith, behind_waiting axioms k f.0 f.1 f.3, before_waiting axioms f.0 r f.2 f.3))
+                (let f : HasFenceBetween test x k r =
+                overwritten k r w (record { po = po; store = store; load = r_loads }) fr two in
+                omega (
+                  arith,
+                  ghb_rank_increases-Po_to_waiting axioms k f.fence f.after_first f.fence_waits,
+                  ghb_rank_increases-Po_from_waiting axioms f.fence r f.before_second f.fence_waits,
+                ))
           ]
         ])
   ]
 
-  -- an execution that keeps the axioms and is fenced where another thread overwrites is sequentially consistent
-  pub sequential : IsSequentiallyConsistent x86_language test x
-  sequential = sequential_if axioms (λ r w fr. elim (cases_eq r.thread w.thread) [
-    | inr two ↦ fr_when axioms r w fr (own_read r w fr two)
-    | inl one ↦ fr_own axioms r w fr one
-  ])
+  -- An execution that satisfies the axioms and is fenced where another thread overwrites is sequentially consistent.
+  pub IsSequentiallyConsistent-IsFencedWhereOverwritten : IsSequentiallyConsistent x86_language test x
+  IsSequentiallyConsistent-IsFencedWhereOverwritten =
+      IsSequentiallyConsistent-rank_increases axioms (λ r w fr. elim (cases_eq r.thread w.thread) [
+        | inr threads_differ ↦
+            rank_increases-Fr_of_low_anchor axioms r w fr (anchored_at_most_top-Fr_of_fenced r w fr threads_differ)
+        | inl same_thread ↦ rank_increases-Fr_in_thread axioms r w fr same_thread
+      ])
 
 -- ---- so are those with fences
 
--- a fenced execution is fenced where another thread overwrites
+-- A fenced execution is fenced where another thread overwrites.
 pub fenced_where_overwritten-from_fenced : (test : X86Test) (x : Execution) → IsFenced test x → IsFencedWhereOverwritten test x
 fenced_where_overwritten-from_fenced test x fenced a b c pair fr two = fenced a b pair
 
--- an execution that is fenced before loads of what other threads write is fenced where another thread overwrites
+-- An execution that is fenced before loads of what other threads write is fenced where another thread overwrites.
 pub fenced_where_overwritten-from_shared : (test : X86Test) (x : Execution)
     → IsFencedWhereShared test x
     → IsFencedWhereOverwritten test x
-fenced_where_overwritten-from_shared test x fenced a b c pair fr two =
-    elim (fenced a b pair) [ inl between ↦ between | inr own ↦ absurd (two (sym (own c fr.0 fr.1.1 fr.2))) ]
+fenced_where_overwritten-from_shared test x fenced a b c pair fr two = elim (fenced a b pair) [
+  | inl between ↦ between
+  | inr own ↦ absurd (two (sym (own c fr.on_location fr.read.location_is fr.write)))
+]
 
--- if each execution with an outcome that keeps the axioms is fenced where another thread overwrites, and the axioms allow the outcome,
--- it is sequentially consistent
-pub same_outcomes : (test : X86Test) (o : FinalState)
+-- If each execution with an outcome that satisfies the axioms is fenced where another thread overwrites, and the axioms allow the
+-- outcome, it is sequentially consistent.
+pub IsAllowed-iff_IsScOutcome : (test : X86Test) (o : FinalState)
     → ((x : Execution) → IsCandidate x86_language test x o → SatisfiesAxioms test x → IsFencedWhereOverwritten test x)
     → IsAllowed test o
     → IsScOutcome x86_language test o
-same_outcomes test o each a = record {
+IsAllowed-iff_IsScOutcome test o each a = record {
   execution = a.execution;
   candidate = a.candidate;
-  sequential = sequential a.axioms (each a.execution a.candidate a.axioms);
+  sequential = IsSequentiallyConsistent-IsFencedWhereOverwritten a.axioms (each a.execution a.candidate a.axioms);
 }

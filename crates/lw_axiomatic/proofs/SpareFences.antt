@@ -1,13 +1,15 @@
--- Spare MFENCEs can be inserted and no outcome is lost: an execution of the shorter test, without them, that keeps the axioms keeps
--- them in the longer test too. An event's rank there is by the greatest number, in global happens-before of the shorter test, of the
--- events that it comes after: by preserved program order, and because they are before an inserted MFENCE.
+-- Spare MFENCEs can be inserted and no outcome is lost: an execution of the shorter test, without them, that
+-- satisfies the axioms satisfies them in the longer test too. An event's rank there is by the greatest
+-- number, in global happens-before of the shorter test, of the events that it comes after: by preserved
+-- program order, and because they are before an inserted MFENCE. The law of spare fences cites it; the other
+-- direction is proved on the machine.
 use Rattle.lw_axiomatic.proofs.Common.{IsWellScopedProgram, max, X86Test, IsFencedTest, Execution, FinalState}
 use Rattle.lw_axiomatic.proofs.Common.{IsCandidate, x86_language, MemoryEvent, Po, subst, ◌<◌, arith, ap}
 use Rattle.lw_axiomatic.proofs.Common.{length, thread_code, PoLoc, sym, ◌∙◌, Co, ℕ, Reads, ◌≡◌, Some}
 use Rattle.lw_axiomatic.proofs.Common.{IsReadFrom, Rf, refl, Option, option_map, None, none-some, same_Some}
 use Rattle.lw_axiomatic.proofs.Common.{Fr, Coherence, inl, inr, if◌then◌else◌, ◌≤◌, SatisfiesAxioms}
 use Rattle.lw_axiomatic.proofs.Common.{Operation, Bool, operation_is, ◌+◌, ◌==◌, not, ◌&&◌, reads, ◌||◌}
-use Rattle.lw_axiomatic.proofs.Common.{writes, suc, ◌*◌, true, cond-true, false, cond-false, cases_Bool}
+use Rattle.lw_axiomatic.proofs.Common.{writes, suc, true, cond-true, false, cond-false, cases_Bool}
 use Rattle.lw_axiomatic.proofs.Common.{true≢false, and_parts, and_from, IsEvent, eq-eqb, eqb-true, ap₂}
 use Rattle.lw_axiomatic.proofs.Common.{or_right, or_left, or_cases, cases_lt, location, Writes, Ppo, AreSpare}
 use Rattle.lw_axiomatic.proofs.Common.{List, Instr, AreOnPath, Contains, IsInsertedAt, ◌⊎◌}
@@ -15,149 +17,170 @@ use Rattle.lw_axiomatic.proofs.Common.{IsLocationOnlyWrittenBy, [], get_or_past,
 use Rattle.lw_axiomatic.proofs.Common.{needs_empty_buffer, option_map_or, x86_operation, cases_order}
 use Rattle.lw_axiomatic.proofs.Common.{is_store, HappensBefore, IsAllowed, HasOtherFence}
 use Rattle.lw_axiomatic.proofs.Levels.{size, level, level-le, level-lt, level-suc}
-use Rattle.lw_axiomatic.proofs.Anchored.{g, behind_waiting, before_waiting}
-use Rattle.lw_axiomatic.proofs.EventKinds.{low, write_or_load, write_stores_or_reads}
+use Rattle.lw_axiomatic.proofs.Anchored.{ghb_rank, ghb_rank_increases-Po_to_waiting}
+use Rattle.lw_axiomatic.proofs.Anchored.{ghb_rank_increases-Po_from_waiting}
+use Rattle.lw_axiomatic.proofs.EventKinds.{position_below_size, write_or_load, write_stores_or_reads}
 use Rattle.lw_axiomatic.proofs.EventLists.{event}
-use Rattle.lw_axiomatic.proofs.FencedTests.{on_path, of_one_thread}
+use Rattle.lw_axiomatic.proofs.FencedTests.{AreOnPath-AreStoreAndLoad, IsOfOneThread-IsLocationOnlyWrittenBy}
 use Rattle.lw_axiomatic.proofs.Inserted.{IsKeptAt, inserted_or_kept, block-later, kept-not_inserted}
 use Rattle.lw_axiomatic.proofs.Timing.{anchor, anchor_above, anchor_least}
-use Rattle.lw_axiomatic.proofs.WithFences.{IsCandidate-with_fences, code_at, code_by, IsEvent-event_without}
-use Rattle.lw_axiomatic.proofs.WithFences.{is_kept-of_event, kind-event_without, position-in_code}
-use Rattle.lw_axiomatic.proofs.WithFences.{location-event_without, position-in_range, Reads-event_without}
-use Rattle.lw_axiomatic.proofs.WithFences.{with_fences, event_with, event_with-event_without, event_without}
-use Rattle.lw_axiomatic.proofs.WithFences.{event_without-event_with, Writes-event_without}
+use Rattle.lw_axiomatic.proofs.WithFences.{IsCandidate-with_fences, code_at, code_at-by_range}
+use Rattle.lw_axiomatic.proofs.WithFences.{IsEvent-event_without, is_kept-of_event, kind-event_without}
+use Rattle.lw_axiomatic.proofs.WithFences.{position-in_code, location-event_without, position-in_range}
+use Rattle.lw_axiomatic.proofs.WithFences.{Reads-event_without, with_fences, event_with}
+use Rattle.lw_axiomatic.proofs.WithFences.{event_with-event_without, event_without, event_without-event_with}
+use Rattle.lw_axiomatic.proofs.WithFences.{Writes-event_without}
 use Rattle.lw_litmus.specs.Operations as operations
 
 -- ---- Relations of the longer test's execution are relations of the shorter test's.
 
-module _ {test fenced : X86Test} (f : IsFencedTest test fenced) (ok : IsWellScopedProgram fenced) {x : Execution} {o : FinalState}
-    (candidate : IsCandidate x86_language test x o) where
+module _ {test fenced : X86Test} (fencing : IsFencedTest test fenced) (well_scoped : IsWellScopedProgram fenced) {x : Execution}
+    {o : FinalState} (candidate : IsCandidate x86_language test x o) where
   -- The execution of the longer test.
-  abbrev y : Execution
-  y = with_fences f ok candidate
+  abbrev fenced_execution : Execution
+  fenced_execution = with_fences fencing well_scoped candidate
 
   -- Program order of events at instructions of both codes is program order in the shorter test.
   Po-event_without : (a b : MemoryEvent)
-      → Po y a b
-      → IsKeptAt (code_at f a.thread) a.position
-      → IsKeptAt (code_at f b.thread) b.position
-      → Po x (event_without f a) (event_without f b)
-  Po-event_without a b (among, also, same, less) kept last = (
-    IsEvent-event_without f ok candidate a among kept,
-    IsEvent-event_without f ok candidate b also last,
-    same,
-    subst (λ t. (code_at f a.thread).block a.position < (code_at f t).block b.position) same
-        (block-later (code_at f a.thread) a.position b.position kept less
-        (omega (arith, position-in_range f ok candidate b also, ap (λ t. length (thread_code fenced.threads t)) same))),
-  )
+      → Po fenced_execution a b
+      → IsKeptAt (code_at fencing a.thread) a.position
+      → IsKeptAt (code_at fencing b.thread) b.position
+      → Po x (event_without fencing a) (event_without fencing b)
+  Po-event_without a b po kept last = record {
+    first_event = IsEvent-event_without fencing well_scoped candidate a po.first_event kept;
+    second_event = IsEvent-event_without fencing well_scoped candidate b po.second_event last;
+    same_thread = po.same_thread;
+    position_lt =
+        subst (λ t. (code_at fencing a.thread).block a.position < (code_at fencing t).block b.position) po.same_thread
+        (block-later (code_at fencing a.thread) a.position b.position kept po.position_lt (omega (
+          arith,
+          position-in_range fencing well_scoped candidate b po.second_event,
+          ap (λ t. length (thread_code fenced.threads t)) po.same_thread,
+        )));
+  }
 
   -- Program order of two events on one location is that in the shorter test too.
   PoLoc-event_without : (a b : MemoryEvent)
-      → PoLoc x86_language fenced y a b
-      → PoLoc x86_language test x (event_without f a) (event_without f b)
-  PoLoc-event_without a b (po, l, at_a, at_b) =
-      let kept = is_kept-of_event f ok candidate a l po.0 at_a in
-      let last = is_kept-of_event f ok candidate b l po.1 at_b in (
-        Po-event_without a b po kept last,
-        l,
-        sym (location-event_without f a kept) ∙ at_a,
-        sym (location-event_without f b last) ∙ at_b,
-      )
+      → PoLoc x86_language fenced fenced_execution a b
+      → PoLoc x86_language test x (event_without fencing a) (event_without fencing b)
+  PoLoc-event_without a b poloc =
+      let kept =
+      is_kept-of_event fencing well_scoped candidate a poloc.on_location poloc.po.first_event poloc.first_location_is in
+      let last =
+      is_kept-of_event fencing well_scoped candidate b poloc.on_location poloc.po.second_event poloc.second_location_is in
+      record {
+        po = Po-event_without a b poloc.po kept last;
+        on_location = poloc.on_location;
+        first_location_is = sym (location-event_without fencing a kept) ∙ poloc.first_location_is;
+        second_location_is = sym (location-event_without fencing b last) ∙ poloc.second_location_is;
+      }
 
   -- Coherence order is coherence order in the shorter test.
   Co-event_without : (w v : MemoryEvent)
-      → Co x86_language fenced y w v
-      → Co x86_language test x (event_without f w) (event_without f v)
-  Co-event_without w v (l, writing, also, less) =
-      (l, Writes-event_without f ok candidate w l writing, Writes-event_without f ok candidate v l also, less)
+      → Co x86_language fenced fenced_execution w v
+      → Co x86_language test x (event_without fencing w) (event_without fencing v)
+  Co-event_without w v co = record {
+    on_location = co.on_location;
+    first_write = Writes-event_without fencing well_scoped candidate w co.on_location co.first_write;
+    second_write = Writes-event_without fencing well_scoped candidate v co.on_location co.second_write;
+    co_lt = co.co_lt;
+  }
 
   -- From the event that a read of the shorter test reads from, to the longer test and back is the same event.
   source-event_without : (r u : MemoryEvent) (l : ℕ)
       → Reads x86_language test x r l
       → x.rf r ≡ Some u
-      → event_without f (event_with f u) ≡ u
-  source-event_without r u l reading from =
-      let source = subst (IsReadFrom x86_language test x r l) from (candidate.rf r l reading) in
-      event_without-event_with f u (position-in_code test u l source.0.1)
+      → event_without fencing (event_with fencing u) ≡ u
+  source-event_without r u l reading source_is =
+      let source = subst (IsReadFrom x86_language test x r l) source_is (candidate.rf r l reading) in
+      event_without-event_with fencing u (position-in_code test u l source.write.location_is)
 
   -- Reads-from is reads-from in the shorter test.
   Rf-event_without : (w r : MemoryEvent)
-      → Rf x86_language fenced y w r
-      → Rf x86_language test x (event_without f w) (event_without f r)
-  Rf-event_without w r (l, writing, reading, from) = (
-    l,
-    Writes-event_without f ok candidate w l writing,
-    Reads-event_without f ok candidate r l reading,
-    by_source (x.rf (event_without f r)) refl from,
-  )
+      → Rf x86_language fenced fenced_execution w r
+      → Rf x86_language test x (event_without fencing w) (event_without fencing r)
+  Rf-event_without w r rf = record {
+    on_location = rf.on_location;
+    write = Writes-event_without fencing well_scoped candidate w rf.on_location rf.write;
+    read = Reads-event_without fencing well_scoped candidate r rf.on_location rf.read;
+    source_is = Rf_without-of_source (x.rf (event_without fencing r)) refl rf.source_is;
+  }
     where
-      by_source : (q : Option MemoryEvent)
-          → x.rf (event_without f r) ≡ q
-          → option_map (event_with f) q ≡ Some w
-          → x.rf (event_without f r) ≡ Some (event_without f w)
-      by_source None is mapped = absurd (none-some w mapped)
-      by_source (Some u) is mapped =
-          let back : event_without f (event_with f u) ≡ u =
-          source-event_without (event_without f r) u l (Reads-event_without f ok candidate r l reading) is in
-          is ∙ ap Some (sym back ∙ ap (event_without f) (same_Some (event_with f u) w mapped))
+      -- By the source that the read has in the shorter test.
+      Rf_without-of_source : (q : Option MemoryEvent)
+          → x.rf (event_without fencing r) ≡ q
+          → option_map (event_with fencing) q ≡ Some w
+          → x.rf (event_without fencing r) ≡ Some (event_without fencing w)
+      Rf_without-of_source None is mapped = absurd (none-some w mapped)
+      Rf_without-of_source (Some u) is mapped =
+          let back : event_without fencing (event_with fencing u) ≡ u =
+          source-event_without (event_without fencing r) u rf.on_location
+          (Reads-event_without fencing well_scoped candidate r rf.on_location rf.read) is in
+          is ∙ ap Some (sym back ∙ ap (event_without fencing) (same_Some (event_with fencing u) w mapped))
 
   -- From-reads are from-reads in the shorter test.
   Fr-event_without : (r w : MemoryEvent)
-      → Fr x86_language fenced y r w
-      → Fr x86_language test x (event_without f r) (event_without f w)
-  Fr-event_without r w (l, reading, writing, differ, before) = (
-    l,
-    Reads-event_without f ok candidate r l reading,
-    Writes-event_without f ok candidate w l writing,
-    λ same.
-        differ (sym (event_with-event_without f r (is_kept-of_event f ok candidate r l reading.0 reading.1))
-        ∙ ap (event_with f) same
-        ∙ event_with-event_without f w (is_kept-of_event f ok candidate w l writing.0 writing.1)),
-    λ u from.
-        (let back : event_without f (event_with f u) ≡ u =
-        source-event_without (event_without f r) u l (Reads-event_without f ok candidate r l reading) from in
-        subst (λ (z : MemoryEvent). x.co z < x.co (event_without f w)) back
-        (before (event_with f u) (ap (option_map (event_with f)) from))),
-  )
+      → Fr x86_language fenced fenced_execution r w
+      → Fr x86_language test x (event_without fencing r) (event_without fencing w)
+  Fr-event_without r w fr = record {
+    on_location = fr.on_location;
+    read = Reads-event_without fencing well_scoped candidate r fr.on_location fr.read;
+    write = Writes-event_without fencing well_scoped candidate w fr.on_location fr.write;
+    events_differ = λ same.
+        fr.events_differ (sym (event_with-event_without fencing r
+        (is_kept-of_event fencing well_scoped candidate r fr.on_location fr.read.is_event fr.read.location_is))
+        ∙ ap (event_with fencing) same
+        ∙ event_with-event_without fencing w
+        (is_kept-of_event fencing well_scoped candidate w fr.on_location fr.write.is_event fr.write.location_is));
+    source_before = λ u is_some.
+        (let back : event_without fencing (event_with fencing u) ≡ u =
+        source-event_without (event_without fencing r) u fr.on_location
+        (Reads-event_without fencing well_scoped candidate r fr.on_location fr.read) is_some in
+        subst (λ (z : MemoryEvent). x.co z < x.co (event_without fencing w)) back
+        (fr.source_before (event_with fencing u) (ap (option_map (event_with fencing)) is_some)));
+  }
 
-  -- So the longer test's execution keeps the axiom of coherence if the shorter test's does.
-  pub Coherence-with_fences : Coherence test x → Coherence fenced y
-  Coherence-with_fences (rank, up) = (
-    λ e. rank (event_without f e),
-    λ a b. elim [
-      | inl po ↦ up (event_without f a) (event_without f b) (inl (PoLoc-event_without a b po))
-      | inr (inl rf) ↦ up (event_without f a) (event_without f b) (inr (inl (Rf-event_without a b rf)))
-      | inr (inr (inl co)) ↦ up (event_without f a) (event_without f b) (inr (inr (inl (Co-event_without a b co))))
-      | inr (inr (inr fr)) ↦ up (event_without f a) (event_without f b) (inr (inr (inr (Fr-event_without a b fr))))
-    ],
-  )
+  -- The longer test's execution keeps the axiom of coherence if the shorter test's does.
+  pub Coherence-with_fences : Coherence test x → Coherence fenced fenced_execution
+  Coherence-with_fences acyclic = record {
+    rank = λ e. acyclic.rank (event_without fencing e);
+    increases = λ a b. elim [
+      | inl po ↦ acyclic.increases (event_without fencing a) (event_without fencing b) (inl (PoLoc-event_without a b po))
+      | inr (inl rf) ↦ acyclic.increases (event_without fencing a) (event_without fencing b) (inr (inl (Rf-event_without a b rf)))
+      | inr (inr (inl co)) ↦
+          acyclic.increases (event_without fencing a) (event_without fencing b) (inr (inr (inl (Co-event_without a b co))))
+      | inr (inr (inr fr)) ↦
+          acyclic.increases (event_without fencing a) (event_without fencing b) (inr (inr (inr (Fr-event_without a b fr))))
+    ];
+  }
 
 -- ---- Ranks of the longer test's events.
 
-module _ {test fenced : X86Test} (f : IsFencedTest test fenced) (ok : IsWellScopedProgram fenced) {x : Execution} {o : FinalState}
-    (candidate : IsCandidate x86_language test x o) (axioms : SatisfiesAxioms test x) where
+module _ {test fenced : X86Test} (fencing : IsFencedTest test fenced) (well_scoped : IsWellScopedProgram fenced) {x : Execution}
+    {o : FinalState} (candidate : IsCandidate x86_language test x o) (axioms : SatisfiesAxioms test x) where
   -- The execution of the longer test.
-  abbrev z : Execution
-  z = with_fences f ok candidate
+  abbrev longer_execution : Execution
+  longer_execution = with_fences fencing well_scoped candidate
 
-  abbrev is : (Operation → Bool) → MemoryEvent → Bool
-  is = operation_is x86_language fenced
+  -- Tests the kind of an event's operation in the longer test.
+  abbrev has_kind : (Operation → Bool) → MemoryEvent → Bool
+  has_kind = operation_is x86_language fenced
 
   -- Returns the number in global happens-before of the event of the shorter test.
   abbrev number : MemoryEvent → ℕ
-  number e = g axioms (event_without f e)
+  number e = ghb_rank axioms (event_without fencing e)
 
   -- The event is at an inserted MFENCE.
   abbrev is_inserted : MemoryEvent → Bool
-  is_inserted e = (code_at f e.thread).block (e.position + 1) == (code_at f e.thread).block e.position
+  is_inserted e = (code_at fencing e.thread).block (e.position + 1) == (code_at fencing e.thread).block e.position
 
   -- The event is at another fence, or accesses a location.
   abbrev counts : MemoryEvent → Bool
-  counts e = not (is_inserted e) && (is reads e || (is writes e || is operations.is_fence e))
+  counts e = not (is_inserted e) && (has_kind reads e || (has_kind writes e || has_kind operations.is_fence e))
 
   -- Everything later in the thread comes after the event, by preserved program order.
   abbrev leads : MemoryEvent → Bool
-  leads e = is reads e || is operations.is_fence e
+  leads e = has_kind reads e || has_kind operations.is_fence e
 
   -- Returns one more than the event's number if the event counts, and 0 otherwise.
   abbrev own : MemoryEvent → ℕ
@@ -168,12 +191,12 @@ module _ {test fenced : X86Test} (f : IsFencedTest test fenced) (ok : IsWellScop
   abbrev top : ℕ → ℕ → ℕ
   top t j =
       if is_inserted (event t j)
-      then anchor (λ k. own (event t k)) (thread_code z.paths t) j
+      then anchor (λ k. own (event t k)) (thread_code longer_execution.paths t) j
       else (if leads (event t j) then suc (number (event t j)) else 0)
 
   -- Returns the least number that an event may have because of the events up to it in its thread.
   abbrev base : MemoryEvent → ℕ
-  base e = anchor (top e.thread) (thread_code z.paths e.thread) e.position
+  base e = anchor (top e.thread) (thread_code longer_execution.paths e.thread) e.position
 
   -- Returns the greater of an event's base and its own number.
   abbrev height : MemoryEvent → ℕ
@@ -187,9 +210,11 @@ module _ {test fenced : X86Test} (f : IsFencedTest test fenced) (ok : IsWellScop
   abbrev rank : MemoryEvent → ℕ
   rank e = level width (height e) + e.position
 
+  -- An event that counts has one more than its number.
   own-counting : (e : MemoryEvent) → counts e ≡ true → own e ≡ suc (number e)
   own-counting e h = cond-true (counts e) (suc (number e)) 0 h
 
+  -- Any other event has 0.
   own-other : (e : MemoryEvent) → counts e ≡ false → own e ≡ 0
   own-other e h = cond-false (counts e) (suc (number e)) 0 h
 
@@ -200,37 +225,47 @@ module _ {test fenced : X86Test} (f : IsFencedTest test fenced) (ok : IsWellScop
     | inl at_fence ↦ absurd (true≢false (sym (and_parts (not (is_inserted e)) _ h).0 ∙ ap not at_fence))
   ]
 
+  -- An access or another fence, if it is not inserted, counts.
   counts-from_kind : (e : MemoryEvent)
       → is_inserted e ≡ false
-      → (is reads e || (is writes e || is operations.is_fence e)) ≡ true
+      → (has_kind reads e || (has_kind writes e || has_kind operations.is_fence e)) ≡ true
       → counts e ≡ true
   counts-from_kind e not_at_fence kind = and_from (not (is_inserted e)) _ (ap not not_at_fence) kind
 
-  top-inserted : (t j : ℕ) → is_inserted (event t j) ≡ true → top t j ≡ anchor (λ k. own (event t k)) (thread_code z.paths t) j
+  -- An inserted fence passes on the numbers of all events before it.
+  top-inserted : (t j : ℕ)
+      → is_inserted (event t j) ≡ true
+      → top t j ≡ anchor (λ k. own (event t k)) (thread_code longer_execution.paths t) j
   top-inserted t j h = cond-true (is_inserted (event t j)) _ _ h
 
+  -- Any other event passes on its own number if it leads, and 0 otherwise.
   top-kept : (t j : ℕ) → is_inserted (event t j) ≡ false → top t j ≡ (if leads (event t j) then suc (number (event t j)) else 0)
   top-kept t j h = cond-false (is_inserted (event t j)) _ _ h
 
+  -- An event that leads passes on its number.
   top-leading : (t j : ℕ) → is_inserted (event t j) ≡ false → leads (event t j) ≡ true → top t j ≡ suc (number (event t j))
   top-leading t j h leading = top-kept t j h ∙ cond-true (leads (event t j)) _ 0 leading
 
+  -- Any other event passes on nothing.
   top-other : (t j : ℕ) → is_inserted (event t j) ≡ false → leads (event t j) ≡ false → top t j ≡ 0
   top-other t j h not_leading = top-kept t j h ∙ cond-false (leads (event t j)) _ 0 not_leading
 
   -- An event that is not at an inserted MFENCE is at an instruction of both codes.
-  is_kept-from_not_inserted : (e : MemoryEvent) → IsEvent z e → is_inserted e ≡ false → IsKeptAt (code_at f e.thread) e.position
+  is_kept-from_not_inserted : (e : MemoryEvent)
+      → IsEvent longer_execution e
+      → is_inserted e ≡ false
+      → IsKeptAt (code_at fencing e.thread) e.position
   is_kept-from_not_inserted e among not_at_fence =
-      elim (inserted_or_kept (code_at f e.thread) e.position (position-in_range f ok candidate e among)) [
+      elim (inserted_or_kept (code_at fencing e.thread) e.position (position-in_range fencing well_scoped candidate e among)) [
         | inr kept ↦ kept
         | inl inserted ↦ absurd (true≢false (sym (eq-eqb _ _ inserted.inserted) ∙ not_at_fence))
       ]
 
   -- An event at an instruction of both codes is not at an inserted MFENCE.
-  not_inserted-from_kept : (e : MemoryEvent) → IsKeptAt (code_at f e.thread) e.position → is_inserted e ≡ false
+  not_inserted-from_kept : (e : MemoryEvent) → IsKeptAt (code_at fencing e.thread) e.position → is_inserted e ≡ false
   not_inserted-from_kept e kept = elim (cases_Bool (is_inserted e)) [
     | inr not_at_fence ↦ not_at_fence
-    | inl at_fence ↦ absurd (kept-not_inserted (code_at f e.thread) e.position (eqb-true _ _ at_fence) kept)
+    | inl at_fence ↦ absurd (kept-not_inserted (code_at fencing e.thread) e.position (eqb-true _ _ at_fence) kept)
   ]
 
   -- ---- Numbers increase along preserved program order.
@@ -238,69 +273,73 @@ module _ {test fenced : X86Test} (f : IsFencedTest test fenced) (ok : IsWellScop
   -- Take two events in program order, neither at an inserted MFENCE. If the first reads, the second writes, or one is a fence, the
   -- second has the greater number.
   number-increasing : (a b : MemoryEvent)
-      → Po z a b
+      → Po longer_execution a b
       → is_inserted a ≡ false
       → is_inserted b ≡ false
-      → (is reads a || (is writes b || (is operations.is_fence a || is operations.is_fence b))) ≡ true
+      → (has_kind reads a || (has_kind writes b || (has_kind operations.is_fence a || has_kind operations.is_fence b))) ≡ true
       → number a < number b
   number-increasing a b po not_a not_b kind =
-      let kept = is_kept-from_not_inserted a po.0 not_a in
-      let last = is_kept-from_not_inserted b po.1 not_b in
-      let reading = kind-event_without f reads (λ c to other. refl) a kept in
-      let writing = kind-event_without f writes (λ c to other. refl) b last in
-      let fence = kind-event_without f operations.is_fence (λ c to other. refl) a kept in
-      let also = kind-event_without f operations.is_fence (λ c to other. refl) b last in
-      axioms.happens_before.1 (event_without f a) (event_without f b) (inl (
-        Po-event_without f ok candidate a b po kept last,
-        ap₂ (λ p q. p || q) (sym reading) (ap₂ (λ p q. p || q) (sym writing) (ap₂ (λ p q. p || q) (sym fence) (sym also))) ∙ kind,
-      ))
+      let kept = is_kept-from_not_inserted a po.first_event not_a in
+      let last = is_kept-from_not_inserted b po.second_event not_b in
+      let reading = kind-event_without fencing reads (λ c to other. refl) a kept in
+      let writing = kind-event_without fencing writes (λ c to other. refl) b last in
+      let fence = kind-event_without fencing operations.is_fence (λ c to other. refl) a kept in
+      let also = kind-event_without fencing operations.is_fence (λ c to other. refl) b last in
+      axioms.happens_before.increases (event_without fencing a) (event_without fencing b) (inl (record {
+        po = Po-event_without fencing well_scoped candidate a b po kept last;
+        is_preserved =
+            ap₂ (λ p q. p || q) (sym reading) (ap₂ (λ p q. p || q) (sym writing) (ap₂ (λ p q. p || q) (sym fence) (sym also)))
+            ∙ kind;
+      }))
 
   -- An event before a write has a lower number than the write.
   number-before_write : (a w : MemoryEvent)
-      → Po z a w
+      → Po longer_execution a w
       → is_inserted a ≡ false
       → is_inserted w ≡ false
-      → is writes w ≡ true
+      → has_kind writes w ≡ true
       → number a < number w
   number-before_write a w po not_a not_w writing =
-      number-increasing a w po not_a not_w (or_right (is reads a) _ (or_left (is writes w) _ writing))
+      number-increasing a w po not_a not_w (or_right (has_kind reads a) _ (or_left (has_kind writes w) _ writing))
 
   -- An event after one that leads has a greater number.
   number-after_leading : (a b : MemoryEvent)
-      → Po z a b
+      → Po longer_execution a b
       → is_inserted a ≡ false
       → is_inserted b ≡ false
       → leads a ≡ true
       → number a < number b
-  number-after_leading a b po not_a not_b leading = number-increasing a b po not_a not_b (elim (or_cases (is reads a) _ leading) [
-    | inl reading ↦ or_left (is reads a) _ reading
-    | inr fence ↦ or_right (is reads a) _ (or_right (is writes b) _ (or_left (is operations.is_fence a) _ fence))
-  ])
+  number-after_leading a b po not_a not_b leading =
+      number-increasing a b po not_a not_b (elim (or_cases (has_kind reads a) _ leading) [
+        | inl reading ↦ or_left (has_kind reads a) _ reading
+        | inr fence ↦
+            or_right (has_kind reads a) _ (or_right (has_kind writes b) _ (or_left (has_kind operations.is_fence a) _ fence))
+      ])
 
   -- An event's base is at most n, if the numbers of these events are below n: of those up to it that lead, and of those that count and
   -- are before an inserted MFENCE up to it.
   base-least : (e : MemoryEvent) (n : ℕ)
       → ((k : ℕ)
-      → IsEvent z (event e.thread k)
+      → IsEvent longer_execution (event e.thread k)
       → k ≤ e.position
       → is_inserted (event e.thread k) ≡ false
       → leads (event e.thread k) ≡ true
       → number (event e.thread k) < n)
       → ((k m : ℕ)
-      → IsEvent z (event e.thread k)
+      → IsEvent longer_execution (event e.thread k)
       → k ≤ e.position
       → is_inserted (event e.thread k) ≡ true
-      → IsEvent z (event e.thread m)
+      → IsEvent longer_execution (event e.thread m)
       → m < k
       → counts (event e.thread m) ≡ true
       → number (event e.thread m) < n)
       → base e ≤ n
   base-least e n leading fencing =
-      anchor_least (top e.thread) (thread_code z.paths e.thread) e.position n
+      anchor_least (top e.thread) (thread_code longer_execution.paths e.thread) e.position n
       (λ k among le. elim (cases_Bool (is_inserted (event e.thread k))) [
         | inl at_fence ↦
-            (let each : anchor (λ m. own (event e.thread m)) (thread_code z.paths e.thread) k ≤ n =
-            anchor_least (λ m. own (event e.thread m)) (thread_code z.paths e.thread) k n
+            (let each : anchor (λ m. own (event e.thread m)) (thread_code longer_execution.paths e.thread) k ≤ n =
+            anchor_least (λ m. own (event e.thread m)) (thread_code longer_execution.paths e.thread) k n
             (λ m on up. elim (cases_Bool (counts (event e.thread m))) [
               | inr not_counting ↦ omega (arith, own-other (event e.thread m) not_counting)
               | inl counting ↦ elim (cases_lt m k) [
@@ -331,75 +370,82 @@ module _ {test fenced : X86Test} (f : IsFencedTest test fenced) (ok : IsWellScop
 
   -- An event that reads or writes a location counts.
   counts-from_access : (e : MemoryEvent) (l : ℕ)
-      → IsEvent z e
+      → IsEvent longer_execution e
       → location x86_language fenced e ≡ Some l
-      → (is reads e || is writes e) ≡ true
+      → (has_kind reads e || has_kind writes e) ≡ true
       → (is_inserted e ≡ false) × (counts e ≡ true)
   counts-from_access e l among located access =
-      let not_at_fence : is_inserted e ≡ false = not_inserted-from_kept e (is_kept-of_event f ok candidate e l among located) in (
+      let not_at_fence : is_inserted e ≡ false =
+      not_inserted-from_kept e (is_kept-of_event fencing well_scoped candidate e l among located) in (
         not_at_fence,
-        counts-from_kind e not_at_fence (elim (or_cases (is reads e) _ access) [
-          | inl reading ↦ or_left (is reads e) _ reading
-          | inr writing ↦ or_right (is reads e) _ (or_left (is writes e) _ writing)
+        counts-from_kind e not_at_fence (elim (or_cases (has_kind reads e) _ access) [
+          | inl reading ↦ or_left (has_kind reads e) _ reading
+          | inr writing ↦ or_right (has_kind reads e) _ (or_left (has_kind writes e) _ writing)
         ]),
       )
 
   -- A write has a lower rank than an event that counts and has a greater number.
   rank-after_write : (w e : MemoryEvent) (l : ℕ)
-      → Writes x86_language fenced z w l
+      → Writes x86_language fenced longer_execution w l
       → counts e ≡ true
       → number w < number e
       → rank w < rank e
   rank-after_write w e l writing counting less =
-      let facts = counts-from_access w l writing.0 writing.1 (or_right (is reads w) _ writing.2) in
+      let facts = counts-from_access w l writing.is_event writing.location_is (or_right (has_kind reads w) _ writing.is_write) in
       let by_base : base w ≤ suc (number w) =
       base-least w (suc (number w)) (λ k among le not_at_fence leading. elim (cases_lt k w.position) [
         | inl before ↦
             (let order : number (event w.thread k) < number w =
-            number-before_write (event w.thread k) w (among, writing.0, refl, before) not_at_fence facts.0 writing.2 in
+            number-before_write (event w.thread k) w
+            (record { first_event = among; second_event = writing.is_event; same_thread = refl; position_lt = before })
+            not_at_fence facts.0 writing.is_write in
             omega (arith, order))
         | inr same ↦
             (let one : k ≡ w.position = omega (arith, same, le) in omega (arith, ap (λ j. number (event w.thread j)) one))
       ]) (λ k m among le at_fence on before counting_m.
       (let order : number (event w.thread m) < number w =
-      number-before_write (event w.thread m) w (on, writing.0, refl, omega (arith, before, le))
-      (counts-not_inserted (event w.thread m) counting_m) facts.0 writing.2 in
+      number-before_write (event w.thread m) w
+      (record { first_event = on; second_event = writing.is_event; same_thread = refl; position_lt = omega (arith, before, le) })
+      (counts-not_inserted (event w.thread m) counting_m) facts.0 writing.is_write in
       omega (arith, order))) in
       let below : rank w ≤ level width (suc (number w)) + w.position =
       rank-at_most w (suc (number w)) by_base (omega (arith, own-counting w facts.1)) in
       let next = level-lt width (suc (number w)) (suc (number e)) (omega (arith, less)) in
-      omega (arith, below, rank-at_least e counting, next, low fenced w l writing.1)
+      omega (arith, below, rank-at_least e counting, next, position_below_size fenced w l writing.location_is)
 
   -- ---- Ranks increase along preserved program order.
 
   -- The base of a later event of a thread is no less.
   base-increasing : (t i j : ℕ) → i ≤ j → base (event t i) ≤ base (event t j)
   base-increasing t i j le =
-      anchor_least (top t) (thread_code z.paths t) i (base (event t j))
-      (λ k among up. anchor_above (top t) (thread_code z.paths t) j k among (omega (arith, le, up)))
+      anchor_least (top t) (thread_code longer_execution.paths t) i (base (event t j))
+      (λ k among up. anchor_above (top t) (thread_code longer_execution.paths t) j k among (omega (arith, le, up)))
 
+  -- Along preserved program order the own numbers do not exceed the later event's number or base.
   own-increasing : (t i j : ℕ)
-      → Ppo x86_language fenced z (event t i) (event t j)
+      → Ppo x86_language fenced longer_execution (event t i) (event t j)
       → own (event t i) ≤ max (base (event t j)) (own (event t j))
-  own-increasing t i j (po, kind) = elim (cases_Bool (counts (event t i))) [
+  own-increasing t i j ppo = elim (cases_Bool (counts (event t i))) [
     | inr not_counting ↦ omega (arith, own-other (event t i) not_counting)
     | inl counting ↦ elim (cases_Bool (is_inserted (event t j))) [
       | inl at_fence ↦ omega (
         arith,
-        anchor_above (λ k. own (event t k)) (thread_code z.paths t) j i po.0 (omega (arith, po.3)),
+        anchor_above (λ k. own (event t k)) (thread_code longer_execution.paths t) j i ppo.po.first_event
+            (omega (arith, ppo.po.position_lt)),
         top-inserted t j at_fence,
-        anchor_above (top t) (thread_code z.paths t) j j po.1 (omega arith),
+        anchor_above (top t) (thread_code longer_execution.paths t) j j ppo.po.second_event (omega arith),
       )
       | inr not_at_fence ↦ elim (cases_Bool (leads (event t i))) [
         | inl leading ↦ omega (
           arith,
           own-counting (event t i) counting,
           top-leading t i (counts-not_inserted (event t i) counting) leading,
-          anchor_above (top t) (thread_code z.paths t) j i po.0 (omega (arith, po.3)),
+          anchor_above (top t) (thread_code longer_execution.paths t) j i ppo.po.first_event (omega (arith, ppo.po.position_lt)),
         )
         | inr not_leading ↦
             (let less : number (event t i) < number (event t j) =
-            number-increasing (event t i) (event t j) po (counts-not_inserted (event t i) counting) not_at_fence kind in
+            number-increasing (event t i) (event t j) ppo.po (counts-not_inserted (event t i) counting) not_at_fence
+            ppo.is_preserved in
             omega (
               arith,
               own-counting (event t i) counting,
@@ -410,33 +456,36 @@ module _ {test fenced : X86Test} (f : IsFencedTest test fenced) (ok : IsWellScop
     ]
   ]
     where
+      -- If the earlier event does not lead, the later one is an access or a fence.
       kind-of_last : leads (event t i) ≡ false
-          → (is reads (event t j) || (is writes (event t j) || is operations.is_fence (event t j))) ≡ true
-      kind-of_last not_leading = elim (or_cases (is reads (event t i)) _ kind) [
-        | inl reading ↦ absurd (true≢false (sym (or_left (is reads (event t i)) _ reading) ∙ not_leading))
-        | inr rest ↦ elim (or_cases (is writes (event t j)) _ rest) [
-          | inl writing ↦ or_right (is reads (event t j)) _ (or_left (is writes (event t j)) _ writing)
-          | inr fences ↦ elim (or_cases (is operations.is_fence (event t i)) _ fences) [
-            | inl fence ↦ absurd (true≢false (sym (or_right (is reads (event t i)) _ fence) ∙ not_leading))
-            | inr fence ↦ or_right (is reads (event t j)) _ (or_right (is writes (event t j)) _ fence)
+          → (has_kind reads (event t j) || (has_kind writes (event t j) || has_kind operations.is_fence (event t j))) ≡ true
+      kind-of_last not_leading = elim (or_cases (has_kind reads (event t i)) _ ppo.is_preserved) [
+        | inl reading ↦ absurd (true≢false (sym (or_left (has_kind reads (event t i)) _ reading) ∙ not_leading))
+        | inr rest ↦ elim (or_cases (has_kind writes (event t j)) _ rest) [
+          | inl writing ↦ or_right (has_kind reads (event t j)) _ (or_left (has_kind writes (event t j)) _ writing)
+          | inr fences ↦ elim (or_cases (has_kind operations.is_fence (event t i)) _ fences) [
+            | inl fence ↦ absurd (true≢false (sym (or_right (has_kind reads (event t i)) _ fence) ∙ not_leading))
+            | inr fence ↦ or_right (has_kind reads (event t j)) _ (or_right (has_kind writes (event t j)) _ fence)
           ]
         ]
       ]
 
-  rank-Ppo : (a b : MemoryEvent) → Ppo x86_language fenced z a b → rank a < rank b
+  -- The ranks increase along preserved program order.
+  rank-Ppo : (a b : MemoryEvent) → Ppo x86_language fenced longer_execution a b → rank a < rank b
   rank-Ppo a b ppo =
-      subst (λ t. Ppo x86_language fenced z a (event t b.position) → rank a < rank (event t b.position)) ppo.0.2 (λ there.
+      subst (λ t. Ppo x86_language fenced longer_execution a (event t b.position) → rank a < rank (event t b.position))
+      ppo.po.same_thread (λ there.
       let c : MemoryEvent = event a.thread b.position in
       let le : height a ≤ height c = omega (
         arith,
-        base-increasing a.thread a.position b.position (omega (arith, there.0.3)),
+        base-increasing a.thread a.position b.position (omega (arith, there.po.position_lt)),
         own-increasing a.thread a.position b.position there,
       ) in
-      omega (arith, there.0.3, level-le width (height a) (height c) le)) ppo
+      omega (arith, there.po.position_lt, level-le width (height a) (height c) le)) ppo
 
   -- ---- Ranks increase along from-reads, if the MFENCEs are spare.
 
-  module _ (spare : AreSpare test fenced f) where
+  module _ (spare : AreSpare test fenced fencing) where
     -- A store and a load that an inserted MFENCE separates are separated by an instruction of both codes that waits, or the load is of
     -- what no other thread has an instruction to write.
     spare-of_thread : (t : ℕ) (path : List ℕ) (i index j : ℕ) (load : Instr)
@@ -444,92 +493,126 @@ module _ {test fenced : X86Test} (f : IsFencedTest test fenced) (ok : IsWellScop
         → Contains path index
         → i < index
         → index < j
-        → IsInsertedAt (code_at f t) index
-        → HasOtherFence (code_at f t) path i j ⊎ IsLocationOnlyWrittenBy fenced t load
-    spare-of_thread t path i index j load on among before behind inserted = by_thread (cases_lt t (length test.threads)) inserted
+        → IsInsertedAt (code_at fencing t) index
+        → HasOtherFence (code_at fencing t) path i j ⊎ IsLocationOnlyWrittenBy fenced t load
+    spare-of_thread t path i index j load on among before behind inserted =
+        HasOtherFence-in_range (cases_lt t (length test.threads)) inserted
       where
-        by_thread : (d : (t < length test.threads) ⊎ (length test.threads ≤ t))
-            → IsInsertedAt (code_by f t d) index
-            → HasOtherFence (code_by f t d) path i j ⊎ IsLocationOnlyWrittenBy fenced t load
-        by_thread (inl within) at = spare t within path i index j load on among before behind at
-        by_thread (inr past) at =
-            let none : thread_code fenced.threads t ≡ [] = get_or_past fenced.threads t [] (omega (arith, past, f.as_many)) in
-            absurd (none-some load (sym (ap (λ (code : List Instr). slice_get code j) none) ∙ on.load_at))
+        -- By whether the thread is one of the test.
+        HasOtherFence-in_range : (d : (t < length test.threads) ⊎ (length test.threads ≤ t))
+            → IsInsertedAt (code_at-by_range fencing t d) index
+            → HasOtherFence (code_at-by_range fencing t d) path i j ⊎ IsLocationOnlyWrittenBy fenced t load
+        HasOtherFence-in_range (inl within) at = spare t within path i index j load on among before behind at
+        HasOtherFence-in_range (inr past) at =
+            let is_nil : thread_code fenced.threads t ≡ [] =
+            get_or_past fenced.threads t [] (omega (arith, past, fencing.as_many)) in
+            absurd (none-some load (sym (ap (λ (code : List Instr). slice_get code j) is_nil) ∙ on.load_at))
 
     -- A store before an inserted MFENCE has a lower number than each write that comes in from-reads after a load behind the MFENCE.
     number-store : (m r w : MemoryEvent) (index l : ℕ)
-        → AreStoreAndLoad fenced z m r
+        → AreStoreAndLoad fenced longer_execution m r
         → is_inserted m ≡ false
         → is_inserted r ≡ false
-        → IsEvent z (event m.thread index)
+        → IsEvent longer_execution (event m.thread index)
         → m.position < index
         → index < r.position
         → is_inserted (event m.thread index) ≡ true
         → location x86_language fenced r ≡ Some l
-        → Writes x86_language fenced z w l
-        → Fr x86_language fenced z r w
+        → Writes x86_language fenced longer_execution w l
+        → Fr x86_language fenced longer_execution r w
         → number r < number w
         → number m < number w
     number-store m r w index l pair not_m not_r among before behind at_fence located writing fr less =
-        let candidate_z = IsCandidate-with_fences f ok candidate in
-        let on = on_path candidate_z m r pair in
-        elim (spare-of_thread m.thread (thread_code z.paths m.thread) m.position index r.position on.0 on.1 among before behind
-        (eqb-true _ _ at_fence)) [
+        let candidate_z = IsCandidate-with_fences fencing well_scoped candidate in
+        let on = AreOnPath-AreStoreAndLoad candidate_z m r pair in
+        elim (spare-of_thread m.thread (thread_code longer_execution.paths m.thread) m.position index r.position on.0 on.1 among
+        before behind (eqb-true _ _ at_fence)) [
           | inl (fence, other) ↦
               (let e : MemoryEvent = event m.thread fence.index_in in
-              let waiting : is needs_empty_buffer e ≡ true =
-              ap (λ i. option_map_or needs_empty_buffer (option_map x86_operation i) false) fence.at ∙ fence.is in
+              let waiting : has_kind needs_empty_buffer e ≡ true =
+              ap (λ i. option_map_or needs_empty_buffer (option_map x86_operation i) false) fence.at ∙ fence.fence_waits in
               let not_at_fence : is_inserted e ≡ false = elim (cases_Bool (is_inserted e)) [
                 | inr not_at_fence ↦ not_at_fence
                 | inl also ↦ absurd (other (eqb-true _ _ also))
               ] in
-              let to : Po z m e = (pair.po.0, fence.on_path, refl, fence.behind) in
-              let from : Po z e r = (fence.on_path, pair.po.1, pair.po.2, fence.before) in
+              let to : Po longer_execution m e = record {
+                first_event = pair.po.first_event;
+                second_event = fence.on_path;
+                same_thread = refl;
+                position_lt = fence.behind;
+              } in
+              let from : Po longer_execution e r = record {
+                first_event = fence.on_path;
+                second_event = pair.po.second_event;
+                same_thread = pair.po.same_thread;
+                position_lt = fence.before;
+              } in
               let kept = is_kept-from_not_inserted e fence.on_path not_at_fence in
-              let waiting_there : operation_is x86_language test needs_empty_buffer (event_without f e) ≡ true =
-              sym (kind-event_without f needs_empty_buffer (λ c k other. refl) e kept) ∙ waiting in
+              let waiting_there : operation_is x86_language test needs_empty_buffer (event_without fencing e) ≡ true =
+              sym (kind-event_without fencing needs_empty_buffer (λ c k other. refl) e kept) ∙ waiting in
               omega (
                 arith,
                 less,
-                behind_waiting axioms (event_without f m) (event_without f e)
-                    (Po-event_without f ok candidate m e to (is_kept-from_not_inserted m pair.po.0 not_m) kept) waiting_there,
-                before_waiting axioms (event_without f e) (event_without f r)
-                    (Po-event_without f ok candidate e r from kept (is_kept-from_not_inserted r pair.po.1 not_r)) waiting_there,
+                ghb_rank_increases-Po_to_waiting axioms (event_without fencing m) (event_without fencing e)
+                    (Po-event_without fencing well_scoped candidate m e to (is_kept-from_not_inserted m pair.po.first_event not_m)
+                    kept) waiting_there,
+                ghb_rank_increases-Po_from_waiting axioms (event_without fencing e) (event_without fencing r)
+                    (Po-event_without fencing well_scoped candidate e r from kept
+                    (is_kept-from_not_inserted r pair.po.second_event not_r)) waiting_there,
               ))
           | inr is_own ↦
-              (let one : w.thread ≡ r.thread = of_one_thread candidate_z m r pair is_own w l located writing in
+              (let same_thread : w.thread ≡ r.thread =
+              IsOfOneThread-IsLocationOnlyWrittenBy candidate_z m r pair is_own w l located writing in
               let later : r.position < w.position = elim (cases_order r.position w.position) [
-                | inl same ↦ absurd (fr.3 (ap₂ event (sym one) same))
-                | inr (inl order) ↦ order
-                | inr (inr order) ↦
-                    (let back =
-                    PoLoc-event_without f ok candidate w r ((writing.0, pair.po.1, one, order), l, writing.1, located) in
+                | inl same_position ↦ absurd (fr.events_differ (ap₂ event (sym same_thread) same_position))
+                | inr (inl position_lt) ↦ position_lt
+                | inr (inr position_gt) ↦
+                    (let back = PoLoc-event_without fencing well_scoped candidate w r (record {
+                      po = record {
+                        first_event = writing.is_event;
+                        second_event = pair.po.second_event;
+                        same_thread = same_thread;
+                        position_lt = position_gt;
+                      };
+                      on_location = l;
+                      first_location_is = writing.location_is;
+                      second_location_is = located;
+                    }) in
                     absurd (omega (
                       arith,
-                      axioms.coherence.1 (event_without f w) (event_without f r) (inl back),
-                      axioms.coherence.1 (event_without f r) (event_without f w)
-                          (inr (inr (inr (Fr-event_without f ok candidate r w fr)))),
+                      axioms.coherence.increases (event_without fencing w) (event_without fencing r) (inl back),
+                      axioms.coherence.increases (event_without fencing r) (event_without fencing w)
+                          (inr (inr (inr (Fr-event_without fencing well_scoped candidate r w fr)))),
                     )))
               ] in
-              number-before_write m w (pair.po.0, writing.0, pair.po.2 ∙ sym one, omega (arith, pair.po.3, later)) not_m
-              (counts-from_access w l writing.0 writing.1 (or_right (is reads w) _ writing.2)).0 writing.2)
+              number-before_write m w (record {
+                first_event = pair.po.first_event;
+                second_event = writing.is_event;
+                same_thread = pair.po.same_thread ∙ sym same_thread;
+                position_lt = omega (arith, pair.po.position_lt, later);
+              }) not_m
+              (counts-from_access w l writing.is_event writing.location_is (or_right (has_kind reads w) _ writing.is_write)).0
+              writing.is_write)
         ]
 
-    rank-Fr : (r w : MemoryEvent) → Fr x86_language fenced z r w → rank r < rank w
+    -- The ranks increase along from-reads.
+    rank-Fr : (r w : MemoryEvent) → Fr x86_language fenced longer_execution r w → rank r < rank w
     rank-Fr r w fr =
-        let l : ℕ = fr.0 in
-        let reading : Reads x86_language fenced z r l = fr.1 in
-        let writing : Writes x86_language fenced z w l = fr.2 in
-        let facts = counts-from_access r l reading.0 reading.1 (or_left (is reads r) _ reading.2) in
-        let also = counts-from_access w l writing.0 writing.1 (or_right (is reads w) _ writing.2) in
+        let l : ℕ = fr.on_location in
+        let reading : Reads x86_language fenced longer_execution r l = fr.read in
+        let writing : Writes x86_language fenced longer_execution w l = fr.write in
+        let facts = counts-from_access r l reading.is_event reading.location_is (or_left (has_kind reads r) _ reading.is_read) in
+        let also = counts-from_access w l writing.is_event writing.location_is (or_right (has_kind reads w) _ writing.is_write) in
         let less : number r < number w =
-        axioms.happens_before.1 (event_without f r) (event_without f w)
-        (inr (inr (inr (Fr-event_without f ok candidate r w fr)))) in
+        axioms.happens_before.increases (event_without fencing r) (event_without fencing w)
+        (inr (inr (inr (Fr-event_without fencing well_scoped candidate r w fr)))) in
         let by_base : base r ≤ number w =
         base-least r (number w) (λ k among le not_at_fence leading. elim (cases_lt k r.position) [
           | inl before ↦
               (let order : number (event r.thread k) < number r =
-              number-after_leading (event r.thread k) r (among, reading.0, refl, before) not_at_fence facts.0 leading in
+              number-after_leading (event r.thread k) r
+              (record { first_event = among; second_event = reading.is_event; same_thread = refl; position_lt = before })
+              not_at_fence facts.0 leading in
               omega (arith, order, less))
           | inr same ↦
               (let one : k ≡ r.position = omega (arith, same, le) in omega (arith, less, ap (λ j. number (event r.thread j)) one))
@@ -542,58 +625,77 @@ module _ {test fenced : X86Test} (f : IsFencedTest test fenced) (ok : IsWellScop
               (let one : k ≡ r.position = omega (arith, same, le) in
               absurd (true≢false (sym at_fence ∙ ap (λ j. is_inserted (event r.thread j)) one ∙ facts.0)))
         ] in
-        let po : Po z e r = (on, reading.0, refl, omega (arith, before, apart)) in
+        let po : Po longer_execution e r = record {
+          first_event = on;
+          second_event = reading.is_event;
+          same_thread = refl;
+          position_lt = omega (arith, before, apart);
+        } in
         elim (cases_Bool (leads e)) [
           | inl leading ↦
               (let order : number e < number r = number-after_leading e r po not_at_fence facts.0 leading in
               omega (arith, order, less))
-          | inr not_leading ↦ elim (write_or_load fenced r l reading.1) [
-            | inl writing_r ↦
-                (let order : number e < number r = number-before_write e r po not_at_fence facts.0 writing_r in
+          | inr not_leading ↦ elim (write_or_load fenced r l reading.location_is) [
+            | inl r_writes ↦
+                (let order : number e < number r = number-before_write e r po not_at_fence facts.0 r_writes in
                 omega (arith, order, less))
-            | inr load ↦
-                number-store e r w k l (record { po = po; store = is_store-from_counts e counting not_leading; load = load })
-                not_at_fence facts.0 among before apart at_fence reading.1 writing fr less
+            | inr r_loads ↦
+                number-store e r w k l (record { po = po; store = is_store-from_counts e counting not_leading; load = r_loads })
+                not_at_fence facts.0 among before apart at_fence reading.location_is writing fr less
           ]
         ])) in
         let below : rank r ≤ level width (number w) + r.position =
         rank-at_most r (number w) by_base (omega (arith, less, own-counting r facts.1)) in
-        omega (arith, below, rank-at_least w also.1, level-suc width (number w), low fenced r l reading.1)
+        omega (
+          arith,
+          below,
+          rank-at_least w also.1,
+          level-suc width (number w),
+          position_below_size fenced r l reading.location_is,
+        )
       where
-        is_store-from_counts : (e : MemoryEvent) → counts e ≡ true → leads e ≡ false → is is_store e ≡ true
+        -- An event that counts and does not lead is a store.
+        is_store-from_counts : (e : MemoryEvent) → counts e ≡ true → leads e ≡ false → has_kind is_store e ≡ true
         is_store-from_counts e counting not_leading =
-            elim (or_cases (is reads e) _ (and_parts (not (is_inserted e)) _ counting).1) [
-              | inl reading ↦ absurd (true≢false (sym (or_left (is reads e) _ reading) ∙ not_leading))
-              | inr rest ↦ elim (or_cases (is writes e) _ rest) [
-                | inr fence ↦ absurd (true≢false (sym (or_right (is reads e) _ fence) ∙ not_leading))
+            elim (or_cases (has_kind reads e) _ (and_parts (not (is_inserted e)) _ counting).1) [
+              | inl reading ↦ absurd (true≢false (sym (or_left (has_kind reads e) _ reading) ∙ not_leading))
+              | inr rest ↦ elim (or_cases (has_kind writes e) _ rest) [
+                | inr fence ↦ absurd (true≢false (sym (or_right (has_kind reads e) _ fence) ∙ not_leading))
                 | inl writing ↦ elim (write_stores_or_reads fenced e writing) [
                   | inl store ↦ store
-                  | inr reading ↦ absurd (true≢false (sym (or_left (is reads e) _ reading) ∙ not_leading))
+                  | inr reading ↦ absurd (true≢false (sym (or_left (has_kind reads e) _ reading) ∙ not_leading))
                 ]
               ]
             ]
 
     -- Ranks increase along global happens-before.
-    rank-HappensBefore : (a b : MemoryEvent) → HappensBefore fenced z a b → rank a < rank b
+    rank-HappensBefore : (a b : MemoryEvent) → HappensBefore fenced longer_execution a b → rank a < rank b
     rank-HappensBefore a b (inl ppo) = rank-Ppo a b ppo
     rank-HappensBefore a b (inr (inl rfe)) =
-        let reading = rfe.0.2 in
+        let reading = rfe.rf.read in
         let less : number a < number b =
-        axioms.happens_before.1 (event_without f a) (event_without f b)
-        (inr (inl (Rf-event_without f ok candidate a b rfe.0, rfe.1))) in
-        rank-after_write a b rfe.0.0 rfe.0.1
-        (counts-from_access b rfe.0.0 reading.0 reading.1 (or_left (is reads b) _ reading.2)).1 less
+        axioms.happens_before.increases (event_without fencing a) (event_without fencing b) (inr (inl (record {
+          rf = Rf-event_without fencing well_scoped candidate a b rfe.rf;
+          threads_differ = rfe.threads_differ;
+        }))) in
+        rank-after_write a b rfe.rf.on_location rfe.rf.write
+        (counts-from_access b rfe.rf.on_location reading.is_event reading.location_is
+        (or_left (has_kind reads b) _ reading.is_read)).1 less
     rank-HappensBefore a b (inr (inr (inl co))) =
         let less : number a < number b =
-        axioms.happens_before.1 (event_without f a) (event_without f b)
-        (inr (inr (inl (Co-event_without f ok candidate a b co)))) in
-        rank-after_write a b co.0 co.1 (counts-from_access b co.0 co.2.0 co.2.1 (or_right (is reads b) _ co.2.2)).1 less
+        axioms.happens_before.increases (event_without fencing a) (event_without fencing b)
+        (inr (inr (inl (Co-event_without fencing well_scoped candidate a b co)))) in
+        rank-after_write a b co.on_location co.first_write
+        (counts-from_access b co.on_location co.second_write.is_event co.second_write.location_is
+        (or_right (has_kind reads b) _ co.second_write.is_write)).1 less
     rank-HappensBefore a b (inr (inr (inr fr))) = rank-Fr a b fr
 
-    -- So the longer test's execution keeps the axioms.
-    SatisfiesAxioms-with_fences : SatisfiesAxioms fenced z
-    SatisfiesAxioms-with_fences =
-        record { coherence = Coherence-with_fences f ok candidate axioms.coherence; happens_before = (rank, rank-HappensBefore) }
+    -- The longer test's execution satisfies the axioms.
+    SatisfiesAxioms-with_fences : SatisfiesAxioms fenced longer_execution
+    SatisfiesAxioms-with_fences = record {
+      coherence = Coherence-with_fences fencing well_scoped candidate axioms.coherence;
+      happens_before = record { rank = rank; increases = rank-HappensBefore };
+    }
 
 -- An outcome that the axioms allow a test is one that they allow it with spare MFENCEs inserted.
 pub IsAllowed-with_fences : {test fenced : X86Test} (f : IsFencedTest test fenced)
@@ -602,8 +704,8 @@ pub IsAllowed-with_fences : {test fenced : X86Test} (f : IsFencedTest test fence
     → {o : FinalState}
     → IsAllowed test o
     → IsAllowed fenced o
-IsAllowed-with_fences f ok spare a = record {
-  execution = with_fences f ok a.candidate;
-  candidate = IsCandidate-with_fences f ok a.candidate;
-  axioms = SatisfiesAxioms-with_fences f ok a.candidate a.axioms spare;
+IsAllowed-with_fences f well_scoped spare a = record {
+  execution = with_fences f well_scoped a.candidate;
+  candidate = IsCandidate-with_fences f well_scoped a.candidate;
+  axioms = SatisfiesAxioms-with_fences f well_scoped a.candidate a.axioms spare;
 }

@@ -1,4 +1,5 @@
--- The effect of a step by interleaving on memory and the registers, in either language.
+-- The effect of a step by interleaving on memory and the registers, in either language. Walks and
+-- FromInterleaving compare a step by interleaving with that of an execution's thread by this.
 use Rattle.lw_axiomatic.proofs.Common.{◌≡◌, ℕ, ◌⊎◌, inl, inr, true, false, List, Some, length, refl, ap}
 use Rattle.lw_axiomatic.proofs.Common.{length-set, slice_set, slice_index, Operation, Set, Sum, Compare}
 use Rattle.lw_axiomatic.proofs.Common.{Store, Load, FetchAdd, Fence, Branch, location_of, writes}
@@ -21,16 +22,16 @@ memory_case (Branch c to) regs m = inr (refl, refl)
 memory_case _ regs m = inl (refl, _, refl, refl)
 
 -- The word that an operation finds is the one at its location.
-pub found_there : (o : Operation) (l : ℕ) (m : List ℕ) → location_of o ≡ Some l → read_value o m ≡ slice_index m l
-found_there o l m e = ap (λ q. word_or_zero q m) e
+pub read_value-location_of : (o : Operation) (l : ℕ) (m : List ℕ) → location_of o ≡ Some l → read_value o m ≡ slice_index m l
+read_value-location_of o l m location_is = ap (λ q. word_or_zero q m) location_is
 
 -- An operation preserves the number of registers.
-pub registers_stay : (o : Operation) (s : ThreadState) (w : ℕ) → length (state_after o s w).regs ≡ length s.regs
-registers_stay (Set d v) s w = length-set s.regs d _
-registers_stay (Sum d a v) s w = length-set s.regs d _
-registers_stay (Compare a v) s w = refl
-registers_stay (Store x v) s w = refl
-registers_stay (FetchAdd d x v) s w = length-set_word_if_some s.regs d w
-registers_stay Fence s w = refl
-registers_stay (Branch c to) s w = refl
-registers_stay _ s w = length-set s.regs _ w
+pub state_after-register_count : (o : Operation) (s : ThreadState) (w : ℕ) → length (state_after o s w).regs ≡ length s.regs
+state_after-register_count (Set d v) s w = length-set s.regs d _
+state_after-register_count (Sum d a v) s w = length-set s.regs d _
+state_after-register_count (Compare a v) s w = refl
+state_after-register_count (Store x v) s w = refl
+state_after-register_count (FetchAdd d x v) s w = length-set_word_if_some s.regs d w
+state_after-register_count Fence s w = refl
+state_after-register_count (Branch c to) s w = refl
+state_after-register_count _ s w = length-set s.regs _ w

@@ -1,4 +1,6 @@
--- The order of an execution's items by their times: the fixed pairs stand, and what is newest by the times is so by the indices.
+-- The order of an execution's items by their times: each thread's preserved pairs are in it, and what is
+-- newest by the times is newest by the indices. So an execution with times becomes an order that the machine
+-- can run along (ToMachine).
 use Rattle.lw_axiomatic.proofs.Common.{IsWellScopedProgram, ◌≡◌, ℕ, suc, ◌<◌, ◌≤◌, ◌⊎◌, inl, inr, Bool, true}
 use Rattle.lw_axiomatic.proofs.Common.{false, Option, Some, None, refl, sym, ap, ap₂, ◌∙◌, arith}
 use Rattle.lw_axiomatic.proofs.Common.{if◌then◌else◌, List, [], ◌∷◌, length, true≢false, option_map}
@@ -8,142 +10,170 @@ use Rattle.lw_axiomatic.proofs.Common.{is_store, needs_empty_buffer, or_cases, w
 use Rattle.lw_axiomatic.proofs.Common.{x86_language, x86_operation, IsFlowPathFrom, X86Test, Before}
 use Rattle.lw_axiomatic.proofs.Common.{IsLinearExtension, Item, IsPathAssignment, item_at, items_of}
 use Rattle.lw_axiomatic.proofs.Common.{constraints_of, statement_needs_empty_buffer, item, thread_rank}
-use Rattle.lw_axiomatic.proofs.Common.{slot_by, slot_goes_up, IsItemOnPath-of_member, AreOrdered, keeps_all}
-use Rattle.lw_axiomatic.proofs.Common.{first_state, MemoryEvent, Execution, reads, operation_is, IsEvent}
-use Rattle.lw_axiomatic.proofs.Common.{Reads, Po, Ppo, IsCandidate, IsBefore, IsNewest, HasConsistentTimes}
-use Rattle.lw_axiomatic.proofs.Common.{forward_of}
-use Rattle.lw_axiomatic.proofs.EventKinds.{read_is_no_store, store_waits_none}
-use Rattle.lw_axiomatic.proofs.Paths.{goes_path}
-use Rattle.lw_axiomatic.proofs.ByTime.{by_time, is_order, earlier}
+use Rattle.lw_axiomatic.proofs.Common.{item_slot, thread_rank-increasing, IsItemOnPath-of_member, AreOrdered}
+use Rattle.lw_axiomatic.proofs.Common.{Respects-if_ordered, first_state, MemoryEvent, Execution, reads}
+use Rattle.lw_axiomatic.proofs.Common.{operation_is, IsEvent, Reads, Po, Ppo, IsCandidate, IsBefore, IsNewest}
+use Rattle.lw_axiomatic.proofs.Common.{HasConsistentTimes, JumpsForward-thread}
+use Rattle.lw_axiomatic.proofs.EventKinds.{read_is_no_store, store_op_does_not_wait}
+use Rattle.lw_axiomatic.proofs.Paths.{IsFlowPathFrom-ThreadExecutes}
+use Rattle.lw_axiomatic.proofs.ByTime.{by_time, IsOrder-by_time, Before-by_time}
 use Rattle.lw_axiomatic.proofs.Indices.{KeptOrder, turn, step_of, point_of, done, reached, Placed}
-use Rattle.lw_axiomatic.proofs.Indices.{step_placed, point_placed, from_list}
+use Rattle.lw_axiomatic.proofs.Indices.{step_placed, point_placed, Contains-IsMember}
 use Rattle.lw_litmus.specs.Operations as operations
 
 -- ---- the paths of a candidate are a choice
 
--- whole flow paths, one for each thread, are a choice
-choice_from : (program : List (List Instr)) (paths : List (List ℕ))
+-- Whole flow paths, one for each thread, are a path assignment.
+IsPathAssignment-flow_paths : (program : List (List Instr)) (paths : List (List ℕ))
     → length paths ≡ length program
     → ((t : ℕ) → t < length program → IsFlowPathFrom x86_language (thread_code program t) 0 (thread_code paths t))
     → IsPathAssignment x86_language program paths
-choice_from [] [] same each = tt
-choice_from (code ∷ program) (path ∷ paths) same each =
-    (each 0 (omega arith), choice_from program paths (omega (arith, same)) (λ t l. each (suc t) (omega (arith, l))))
-choice_from [] (path ∷ paths) same each = absurd (omega (arith, same))
-choice_from (code ∷ program) [] same each = absurd (omega (arith, same))
+IsPathAssignment-flow_paths [] [] same each = tt
+IsPathAssignment-flow_paths (code ∷ program) (path ∷ paths) same each = (
+  each 0 (omega arith),
+  IsPathAssignment-flow_paths program paths (omega (arith, same)) (λ t l. each (suc t) (omega (arith, l))),
+)
+IsPathAssignment-flow_paths [] (path ∷ paths) same each = absurd (omega (arith, same))
+IsPathAssignment-flow_paths (code ∷ program) [] same each = absurd (omega (arith, same))
 
-module _ {test : X86Test} (ok : IsWellScopedProgram test) {x : Execution} {o : FinalState}
+module _ {test : X86Test} (well_scoped : IsWellScopedProgram test) {x : Execution} {o : FinalState}
     (candidate : IsCandidate x86_language test x o) where
-  -- a candidate's paths are a choice
-  pub choice : IsPathAssignment x86_language test.threads x.paths
-  choice = choice_from test.threads x.paths candidate.as_many (λ t l.
-      (let g = candidate.threads t l in
-      goes_path x86_language x t (thread_code test.threads t) (thread_code x.paths t) (first_state _) g.0 g.1))
+  -- A candidate's paths are a path assignment.
+  pub candidate_paths_are_assignment : IsPathAssignment x86_language test.threads x.paths
+  candidate_paths_are_assignment = IsPathAssignment-flow_paths test.threads x.paths candidate.as_many (λ t l.
+      (let executes = candidate.threads t l in
+      IsFlowPathFrom-ThreadExecutes x86_language x t (thread_code test.threads t) (thread_code x.paths t) (first_state _)
+      executes.end executes.executes))
 
   module _ {doneT reachedT : MemoryEvent → ℕ} (timed : HasConsistentTimes test x doneT reachedT) where
+    -- An event's time: when it reaches memory, for a drain, and when it is done, for a step.
     abbrev time_of : Bool → MemoryEvent → ℕ
     time_of true e = reachedT e
     time_of false e = doneT e
 
+    -- The time of an item's event.
     abbrev time : Item → ℕ
     time a = time_of a.is_drain (record { thread = a.thread; position = a.position })
 
-    abbrev its : List Item
-    its = items_of x86_language test.threads x.paths
+    -- The items of the execution's paths.
+    abbrev all_items : List Item
+    all_items = items_of x86_language test.threads x.paths
 
+    -- The numbers of the items, sorted by time.
     abbrev pub order : List ℕ
-    order = by_time (λ i. time (item_at its i)) (length its)
+    order = by_time (λ i. time (item_at all_items i)) (length all_items)
 
     -- ---- the fixed pairs
 
-    on : (i : ℕ) (l : i < length its)
-        → IsEvent x (record { thread = (item_at its i).thread; position = (item_at its i).position })
-    on i l =
-        from_list (thread_code x.paths (item_at its i).thread) (item_at its i).position
-        (IsItemOnPath-of_member x86_language test.threads x.paths i l).on
+    -- Each item is of an event of the execution.
+    IsEvent-of_item : (i : ℕ) (l : i < length all_items)
+        → IsEvent x (record { thread = (item_at all_items i).thread; position = (item_at all_items i).position })
+    IsEvent-of_item i l =
+        Contains-IsMember (thread_code x.paths (item_at all_items i).thread) (item_at all_items i).position
+        (IsItemOnPath-of_member x86_language test.threads x.paths i l).on_path
 
-    store_there : (i : ℕ) (l : i < length its)
-        → (item_at its i).is_drain ≡ true
+    -- The event of a drain is a store.
+    is_store-of_drain : (i : ℕ) (l : i < length all_items)
+        → (item_at all_items i).is_drain ≡ true
         → operation_is x86_language test is_store
-        (record { thread = (item_at its i).thread; position = (item_at its i).position })
+        (record { thread = (item_at all_items i).thread; position = (item_at all_items i).position })
         ≡ true
-    store_there i l f =
-        let r = IsItemOnPath-of_member x86_language test.threads x.paths i l in
-        ap (λ q. option_map_or is_store (option_map x86_operation q) false) r.at
-        ∙ is_storing (x86_operation r.statement) (r.store f).0 (r.store f).1
+    is_store-of_drain i l f =
+        let on_path = IsItemOnPath-of_member x86_language test.threads x.paths i l in
+        ap (λ q. option_map_or is_store (option_map x86_operation q) false) on_path.at
+        ∙ is_storing (x86_operation on_path.statement) (on_path.store f).0 (on_path.store f).1
       where
+        -- What adds an entry is a store.
         is_storing : (q : Operation) (y : ℕ) → (if is_store q then location_of q else None) ≡ Some y → is_store q ≡ true
         is_storing q y e = elim (cases_Bool (is_store q)) [
           | inl s ↦ s
           | inr n ↦ absurd (none-some y (sym (cond-false (is_store q) (location_of q) None n) ∙ e))
         ]
 
+    -- What waits for an empty buffer is no store, and is a fence or writes.
     waits_kind : (q : Operation)
         → needs_empty_buffer q ≡ true
         → (is_store q ≡ false) × ((operations.is_fence q ≡ true) ⊎ (writes q ≡ true))
     waits_kind q w = (
-      elim (cases_Bool (is_store q)) [ inl s ↦ absurd (true≢false (sym w ∙ store_waits_none q s)) | inr n ↦ n ],
+      elim (cases_Bool (is_store q)) [ inl s ↦ absurd (true≢false (sym w ∙ store_op_does_not_wait q s)) | inr n ↦ n ],
       elim (or_cases (operations.is_fence q) _ w) [ inl fence ↦ inl fence | inr locked ↦ inr (or_right (is_store q) _ locked) ],
     )
 
+    -- A store writes.
     store_kind : (q : Operation) → is_store q ≡ true → writes q ≡ true
     store_kind (Store x v) s = refl
     store_kind _ s = absurd (true≢false (sym s))
 
-    kind_at : (kind : Operation → Bool) (i : ℕ) (l : i < length its)
-        → operation_is x86_language test kind (record { thread = (item_at its i).thread; position = (item_at its i).position })
+    -- The kind of an item's event is that of the item's instruction.
+    operation_is-of_item : (kind : Operation → Bool) (i : ℕ) (l : i < length all_items)
+        → operation_is x86_language test kind
+        (record { thread = (item_at all_items i).thread; position = (item_at all_items i).position })
         ≡ kind (x86_operation (IsItemOnPath-of_member x86_language test.threads x.paths i l).statement)
-    kind_at kind i l =
+    operation_is-of_item kind i l =
         ap (λ q. option_map_or kind (option_map x86_operation q) false)
         (IsItemOnPath-of_member x86_language test.threads x.paths i l).at
 
-    module _ (i k : ℕ) (less : i < k) (l : k < length its) (same : (item_at its i).thread ≡ (item_at its k).thread)
-        (ordered : AreOrdered x86_language test.threads (item_at its i) (item_at its k)) where
-      li : i < length its
+    module _ (i k : ℕ) (less : i < k) (l : k < length all_items)
+        (same : (item_at all_items i).thread ≡ (item_at all_items k).thread)
+        (ordered : AreOrdered x86_language test.threads (item_at all_items i) (item_at all_items k)) where
+      -- The first item's number is in range.
+      li : i < length all_items
       li = omega (arith, less, l)
 
+      -- The first item's event.
       abbrev ei : MemoryEvent
-      ei = record { thread = (item_at its i).thread; position = (item_at its i).position }
+      ei = record { thread = (item_at all_items i).thread; position = (item_at all_items i).position }
 
+      -- The second item's event.
       abbrev ek : MemoryEvent
-      ek = record { thread = (item_at its k).thread; position = (item_at its k).position }
+      ek = record { thread = (item_at all_items k).thread; position = (item_at all_items k).position }
 
-      slots : (b c : Bool)
-          → (item_at its i).is_drain ≡ b
-          → (item_at its k).is_drain ≡ c
-          → slot_by b ei.position < slot_by c ek.position
-      slots b c f g =
-          let up : thread_rank (item_at its i) < thread_rank (item_at its k) =
-          slot_goes_up x86_language test.threads x.paths (forward_of x86_language test ok) choice i k less l same in
-          omega (arith, up, ap (λ d. slot_by d ei.position) f, ap (λ d. slot_by d ek.position) g)
+      -- The first item has the lower slot in its thread.
+      slot_increases : (b c : Bool)
+          → (item_at all_items i).is_drain ≡ b
+          → (item_at all_items k).is_drain ≡ c
+          → item_slot b ei.position < item_slot c ek.position
+      slot_increases b c f g =
+          let up : thread_rank (item_at all_items i) < thread_rank (item_at all_items k) =
+          thread_rank-increasing x86_language test.threads x.paths (JumpsForward-thread x86_language test well_scoped)
+          candidate_paths_are_assignment i k less l same in
+          omega (arith, up, ap (λ d. item_slot d ei.position) f, ap (λ d. item_slot d ek.position) g)
 
-      in_po : ei.position < ek.position → Po x ei ek
-      in_po up = (on i li, on k l, same, up)
+      -- If their positions differ, their events are in program order.
+      Po-of_items : ei.position < ek.position → Po x ei ek
+      Po-of_items up =
+          record { first_event = IsEvent-of_item i li; second_event = IsEvent-of_item k l; same_thread = same; position_lt = up }
 
-      kept_writing : ei.position < ek.position → operation_is x86_language test writes ek ≡ true → Ppo x86_language test x ei ek
-      kept_writing up w = (
-        in_po up,
-        or_right (operation_is x86_language test reads ei) _ (or_left (operation_is x86_language test writes ek) _ w),
-      )
+      -- If the second one writes, their order is preserved.
+      Ppo-to_write : ei.position < ek.position → operation_is x86_language test writes ek ≡ true → Ppo x86_language test x ei ek
+      Ppo-to_write up w = record {
+        po = Po-of_items up;
+        is_preserved =
+            or_right (operation_is x86_language test reads ei) _ (or_left (operation_is x86_language test writes ek) _ w);
+      }
 
-      by_kinds : (b c : Bool) → (item_at its i).is_drain ≡ b → (item_at its k).is_drain ≡ c → time_of b ei < time_of c ek
-      by_kinds false false f g = timed.po ei ek (in_po (omega (arith, slots false false f g)))
-      by_kinds false true f g = elim (cases_eq ei.position ek.position) [
-        | inl one ↦
-            (let e : ei ≡ ek = ap₂ (λ t j. record { thread = t; position = j }) same one in
-            omega (arith, ap doneT e, timed.later ek (on k l) (store_there k l g)))
-        | inr ne ↦
-            (let up : ei.position < ek.position = omega (arith, slots false true f g, ne) in
-            omega (arith, timed.po ei ek (in_po up), timed.later ek (on k l) (store_there k l g)))
+      -- By whether each of the two items is a drain.
+      time_increases-by_kinds : (b c : Bool)
+          → (item_at all_items i).is_drain ≡ b
+          → (item_at all_items k).is_drain ≡ c
+          → time_of b ei < time_of c ek
+      time_increases-by_kinds false false f g = timed.po ei ek (Po-of_items (omega (arith, slot_increases false false f g)))
+      time_increases-by_kinds false true f g = elim (cases_eq ei.position ek.position) [
+        | inl same_position ↦
+            (let e : ei ≡ ek = ap₂ (λ t j. record { thread = t; position = j }) same same_position in
+            omega (arith, ap doneT e, timed.later ek (IsEvent-of_item k l) (is_store-of_drain k l g)))
+        | inr positions_differ ↦
+            (let up : ei.position < ek.position = omega (arith, slot_increases false true f g, positions_differ) in
+            omega (arith, timed.po ei ek (Po-of_items up), timed.later ek (IsEvent-of_item k l) (is_store-of_drain k l g)))
       ]
-      by_kinds true true f g =
+      time_increases-by_kinds true true f g =
           timed.ppo ei ek
-          (kept_writing (omega (arith, slots true true f g))
-          (kind_at writes k l
+          (Ppo-to_write (omega (arith, slot_increases true true f g))
+          (operation_is-of_item writes k l
           ∙ store_kind (x86_operation (IsItemOnPath-of_member x86_language test.threads x.paths k l).statement)
-          (sym (kind_at is_store k l) ∙ store_there k l g)))
-      by_kinds true false f g =
-          let up : ei.position < ek.position = omega (arith, slots true false f g) in
+          (sym (operation_is-of_item is_store k l) ∙ is_store-of_drain k l g)))
+      time_increases-by_kinds true false f g =
+          let up : ei.position < ek.position = omega (arith, slot_increases true false f g) in
           let op = x86_operation (IsItemOnPath-of_member x86_language test.threads x.paths k l).statement in
           let waiting : needs_empty_buffer (x86_operation (IsItemOnPath-of_member x86_language test.threads x.paths k
           l).statement)
@@ -157,104 +187,147 @@ module _ {test : X86Test} (ok : IsWellScopedProgram test) {x : Execution} {o : F
           let kinds =
           waits_kind (x86_operation (IsItemOnPath-of_member x86_language test.threads x.paths k l).statement) waiting in
           let late : reachedT ei < reachedT ek = timed.ppo ei ek (elim kinds.1 [
-            | inl fence ↦ (
-              in_po up,
-              or_right (operation_is x86_language test reads ei) _
+            | inl fence ↦ record {
+              po = Po-of_items up;
+              is_preserved =
+                  or_right (operation_is x86_language test reads ei) _
                   (or_right (operation_is x86_language test writes ek) _
-                  (or_right (operation_is x86_language test operations.is_fence ei) _ (kind_at operations.is_fence k l ∙ fence))),
-            )
-            | inr w ↦ kept_writing up (kind_at writes k l ∙ w)
+                  (or_right (operation_is x86_language test operations.is_fence ei) _
+                  (operation_is-of_item operations.is_fence k l ∙ fence)));
+            }
+            | inr w ↦ Ppo-to_write up (operation_is-of_item writes k l ∙ w)
           ]) in
-          omega (arith, late, timed.at_once ek (kind_at is_store k l ∙ kinds.0))
+          omega (arith, late, timed.at_once ek (operation_is-of_item is_store k l ∙ kinds.0))
 
-      in_time : time (item_at its i) < time (item_at its k)
-      in_time = by_kinds (item_at its i).is_drain (item_at its k).is_drain refl refl
+      -- Of two items that a constraint orders, the first has the earlier time.
+      time_increases : time (item_at all_items i) < time (item_at all_items k)
+      time_increases = time_increases-by_kinds (item_at all_items i).is_drain (item_at all_items k).is_drain refl refl
 
-    -- they are kept
-    pub keeps : IsLinearExtension (constraints_of x86_language test.threads its) order
-    keeps = (
-      is_order (λ i. time (item_at its i)) (length its),
-      keeps_all x86_language test.threads its order (λ i k less l same ordered.
-          earlier (λ i. time (item_at its i)) (length its) i k (omega (arith, less, l)) l (in_time i k less l same ordered)),
+    -- The order by times keeps all constraints.
+    pub IsLinearExtension-by_time : IsLinearExtension (constraints_of x86_language test.threads all_items) order
+    IsLinearExtension-by_time = (
+      IsOrder-by_time (λ i. time (item_at all_items i)) (length all_items),
+      Respects-if_ordered x86_language test.threads all_items order (λ i k less l same ordered.
+          Before-by_time (λ i. time (item_at all_items i)) (length all_items) i k (omega (arith, less, l)) l
+          (time_increases i k less l same ordered)),
     )
 
-    -- so it is an order of the items with times
-    abbrev pub given : KeptOrder test x.paths
-    given = record { ok = ok; choice = choice; order = order; keeps = keeps }
+    -- The order by times is an order of the items that keeps the constraints.
+    abbrev pub kept_order : KeptOrder test x.paths
+    kept_order = record {
+      well_scoped = well_scoped;
+      choice = candidate_paths_are_assignment;
+      order = order;
+      keeps = IsLinearExtension-by_time;
+    }
 
     -- ---- what is newest by the times is so by the indices
 
-    abbrev doneP : MemoryEvent → ℕ
-    doneP = done given
+    -- When an event is done: an index in the order.
+    abbrev done_index : MemoryEvent → ℕ
+    done_index = done kept_order
 
-    abbrev reachedP : MemoryEvent → ℕ
-    reachedP = reached given
+    -- When an event reaches memory: an index in the order.
+    abbrev reached_index : MemoryEvent → ℕ
+    reached_index = reached kept_order
 
-    sooner : (a b : Item) → Placed given a → Placed given b → time a < time b → turn given a < turn given b
-    sooner a b pa pb less =
+    -- An earlier time is an earlier turn.
+    turn_increases-time : (a b : Item)
+        → Placed kept_order a
+        → Placed kept_order b
+        → time a < time b
+        → turn kept_order a < turn kept_order b
+    turn_increases-time a b pa pb less =
         let before : Before order pa.index pb.index =
-        earlier (λ i. time (item_at its i)) (length its) pa.index pb.index pa.below pb.below
-        (omega (arith, less, ap time pa.is, ap time pb.is)) in
+        Before-by_time (λ i. time (item_at all_items i)) (length all_items) pa.index pb.index pa.below pb.below
+        (omega (arith, less, ap time pa.item_is, ap time pb.item_is)) in
         omega (arith, before, pa.index_is, pb.index_is)
 
-    point_time : (e : MemoryEvent) → time (point_of given e) ≡ reachedT e
-    point_time e = by_kind (operation_is x86_language test is_store e) refl
+    -- The item by which an event reaches memory has the time at which it does.
+    point_time : (e : MemoryEvent) → time (point_of kept_order e) ≡ reachedT e
+    point_time e = time_of_point-is_reached (operation_is x86_language test is_store e) refl
       where
-        by_kind : (b : Bool) → operation_is x86_language test is_store e ≡ b → time_of b e ≡ reachedT e
-        by_kind true s = refl
-        by_kind false s = sym (timed.at_once e s)
+        -- By whether the event is a store.
+        time_of_point-is_reached : (b : Bool) → operation_is x86_language test is_store e ≡ b → time_of b e ≡ reachedT e
+        time_of_point-is_reached true s = refl
+        time_of_point-is_reached false s = sym (timed.at_once e s)
 
     module _ (r : MemoryEvent) (l : ℕ) (reading : Reads x86_language test x r l) where
-      r_step : Placed given (step_of given r)
-      r_step = step_placed given r reading.0
+      -- The read's step is one of the items.
+      r_step : Placed kept_order (step_of kept_order r)
+      r_step = step_placed kept_order r reading.is_event
 
-      at_once : reachedT r ≡ doneT r
-      at_once = timed.at_once r (read_is_no_store test r reading.2)
+      -- A read reaches memory when it is done, by the times.
+      read_reached_is_done : reachedT r ≡ doneT r
+      read_reached_is_done = timed.at_once r (read_is_no_store test r reading.is_read)
 
-      r_turn : reachedP r ≡ doneP r
-      r_turn = ap (λ b. turn given (item r.thread r.position b)) (read_is_no_store test r reading.2)
+      -- By the indices too, the read reaches memory when it is done.
+      r_turn : reached_index r ≡ done_index r
+      r_turn = ap (λ b. turn kept_order (item r.thread r.position b)) (read_is_no_store test r reading.is_read)
 
-      -- before it by the indices, before it by the times
-      to_times : (w : MemoryEvent) → IsEvent x w → IsBefore x doneP reachedP w r → IsBefore x doneT reachedT w r
-      to_times w there (inr po) = inr po
-      to_times w there (inl early) = elim (cases_order (reachedT w) (doneT r)) [
+      -- What is before it by the indices is before it by the times.
+      IsBefore-of_indices : (w : MemoryEvent)
+          → IsEvent x w
+          → IsBefore x done_index reached_index w r
+          → IsBefore x doneT reachedT w r
+      IsBefore-of_indices w is_event (inr po) = inr po
+      IsBefore-of_indices w is_event (inl early) = elim (cases_order (reachedT w) (doneT r)) [
         | inl same ↦
-            absurd (let e : w ≡ r = timed.apart w r there reading.0 (same ∙ sym at_once) in
-            omega (arith, early, ap reachedP e, r_turn))
+            absurd (let e : w ≡ r = timed.apart w r is_event reading.is_event (same ∙ sym read_reached_is_done) in
+            omega (arith, early, ap reached_index e, r_turn))
         | inr (inl less) ↦ inl less
         | inr (inr more) ↦ absurd (omega (
           arith,
           early,
-          sooner (step_of given r) (point_of given w) r_step (point_placed given w there) (omega (arith, more, point_time w)),
+          turn_increases-time (step_of kept_order r) (point_of kept_order w) r_step (point_placed kept_order w is_event)
+              (omega (arith, more, point_time w)),
         ))
       ]
 
-      to_indices : (w : MemoryEvent) → IsEvent x w → IsBefore x doneT reachedT w r → IsBefore x doneP reachedP w r
-      to_indices w there (inr po) = inr po
-      to_indices w there (inl early) =
-          inl (sooner (point_of given w) (step_of given r) (point_placed given w there) r_step
+      -- What is before it by the times is before it by the indices.
+      IsBefore-of_times : (w : MemoryEvent)
+          → IsEvent x w
+          → IsBefore x doneT reachedT w r
+          → IsBefore x done_index reached_index w r
+      IsBefore-of_times w is_event (inr po) = inr po
+      IsBefore-of_times w is_event (inl early) =
+          inl (turn_increases-time (point_of kept_order w) (step_of kept_order r) (point_placed kept_order w is_event) r_step
           (omega (arith, early, point_time w)))
 
-      no_later : (w v : MemoryEvent) → IsEvent x w → IsEvent x v → reachedT w ≤ reachedT v → reachedP w ≤ reachedP v
-      no_later w v iw iv le = elim (cases_eq (reachedT w) (reachedT v)) [
-        | inl same ↦ omega (arith, ap reachedP (timed.apart w v iw iv same))
+      -- Of two events, one that reaches memory no later by the times does so by the indices.
+      reached_le-of_times : (w v : MemoryEvent)
+          → IsEvent x w
+          → IsEvent x v
+          → reachedT w ≤ reachedT v
+          → reached_index w ≤ reached_index v
+      reached_le-of_times w v iw iv le = elim (cases_eq (reachedT w) (reachedT v)) [
+        | inl same ↦ omega (arith, ap reached_index (timed.apart w v iw iv same))
         | inr ne ↦
-            (let up : reachedP w < reachedP v =
-            sooner (point_of given w) (point_of given v) (point_placed given w iw) (point_placed given v iv)
-            (omega (arith, le, ne, point_time w, point_time v)) in
+            (let up : reached_index w < reached_index v =
+            turn_increases-time (point_of kept_order w) (point_of kept_order v) (point_placed kept_order w iw)
+            (point_placed kept_order v iv) (omega (arith, le, ne, point_time w, point_time v)) in
             omega (arith, up))
       ]
 
-      pub newest_placed : (q : Option MemoryEvent) → IsNewest test x doneT reachedT r l q → IsNewest test x doneP reachedP r l q
-      newest_placed None new = λ w writing before. new w writing (to_times w writing.0 before)
-      newest_placed (Some v) new = (
-        new.0,
-        to_indices v new.0.0 new.1,
-        λ w writing before. no_later w v writing.0 new.0.0 (new.2 w writing (to_times w writing.0 before)),
-      )
+      -- The newest write by the times is the newest by the indices.
+      pub newest_placed : (q : Option MemoryEvent)
+          → IsNewest test x doneT reachedT r l q
+          → IsNewest test x done_index reached_index r l q
+      newest_placed None new = λ w writing before. new w writing (IsBefore-of_indices w writing.is_event before)
+      newest_placed (Some v) new = record {
+        write = new.write;
+        is_before = IsBefore-of_times v new.write.is_event new.is_before;
+        latest = λ w writing before.
+            reached_le-of_times w v writing.is_event new.write.is_event
+            (new.latest w writing (IsBefore-of_indices w writing.is_event before));
+      }
 
-    -- and so of two writes
-    pub sooner_writes : (w v : MemoryEvent) → IsEvent x w → IsEvent x v → reachedT w < reachedT v → reachedP w < reachedP v
-    sooner_writes w v iw iv less =
-        sooner (point_of given w) (point_of given v) (point_placed given w iw) (point_placed given v iv)
-        (omega (arith, less, point_time w, point_time v))
+    -- Of two events, the one that reaches memory earlier by the times does so by the indices.
+    pub reached_lt-of_times : (w v : MemoryEvent)
+        → IsEvent x w
+        → IsEvent x v
+        → reachedT w < reachedT v
+        → reached_index w < reached_index v
+    reached_lt-of_times w v iw iv less =
+        turn_increases-time (point_of kept_order w) (point_of kept_order v) (point_placed kept_order w iw)
+        (point_placed kept_order v iv) (omega (arith, less, point_time w, point_time v))

@@ -1,6 +1,7 @@
--- An execution that keeps the axioms has times. A store reaches memory at its number in global happens-before. All else is done
--- as soon as the loads, the locked instructions and the fences up to it in its thread allow, each of them at its own number.
--- What is left alike goes by thread and position.
+-- An execution that satisfies the axioms has times. A store reaches memory at its number in global
+-- happens-before. All else is done as soon as the loads, the locked instructions and the fences up to it in
+-- its thread allow, each of them at its own number. Equal times are distinguished by thread and position. The
+-- first step from the axioms to the machine.
 use Rattle.lw_axiomatic.proofs.Common.{◌≡◌, ◌≢◌, ℕ, suc, ◌+◌, ◌*◌, ◌<◌, ◌≤◌, ◌||◌, inl, inr, Bool, true}
 use Rattle.lw_axiomatic.proofs.Common.{false, Option, Some, None, refl, sym, ap, ap₂, ◌∙◌, subst, arith}
 use Rattle.lw_axiomatic.proofs.Common.{if◌then◌else◌, List, [], ◌∷◌, length, Contains, nat_le, true≢false}
@@ -12,38 +13,41 @@ use Rattle.lw_axiomatic.proofs.Common.{Operation, is_store, writes, x86_language
 use Rattle.lw_axiomatic.proofs.Common.{MemoryEvent, Execution, reads, operation_is, IsEvent, Reads, Writes}
 use Rattle.lw_axiomatic.proofs.Common.{Po, Rf, Co, Fr, Ppo, ThreadExecutes, IsReadFrom, IsCandidate}
 use Rattle.lw_axiomatic.proofs.Common.{SatisfiesAxioms, IsBefore, IsNewest, HasTimes, leb-true, ◌⊎◌}
+use Rattle.lw_axiomatic.proofs.EventLists.{event}
 use Rattle.lw_axiomatic.proofs.EventKinds.{read_is_no_store, fence_is_no_store, store_reads_nothing}
 use Rattle.lw_axiomatic.proofs.EventKinds.{store_is_no_fence, write_stores_or_reads}
-use Rattle.lw_axiomatic.proofs.Levels.{level, level-le, level-lt, level-apart, size, length-size}
+use Rattle.lw_axiomatic.proofs.Levels.{level, level-le, level-lt, level-unique, size, length-size}
 use Rattle.lw_litmus.specs.Operations as operations
 
--- the greatest of the numbers that the members of a list up to j have
+-- The greatest number of the members of a list up to j.
 module _ (top : ℕ → ℕ) where
+  -- The greater of two numbers.
   abbrev greater : ℕ → ℕ → ℕ
   greater a b = if nat_lt a b then b else a
 
-  -- the greatest number `top` of the positions on a path up to j, 0 where there is none
+  -- The greatest number `top` of the positions on a path up to j, and 0 if there is none.
   abbrev pub anchor : List ℕ → ℕ → ℕ
   anchor [] j = 0
   anchor (k ∷ path) j = if nat_le k j then greater (anchor path j) (top k) else anchor path j
 
-  -- the `anchor` of a path up to j is no less than the number of each position on it up to j
+  -- The `anchor` of a path up to j is at least the number of each position on it up to j.
   pub anchor_above : (path : List ℕ) (j k : ℕ) → Contains path k → k ≤ j → top k ≤ anchor path j
-  anchor_above [] j k c le = absurd (not-Contains-nil k c)
-  anchor_above (h ∷ path) j k c le = elim (Contains-cons h k path c) [
-    | inl e ↦
-        (let here : top h ≤ anchor (h ∷ path) j = grind (arith, nat_tests) in subst (λ i. top i ≤ anchor (h ∷ path) j) e here)
-    | inr r ↦ grind (arith, nat_tests, anchor_above path j k r le)
+  anchor_above [] j k on_path le = absurd (not-Contains-nil k on_path)
+  anchor_above (h ∷ path) j k on_path le = elim (Contains-cons h k path on_path) [
+    | inl is_head ↦
+        (let here : top h ≤ anchor (h ∷ path) j = grind (arith, nat_tests) in
+        subst (λ i. top i ≤ anchor (h ∷ path) j) is_head here)
+    | inr in_tail ↦ grind (arith, nat_tests, anchor_above path j k in_tail le)
   ]
 
-  -- where the numbers of all positions up to j are at most b, so is the `anchor`
+  -- If the numbers of all positions up to j are at most b, the `anchor` is.
   pub anchor_least : (path : List ℕ) (j b : ℕ) → ((k : ℕ) → Contains path k → k ≤ j → top k ≤ b) → anchor path j ≤ b
   anchor_least [] j b each = omega arith
   anchor_least (h ∷ path) j b each =
       let rest : anchor path j ≤ b = anchor_least path j b (λ k c le. each k (Contains-tail h k path c) le) in
       grind (arith, nat_tests, rest, each h (Contains-head h h path refl))
 
-  -- the `anchor` up to j is the number of one of the positions up to j, or 0
+  -- The `anchor` up to j is the number of one of the positions up to j, or 0.
   pub anchor_reached : (path : List ℕ) (j : ℕ)
       → ((k : ℕ) × Contains path k × (k ≤ j) × (top k ≡ anchor path j)) ⊎ (anchor path j ≡ 0)
   anchor_reached [] j = inr refl
@@ -73,28 +77,29 @@ module _ (top : ℕ → ℕ) where
         ])
   ]
 
--- each position that a thread goes through is one of its code
-goes_within : (x : Execution) (t : ℕ) (code : List Instr) (path : List ℕ) (s end : ThreadState)
+-- Each position that a thread passes is one of its code.
+position_in_range-ThreadExecutes : (x : Execution) (t : ℕ) (code : List Instr) (path : List ℕ) (s end : ThreadState)
     → ThreadExecutes x86_language x t code path s end
     → (j : ℕ)
     → Contains path j
     → j < length code
-goes_within x t code [] s end goes j c = absurd (not-Contains-nil j c)
-goes_within x t code (k ∷ path) s end goes j c = elim (Contains-cons k j path c) [
-  | inl e ↦ (let here : k < length code = slice_get_within code k goes.1 goes.2 in omega (arith, here, e))
-  | inr r ↦ goes_within x t code path _ end goes.4 j r
+position_in_range-ThreadExecutes x t code [] s end executes j on_path = absurd (not-Contains-nil j on_path)
+position_in_range-ThreadExecutes x t code (k ∷ path) s end executes j on_path = elim (Contains-cons k j path on_path) [
+  | inl is_head ↦
+      (let in_range : k < length code = slice_get_within code k executes.statement executes.statement_at in
+      omega (arith, in_range, is_head))
+  | inr in_tail ↦ position_in_range-ThreadExecutes x t code path _ end executes.rest j in_tail
 ]
 
 module _ {test : X86Test} {x : Execution} {o : FinalState} (candidate : IsCandidate x86_language test x o)
     (axioms : SatisfiesAxioms test x) where
-  abbrev is : (Operation → Bool) → MemoryEvent → Bool
-  is = operation_is x86_language test
+  -- Tests the kind of an event's operation.
+  abbrev has_kind : (Operation → Bool) → MemoryEvent → Bool
+  has_kind = operation_is x86_language test
 
-  abbrev g : MemoryEvent → ℕ
-  g = axioms.happens_before.0
-
-  abbrev at : ℕ → ℕ → MemoryEvent
-  at t j = record { thread = t; position = j }
+  -- The rank of an event in global happens-before, which the axiom gives.
+  abbrev ghb_rank : MemoryEvent → ℕ
+  ghb_rank = axioms.happens_before.rank
 
   -- No position is as high as the number of all instructions.
   abbrev width : ℕ
@@ -105,329 +110,451 @@ module _ {test : X86Test} {x : Execution} {o : FinalState} (candidate : IsCandid
     thread : e.thread < length test.threads
     position : e.position < width
 
-  within : (e : MemoryEvent) → IsEvent x e → IsWithin e
-  within e c = elim (cases_lt e.thread (length test.threads)) [
+  -- The thread and the position of an event are below the bounds.
+  IsWithin-IsEvent : (e : MemoryEvent) → IsEvent x e → IsWithin e
+  IsWithin-IsEvent e is_event = elim (cases_lt e.thread (length test.threads)) [
     | inl h ↦ record {
       thread = h;
       position =
           (let goes = candidate.threads e.thread h in
-          let l : e.position < length (thread_code test.threads e.thread) =
-          goes_within x e.thread (thread_code test.threads e.thread) (thread_code x.paths e.thread) _ goes.0 goes.1 e.position
-          c in
-          omega (arith, l, length-size test.threads e.thread));
+          let in_range : e.position < length (thread_code test.threads e.thread) =
+          position_in_range-ThreadExecutes x e.thread (thread_code test.threads e.thread) (thread_code x.paths e.thread) _
+          goes.end goes.executes e.position is_event in
+          omega (arith, in_range, length-size test.threads e.thread));
     }
     | inr h ↦
-        (let none : thread_code x.paths e.thread ≡ [] = get_or_past x.paths e.thread [] (omega (arith, h, candidate.as_many)) in
-        absurd (not-Contains-nil e.position (subst (λ (path : List ℕ). Contains path e.position) none c)))
+        (let is_nil : thread_code x.paths e.thread ≡ [] = get_or_past x.paths e.thread [] (omega (arith, h, candidate.as_many)) in
+        absurd (not-Contains-nil e.position (subst (λ (path : List ℕ). Contains path e.position) is_nil is_event)))
   ]
 
   -- ---- the times
 
-  -- what all behind it in its thread wait for
-  abbrev halts : MemoryEvent → Bool
-  halts e = is reads e || is operations.is_fence e
+  -- Tests whether all later events of its thread wait for an event: it reads, or it is a fence.
+  abbrev blocks : MemoryEvent → Bool
+  blocks e = has_kind reads e || has_kind operations.is_fence e
 
-  -- one more than the number of what halts at position j of thread t; else 0
+  -- One more than the rank of the event of thread t at position j if that blocks, and otherwise 0.
   abbrev top : ℕ → ℕ → ℕ
-  top t j = if halts (at t j) then suc (g (at t j)) else 0
+  top t j = if blocks (event t j) then suc (ghb_rank (event t j)) else 0
 
-  -- the greatest top of the events of a thread up to this one
+  -- The greatest top of the events of a thread up to this one.
   abbrev anchored : MemoryEvent → ℕ
   anchored e = anchor (top e.thread) (thread_code x.paths e.thread) e.position
 
-  -- a number for each event, by its thread and then its position, by which equal anchored numbers are told apart
+  -- A number for each event, by its thread and then its position, which distinguishes equal anchored numbers.
   abbrev slot : MemoryEvent → ℕ
   slot e = 2 * (level width e.thread + e.position)
 
-  -- No slot of an event is as high.
+  -- A number above the slots of all events.
   abbrev slots : ℕ
   slots = 2 * level width (length test.threads)
 
-  -- when an event is done: by its anchored number, then by thread and position
+  -- When an event is done: by its anchored number, then by thread and position.
   abbrev pub done : MemoryEvent → ℕ
   done e = level slots (anchored e) + slot e
 
-  -- when an event reaches memory: a store at its own number in global happens-before, all else when it is done
+  -- When an event reaches memory: a store at its own number in global happens-before, all else when it is done.
   abbrev pub reached : MemoryEvent → ℕ
-  reached e = if is is_store e then level slots (suc (g e)) + suc (slot e) else done e
+  reached e = if has_kind is_store e then level slots (suc (ghb_rank e)) + suc (slot e) else done e
 
-  of_store : (e : MemoryEvent) → is is_store e ≡ true → reached e ≡ level slots (suc (g e)) + suc (slot e)
-  of_store e s = cond-true (is is_store e) _ (done e) s
+  -- When a store reaches memory.
+  reached-of_store : (e : MemoryEvent) → has_kind is_store e ≡ true → reached e ≡ level slots (suc (ghb_rank e)) + suc (slot e)
+  reached-of_store e s = cond-true (has_kind is_store e) _ (done e) s
 
-  of_other : (e : MemoryEvent) → is is_store e ≡ false → reached e ≡ done e
-  of_other e s = cond-false (is is_store e) _ (done e) s
+  -- Any other event reaches memory when it is done.
+  reached-of_other : (e : MemoryEvent) → has_kind is_store e ≡ false → reached e ≡ done e
+  reached-of_other e s = cond-false (has_kind is_store e) _ (done e) s
 
   -- ---- what anchors a step
 
-  top_halts : (e : MemoryEvent) → halts e ≡ true → top e.thread e.position ≡ suc (g e)
-  top_halts e h = cond-true (halts e) (suc (g e)) 0 h
+  -- The top of an event that blocks is one more than its rank.
+  top-of_blocking : (e : MemoryEvent) → blocks e ≡ true → top e.thread e.position ≡ suc (ghb_rank e)
+  top-of_blocking e h = cond-true (blocks e) (suc (ghb_rank e)) 0 h
 
-  top_other : (e : MemoryEvent) → halts e ≡ false → top e.thread e.position ≡ 0
-  top_other e h = cond-false (halts e) (suc (g e)) 0 h
+  -- The top of any other event is 0.
+  top-of_other : (e : MemoryEvent) → blocks e ≡ false → top e.thread e.position ≡ 0
+  top-of_other e h = cond-false (blocks e) (suc (ghb_rank e)) 0 h
 
-  ppo_up : (a b : MemoryEvent) → Ppo x86_language test x a b → g a < g b
-  ppo_up a b p = axioms.happens_before.1 a b (inl p)
+  -- The numbers increase along preserved program order.
+  ghb_rank_increases-Ppo : (a b : MemoryEvent) → Ppo x86_language test x a b → ghb_rank a < ghb_rank b
+  ghb_rank_increases-Ppo a b p = axioms.happens_before.increases a b (inl p)
 
-  -- what halts is kept before all behind it
-  halts_before : (a b : MemoryEvent) → Po x a b → halts a ≡ true → g a < g b
-  halts_before a b po h = ppo_up a b (
-    po,
-    elim (or_cases (is reads a) (is operations.is_fence a) h) [
-      | inl r ↦ or_left (is reads a) _ r
-      | inr f ↦ or_right (is reads a) _ (or_right (is writes b) _ (or_left (is operations.is_fence a) _ f))
-    ],
-  )
+  -- An event that blocks has a lower rank in global happens-before than each later event of its thread.
+  ghb_rank_increases-Po_from_blocking : (a b : MemoryEvent) → Po x a b → blocks a ≡ true → ghb_rank a < ghb_rank b
+  ghb_rank_increases-Po_from_blocking a b po h = ghb_rank_increases-Ppo a b (record {
+    po = po;
+    is_preserved = elim (or_cases (has_kind reads a) (has_kind operations.is_fence a) h) [
+      | inl r ↦ or_left (has_kind reads a) _ r
+      | inr f ↦ or_right (has_kind reads a) _ (or_right (has_kind writes b) _ (or_left (has_kind operations.is_fence a) _ f))
+    ];
+  })
 
+  -- The anchored number is the least number above the ranks of the events that block, up to this one.
   anchored_least : (e : MemoryEvent) (b : ℕ)
       → IsEvent x e
-      → ((k : MemoryEvent) → Po x k e → halts k ≡ true → suc (g k) ≤ b)
-      → (halts e ≡ true → suc (g e) ≤ b)
+      → ((k : MemoryEvent) → Po x k e → blocks k ≡ true → suc (ghb_rank k) ≤ b)
+      → (blocks e ≡ true → suc (ghb_rank e) ≤ b)
       → anchored e ≤ b
-  anchored_least e b there each own =
+  anchored_least e b is_event each own =
       anchor_least (top e.thread) (thread_code x.paths e.thread) e.position b
-      (λ k c le. elim (cases_Bool (halts (at e.thread k))) [
+      (λ k c le. elim (cases_Bool (blocks (event e.thread k))) [
         | inl h ↦ elim (cases_eq k e.position) [
-          | inl same ↦
-              (let this : at e.thread k ≡ e = ap (at e.thread) same in
-              omega (arith, top_halts (at e.thread k) h, ap g this, own (subst (λ (z : MemoryEvent). halts z ≡ true) this h)))
-          | inr ne ↦ omega (arith, top_halts (at e.thread k) h, each (at e.thread k) (c, there, refl, omega (arith, le, ne)) h)
+          | inl same_position ↦
+              (let same_event : event e.thread k ≡ e = ap (event e.thread) same_position in
+              omega (
+                arith,
+                top-of_blocking (event e.thread k) h,
+                ap ghb_rank same_event,
+                own (subst (λ (z : MemoryEvent). blocks z ≡ true) same_event h),
+              ))
+          | inr positions_differ ↦ omega (
+            arith,
+            top-of_blocking (event e.thread k) h,
+            each (event e.thread k) (record {
+              first_event = c;
+              second_event = is_event;
+              same_thread = refl;
+              position_lt = omega (arith, le, positions_differ);
+            }) h,
+          )
         ]
-        | inr h ↦ omega (arith, top_other (at e.thread k) h)
+        | inr h ↦ omega (arith, top-of_other (event e.thread k) h)
       ])
 
-  anchored_up : (a b : MemoryEvent) → Po x a b → anchored a ≤ anchored b
-  anchored_up a b po = anchor_least (top a.thread) (thread_code x.paths a.thread) a.position (anchored b) (λ k c le.
-      subst (λ t. Contains (thread_code x.paths t) k → top t k ≤ anchored b) (sym po.2)
-      (λ d. anchor_above (top b.thread) (thread_code x.paths b.thread) b.position k d (omega (arith, le, po.3))) c)
+  -- The anchored numbers do not decrease along program order.
+  anchored_increases-Po : (a b : MemoryEvent) → Po x a b → anchored a ≤ anchored b
+  anchored_increases-Po a b po = anchor_least (top a.thread) (thread_code x.paths a.thread) a.position (anchored b) (λ k c le.
+      subst (λ t. Contains (thread_code x.paths t) k → top t k ≤ anchored b) (sym po.same_thread)
+      (λ d. anchor_above (top b.thread) (thread_code x.paths b.thread) b.position k d (omega (arith, le, po.position_lt))) c)
 
-  -- a store is behind all that it waits for
-  of_store_low : (e : MemoryEvent) → IsEvent x e → is is_store e ≡ true → anchored e ≤ g e
-  of_store_low e there s =
-      anchored_least e (g e) there (λ k po h. omega (arith, halts_before k e po h))
-      (λ h. absurd (elim (or_cases (is reads e) (is operations.is_fence e) h) [
+  -- The anchored number of a store is at most its rank: all that it waits for has lower ranks.
+  anchored_at_most_ghb_rank-of_store : (e : MemoryEvent) → IsEvent x e → has_kind is_store e ≡ true → anchored e ≤ ghb_rank e
+  anchored_at_most_ghb_rank-of_store e is_event s =
+      anchored_least e (ghb_rank e) is_event (λ k po h. omega (arith, ghb_rank_increases-Po_from_blocking k e po h))
+      (λ h. absurd (elim (or_cases (has_kind reads e) (has_kind operations.is_fence e) h) [
         | inl r ↦ true≢false (sym r ∙ store_reads_nothing test e s)
         | inr f ↦ true≢false (sym f ∙ store_is_no_fence test e s)
       ]))
 
-  -- what halts is done at its own number
-  of_halts : (e : MemoryEvent) → IsEvent x e → halts e ≡ true → anchored e ≡ suc (g e)
-  of_halts e there h =
-      let above : suc (g e) ≤ anchored e = omega (
+  -- The anchored number of an event that blocks is one more than its rank.
+  anchored-of_blocking : (e : MemoryEvent) → IsEvent x e → blocks e ≡ true → anchored e ≡ suc (ghb_rank e)
+  anchored-of_blocking e is_event h =
+      let above : suc (ghb_rank e) ≤ anchored e = omega (
         arith,
-        top_halts e h,
-        anchor_above (top e.thread) (thread_code x.paths e.thread) e.position e.position there (omega arith),
+        top-of_blocking e h,
+        anchor_above (top e.thread) (thread_code x.paths e.thread) e.position e.position is_event (omega arith),
       ) in
       omega (
         arith,
         above,
-        anchored_least e (suc (g e)) there (λ k po hk. omega (arith, halts_before k e po hk)) (λ _. omega arith),
+        anchored_least e (suc (ghb_rank e)) is_event (λ k po hk. omega (arith, ghb_rank_increases-Po_from_blocking k e po hk))
+            (λ _. omega arith),
       )
 
-  halts_no_store : (e : MemoryEvent) → halts e ≡ true → is is_store e ≡ false
-  halts_no_store e h = elim (or_cases (is reads e) (is operations.is_fence e) h) [
+  -- An event that blocks is no store.
+  blocking_is_no_store : (e : MemoryEvent) → blocks e ≡ true → has_kind is_store e ≡ false
+  blocking_is_no_store e h = elim (or_cases (has_kind reads e) (has_kind operations.is_fence e) h) [
     | inl r ↦ read_is_no_store test e r
     | inr f ↦ fence_is_no_store test e f
   ]
 
-  read_halts : (e : MemoryEvent) → is reads e ≡ true → halts e ≡ true
-  read_halts e r = or_left (is reads e) _ r
+  -- An event that reads blocks.
+  read_blocks : (e : MemoryEvent) → has_kind reads e ≡ true → blocks e ≡ true
+  read_blocks e r = or_left (has_kind reads e) _ r
 
-  -- so each access reaches memory at its own number
-  record AtOwn (e : MemoryEvent) : Type 0 where
-    least : level slots (suc (g e)) ≤ reached e
-    most : reached e < level slots (suc (g e)) + slots
+  -- The event reaches memory in the range of times of its own rank in global happens-before.
+  record IsReachedAtOwnRank (e : MemoryEvent) : Type 0 where
+    least : level slots (suc (ghb_rank e)) ≤ reached e
+    most : reached e < level slots (suc (ghb_rank e)) + slots
 
+  -- An event's slot is below the bound.
   slot_low : (e : MemoryEvent) → IsEvent x e → suc (slot e) < slots
-  slot_low e there =
-      let w : IsWithin e = within e there in omega (arith, level-lt width e.thread (length test.threads) w.thread, w.position)
+  slot_low e is_event =
+      let w : IsWithin e = IsWithin-IsEvent e is_event in
+      omega (arith, level-lt width e.thread (length test.threads) w.thread, w.position)
 
-  own_of_halts : (e : MemoryEvent) → IsEvent x e → halts e ≡ true → AtOwn e
-  own_of_halts e there h =
-      let a = ap (level slots) (of_halts e there h) in
-      let b = of_other e (halts_no_store e h) in
-      let c = slot_low e there in
+  -- An event that blocks reaches memory at its own rank.
+  IsReachedAtOwnRank-of_blocking : (e : MemoryEvent) → IsEvent x e → blocks e ≡ true → IsReachedAtOwnRank e
+  IsReachedAtOwnRank-of_blocking e is_event h =
+      let a = ap (level slots) (anchored-of_blocking e is_event h) in
+      let b = reached-of_other e (blocking_is_no_store e h) in
+      let c = slot_low e is_event in
       record { least = omega (arith, a, b, c); most = omega (arith, a, b, c) }
 
-  own_of_write : (e : MemoryEvent) → IsEvent x e → is writes e ≡ true → AtOwn e
-  own_of_write e there w = elim (write_stores_or_reads test e w) [
+  -- An event that writes reaches memory at its own rank.
+  IsReachedAtOwnRank-of_write : (e : MemoryEvent) → IsEvent x e → has_kind writes e ≡ true → IsReachedAtOwnRank e
+  IsReachedAtOwnRank-of_write e is_event w = elim (write_stores_or_reads test e w) [
     | inl s ↦
-        (let a = of_store e s in
-        let c = slot_low e there in
+        (let a = reached-of_store e s in
+        let c = slot_low e is_event in
         record { least = omega (arith, a, c); most = omega (arith, a, c) })
-    | inr r ↦ own_of_halts e there (read_halts e r)
+    | inr r ↦ IsReachedAtOwnRank-of_blocking e is_event (read_blocks e r)
   ]
 
   -- ---- they are times
 
-  po_up : (a b : MemoryEvent) → Po x a b → done a < done b
-  po_up a b po = omega (arith, level-le slots (anchored a) (anchored b) (anchored_up a b po), ap (level width) po.2, po.3)
+  -- Events are done in program order.
+  done_increases-Po : (a b : MemoryEvent) → Po x a b → done a < done b
+  done_increases-Po a b po = omega (
+    arith,
+    level-le slots (anchored a) (anchored b) (anchored_increases-Po a b po),
+    ap (level width) po.same_thread,
+    po.position_lt,
+  )
 
-  later : (e : MemoryEvent) → IsEvent x e → is is_store e ≡ true → done e < reached e
-  later e there s = omega (arith, of_store e s, level-le slots (anchored e) (suc (g e)) (omega (arith, of_store_low e there s)))
+  -- A store reaches memory after it is done.
+  done_before_reached : (e : MemoryEvent) → IsEvent x e → has_kind is_store e ≡ true → done e < reached e
+  done_before_reached e is_event s = omega (
+    arith,
+    reached-of_store e s,
+    level-le slots (anchored e) (suc (ghb_rank e)) (omega (arith, anchored_at_most_ghb_rank-of_store e is_event s)),
+  )
 
-  -- what is not a store and comes behind a store in preserved program order halts
-  behind_store : (a b : MemoryEvent) → Ppo x86_language test x a b → is is_store a ≡ true → is is_store b ≡ false → halts b ≡ true
-  behind_store a b ppo s n = elim (or_cases (is reads a) _ ppo.1) [
+  -- An event that is no store, and follows a store in preserved program order, blocks.
+  blocks-Ppo_from_store : (a b : MemoryEvent)
+      → Ppo x86_language test x a b
+      → has_kind is_store a ≡ true
+      → has_kind is_store b ≡ false
+      → blocks b ≡ true
+  blocks-Ppo_from_store a b ppo s n = elim (or_cases (has_kind reads a) _ ppo.is_preserved) [
     | inl r ↦ absurd (true≢false (sym r ∙ store_reads_nothing test a s))
-    | inr rest ↦ elim (or_cases (is writes b) _ rest) [
-      | inl w ↦ elim (write_stores_or_reads test b w) [ inl t ↦ absurd (true≢false (sym t ∙ n)) | inr r ↦ read_halts b r ]
-      | inr fences ↦ elim (or_cases (is operations.is_fence a) _ fences) [
+    | inr rest ↦ elim (or_cases (has_kind writes b) _ rest) [
+      | inl w ↦ elim (write_stores_or_reads test b w) [ inl t ↦ absurd (true≢false (sym t ∙ n)) | inr r ↦ read_blocks b r ]
+      | inr fences ↦ elim (or_cases (has_kind operations.is_fence a) _ fences) [
         | inl f ↦ absurd (true≢false (sym f ∙ store_is_no_fence test a s))
-        | inr f ↦ or_right (is reads b) _ f
+        | inr f ↦ or_right (has_kind reads b) _ f
       ]
     ]
   ]
 
-  ppo_reached : (a b : MemoryEvent) → Ppo x86_language test x a b → reached a < reached b
-  ppo_reached a b ppo =
-      let up : g a < g b = ppo_up a b ppo in
-      let low = slot_low a ppo.0.0 in
-      elim (cases_Bool (is is_store a)) [
-        | inl s ↦ elim (cases_Bool (is is_store b)) [
-          | inl t ↦ omega (arith, of_store a s, of_store b t, level-lt slots (suc (g a)) (suc (g b)) (omega (arith, up)), low)
-          | inr n ↦
-              (let own : AtOwn b = own_of_halts b ppo.0.1 (behind_store a b ppo s n) in
-              omega (arith, of_store a s, own.least, level-lt slots (suc (g a)) (suc (g b)) (omega (arith, up)), low))
+  -- Along preserved program order events reach memory later and later.
+  reached_increases-Ppo : (a b : MemoryEvent) → Ppo x86_language test x a b → reached a < reached b
+  reached_increases-Ppo a b ppo =
+      let up : ghb_rank a < ghb_rank b = ghb_rank_increases-Ppo a b ppo in
+      let low = slot_low a ppo.po.first_event in
+      elim (cases_Bool (has_kind is_store a)) [
+        | inl a_stores ↦ elim (cases_Bool (has_kind is_store b)) [
+          | inl b_stores ↦ omega (
+            arith,
+            reached-of_store a a_stores,
+            reached-of_store b b_stores,
+            level-lt slots (suc (ghb_rank a)) (suc (ghb_rank b)) (omega (arith, up)),
+            low,
+          )
+          | inr b_not_store ↦
+              (let own : IsReachedAtOwnRank b =
+              IsReachedAtOwnRank-of_blocking b ppo.po.second_event (blocks-Ppo_from_store a b ppo a_stores b_not_store) in
+              omega (
+                arith,
+                reached-of_store a a_stores,
+                own.least,
+                level-lt slots (suc (ghb_rank a)) (suc (ghb_rank b)) (omega (arith, up)),
+                low,
+              ))
         ]
-        | inr n ↦ elim (cases_Bool (is is_store b)) [
-          | inl t ↦
-              (let under : anchored a < suc (g b) = omega (arith, anchored_up a b ppo.0, of_store_low b ppo.0.1 t) in
-              omega (arith, of_other a n, of_store b t, level-lt slots (anchored a) (suc (g b)) under, low))
-          | inr m ↦ omega (arith, of_other a n, of_other b m, po_up a b ppo.0)
+        | inr a_not_store ↦ elim (cases_Bool (has_kind is_store b)) [
+          | inl b_stores ↦
+              (let under : anchored a < suc (ghb_rank b) =
+              omega (
+                arith,
+                anchored_increases-Po a b ppo.po,
+                anchored_at_most_ghb_rank-of_store b ppo.po.second_event b_stores,
+              ) in
+              omega (
+                arith,
+                reached-of_other a a_not_store,
+                reached-of_store b b_stores,
+                level-lt slots (anchored a) (suc (ghb_rank b)) under,
+                low,
+              ))
+          | inr b_not_store ↦
+              omega (arith, reached-of_other a a_not_store, reached-of_other b b_not_store, done_increases-Po a b ppo.po)
         ]
       ]
 
-  -- of two accesses, by their numbers
-  by_number : (a b : MemoryEvent) → AtOwn a → AtOwn b → g a < g b → reached a < reached b
-  by_number a b ownA ownB up = omega (arith, ownA.most, ownB.least, level-lt slots (suc (g a)) (suc (g b)) (omega (arith, up)))
+  -- Of two events that reach memory at their own numbers, the one with the lower number does so earlier.
+  reached_increases-ghb_rank : (a b : MemoryEvent)
+      → IsReachedAtOwnRank a
+      → IsReachedAtOwnRank b
+      → ghb_rank a < ghb_rank b
+      → reached a < reached b
+  reached_increases-ghb_rank a b ownA ownB up =
+      omega (arith, ownA.most, ownB.least, level-lt slots (suc (ghb_rank a)) (suc (ghb_rank b)) (omega (arith, up)))
 
-  co_up : (w v : MemoryEvent) → Co x86_language test x w v → reached w < reached v
-  co_up w v co =
-      by_number w v (own_of_write w co.1.0 co.1.2) (own_of_write v co.2.0 co.2.2)
-      (axioms.happens_before.1 w v (inr (inr (inl co))))
+  -- The times of reaching memory increase along coherence order.
+  reached_increases-Co : (w v : MemoryEvent) → Co x86_language test x w v → reached w < reached v
+  reached_increases-Co w v co =
+      reached_increases-ghb_rank w v (IsReachedAtOwnRank-of_write w co.first_write.is_event co.first_write.is_write)
+      (IsReachedAtOwnRank-of_write v co.second_write.is_event co.second_write.is_write)
+      (axioms.happens_before.increases w v (inr (inr (inl co))))
 
-  apart : (a b : MemoryEvent) → IsEvent x a → IsEvent x b → reached a ≡ reached b → a ≡ b
-  apart a b ia ib same =
+  -- No two events reach memory at one time.
+  reached-injective : (a b : MemoryEvent) → IsEvent x a → IsEvent x b → reached a ≡ reached b → a ≡ b
+  reached-injective a b ia ib same =
       let la = slot_low a ia in
       let lb = slot_low b ib in
-      let one : slot a ≡ slot b = elim (cases_Bool (is is_store a)) [
-        | inl s ↦ elim (cases_Bool (is is_store b)) [
-          | inl t ↦ omega (
+      let one : slot a ≡ slot b = elim (cases_Bool (has_kind is_store a)) [
+        | inl a_stores ↦ elim (cases_Bool (has_kind is_store b)) [
+          | inl b_stores ↦ omega (
             arith,
-            (level-apart slots (suc (g a)) (suc (g b)) (suc (slot a)) (suc (slot b)) la lb
-                (omega (arith, same, of_store a s, of_store b t))).1,
+            (level-unique slots (suc (ghb_rank a)) (suc (ghb_rank b)) (suc (slot a)) (suc (slot b)) la lb
+                (omega (arith, same, reached-of_store a a_stores, reached-of_store b b_stores))).1,
           )
-          | inr m ↦ omega (
+          | inr b_not_store ↦ omega (
             arith,
-            (level-apart slots (suc (g a)) (anchored b) (suc (slot a)) (slot b) la (omega (arith, lb))
-                (omega (arith, same, of_store a s, of_other b m))).1,
+            (level-unique slots (suc (ghb_rank a)) (anchored b) (suc (slot a)) (slot b) la (omega (arith, lb))
+                (omega (arith, same, reached-of_store a a_stores, reached-of_other b b_not_store))).1,
           )
         ]
-        | inr n ↦ elim (cases_Bool (is is_store b)) [
-          | inl t ↦ omega (
+        | inr a_not_store ↦ elim (cases_Bool (has_kind is_store b)) [
+          | inl b_stores ↦ omega (
             arith,
-            (level-apart slots (anchored a) (suc (g b)) (slot a) (suc (slot b)) (omega (arith, la)) lb
-                (omega (arith, same, of_other a n, of_store b t))).1,
+            (level-unique slots (anchored a) (suc (ghb_rank b)) (slot a) (suc (slot b)) (omega (arith, la)) lb
+                (omega (arith, same, reached-of_other a a_not_store, reached-of_store b b_stores))).1,
           )
-          | inr m ↦
-              (level-apart slots (anchored a) (anchored b) (slot a) (slot b) (omega (arith, la)) (omega (arith, lb))
-              (omega (arith, same, of_other a n, of_other b m))).1
+          | inr b_not_store ↦
+              (level-unique slots (anchored a) (anchored b) (slot a) (slot b) (omega (arith, la)) (omega (arith, lb))
+              (omega (arith, same, reached-of_other a a_not_store, reached-of_other b b_not_store))).1
         ]
       ] in
-      let wa : IsWithin a = within a ia in
-      let wb : IsWithin b = within b ib in
-      let both = level-apart width a.thread b.thread a.position b.position wa.position wb.position (omega (arith, one)) in
-      ap₂ at both.0 both.1
+      let wa : IsWithin a = IsWithin-IsEvent a ia in
+      let wb : IsWithin b = IsWithin-IsEvent b ib in
+      let both = level-unique width a.thread b.thread a.position b.position wa.position wb.position (omega (arith, one)) in
+      ap₂ event both.0 both.1
 
   -- ---- each read has its newest write
 
   module _ (r : MemoryEvent) (l : ℕ) (reading : Reads x86_language test x r l) where
-    own_r : AtOwn r
-    own_r = own_of_halts r reading.0 (read_halts r reading.2)
+    -- The read reaches memory at its own rank.
+    IsReachedAtOwnRank-of_read : IsReachedAtOwnRank r
+    IsReachedAtOwnRank-of_read = IsReachedAtOwnRank-of_blocking r reading.is_event (read_blocks r reading.is_read)
 
-    at_once : reached r ≡ done r
-    at_once = of_other r (read_is_no_store test r reading.2)
+    -- The read reaches memory when it is done.
+    read_reached_is_done : reached r ≡ done r
+    read_reached_is_done = reached-of_other r (read_is_no_store test r reading.is_read)
 
-    -- nothing that r would have to see is newer than what it reads
-    no_newer : (w : MemoryEvent)
+    -- Nothing that r would have to see is newer than what it reads.
+    not_newer_than_read : (w : MemoryEvent)
         → Writes x86_language test x w l
         → IsBefore x done reached w r
         → ForSome (x.rf r) (λ v. x.co v < x.co w)
         → ⊥
-    no_newer w writing before behind = elim (cases_eq r.thread w.thread) [
-      | inl one ↦ elim (cases_eq r.position w.position) [
-        | inl index_in ↦ itself (ap₂ at one index_in)
-        | inr ne ↦ another (λ (e : r ≡ w). ne (ap (λ (z : MemoryEvent). z.position) e))
+    not_newer_than_read w writing before behind = elim (cases_eq r.thread w.thread) [
+      | inl same_thread ↦ elim (cases_eq r.position w.position) [
+        | inl same_position ↦ not_itself (ap₂ event same_thread same_position)
+        | inr positions_differ ↦ not_another (λ (e : r ≡ w). positions_differ (ap (λ (z : MemoryEvent). z.position) e))
       ]
-      | inr two ↦ another (λ (e : r ≡ w). two (ap (λ (z : MemoryEvent). z.thread) e))
+      | inr threads_differ ↦ not_another (λ (e : r ≡ w). threads_differ (ap (λ (z : MemoryEvent). z.thread) e))
     ]
       where
-        itself : r ≡ w → ⊥
-        itself e = elim before [
-          | inl early ↦ omega (arith, early, ap reached e, at_once)
-          | inr own ↦ omega (arith, own.3, ap (λ (z : MemoryEvent). z.position) e)
+        -- The write is not the read itself: it would be before itself.
+        not_itself : r ≡ w → ⊥
+        not_itself e = elim before [
+          | inl early ↦ omega (arith, early, ap reached e, read_reached_is_done)
+          | inr own ↦ omega (arith, own.position_lt, ap (λ (z : MemoryEvent). z.position) e)
         ]
 
-        another : r ≢ w → ⊥
-        another ne =
-            let fr : Fr x86_language test x r w = (l, reading, writing, ne, behind) in
-            let own_w : AtOwn w = own_of_write w writing.0 writing.2 in
+        -- The write is no event other than the read: from-reads would lead from the read to it.
+        not_another : r ≢ w → ⊥
+        not_another ne =
+            let fr : Fr x86_language test x r w =
+            record { on_location = l; read = reading; write = writing; events_differ = ne; source_before = behind } in
+            let own_w : IsReachedAtOwnRank w = IsReachedAtOwnRank-of_write w writing.is_event writing.is_write in
             elim before [
-              | inl early ↦
-                  omega (arith, early, at_once, by_number r w own_r own_w (axioms.happens_before.1 r w (inr (inr (inr fr)))))
+              | inl early ↦ omega (
+                arith,
+                early,
+                read_reached_is_done,
+                reached_increases-ghb_rank r w IsReachedAtOwnRank-of_read own_w
+                    (axioms.happens_before.increases r w (inr (inr (inr fr)))),
+              )
               | inr own ↦ omega (
                 arith,
-                axioms.coherence.1 r w (inr (inr (inr fr))),
-                axioms.coherence.1 w r (inl (own, l, writing.1, reading.1)),
+                axioms.coherence.increases r w (inr (inr (inr fr))),
+                axioms.coherence.increases w r (inl (record {
+                  po = own;
+                  on_location = l;
+                  first_location_is = writing.location_is;
+                  second_location_is = reading.location_is;
+                })),
               )
             ]
 
-    -- what it reads is before it
-    is_before : (v : MemoryEvent) → Writes x86_language test x v l → x.rf r ≡ Some v → IsBefore x done reached v r
-    is_before v writing from =
-        let rf : Rf x86_language test x v r = (l, writing, reading, from) in
-        let own_v : AtOwn v = own_of_write v writing.0 writing.2 in
+    -- The write that the read reads from is before it.
+    IsBefore-of_source : (v : MemoryEvent) → Writes x86_language test x v l → x.rf r ≡ Some v → IsBefore x done reached v r
+    IsBefore-of_source v writing source_is =
+        let rf : Rf x86_language test x v r =
+        record { on_location = l; write = writing; read = reading; source_is = source_is } in
+        let own_v : IsReachedAtOwnRank v = IsReachedAtOwnRank-of_write v writing.is_event writing.is_write in
         elim (cases_eq v.thread r.thread) [
-          | inr far ↦ inl (omega (arith, at_once, by_number v r own_v own_r (axioms.happens_before.1 v r (inr (inl (rf, far))))))
-          | inl one ↦ elim (cases_order v.position r.position) [
-            | inl index_in ↦
-                absurd (let same : v ≡ r = ap₂ at one index_in in
-                omega (arith, axioms.coherence.1 v r (inr (inl rf)), ap axioms.coherence.0 same))
-            | inr (inl less) ↦ inr (writing.0, reading.0, one, less)
-            | inr (inr more) ↦ absurd (omega (
+          | inr threads_differ ↦ inl (omega (
+            arith,
+            read_reached_is_done,
+            reached_increases-ghb_rank v r own_v IsReachedAtOwnRank-of_read
+                (axioms.happens_before.increases v r (inr (inl (record { rf = rf; threads_differ = threads_differ })))),
+          ))
+          | inl same_thread ↦ elim (cases_order v.position r.position) [
+            | inl same_position ↦
+                absurd (let same_event : v ≡ r = ap₂ event same_thread same_position in
+                omega (arith, axioms.coherence.increases v r (inr (inl rf)), ap axioms.coherence.rank same_event))
+            | inr (inl position_lt) ↦ inr (record {
+              first_event = writing.is_event;
+              second_event = reading.is_event;
+              same_thread = same_thread;
+              position_lt = position_lt;
+            })
+            | inr (inr position_gt) ↦ absurd (omega (
               arith,
-              axioms.coherence.1 v r (inr (inl rf)),
-              axioms.coherence.1 r v (inl ((reading.0, writing.0, sym one, more), l, reading.1, writing.1)),
+              axioms.coherence.increases v r (inr (inl rf)),
+              axioms.coherence.increases r v (inl (record {
+                po = record {
+                  first_event = reading.is_event;
+                  second_event = writing.is_event;
+                  same_thread = sym same_thread;
+                  position_lt = position_gt;
+                };
+                on_location = l;
+                first_location_is = reading.location_is;
+                second_location_is = writing.location_is;
+              })),
             ))
           ]
         ]
 
-    newest : (q : Option MemoryEvent) → x.rf r ≡ q → IsReadFrom x86_language test x r l q → IsNewest test x done reached r l q
-    newest None from is_from =
-        λ w writing before. no_newer w writing before (λ v is. absurd (let bad : None ≡ Some v = sym from ∙ is in cc))
-    newest (Some v) from is_from = (
-      is_from.0,
-      is_before v is_from.0 from,
-      λ w writing before. elim (cases_order (x.co w) (x.co v)) [
-        | inl same ↦ omega (arith, ap reached (candidate.co w v l writing is_from.0 same))
-        | inr (inl less) ↦ (let up : reached w < reached v = co_up w v (l, writing, is_from.0, less) in omega (arith, up))
-        | inr (inr more) ↦ absurd (no_newer w writing before
-            (λ u is. (let e : v ≡ u = same_Some v u (sym from ∙ is) in subst (λ (z : MemoryEvent). x.co z < x.co w) e more)))
-      ],
-    )
+    -- The read reads from the newest write before it.
+    IsNewest-of_rf : (q : Option MemoryEvent)
+        → x.rf r ≡ q
+        → IsReadFrom x86_language test x r l q
+        → IsNewest test x done reached r l q
+    IsNewest-of_rf None source_is is_from = λ w writing before.
+        not_newer_than_read w writing before (λ v is_some. absurd (let bad : None ≡ Some v = sym source_is ∙ is_some in cc))
+    IsNewest-of_rf (Some v) source_is is_from = record {
+      write = is_from.write;
+      is_before = IsBefore-of_source v is_from.write source_is;
+      latest = λ w writing before. elim (cases_order (x.co w) (x.co v)) [
+        | inl same_co ↦ omega (arith, ap reached (candidate.co w v l writing is_from.write same_co))
+        | inr (inl co_lt) ↦
+            (let up : reached w < reached v =
+            reached_increases-Co w v
+            (record { on_location = l; first_write = writing; second_write = is_from.write; co_lt = co_lt }) in
+            omega (arith, up))
+        | inr (inr co_gt) ↦ absurd (not_newer_than_read w writing before (λ u is_some.
+            (let e : v ≡ u = same_Some v u (sym source_is ∙ is_some) in subst (λ (z : MemoryEvent). x.co z < x.co w) e co_gt)))
+      ];
+    }
 
-  -- an execution that keeps the axioms has times
-  pub has_times : HasTimes test x
-  has_times = record {
+  -- An execution that satisfies the axioms has times.
+  pub HasTimes-SatisfiesAxioms : HasTimes test x
+  HasTimes-SatisfiesAxioms = record {
     done = done;
     reached = reached;
     timed = record {
-      po = po_up;
-      later = later;
-      at_once = of_other;
-      ppo = ppo_reached;
-      co = co_up;
-      apart = apart;
-      newest = λ r l reading. newest r l reading (x.rf r) refl (candidate.rf r l reading);
+      po = done_increases-Po;
+      later = done_before_reached;
+      at_once = reached-of_other;
+      ppo = reached_increases-Ppo;
+      co = reached_increases-Co;
+      apart = reached-injective;
+      newest = λ r l reading. IsNewest-of_rf r l reading (x.rf r) refl (candidate.rf r l reading);
     };
   }

@@ -12,8 +12,9 @@ use Rattle.lw_axiomatic.specs.Candidates.{IsCandidate}
 -- Acyclic relations: the events can be numbered so that the numbers increase along every pair.
 module _ {E : Type 0} (R : E → E → Type 0) where
   -- The relation R is acyclic: there are ranks that increase along it.
-  abbrev pub Acyclic : Type 0
-  Acyclic = (rank : E → ℕ) × ((a b : E) → R a b → rank a < rank b)
+  pub record Acyclic : Type 0 where
+    pub rank : E → ℕ
+    pub increases : (a b : E) → R a b → rank a < rank b
 
 module _ (test : X86Test) (x : Execution) where
   -- The relations of coherence: program order on one location, reads-from, coherence order and from-reads.

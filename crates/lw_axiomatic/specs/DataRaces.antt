@@ -18,7 +18,7 @@ is_plain o = is_load o || is_store o
 pub record HasDataRace (test : X86Test) : Type 0 where
   pub q : ℕ
   pub p : ℕ
-  pub two : p ≢ q
+  pub threads_differ : p ≢ q
   pub before : List ℕ
   pub now : Interleaved
   pub reached : InterleavedRunsTo x86_language test.threads before (start x86_language test) now

@@ -20,7 +20,7 @@ own_loads = record store_buffering_in_x86 {
   threads = (Store 0 (Number 1) ∷ Load 0 0 ∷ []) ∷ (Store 1 (Number 1) ∷ Load 0 1 ∷ []) ∷ [];
 }
 
--- The same test with an `MFENCE` between store and load of the first thread.
+-- The test `own_loads` with an `MFENCE` between the store and the load of the first thread.
 abbrev pub own_loads_fenced : X86Test
 own_loads_fenced = record store_buffering_in_x86 {
   threads = (Store 0 (Number 1) ∷ Mfence ∷ Load 0 0 ∷ []) ∷ (Store 1 (Number 1) ∷ Load 0 1 ∷ []) ∷ [];

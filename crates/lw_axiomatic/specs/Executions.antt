@@ -32,8 +32,11 @@ module _ (x : Execution) where
   IsEvent e = Contains (thread_code x.paths e.thread) e.position
 
   -- Program order: a comes before b in their thread.
-  abbrev pub Po : MemoryEvent → MemoryEvent → Type 0
-  Po a b = IsEvent a × IsEvent b × (a.thread ≡ b.thread) × (a.position < b.position)
+  pub record Po (a b : MemoryEvent) : Type 0 where
+    pub first_event : IsEvent a
+    pub second_event : IsEvent b
+    pub same_thread : a.thread ≡ b.thread
+    pub position_lt : a.position < b.position
 
 -- Tests whether an operation reads: a load or a locked instruction.
 abbrev pub reads : Operation → Bool
@@ -53,34 +56,55 @@ module _ {S : Type 0} (language : Language S) (test : Test S) where
   location e = option_and_then location_of (operation_at e)
 
   module _ (x : Execution) where
-    -- The event reads this location, and the event writes it.
-    abbrev pub Reads : MemoryEvent → ℕ → Type 0
-    Reads e l = IsEvent x e × (location e ≡ Some l) × (operation_is reads e ≡ true)
+    -- The event reads this location.
+    pub record Reads (e : MemoryEvent) (l : ℕ) : Type 0 where
+      pub is_event : IsEvent x e
+      pub location_is : location e ≡ Some l
+      pub is_read : operation_is reads e ≡ true
 
-    abbrev pub Writes : MemoryEvent → ℕ → Type 0
-    Writes e l = IsEvent x e × (location e ≡ Some l) × (operation_is operations.writes e ≡ true)
+    -- The event writes this location.
+    pub record Writes (e : MemoryEvent) (l : ℕ) : Type 0 where
+      pub is_event : IsEvent x e
+      pub location_is : location e ≡ Some l
+      pub is_write : operation_is operations.writes e ≡ true
 
     -- Reads-from: r reads from w.
-    abbrev pub Rf : MemoryEvent → MemoryEvent → Type 0
-    Rf w r = (l : ℕ) × Writes w l × Reads r l × (x.rf r ≡ Some w)
+    pub record Rf (w r : MemoryEvent) : Type 0 where
+      pub on_location : ℕ
+      pub write : Writes w on_location
+      pub read : Reads r on_location
+      pub source_is : x.rf r ≡ Some w
 
     -- Coherence order: w comes before v.
-    abbrev pub Co : MemoryEvent → MemoryEvent → Type 0
-    Co w v = (l : ℕ) × Writes w l × Writes v l × (x.co w < x.co v)
+    pub record Co (w v : MemoryEvent) : Type 0 where
+      pub on_location : ℕ
+      pub first_write : Writes w on_location
+      pub second_write : Writes v on_location
+      pub co_lt : x.co w < x.co v
 
     -- From-reads: r reads a word that w overwrites, the initial word or that of a write before w in coherence order.
-    abbrev pub Fr : MemoryEvent → MemoryEvent → Type 0
-    Fr r w = (l : ℕ) × Reads r l × Writes w l × (r ≢ w) × ForSome (x.rf r) (λ v. x.co v < x.co w)
+    pub record Fr (r w : MemoryEvent) : Type 0 where
+      pub on_location : ℕ
+      pub read : Reads r on_location
+      pub write : Writes w on_location
+      pub events_differ : r ≢ w
+      pub source_before : ForSome (x.rf r) (λ v. x.co v < x.co w)
 
     -- Program order of two events on one location.
-    abbrev pub PoLoc : MemoryEvent → MemoryEvent → Type 0
-    PoLoc a b = Po x a b × (l : ℕ) × (location a ≡ Some l) × (location b ≡ Some l)
+    pub record PoLoc (a b : MemoryEvent) : Type 0 where
+      pub po : Po x a b
+      pub on_location : ℕ
+      pub first_location_is : location a ≡ Some on_location
+      pub second_location_is : location b ≡ Some on_location
 
     -- Preserved program order: the first reads, the second writes, or one is a fence. The order of a store and a later load is not
     -- preserved.
-    abbrev pub Ppo : MemoryEvent → MemoryEvent → Type 0
-    Ppo a b = Po x a b × ((operation_is reads a || (operation_is operations.writes b || (operation_is is_fence a || operation_is is_fence b))) ≡ true)
+    pub record Ppo (a b : MemoryEvent) : Type 0 where
+      pub po : Po x a b
+      pub is_preserved :
+          (operation_is reads a || (operation_is operations.writes b || (operation_is is_fence a || operation_is is_fence b))) ≡ true
 
     -- External reads-from: between two threads.
-    abbrev pub Rfe : MemoryEvent → MemoryEvent → Type 0
-    Rfe w r = Rf w r × (w.thread ≢ r.thread)
+    pub record Rfe (w r : MemoryEvent) : Type 0 where
+      pub rf : Rf w r
+      pub threads_differ : w.thread ≢ r.thread

@@ -16,8 +16,11 @@ module _ (test : X86Test) (x : Execution) where
     pub load : operation_is x86_language test is_load b ≡ true
 
   -- A fence or a locked instruction is between two events of a thread.
-  abbrev pub HasFenceBetween : MemoryEvent → MemoryEvent → Type 0
-  HasFenceBetween a b = (f : MemoryEvent) × Po x a f × Po x f b × (operation_is x86_language test needs_empty_buffer f ≡ true)
+  pub record HasFenceBetween (a b : MemoryEvent) : Type 0 where
+    pub fence : MemoryEvent
+    pub after_first : Po x a fence
+    pub before_second : Po x fence b
+    pub fence_waits : operation_is x86_language test needs_empty_buffer fence ≡ true
 
   -- A fence or a locked instruction is between every store and every later load of its thread.
   abbrev pub IsFenced : Type 0
@@ -68,7 +71,7 @@ module _ (code : List Instr) (path : List ℕ) (i j : ℕ) where
     pub before : index_in < j
     pub fence : Instr
     pub at : slice_get code index_in ≡ Some fence
-    pub is : needs_empty_buffer (x86_operation fence) ≡ true
+    pub fence_waits : needs_empty_buffer (x86_operation fence) ≡ true
 
 -- No thread except t has an instruction that writes the location of this load of t.
 abbrev pub IsLocationOnlyWrittenBy : X86Test → ℕ → Instr → Type 0

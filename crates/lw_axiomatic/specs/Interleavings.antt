@@ -38,7 +38,7 @@ module _ {S : Type 0} (language : Language S) where
     pub statement : S
     pub was : slice_get s.threads t ≡ Some thread
     pub at : slice_get (thread_code program t) thread.position ≡ Some statement
-    pub is : next ≡ after t thread (language.operation_of statement) s
+    pub state_is : next ≡ after t thread (language.operation_of statement) s
 
   -- The threads of the order execute a step each, in sequence.
   abbrev pub InterleavedRunsTo : List (List S) → List ℕ → Interleaved → Interleaved → Type 0
@@ -50,14 +50,16 @@ module _ {S : Type 0} (language : Language S) where
   IsEnd program s = (t : ℕ) (th : ThreadState) → slice_get s.threads t ≡ Some th → length (thread_code program t) ≤ th.position
 
   module _ (test : Test S) where
+    -- The initial state of a test: each thread at its first position, with its registers, and the initial words of memory.
     abbrev pub start : Interleaved
     start = record { threads = map first_state test.head.init_regs; words = test.head.init_words }
 
+    -- The steps of threads in this order lead from the initial state to a final state with this outcome.
     pub record InterleavedOutcome (order : List ℕ) (o : FinalState) : Type 0 where
       pub end : Interleaved
       pub ran : InterleavedRunsTo test.threads order start end
       pub final : IsEnd test.threads end
-      pub is : o ≡ record { regs = map (λ (th : ThreadState). th.regs) end.threads; words = end.words }
+      pub outcome_is : o ≡ record { regs = map (λ (th : ThreadState). th.regs) end.threads; words = end.words }
 
     -- Some sequence of threads leads to the outcome.
     abbrev pub InterleavingOutcome : FinalState → Type 0

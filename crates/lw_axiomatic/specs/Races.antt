@@ -24,7 +24,7 @@ module _ (test : X86Test) where
     pub instruction : Instr
     pub was : slice_get s.threads t ≡ Some thread
     pub at : slice_get (thread_code test.threads t) thread.position ≡ Some instruction
-    pub is : kind (x86_operation instruction) ≡ true
+    pub has_kind : kind (x86_operation instruction) ≡ true
     pub on : location_of (x86_operation instruction) ≡ Some l
 
   -- In some run by interleaving, thread q has executed a store, and since then no fence and no locked instruction; and now its next
@@ -32,7 +32,7 @@ module _ (test : X86Test) where
   pub record HasTriangularRace : Type 0 where
     pub q : ℕ
     pub p : ℕ
-    pub two : p ≢ q
+    pub threads_differ : p ≢ q
     pub before : List ℕ
     pub first : Interleaved
     pub reached : InterleavedRunsTo x86_language test.threads before (start x86_language test) first

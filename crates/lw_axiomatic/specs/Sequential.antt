@@ -15,6 +15,7 @@ module _ {S : Type 0} (language : Language S) (test : Test S) where
     abbrev pub ScOrder : MemoryEvent → MemoryEvent → Type 0
     ScOrder a b = Po x a b ⊎ (Rf language test x a b ⊎ (Co language test x a b ⊎ Fr language test x a b))
 
+    -- The axiom of sequential consistency: program order and communication have no cycle together.
     abbrev pub IsSequentiallyConsistent : Type 0
     IsSequentiallyConsistent = Acyclic ScOrder
 

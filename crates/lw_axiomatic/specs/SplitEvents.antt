@@ -19,40 +19,59 @@ pub record Half : Type 0 where
 
 module _ (test : X86Test) (x : Execution) where
   -- Only locked instructions have a second half.
-  abbrev pub IsHalf : Half → Type 0
-  IsHalf h = IsEvent x h.event × (h.is_second ≡ true → operation_is x86_language test is_locked h.event ≡ true)
+  pub record IsHalf (h : Half) : Type 0 where
+    pub is_event : IsEvent x h.event
+    pub locked_if_second : h.is_second ≡ true → operation_is x86_language test is_locked h.event ≡ true
 
   -- The half is the first of an event that reads the location.
-  abbrev pub HalfReads : Half → ℕ → Type 0
-  HalfReads h l = Reads x86_language test x h.event l × (h.is_second ≡ false)
+  pub record HalfReads (h : Half) (l : ℕ) : Type 0 where
+    pub event_reads : Reads x86_language test x h.event l
+    pub is_first : h.is_second ≡ false
 
   -- The half is a store to the location, or the second half of a locked instruction.
-  abbrev pub HalfWrites : Half → ℕ → Type 0
-  HalfWrites h l = Writes x86_language test x h.event l × (h.is_second ≡ operation_is x86_language test is_locked h.event)
+  pub record HalfWrites (h : Half) (l : ℕ) : Type 0 where
+    pub event_writes : Writes x86_language test x h.event l
+    pub is_last : h.is_second ≡ operation_is x86_language test is_locked h.event
 
   -- The halves are the read and the write of one locked instruction.
-  abbrev pub AreHalves : Half → Half → Type 0
-  AreHalves a b = IsHalf a × IsHalf b × (a.event ≡ b.event) × (a.is_second ≡ false) × (b.is_second ≡ true)
+  pub record AreHalves (a b : Half) : Type 0 where
+    pub first_half : IsHalf a
+    pub second_half : IsHalf b
+    pub same_event : a.event ≡ b.event
+    pub first_is_first : a.is_second ≡ false
+    pub second_is_second : b.is_second ≡ true
 
   -- Program order of halves, in which a locked instruction's read comes before its write.
   abbrev pub HalvesPo : Half → Half → Type 0
   HalvesPo a b = (IsHalf a × IsHalf b × Po x a.event b.event) ⊎ AreHalves a b
 
   -- Reads-from of halves.
-  abbrev pub HalvesRf : Half → Half → Type 0
-  HalvesRf w r = (l : ℕ) × HalfWrites w l × HalfReads r l × (x.rf r.event ≡ Some w.event)
+  pub record HalvesRf (w r : Half) : Type 0 where
+    pub on_location : ℕ
+    pub write : HalfWrites w on_location
+    pub read : HalfReads r on_location
+    pub source_is : x.rf r.event ≡ Some w.event
 
   -- Coherence order of halves that write.
-  abbrev pub HalvesCo : Half → Half → Type 0
-  HalvesCo w v = (l : ℕ) × HalfWrites w l × HalfWrites v l × (x.co w.event < x.co v.event)
+  pub record HalvesCo (w v : Half) : Type 0 where
+    pub on_location : ℕ
+    pub first_write : HalfWrites w on_location
+    pub second_write : HalfWrites v on_location
+    pub co_lt : x.co w.event < x.co v.event
 
   -- From-reads of halves: to a write later in coherence order than the one that is read from.
-  abbrev pub HalvesFr : Half → Half → Type 0
-  HalvesFr r w = (l : ℕ) × HalfReads r l × HalfWrites w l × ForSome (x.rf r.event) (λ v. x.co v < x.co w.event)
+  pub record HalvesFr (r w : Half) : Type 0 where
+    pub on_location : ℕ
+    pub read : HalfReads r on_location
+    pub write : HalfWrites w on_location
+    pub source_before : ForSome (x.rf r.event) (λ v. x.co v < x.co w.event)
 
   -- Program order of halves on one location.
-  abbrev pub HalvesPoLoc : Half → Half → Type 0
-  HalvesPoLoc a b = HalvesPo a b × (l : ℕ) × (location x86_language test a.event ≡ Some l) × (location x86_language test b.event ≡ Some l)
+  pub record HalvesPoLoc (a b : Half) : Type 0 where
+    pub po : HalvesPo a b
+    pub on_location : ℕ
+    pub first_location_is : location x86_language test a.event ≡ Some on_location
+    pub second_location_is : location x86_language test b.event ≡ Some on_location
 
   -- Tests whether a half reads: a load, or the first half of a locked instruction.
   abbrev pub reads_first : Half → Bool
@@ -67,8 +86,9 @@ module _ (test : X86Test) (x : Execution) where
   holds_all h = operation_is x86_language test is_fence h.event || operation_is x86_language test is_locked h.event
 
   -- Preserved program order of halves: the first reads, the second writes, or one is a fence or a half of a locked instruction.
-  abbrev pub HalvesPpo : Half → Half → Type 0
-  HalvesPpo a b = HalvesPo a b × ((reads_first a || (writes_last b || (holds_all a || holds_all b))) ≡ true)
+  pub record HalvesPpo (a b : Half) : Type 0 where
+    pub po : HalvesPo a b
+    pub is_preserved : (reads_first a || (writes_last b || (holds_all a || holds_all b))) ≡ true
 
   -- The halves are of two threads.
   abbrev pub AreOfTwoThreads : Half → Half → Type 0

@@ -13,12 +13,16 @@ module _ (x : Execution) (done reached : MemoryEvent → ℕ) where
   IsBefore w r = (reached w < done r) ⊎ Po x w r
 
 module _ (test : X86Test) (x : Execution) (done reached : MemoryEvent → ℕ) where
-  -- This is the last to reach memory of the writes to l that are before r; `None` if there are none.
+  -- The write v is the last to reach memory of the writes to l that are before r.
+  pub record IsNewestWrite (r : MemoryEvent) (l : ℕ) (v : MemoryEvent) : Type 0 where
+    pub write : Writes x86_language test x v l
+    pub is_before : IsBefore x done reached v r
+    pub latest : (w : MemoryEvent) → Writes x86_language test x w l → IsBefore x done reached w r → reached w ≤ reached v
+
+  -- This is the newest of the writes to l that are before r; `None` if there are none.
   abbrev pub IsNewest : MemoryEvent → ℕ → Option MemoryEvent → Type 0
   IsNewest r l None = (w : MemoryEvent) → Writes x86_language test x w l → IsBefore x done reached w r → ⊥
-  IsNewest r l (Some v) =
-      Writes x86_language test x v l × IsBefore x done reached v r
-      × ((w : MemoryEvent) → Writes x86_language test x w l → IsBefore x done reached w r → reached w ≤ reached v)
+  IsNewest r l (Some v) = IsNewestWrite r l v
 
   -- Each thread's instructions execute in their order; a store reaches memory later, everything else when it executes; preserved program
   -- order and coherence order hold in memory; and each read has its newest write.

@@ -15,7 +15,7 @@ ghost use Rattle.lw_report.specs.Truth.{is_true};
 ghost use Rattle.lw_tso.specs.Fencing.{IsFencedTest};
 
 use crate::programs::critical_sections_do_not_overlap;
-use lw_tso::fences_can_be_left_out;
+use lw_tso::fences_can_be_removed;
 
 /// States of store buffering that the axioms allow both loads to read the initial words.
 pub fn store_buffering_is_allowed()
@@ -33,7 +33,7 @@ pub fn store_buffering_has_a_triangular_race()
 pub fn the_fence_of_own_loads_is_spare()
     ensures { (inserted : IsFencedTest own_loads own_loads_fenced) × AreSpare own_loads own_loads_fenced inserted }
 {
-    fences_can_be_left_out();
+    fences_can_be_removed();
 }
 
 /// States of the spin lock of examples/SpinLock-x86.litmus, which XCHG takes and a plain store lets go, that of any

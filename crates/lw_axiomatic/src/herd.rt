@@ -16,7 +16,7 @@ ghost use Rattle.lw_litmus.specs.Tests.{SourceTest, X86Test};
 
 /// States that the relations of an axiom are acyclic if and only if some numbering of the events increases along
 /// them.
-pub fn acyclic_is_without_cycles()
+pub fn acyclic_relations_have_no_cycle()
     ensures coherence { (test : X86Test) (x : Execution) → Coherence test x ↔ HasNoCycle (OnOneLocation test x) }
     ensures happens_before { (test : X86Test) (x : Execution)
         → GlobalHappensBefore test x ↔ HasNoCycle (HappensBefore test x) }

@@ -23,8 +23,8 @@ ghost use Rattle.lw_report.specs.declared.judgement.Claim.TheVariants.{Exact};
 ghost use Rattle.lw_tso.specs.Runs.{IsMachineOutcome};
 ghost use Rattle.lw_tso_caches.specs.OverCaches.{FitsCaches, OutcomeOverCaches};
 
-use lw_bench::{a_text_has_one_test, what_a_text_says_is_well_formed};
-use lw_finals::x86_outcomes_are_those_of_choices;
+use lw_bench::{a_text_has_one_test, tests_of_texts_are_well_formed};
+use lw_finals::x86_outcomes_are_those_of_path_assignments;
 use lw_tso_caches::outcomes_over_caches_are_flat;
 
 /// States the theorem: the outcomes of an x86 test on the machine, with store buffers over flat memory, are exactly
@@ -36,12 +36,13 @@ pub fn the_machine_is_what_the_axioms_allow()
     ensures caches { (protocol : Protocol) (test : X86Test) (o : FinalState) → IsWellScopedProgram test → FitsCaches test
         → OutcomeOverCaches protocol test o ↔ IsAllowed test o }
 {
-    x86_outcomes_are_those_of_choices();
+    x86_outcomes_are_those_of_path_assignments();
     outcomes_over_caches_are_flat();
 }
 
 /// States that the outcomes of a source test, by interleaving on one memory, are exactly those that the axioms of
-/// x86-TSO allow its compiled program.
+/// x86-TSO allow its compiled program. In `starts`, each thread has a list of the indices at which its statements
+/// start among its instructions.
 pub fn compiled_programs_are_what_the_axioms_allow()
     ensures { (test : SourceTest) (program : X86Test) (starts : List (List ℕ)) (o : FinalState) → IsWellScopedSource test
         → IsCompiled test program starts → SourceOutcome test o ↔ IsAllowed program o }
@@ -61,7 +62,8 @@ pub fn interleaving_outcomes_are_sequential()
 
 /// States that `lw states` prints, of the text of a test within the limits of lists, exactly the report of the
 /// outcomes that the axioms allow: those of an x86 test itself, and those of a source test's compiled program, which
-/// are the outcomes of the source test's sequentially consistent executions.
+/// are the outcomes of the source test's sequentially consistent executions. In `starts`, each thread has a list of
+/// the indices at which its statements start among its instructions.
 pub fn states_prints_what_the_axioms_allow()
     ensures x86 { (text made : Bytes) (test : X86Test) → HasTest text (Of_x86 test)
         → IsOutputOf IsStatesReport text made ↔ (IsWithinListLimits (Of_x86 test) × IsReport test.head (IsAllowed test) Exact made) }
@@ -76,5 +78,5 @@ pub fn states_prints_what_the_axioms_allow()
     compiled_programs_are_what_the_axioms_allow();
     interleaving_outcomes_are_sequential();
     a_text_has_one_test();
-    what_a_text_says_is_well_formed();
+    tests_of_texts_are_well_formed();
 }

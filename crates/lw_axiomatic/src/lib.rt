@@ -22,7 +22,7 @@ pub use examples::{
     the_fence_of_own_loads_is_spare, the_spin_lock_excludes,
 };
 pub use herd::{
-    acyclic_is_without_cycles, coherence_ranks_are_total_orders,
+    acyclic_relations_have_no_cycle, coherence_ranks_are_total_orders,
     locked_instructions_can_be_two_events,
 };
 pub use laws::{
@@ -34,9 +34,9 @@ pub use programs::{
     executions_fenced_where_overwritten_are_sequential,
     executions_fenced_where_shared_are_sequential, fenced_tests_have_sequential_outcomes,
     locked_instructions_are_atomic, no_word_comes_out_of_thin_air,
-    relaxed_outcomes_come_of_triangular_races, sequential_outcomes_are_allowed,
+    relaxed_outcomes_have_triangular_races, sequential_outcomes_are_allowed,
     spare_fences_change_no_outcome, tests_fenced_where_others_write_are_interleaving,
     tests_without_data_races_are_interleaving, tests_without_triangular_races_are_interleaving,
     well_fenced_executions_are_sequential,
 };
-pub use times::{executions_have_times, timed_executions_keep_the_axioms};
+pub use times::{executions_have_times, timed_executions_satisfy_the_axioms};

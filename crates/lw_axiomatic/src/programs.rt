@@ -25,7 +25,7 @@ ghost use Rattle.lw_tso_caches.specs.OverCaches.{FitsCaches, OutcomeOverCaches};
 
 use crate::laws::{interleaving_outcomes_are_sequential, the_machine_is_what_the_axioms_allow};
 use crate::times::executions_have_times;
-use lw_tso::{fences_only_take_outcomes_away, tests_without_fences_are_well_formed};
+use lw_tso::{fences_only_remove_outcomes, tests_without_fences_are_well_formed};
 
 /// States, of two accesses of a thread to one location in program order: two writes are in this order in coherence
 /// order; a read reads from the write before it, or from one later in coherence order; what a read reads from comes
@@ -151,7 +151,7 @@ pub fn spare_fences_change_no_outcome()
         → IsWellScopedProgram fenced → FitsCaches fenced → AreSpare test fenced inserted
         → OutcomeOverCaches protocol test o ↔ OutcomeOverCaches protocol fenced o }
 {
-    fences_only_take_outcomes_away();
+    fences_only_remove_outcomes();
     tests_without_fences_are_well_formed();
     the_machine_is_what_the_axioms_allow();
 }
@@ -189,7 +189,7 @@ pub fn tests_without_data_races_are_interleaving()
 }
 
 /// States that a test has a triangular race if some outcome of x86-TSO is not one of interleaving.
-pub fn relaxed_outcomes_come_of_triangular_races()
+pub fn relaxed_outcomes_have_triangular_races()
     ensures { (test : X86Test) (o : FinalState) → IsWellScopedProgram test → IsAllowed test o
         → InterleavingOutcome x86_language test o ⊎ HasTriangularRace test }
 {

@@ -1,5 +1,6 @@
-//! Laws of executions with times: the same model by one order in which instructions execute and reach memory. A law
-//! is a function without a result, whose contract states the law.
+//! Laws of executions with times: an execution whose events have times, at which they are done and reach memory, satisfies
+//! the axioms; and a candidate execution that satisfies them has such times. A law is a function without a result, whose
+//! contract states the law.
 ghost use Rattle.std.specs.Prelude.{ℕ};
 ghost use Rattle.lw_axiomatic.specs.Axioms.{SatisfiesAxioms};
 ghost use Rattle.lw_axiomatic.specs.Candidates.{IsCandidate};
@@ -10,7 +11,7 @@ ghost use Rattle.lw_litmus.specs.Programs.{x86_language};
 ghost use Rattle.lw_litmus.specs.Tests.{X86Test};
 
 /// States that an execution with times satisfies the axioms.
-pub fn timed_executions_keep_the_axioms()
+pub fn timed_executions_satisfy_the_axioms()
     ensures { (test : X86Test) (x : Execution) → HasTimes test x → SatisfiesAxioms test x }
 {}
 

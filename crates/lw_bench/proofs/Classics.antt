@@ -1,5 +1,5 @@
--- The classic tests: they are well-formed, searches through their runs find what is forbidden, and a run of store buffering in x86 has both
--- loads early.
+-- The classic tests: they are well-formed, searches through their runs find what is forbidden, and a run of
+-- store buffering in x86 has both loads early. The laws on classic tests cite these lemmas.
 use Rattle.lw_bench.proofs.Common.{◌≡◌, ℕ, zero, suc, ◌^◌, ◌<◌, ◌≤◌, ◌==◌, not, Bool, true, false, List, []}
 use Rattle.lw_bench.proofs.Common.{◌∷◌, refl, sym, ap, ◌∙◌, subst, arith, slice_index, length, None, Some}
 use Rattle.lw_bench.proofs.Common.{slice_get, codes, replicate, slice_index_or, Contains, is_ascii_digit}
@@ -14,7 +14,8 @@ use Rattle.lw_bench.proofs.Common.{Processor, IsMachineOutcome, MachineRunsTo, i
 use Rattle.lw_bench.proofs.Common.{machine_outcome, state, MachineTransition, Ok, two_threads}
 use Rattle.lw_bench.proofs.Common.{both_loads_are_early, flag_without_message, store_buffering}
 use Rattle.lw_bench.proofs.Common.{store_buffering_in_x86, message_passing_in_x86, not-true}
-use Rattle.lw_bench.proofs.Searches.{ends_so, searched, machine_ends_so, machine_searched}
+use Rattle.lw_bench.proofs.Searches.{every_end_satisfies, every_end_satisfies-sound}
+use Rattle.lw_bench.proofs.Searches.{every_machine_end_satisfies, every_machine_end_satisfies-sound}
 use Rattle.lw_litmus.specs.declared.instr.Instr.TheVariants as instr
 
 -- Tests whether the outcome has not both loads of store buffering early.
@@ -22,8 +23,8 @@ abbrev is_late : FinalState → Bool
 is_late o = not (is_true store_buffering.head.condition o)
 
 -- Within five steps every run of store buffering by interleaving ends, with an outcome that has not both loads early.
-search_of_store_buffering : ends_so store_buffering.threads is_late 5 (initial_state store_buffering) ≡ true
-unfolding ends_so
+search_of_store_buffering : every_end_satisfies store_buffering.threads is_late 5 (initial_state store_buffering) ≡ true
+unfolding every_end_satisfies
 search_of_store_buffering = refl
 
 -- By interleaving, no outcome of store buffering has both loads early.
@@ -32,19 +33,19 @@ pub store_buffering_forbidden : (o : FinalState)
     → is_true store_buffering.head.condition o ≡ false
 store_buffering_forbidden o run =
     not-true _
-    (subst (λ e. is_late e ≡ true) (sym run.1.is)
-    (searched store_buffering.threads is_late 5 run.0 (initial_state store_buffering) run.1.end search_of_store_buffering
-    run.1.ran run.1.final))
+    (subst (λ e. is_late e ≡ true) (sym run.1.outcome_is)
+    (every_end_satisfies-sound store_buffering.threads is_late 5 run.0 (initial_state store_buffering) run.1.end
+    search_of_store_buffering run.1.ran run.1.final))
 
 -- Tests whether the outcome has not the flag without the message.
 abbrev lacks_message : FinalState → Bool
 lacks_message o = not (is_true message_passing_in_x86.head.condition o)
 
 -- Within seven events every run of message passing over flat memory ends, with an outcome that has not the flag without the message.
-search_of_message_passing : machine_ends_so message_passing_in_x86.threads lacks_message 7
+search_of_message_passing : every_machine_end_satisfies message_passing_in_x86.threads lacks_message 7
     (initial_machine_state message_passing_in_x86 message_passing_in_x86.head.init_words)
     ≡ true
-unfolding machine_ends_so
+unfolding every_machine_end_satisfies
 search_of_message_passing = refl
 
 -- No outcome of message passing in x86 has the flag without the message.
@@ -53,8 +54,8 @@ pub message_passing_forbidden : (o : FinalState)
     → is_true message_passing_in_x86.head.condition o ≡ false
 message_passing_forbidden o run =
     not-true _
-    (subst (λ e. lacks_message e ≡ true) (sym run.1.is)
-    (machine_searched message_passing_in_x86.threads lacks_message 7 run.0
+    (subst (λ e. lacks_message e ≡ true) (sym run.1.outcome_is)
+    (every_machine_end_satisfies-sound message_passing_in_x86.threads lacks_message 7 run.0
     (initial_machine_state message_passing_in_x86 message_passing_in_x86.head.init_words) run.1.end search_of_message_passing
     run.1.ran run.1.final))
 
@@ -67,11 +68,12 @@ pub one_letter : (w : List ℕ) (b : ℕ)
     → is_ascii_digit b ≡ false
     → is_reserved (b ∷ []) ≡ false
     → IsLocationName w
-one_letter w b is word front free = rw is ((record { some = omega arith; all = (word, tt); front = front }, omega arith), free)
+one_letter w b is word front free =
+    rw is ((record { not_empty = omega arith; all = (word, tt); front = front }, omega arith), free)
 
 -- `x` is not in the table of `y`, so the table of both has no duplicates.
-apart : Contains (codes "y" ∷ []) (codes "x") → ⊥
-apart c = go c.0 c.1 c.2
+x_not_in_y_table : Contains (codes "y" ∷ []) (codes "x") → ⊥
+x_not_in_y_table c = go c.0 c.1 c.2
   where
     go : (k : ℕ) → k < 1 → slice_index_or (codes "y" ∷ []) k (codes "x") ≡ codes "x" → ⊥
     go zero l e = absurd (false≢true (ap (λ (bytes : List ℕ). slice_index bytes 0 == 120) e))
@@ -85,26 +87,27 @@ head_formed : (name : List ℕ) (arch : Arch) (quant : Quant) (condition : Formu
     → IsWellFormedHead (two_threads name arch quant condition)
 head_formed name arch quant condition named few speaks = record {
   name = named;
-  some = omega arith;
+  has_thread = omega arith;
   few = omega arith;
   table = record {
     few = omega arith;
     all = (one_letter _ 120 refl refl refl refl, (one_letter (codes "y") 121 refl refl refl refl, tt));
-    once = (apart, ((λ c. omega (arith, c.1)), tt));
+    without_duplicates = (x_not_in_y_table, ((λ c. omega (arith, c.1)), tt));
   };
   regs = refl;
-  six = (refl, (refl, tt));
-  register_words = (zeros, (zeros, tt));
+  register_counts = (refl, (refl, tt));
+  register_words = (IsWordNumber-zeros, (IsWordNumber-zeros, tt));
   words = refl;
   location_words = (omega arith, (omega arith, tt));
-  there = tt;
+  listed_in_range = tt;
   ascending = tt;
   nodes_few = few;
   condition = speaks;
 }
   where
-    zeros : AllByRecursion IsWordNumber (replicate 6 0)
-    zeros = (omega arith, (omega arith, (omega arith, (omega arith, (omega arith, (omega arith, tt))))))
+    -- Six zeros are words: the registers at the start.
+    IsWordNumber-zeros : AllByRecursion IsWordNumber (replicate 6 0)
+    IsWordNumber-zeros = (omega arith, (omega arith, (omega arith, (omega arith, (omega arith, (omega arith, tt))))))
 
 -- The instruction is a well-formed one of a test of two locations, and no jump.
 record IsPlain (i : Instr) : Type 0 where
@@ -137,21 +140,25 @@ load_plain d x register there = record {
 two_formed : {first second : Instr} → IsPlain first → IsPlain second → IsWellFormedThread x86_language 2 (first ∷ second ∷ [])
 two_formed {first} {second} a b = record {
   short = omega arith;
-  there =
+  statements_formed =
       All-cons (IsWellFormedStatement x86_language 2) first (second ∷ []) a.formed
       (All-cons (IsWellFormedStatement x86_language 2) second [] b.formed (All-nil _));
-  forward = forward;
+  forward = branches_forward-two;
 }
   where
-    no_jump : (i : Instr) (k : ℕ) → IsPlain i → ForSome (branch_target (x86_operation i)) (λ to. (k < to) × (to ≤ 2))
-    no_jump i k plain to is = absurd (none-some to (sym plain.goes_on ∙ is))
+    -- An instruction that is no jump has no target.
+    branch_forward-IsPlain : (i : Instr) (k : ℕ)
+        → IsPlain i
+        → ForSome (branch_target (x86_operation i)) (λ to. (k < to) × (to ≤ 2))
+    branch_forward-IsPlain i k plain to is = absurd (none-some to (sym plain.goes_on ∙ is))
 
-    forward : (k : ℕ) (s : Instr)
+    -- In a thread of two plain instructions all jumps lead forward: there are none.
+    branches_forward-two : (k : ℕ) (s : Instr)
         → slice_get (first ∷ second ∷ []) k ≡ Some s
         → ForSome (branch_target (x86_operation s)) (λ to. (k < to) × (to ≤ 2))
-    forward zero s e = no_jump s 0 (subst IsPlain (same_Some first s e) a)
-    forward (suc zero) s e = no_jump s 1 (subst IsPlain (same_Some second s e) b)
-    forward (suc (suc k)) s e = cc
+    branches_forward-two zero s e = branch_forward-IsPlain s 0 (subst IsPlain (same_Some first s e) a)
+    branches_forward-two (suc zero) s e = branch_forward-IsPlain s 1 (subst IsPlain (same_Some second s e) b)
+    branches_forward-two (suc (suc k)) s e = cc
 
 -- The x86 test has two well-formed threads, two locations and a well-formed head.
 record IsOfTwo (test : X86Test) : Type 0 where
@@ -165,7 +172,7 @@ record IsOfTwo (test : X86Test) : Type 0 where
   first_formed : IsWellFormedThread x86_language 2 first
   second_formed : IsWellFormedThread x86_language 2 second
 
--- Such a test is well-formed.
+-- A test that satisfies `IsOfTwo` is well-formed.
 program_formed : (test : X86Test) → IsOfTwo test → IsWellFormedProgram test
 program_formed test two = record {
   head = two.head;
@@ -189,8 +196,8 @@ store_buffering_formed = program_formed store_buffering_in_x86 (record {
   arch = refl;
   head =
       head_formed (codes "SB-x86") X86 Exists both_loads_are_early
-      (record { some = omega arith; short = omega arith; all = (refl, (refl, (refl, (refl, (refl, (refl, tt)))))) }) (omega arith)
-      ((omega arith, omega arith, omega arith), (omega arith, omega arith, omega arith));
+      (record { not_empty = omega arith; short = omega arith; all = (refl, (refl, (refl, (refl, (refl, (refl, tt)))))) })
+      (omega arith) ((omega arith, omega arith, omega arith), (omega arith, omega arith, omega arith));
   first_formed = two_formed (store_plain 0 1 (omega arith) (omega arith)) (load_plain 0 1 (omega arith) (omega arith));
   second_formed = two_formed (store_plain 1 1 (omega arith) (omega arith)) (load_plain 0 0 (omega arith) (omega arith));
 })
@@ -206,8 +213,8 @@ message_passing_formed = program_formed message_passing_in_x86 (record {
   arch = refl;
   head =
       head_formed (codes "MP-x86") X86 NotExists flag_without_message
-      (record { some = omega arith; short = omega arith; all = (refl, (refl, (refl, (refl, (refl, (refl, tt)))))) }) (omega arith)
-      ((omega arith, omega arith, omega arith), (omega arith, omega arith, omega arith));
+      (record { not_empty = omega arith; short = omega arith; all = (refl, (refl, (refl, (refl, (refl, (refl, tt)))))) })
+      (omega arith) ((omega arith, omega arith, omega arith), (omega arith, omega arith, omega arith));
   first_formed = two_formed (store_plain 0 1 (omega arith) (omega arith)) (store_plain 1 1 (omega arith) (omega arith));
   second_formed = two_formed (load_plain 0 1 (omega arith) (omega arith)) (load_plain 1 0 (omega arith) (omega arith));
 })
@@ -219,67 +226,67 @@ early_events : List Event
 early_events = Step 0 ∷ Step 1 ∷ Step 0 ∷ Step 1 ∷ Drain 0 ∷ Drain 1 ∷ []
 
 -- A processor at this position with this store buffer, whose registers are all 0.
-abbrev at : ℕ → List (ℕ × ℕ) → Processor
-at k buffer = record { position = k; regs = replicate 6 0; zero_flag = false; buffer = buffer }
+abbrev state_at : ℕ → List (ℕ × ℕ) → Processor
+state_at k buffer = record { position = k; regs = replicate 6 0; zero_flag = false; buffer = buffer }
 
 -- The initial state of store buffering.
-abbrev beginning : MachineState (List ℕ)
-beginning = initial_machine_state store_buffering_in_x86 (replicate 2 0)
+abbrev store_buffering_start : MachineState (List ℕ)
+store_buffering_start = initial_machine_state store_buffering_in_x86 (replicate 2 0)
 
 -- The state in which the first thread's store is in its store buffer, and nothing else is done.
 abbrev one_stored : MachineState (List ℕ)
-one_stored = state (at 1 ((0, 1) ∷ []) ∷ at 0 [] ∷ []) (0 ∷ 0 ∷ [])
+one_stored = state (state_at 1 ((0, 1) ∷ []) ∷ state_at 0 [] ∷ []) (0 ∷ 0 ∷ [])
 
 -- The state in which both stores are in their store buffers, and nothing is loaded.
 abbrev both_stored : MachineState (List ℕ)
-both_stored = state (at 1 ((0, 1) ∷ []) ∷ at 1 ((1, 1) ∷ []) ∷ []) (0 ∷ 0 ∷ [])
+both_stored = state (state_at 1 ((0, 1) ∷ []) ∷ state_at 1 ((1, 1) ∷ []) ∷ []) (0 ∷ 0 ∷ [])
 
 -- The state in which the first thread has loaded 0, and both stores are in their store buffers.
 abbrev one_loaded : MachineState (List ℕ)
-one_loaded = state (at 2 ((0, 1) ∷ []) ∷ at 1 ((1, 1) ∷ []) ∷ []) (0 ∷ 0 ∷ [])
+one_loaded = state (state_at 2 ((0, 1) ∷ []) ∷ state_at 1 ((1, 1) ∷ []) ∷ []) (0 ∷ 0 ∷ [])
 
 -- The state in which both threads have loaded 0, and both stores are in their store buffers.
 abbrev both_loaded : MachineState (List ℕ)
-both_loaded = state (at 2 ((0, 1) ∷ []) ∷ at 2 ((1, 1) ∷ []) ∷ []) (0 ∷ 0 ∷ [])
+both_loaded = state (state_at 2 ((0, 1) ∷ []) ∷ state_at 2 ((1, 1) ∷ []) ∷ []) (0 ∷ 0 ∷ [])
 
 -- The state in which both threads have loaded 0, and the first store is in memory.
 abbrev one_drained : MachineState (List ℕ)
-one_drained = state (at 2 [] ∷ at 2 ((1, 1) ∷ []) ∷ []) (1 ∷ 0 ∷ [])
+one_drained = state (state_at 2 [] ∷ state_at 2 ((1, 1) ∷ []) ∷ []) (1 ∷ 0 ∷ [])
 
 -- The final state: both threads have loaded 0, and both stores are in memory.
 abbrev both_drained : MachineState (List ℕ)
-both_drained = state (at 2 [] ∷ at 2 [] ∷ []) (1 ∷ 1 ∷ [])
+both_drained = state (state_at 2 [] ∷ state_at 2 [] ∷ []) (1 ∷ 1 ∷ [])
 
 -- The event leads from the first state to the second.
 abbrev Leads : Event → MachineState (List ℕ) → MachineState (List ℕ) → Type 0
 Leads e s mid = MachineTransition flat_memory store_buffering_in_x86.threads e s (Ok tt) mid
 
 -- The first thread's store enters its store buffer.
-first_stores : Leads (Step 0) beginning one_stored
-first_stores = (at 1 ((0, 1) ∷ []), 0 ∷ 0 ∷ [], (refl, refl, refl), refl)
+first_stores : Leads (Step 0) store_buffering_start one_stored
+first_stores = (state_at 1 ((0, 1) ∷ []), 0 ∷ 0 ∷ [], (refl, refl, refl), refl)
 
 -- The second thread's store enters its store buffer.
 second_stores : Leads (Step 1) one_stored both_stored
-second_stores = (at 1 ((1, 1) ∷ []), 0 ∷ 0 ∷ [], (refl, refl, refl), refl)
+second_stores = (state_at 1 ((1, 1) ∷ []), 0 ∷ 0 ∷ [], (refl, refl, refl), refl)
 
 -- The first thread loads 0, which memory still has.
 first_loads : Leads (Step 0) both_stored one_loaded
-first_loads = (at 2 ((0, 1) ∷ []), 0 ∷ 0 ∷ [], (Some 0, refl, refl, (refl, refl)), refl)
+first_loads = (state_at 2 ((0, 1) ∷ []), 0 ∷ 0 ∷ [], (Some 0, refl, refl, (refl, refl)), refl)
 
 -- The second thread loads 0, which memory still has.
 second_loads : Leads (Step 1) one_loaded both_loaded
-second_loads = (at 2 ((1, 1) ∷ []), 0 ∷ 0 ∷ [], (Some 0, refl, refl, (refl, refl)), refl)
+second_loads = (state_at 2 ((1, 1) ∷ []), 0 ∷ 0 ∷ [], (Some 0, refl, refl, (refl, refl)), refl)
 
 -- The first store reaches memory.
 first_drains : Leads (Drain 0) both_loaded one_drained
-first_drains = (at 2 [], 1 ∷ 0 ∷ [], (None, refl, refl, (refl, refl)), refl)
+first_drains = (state_at 2 [], 1 ∷ 0 ∷ [], (None, refl, refl, (refl, refl)), refl)
 
 -- The second store reaches memory.
 second_drains : Leads (Drain 1) one_drained both_drained
-second_drains = (at 2 [], 1 ∷ 1 ∷ [], (None, refl, refl, (refl, refl)), refl)
+second_drains = (state_at 2 [], 1 ∷ 1 ∷ [], (None, refl, refl, (refl, refl)), refl)
 
 -- The events with both loads early are a run of the flat machine to a final state.
-early_run : MachineRunsTo flat_memory store_buffering_in_x86.threads early_events beginning both_drained
+early_run : MachineRunsTo flat_memory store_buffering_in_x86.threads early_events store_buffering_start both_drained
 unfolding early_events
 early_run = (
   one_stored,
@@ -297,6 +304,6 @@ pub store_buffering_allowed : (o : FinalState)
     × (is_true store_buffering_in_x86.head.condition o ≡ true)
 store_buffering_allowed = (
   machine_outcome flat_memory both_drained,
-  (early_events, record { end = both_drained; ran = early_run; final = refl; is = refl }),
+  (early_events, record { end = both_drained; ran = early_run; final = refl; outcome_is = refl }),
   refl,
 )

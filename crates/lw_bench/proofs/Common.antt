@@ -26,13 +26,15 @@ pub use Rattle.std.specs.Option.{ForSome}
 pub use Rattle.lw_base.proofs.Common.{Bytes, FinalState, Formula, HasOutcomeShape, HoldsOfNothing, IsEvent}
 pub use Rattle.lw_base.proofs.Common.{IsListedOutcome, IsLocationName, IsRegisterIndex, IsRegisterName}
 pub use Rattle.lw_base.proofs.Common.{IsSchedule, IsTestName, IsWellFormedHead, IsWordNumber, MentionsOnly}
-pub use Rattle.lw_base.proofs.Common.{NameTable, Reg_is, TestHead, TokenList, final_state_cmp, first_byte_is}
-pub use Rattle.lw_base.proofs.Common.{head_of, is_blank, is_name_byte, is_reserved, most_text_bytes}
-pub use Rattle.lw_base.proofs.Common.{most_threads, nodes, register_name, stop_code, stop_name, thread_code}
-pub use Rattle.lw_base.proofs.api.Formulas.{has_locations}
-pub use Rattle.lw_base.proofs.api.Lists.{cons_head, get_some}
+pub use Rattle.lw_base.proofs.Common.{NameTable, Reg_is, TestHead, TokenList, final_state_cmp, final_word}
+pub use Rattle.lw_base.proofs.Common.{first_byte_is, head_of, is_blank, is_name_byte, is_reserved}
+pub use Rattle.lw_base.proofs.Common.{most_text_bytes, most_threads, nodes, register_name, stop_code}
+pub use Rattle.lw_base.proofs.Common.{stop_name, thread_code}
+pub use Rattle.lw_base.proofs.api.Formulas.{MentionsLocationsBelow-if_mentions_only}
+pub use Rattle.lw_base.proofs.api.Lists.{cons-head_eq, slice_get-in_range}
 pub use Rattle.lw_base.proofs.api.Returns.{Err-clause_propagated}
-pub use Rattle.lw_base.proofs.api.Writing.{both_written, pushed, then_written, written_as}
+pub use Rattle.lw_base.proofs.api.Writing.{OnOk-push_str, written-append, written-equal_text}
+pub use Rattle.lw_base.proofs.api.Writing.{written-two_parts}
 pub use Rattle.lw_base.specs.declared.event.Event.{Event}
 pub use Rattle.lw_base.specs.declared.event.Event.TheVariants.{Drain, Evict, Step}
 pub use Rattle.lw_base.specs.declared.fault.CellCause.{CellCause}
@@ -69,28 +71,33 @@ pub use Rattle.lw_tso.proofs.Common.{EffectTransition, EventEffect, EventResult,
 pub use Rattle.lw_tso.proofs.Common.{IsMachineOutcome, MachineRunsTo, MachineState, MachineTransition}
 pub use Rattle.lw_tso.proofs.Common.{Processor, ProcessorTransition, buffer_of, cpu_of, event_effect}
 pub use Rattle.lw_tso.proofs.Common.{initial_machine_state, machine_outcome}
-pub use Rattle.lw_tso.proofs.api.Effects.{EffectLeadsTo, Leaves, act_after, done_does, event_of_effect}
-pub use Rattle.lw_tso.proofs.api.Effects.{no_eviction, state}
-pub use Rattle.lw_tso.proofs.api.Endings.{can_end}
-pub use Rattle.lw_tso.proofs.api.FenceRemoval.{left_out}
-pub use Rattle.lw_tso.proofs.api.FlatSimulation.{within_reached}
+pub use Rattle.lw_tso.proofs.api.Effects.{EffectLeadsTo, EffectLeadsTo-if_done, Leaves}
+pub use Rattle.lw_tso.proofs.api.Effects.{MachineTransition-of_effect, act_after}
+pub use Rattle.lw_tso.proofs.api.Effects.{not-EffectLeadsTo-evict_event, state}
+pub use Rattle.lw_tso.proofs.api.Endings.{CanTerminate-reached}
+pub use Rattle.lw_tso.proofs.api.FenceRemoval.{IsFencedCode-code_without}
+pub use Rattle.lw_tso.proofs.api.FlatSimulation.{IsWithin-reached}
 pub use Rattle.lw_fence.proofs.Common.{IsCompiled, IsCompiledWith}
-pub use Rattle.lw_fence.proofs.api.Compilations.{has_outcome, has_outcomes, is_program, is_well_scoped}
-pub use Rattle.lw_fence.proofs.api.Compilations.{is_well_scoped_with, more_fences, none_among, one_program}
-pub use Rattle.lw_fence.proofs.api.Compilations.{same_outcomes, some_program, without_needless_fences}
-pub use Rattle.lw_outcome_map.specs.Listings.{IsStrictlySorted, OutcomeEntries, outcomes_of, schedules_of}
+pub use Rattle.lw_fence.proofs.api.Compilations.{AreSubset-nil, IsCompiled-exists, IsCompiled-unique}
+pub use Rattle.lw_fence.proofs.api.Compilations.{IsFencedTest-more_fences, IsMachineOutcome-compiled_iff}
+pub use Rattle.lw_fence.proofs.api.Compilations.{IsMachineOutcome-of_source, IsWellFormedProgram-compiled}
+pub use Rattle.lw_fence.proofs.api.Compilations.{IsWellScopedProgram-compiled}
+pub use Rattle.lw_fence.proofs.api.Compilations.{IsWellScopedProgram-with_fences, machine_outcome-exists}
+pub use Rattle.lw_fence.proofs.api.Compilations.{without_needless_fences}
+pub use Rattle.lw_outcome_map.specs.Listings.{IsStrictlySorted, OutcomeEntries, OutcomesWith, outcomes_of}
+pub use Rattle.lw_outcome_map.specs.Listings.{schedules_of}
 pub use Rattle.lw_paths.proofs.Common.{HasTooManyItems, IsWithinOrderLimit, JumpsForward, items_at_choice}
 pub use Rattle.lw_paths.proofs.Common.{path_assignments, total_of}
-pub use Rattle.lw_paths.proofs.api.Enumerated.{choices_are_all}
-pub use Rattle.lw_paths.proofs.api.Totals.{total_is}
-pub use Rattle.lw_tso_caches.proofs.api.Starts.{starts}
+pub use Rattle.lw_paths.proofs.api.Enumerated.{Contains-path_assignments}
+pub use Rattle.lw_paths.proofs.api.Totals.{IsTotalOrderCount-total_of}
+pub use Rattle.lw_tso_caches.proofs.api.Starts.{IsInitialMemory-empty_caches}
 pub use Rattle.lw_tso_caches.specs.CompleteLists.{ListsMachine}
 pub use Rattle.lw_tso_caches.specs.OverCaches.{FitsCaches, OutcomeOverCaches, ReplaysToOverCaches}
 pub use Rattle.lw_report.proofs.Common.{AreListedStates, AreStatesOf, IsFirstWithWords, IsMarkedList}
 pub use Rattle.lw_report.proofs.Common.{IsReport, IsScheduleList, IsSmallestOf, ListedState, ProjectedState}
-pub use Rattle.lw_report.proofs.Common.{final_word, is_true, marked_list_text, project_state, projection_of}
-pub use Rattle.lw_report.proofs.Common.{report_text, schedule_list_text, scheduled}
-pub use Rattle.lw_report.proofs.api.OneList.{one_report}
+pub use Rattle.lw_report.proofs.Common.{is_true, marked_list_text, observed_words, project_state}
+pub use Rattle.lw_report.proofs.Common.{projection_of, report_text, schedule_list_text, scheduled}
+pub use Rattle.lw_report.proofs.api.OneList.{IsReport-unique}
 pub use Rattle.lw_report.specs.declared.judgement.Claim.{Claim}
 pub use Rattle.lw_report.specs.declared.judgement.Claim.TheVariants.{Exact}
 pub use Rattle.lw_text.proofs.Common.{Atom, Close, Comment, Conjunction, Derives, DisjunctionLevel, FailsAt}
@@ -102,7 +109,7 @@ pub use Rattle.lw_text.proofs.Common.{is_two_byte_symbol, opens_comment, other, 
 pub use Rattle.lw_text.proofs.api.Frames.{frame_columns, frame_well_formed}
 pub use Rattle.lw_text.proofs.api.Indices.{is_index}
 pub use Rattle.lw_text.proofs.api.Places.{grid_placed}
-pub use Rattle.lw_text.proofs.api.Spelling.{all_pass, is_name_text, name_by_test}
+pub use Rattle.lw_text.proofs.api.Spelling.{is_name_text, list_all-AllByRecursion, name_by_test}
 pub use Rattle.lw_text.specs.Conditions.{Condition}
 pub use Rattle.lw_text.specs.Tokens.{none}
 pub use Rattle.lw_text.specs.declared.fault.TextCause.{TextCause}
@@ -128,9 +135,9 @@ pub use Rattle.lw_bench.specs.FaultTruth.{RunFaultIsTrue, TakesBeforeFault, Text
 pub use Rattle.lw_bench.specs.Faults.{cell_fault, cell_run_fault, schedule_fault, schedule_run_fault}
 pub use Rattle.lw_bench.specs.Faults.{text_fault, text_run_fault}
 pub use Rattle.lw_bench.specs.Films.{IsFilm, IsFilmOf}
-pub use Rattle.lw_bench.specs.Lists.{IsExactMarkedList, IsExactReport, IsExactScheduleList, IsListOf}
-pub use Rattle.lw_bench.specs.Lists.{IsReachedOnMachine, IsReachedOverCaches, IsStatesReport}
-pub use Rattle.lw_bench.specs.Lists.{IsWithinListLimits}
+pub use Rattle.lw_bench.specs.Lists.{AreObservedOutcomesOf, AreOutcomesOf, IsExactMarkedList, IsExactReport}
+pub use Rattle.lw_bench.specs.Lists.{IsExactScheduleList, IsListOf, IsReachedOnMachine, IsReachedOverCaches}
+pub use Rattle.lw_bench.specs.Lists.{IsStatesReport, IsWithinListLimits}
 pub use Rattle.lw_bench.specs.LitmusTests.{LitmusTest, Of_source, Of_x86, head_of_test, litmus_test_of}
 pub use Rattle.lw_bench.specs.Outcomes.{HasOverCaches, IsProgramOf, IsProgramRunFor, OutcomeOf}
 pub use Rattle.lw_bench.specs.Outcomes.{ProgramReplaysTo}

@@ -1,67 +1,72 @@
--- A run reports the reader's or the writer's fault if and only if that device has failed: for each way in which a run ends.
+-- A run reports the reader's or the writer's fault if and only if that device has failed: for each way in
+-- which a run ends. The contract of `run_text` has a clause for each device.
 use Rattle.lw_bench.proofs.Common.{Bool, true, false, ◌↔◌, ◌≡◌, ◌≢◌, sym, ap, ◌∙◌, Result, Ok, Err}
 use Rattle.lw_bench.proofs.Common.{if◌then◌else◌, refl, BenchFault, Memory, Read, Write}
 
 -- Equal failures have the same fault.
-pub err_is : {T E : Type 0} {a b : E} → (let e : Result T E = Err a in e) ≡ Err b → a ≡ b
-err_is same = cc
+pub Err-injective : {T E : Type 0} {a b : E} → (let e : Result T E = Err a in e) ≡ Err b → a ≡ b
+Err-injective same = cc
 
 -- A success is not a failure.
-pub ok_apart : {T E : Type 0} {a : T} {b : E} → (let r : Result T E = Ok a in r) ≡ Err b → ⊥
-ok_apart same = cc
+pub Ok_ne_Err : {T E : Type 0} {a : T} {b : E} → (let r : Result T E = Ok a in r) ≡ Err b → ⊥
+Ok_ne_Err same = cc
 
 -- False is not true.
-unlike : {b : Bool} → b ≡ false → b ≡ true → ⊥
-unlike is_no is_yes = cc
+false_ne_true : {b : Bool} → b ≡ false → b ≡ true → ⊥
+false_ne_true is_no is_yes = cc
 
 -- If the run reports a fault other than a device's, and the device has not failed, the run reports the device's fault if and only if that
 -- failed: neither holds.
-pub fault_apart : {T : Type 0} (result : Result T BenchFault) (given fault other : BenchFault) (failed : Bool)
+pub other_fault-iff_not_failed : {T : Type 0} (result : Result T BenchFault) (given fault other : BenchFault) (failed : Bool)
     → result ≡ Err given
     → given ≡ fault
     → fault ≢ other
     → failed ≡ false
     → result ≡ Err other ↔ failed ≡ true
-fault_apart result given fault other failed is same apart working =
-    (λ told. absurd (apart (sym same ∙ err_is (sym is ∙ told))), λ yes. absurd (unlike working yes))
+other_fault-iff_not_failed result given fault other failed is same apart working =
+    (λ told. absurd (apart (sym same ∙ Err-injective (sym is ∙ told))), λ yes. absurd (false_ne_true working yes))
 
 -- `Memory` is not the reader's fault.
-memory_is : (let f : BenchFault = Memory in f) ≢ Read
-memory_is same = cc
+Memory_ne_Read : (let f : BenchFault = Memory in f) ≢ Read
+Memory_ne_Read same = cc
 
 -- If the run reports the fault of an input that was not read completely, it reports the reader's if and only if the reader failed.
-pub input_told : {T : Type 0} (result : Result T BenchFault) (given fault : BenchFault) (failed : Bool)
+pub Read-iff_failed : {T : Type 0} (result : Result T BenchFault) (given fault : BenchFault) (failed : Bool)
     → result ≡ Err given
     → given ≡ fault
     → fault ≡ (if failed then Read else Memory)
     → result ≡ Err Read ↔ failed ≡ true
-input_told result given fault true is same told = (λ known. refl, λ yes. is ∙ ap (λ f. Err f) (same ∙ told))
-input_told result given fault false is same told =
-    fault_apart result given fault Read false is same (λ other. memory_is (sym told ∙ other)) refl
+Read-iff_failed result given fault true is same told = (λ known. refl, λ yes. is ∙ ap (λ f. Err f) (same ∙ told))
+Read-iff_failed result given fault false is same told =
+    other_fault-iff_not_failed result given fault Read false is same (λ other. Memory_ne_Read (sym told ∙ other)) refl
 
 -- The fault of an input that was not read completely, `Read` or `Memory`, is not the writer's.
-pub input_apart : (fault : BenchFault) (failed : Bool) → fault ≡ (if failed then Read else Memory) → fault ≢ Write
-input_apart fault true told same = read_is (sym told ∙ same)
+pub input_fault_ne_Write : (fault : BenchFault) (failed : Bool) → fault ≡ (if failed then Read else Memory) → fault ≢ Write
+input_fault_ne_Write fault true told same = Read_ne_Write (sym told ∙ same)
   where
-    read_is : (let f : BenchFault = Read in f) ≢ Write
-    read_is same = cc
-input_apart fault false told same = other (sym told ∙ same)
+    -- The reader's fault is not the writer's.
+    Read_ne_Write : (let f : BenchFault = Read in f) ≢ Write
+    Read_ne_Write same = cc
+input_fault_ne_Write fault false told same = Memory_ne_Write (sym told ∙ same)
   where
-    other : (let f : BenchFault = Memory in f) ≢ Write
-    other same = cc
+    -- `Memory` is not the writer's fault.
+    Memory_ne_Write : (let f : BenchFault = Memory in f) ≢ Write
+    Memory_ne_Write same = cc
 
 -- The writer's fault is not the reader's.
-write_is : (let f : BenchFault = Write in f) ≢ Read
-write_is same = cc
+Write_ne_Read : (let f : BenchFault = Write in f) ≢ Read
+Write_ne_Read same = cc
 
 -- If the run reports the writer's fault, and the reader has not failed, it reports the reader's if and only if that failed: neither holds.
-pub write_apart : {T : Type 0} (failed : Bool)
+pub Write_fault-reader_not_failed : {T : Type 0} (failed : Bool)
     → failed ≡ false
     → (let r : Result T BenchFault = Err Write in r) ≡ Err Read ↔ failed ≡ true
-write_apart failed working = fault_apart (Err Write) Write Write Read failed refl refl write_is working
+Write_fault-reader_not_failed failed working =
+    other_fault-iff_not_failed (Err Write) Write Write Read failed refl refl Write_ne_Read working
 
 -- If the run succeeds, and a device has not failed, it reports that device's fault if and only if that failed: neither holds.
-pub answer_apart : {T : Type 0} (answer : T) (other : BenchFault) (failed : Bool)
+pub no_device_fault-of_success : {T : Type 0} (answer : T) (other : BenchFault) (failed : Bool)
     → failed ≡ false
     → (let r : Result T BenchFault = Ok answer in r) ≡ Err other ↔ failed ≡ true
-answer_apart answer other failed working = (λ told. absurd (ok_apart told), λ yes. absurd (unlike working yes))
+no_device_fault-of_success answer other failed working =
+    (λ told. absurd (Ok_ne_Err told), λ yes. absurd (false_ne_true working yes))

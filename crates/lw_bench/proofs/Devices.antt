@@ -1,5 +1,6 @@
--- The bytes read from a reader and written to a writer, with one more piece; and how they relate to the whole input, of which a run reads
--- at most 65,537 bytes.
+-- The bytes read from a reader and written to a writer, with one more piece; and how they relate to the whole
+-- input, of which a run reads at most 65,537 bytes. The loops of `read_input` and `write_output` go by these
+-- lemmas.
 use Rattle.lw_bench.proofs.Common.{arith, inl, inr, refl, ◌≡◌, ◌≢◌, ℕ, zero, suc, ◌-◌, ◌<◌, ◌≤◌, Option, Some}
 use Rattle.lw_bench.proofs.Common.{None, List, [], ◌∷◌, ◌++◌, length, length-append, take, drop, sym, ap, ◌∙◌}
 use Rattle.lw_bench.proofs.Common.{subst, append_assoc, length-take-le, take-append-drop, take-append-le}
@@ -21,11 +22,11 @@ Consumes-more (Some x) (Some y) None xs ys h k = absurd k
 Consumes-more (Some x) (Some y) (Some z) xs ys h k = h ∙ ap (λ w. xs ++ w) k ∙ sym (append_assoc xs ys z)
 
 -- If the first n bytes of the rest are written too, what remains to be written is the rest after them.
-pub puts_more : (a b c : Option (List ℕ)) (bytes rest : List ℕ) (n : ℕ)
+pub WritesPrefix-more : (a b c : Option (List ℕ)) (bytes rest : List ℕ) (n : ℕ)
     → WritesPrefix a b bytes rest
     → Appends b c (take n rest)
     → WritesPrefix a c bytes (drop n rest)
-puts_more a b c bytes rest n puts more = record {
+WritesPrefix-more a b c bytes rest n puts more = record {
   written = puts.written ++ take n rest;
   parts =
       puts.parts
@@ -38,42 +39,51 @@ puts_more a b c bytes rest n puts more = record {
 pub record IsFront (before buffer : List ℕ) (count : ℕ) : Type 0 where
   pub room : ℕ
   pub short : length before < 65537
-  pub some : 0 < room
+  pub has_room : 0 < room
   pub is_room : room ≤ 65537 - length before
   pub whole : length buffer ≡ room
-  pub within : count ≤ length buffer
+  pub count_in_range : count ≤ length buffer
 
 -- If the first bytes of a buffer were read and appended to those before, the reader supplied these bytes.
-pub gets_front : {before after : List ℕ} (known left : Option (List ℕ)) (buffer behind : List ℕ) (count : ℕ)
+pub ReadsMore-front : {before after : List ℕ} (known left : Option (List ℕ)) (buffer behind : List ℕ) (count : ℕ)
     → IsFront before buffer count
     → Consumes known left (take count buffer) × (count ≡ 0 → 0 < length buffer → IsAtEnd left)
     → after ≡ before ++ take count (buffer ++ behind)
     → ReadsMore known left before after count
-gets_front {before} known left buffer behind count front consumed added =
+ReadsMore-front {before} known left buffer behind count front consumed added =
     let got = take count buffer in
-    let many : length got ≡ count = length-take-le count buffer front.within in
-    let more = added ∙ ap (λ t. before ++ t) (take-append-le count buffer behind front.within) in
+    let many : length got ≡ count = length-take-le count buffer front.count_in_range in
+    let more = added ∙ ap (λ t. before ++ t) (take-append-le count buffer behind front.count_in_range) in
     record {
       got = got;
       as_many = many;
       added = more;
       limit =
-          omega (arith, ap length more, length-append before got, many, front.within, front.whole, front.is_room, front.short);
+          omega (
+            arith,
+            ap length more,
+            length-append before got,
+            many,
+            front.count_in_range,
+            front.whole,
+            front.is_room,
+            front.short,
+          );
       consumed = consumed.0;
-      ended = λ none. consumed.1 none (omega (arith, front.whole, front.some));
+      ended = λ none. consumed.1 none (omega (arith, front.whole, front.has_room));
     }
 
 -- At the start no bytes have been consumed.
-pub takes_none : (known : Option (List ℕ)) (bytes : List ℕ) → bytes ≡ [] → Consumes known known bytes
-takes_none None bytes none = tt
-takes_none (Some x) bytes none = ap (λ (b : List ℕ). b ++ x) (sym none)
+pub Consumes-none : (known : Option (List ℕ)) (bytes : List ℕ) → bytes ≡ [] → Consumes known known bytes
+Consumes-none None bytes none = tt
+Consumes-none (Some x) bytes none = ap (λ (b : List ℕ). b ++ x) (sym none)
 
 -- Bytes that were read after those consumed are consumed with them: all bytes read so far were consumed since the start.
-pub gets_more : (a b c : Option (List ℕ)) (before after : List ℕ) (n : ℕ)
+pub Consumes-more_read : (a b c : Option (List ℕ)) (before after : List ℕ) (n : ℕ)
     → Consumes a b before
     → ReadsMore b c before after n
     → Consumes a c after
-gets_more a b c before after n before_that gets =
+Consumes-more_read a b c before after n before_that gets =
     subst (Consumes a c) (sym gets.added) (Consumes-more a b c before gets.got before_that gets.consumed)
 
 -- What was consumed up to the end is the input.
@@ -91,88 +101,97 @@ input_full (Some x) (Some y) bytes h full = (y, h, inr full)
 -- ---- what was consumed
 
 -- A concatenation without the first text is the second.
-behind : (bytes rest : List ℕ) → drop (length bytes) (bytes ++ rest) ≡ rest
-behind [] rest = refl
-behind (b ∷ bytes) rest = behind bytes rest
+drop-append : (bytes rest : List ℕ) → drop (length bytes) (bytes ++ rest) ≡ rest
+drop-append [] rest = refl
+drop-append (b ∷ bytes) rest = drop-append bytes rest
 
 -- If an input is some bytes followed by a rest, what remains without these bytes is the rest.
-left_is : (input bytes rest : List ℕ) → input ≡ bytes ++ rest → drop (length bytes) input ≡ rest
-left_is input bytes rest is = ap (drop (length bytes)) is ∙ behind bytes rest
+drop-of_prefix : (input bytes rest : List ℕ) → input ≡ bytes ++ rest → drop (length bytes) input ≡ rest
+drop-of_prefix input bytes rest is = ap (drop (length bytes)) is ∙ drop-append bytes rest
 
 -- Nothing remains of an input of at most n bytes without its first n.
-none_behind : (n : ℕ) (input : List ℕ) → length input ≤ n → drop n input ≡ []
-none_behind n [] le = drop_nil n
+drop-at_end : (n : ℕ) (input : List ℕ) → length input ≤ n → drop n input ≡ []
+drop-at_end n [] le = drop-nil n
   where
-    drop_nil : (k : ℕ) → drop k (let e : List ℕ = [] in e) ≡ []
-    drop_nil zero = refl
-    drop_nil (suc k) = refl
-none_behind zero (b ∷ input) le = absurd (omega arith)
-none_behind (suc n) (b ∷ input) le = none_behind n input (omega (arith, le))
+    -- The empty list without its first items is empty.
+    drop-nil : (k : ℕ) → drop k (let e : List ℕ = [] in e) ≡ []
+    drop-nil zero = refl
+    drop-nil (suc k) = refl
+drop-at_end zero (b ∷ input) le = absurd (omega arith)
+drop-at_end (suc n) (b ∷ input) le = drop-at_end n input (omega (arith, le))
 
 -- If the end was reached, the whole input was consumed.
-pub taken_ended : (a b : Option (List ℕ)) (bytes : List ℕ)
+pub TakesInput-ended : (a b : Option (List ℕ)) (bytes : List ℕ)
     → Consumes a b bytes
     → IsAtEnd b
     → length bytes ≤ 65537
     → TakesInput a b
-taken_ended None b bytes h end le = tt
-taken_ended (Some x) None bytes h end le = absurd h
-taken_ended (Some x) (Some y) bytes h end le =
+TakesInput-ended None b bytes h end le = tt
+TakesInput-ended (Some x) None bytes h end le = absurd h
+TakesInput-ended (Some x) (Some y) bytes h end le =
     let short : length x ≤ 65537 = omega (arith, ap length h, length-append bytes y, ap length end, le) in
-    ap Some (end ∙ sym (none_behind 65537 x short))
+    ap Some (end ∙ sym (drop-at_end 65537 x short))
 
 -- If 65,537 bytes were consumed, all was consumed that a run reads of its input.
-pub taken_full : (a b : Option (List ℕ)) (bytes : List ℕ) → Consumes a b bytes → length bytes ≡ 65537 → TakesInput a b
-taken_full None b bytes h full = tt
-taken_full (Some x) None bytes h full = absurd h
-taken_full (Some x) (Some y) bytes h full = ap Some (sym (subst (λ n. drop n x ≡ y) full (left_is x _ y h)))
+pub TakesInput-full : (a b : Option (List ℕ)) (bytes : List ℕ) → Consumes a b bytes → length bytes ≡ 65537 → TakesInput a b
+TakesInput-full None b bytes h full = tt
+TakesInput-full (Some x) None bytes h full = absurd h
+TakesInput-full (Some x) (Some y) bytes h full = ap Some (sym (subst (λ n. drop n x ≡ y) full (drop-of_prefix x _ y h)))
 
 -- If at most 65,537 bytes were consumed, a part of what a run may read of its input was consumed.
-taken_some : (a b : Option (List ℕ)) (bytes : List ℕ) → Consumes a b bytes → length bytes ≤ 65537 → TakesSome a b
-taken_some None b bytes h le = tt
-taken_some (Some x) None bytes h le = absurd h
-taken_some (Some x) (Some y) bytes h le = (length bytes, le, ap Some (sym (left_is x bytes y h)))
+TakesSome-ReadsMore : (a b : Option (List ℕ)) (bytes : List ℕ) → Consumes a b bytes → length bytes ≤ 65537 → TakesSome a b
+TakesSome-ReadsMore None b bytes h le = tt
+TakesSome-ReadsMore (Some x) None bytes h le = absurd h
+TakesSome-ReadsMore (Some x) (Some y) bytes h le = (length bytes, le, ap Some (sym (drop-of_prefix x bytes y h)))
 
 -- If bytes were consumed, and then more were read and lost, a part of what a run may read of its input was consumed.
-pub taken_lost : (a b c : Option (List ℕ)) (bytes : List ℕ) → Consumes a b bytes → LosesInput b c bytes → TakesSome a c
-taken_lost a b c bytes h loses =
-    taken_some a c (bytes ++ loses.got) (Consumes-more a b c bytes loses.got h loses.consumed)
+pub TakesSome-lost : (a b c : Option (List ℕ)) (bytes : List ℕ) → Consumes a b bytes → LosesInput b c bytes → TakesSome a c
+TakesSome-lost a b c bytes h loses =
+    TakesSome-ReadsMore a c (bytes ++ loses.got) (Consumes-more a b c bytes loses.got h loses.consumed)
     (omega (arith, length-append bytes loses.got, loses.limit))
 
 -- If the whole input was consumed, a part of it was.
-pub all_is_some : (a b : Option (List ℕ)) → TakesInput a b → TakesSome a b
-all_is_some None b h = tt
-all_is_some (Some x) b h = (65537, omega arith, h)
+pub TakesSome-TakesInput : (a b : Option (List ℕ)) → TakesInput a b → TakesSome a b
+TakesSome-TakesInput None b h = tt
+TakesSome-TakesInput (Some x) b h = (65537, omega arith, h)
 
 -- If a reader keeps its bytes, none were consumed.
-kept_consumes : (a b : Option (List ℕ)) → Keeps a b → Consumes a b []
-kept_consumes None b h = tt
-kept_consumes (Some x) None h = absurd h
-kept_consumes (Some x) (Some y) h = sym h
+Consumes-Keeps : (a b : Option (List ℕ)) → Keeps a b → Consumes a b []
+Consumes-Keeps None b h = tt
+Consumes-Keeps (Some x) None h = absurd h
+Consumes-Keeps (Some x) (Some y) h = sym h
 
 -- A reader that failed and kept its bytes lost none.
-pub loses_none : (known left : Option (List ℕ)) (before : List ℕ)
+pub LosesInput-none : (known left : Option (List ℕ)) (before : List ℕ)
     → length before < 65537
     → Keeps known left
     → LosesInput known left before
-loses_none known left before short kept =
-    record { got = []; limit = omega (arith, short); consumed = kept_consumes known left kept }
+LosesInput-none known left before short kept =
+    record { got = []; limit = omega (arith, short); consumed = Consumes-Keeps known left kept }
 
 -- Bytes that were read into a buffer may be lost: with those before they are no more than may be read.
-pub loses_front : (known left : Option (List ℕ)) (before buffer : List ℕ) (count : ℕ)
+pub LosesInput-front : (known left : Option (List ℕ)) (before buffer : List ℕ) (count : ℕ)
     → IsFront before buffer count
     → Consumes known left (take count buffer)
     → LosesInput known left before
-loses_front known left before buffer count front consumed = record {
+LosesInput-front known left before buffer count front consumed = record {
   got = take count buffer;
-  limit = omega (arith, length-take-le count buffer front.within, front.within, front.whole, front.is_room, front.short);
+  limit =
+      omega (
+        arith,
+        length-take-le count buffer front.count_in_range,
+        front.count_in_range,
+        front.whole,
+        front.is_room,
+        front.short,
+      );
   consumed = consumed;
 }
 
 -- If some bytes were read, fewer remain to be read.
-pub fewer_left : (known left : Option (List ℕ)) (before after : List ℕ) (count : ℕ)
+pub unread_count-decreases : (known left : Option (List ℕ)) (before after : List ℕ) (count : ℕ)
     → ReadsMore known left before after count
     → count ≢ 0
     → 65537 - length after < 65537 - length before
-fewer_left known left before after count gets some =
+unread_count-decreases known left before after count gets some =
     omega (arith, some, gets.limit, gets.as_many, ap length gets.added, length-append before gets.got)

@@ -1,4 +1,5 @@
--- The text of examples/SB-x86.litmus says store buffering in x86: token by token, by the grammar.
+-- The text of examples/SB-x86.litmus says store buffering in x86: token by token, by the grammar. With
+-- ExampleReports this is the law about the bytes of the example and its report.
 use Rattle.lw_bench.proofs.Common.{◌≡◌, ℕ, zero, suc, inl, inr, true, Some, List, [], ◌∷◌, ◌++◌, codes, refl}
 use Rattle.lw_bench.proofs.Common.{arith, slice_get, same_Some, none-some, sym, ap, ◌∙◌, Bytes, Number, X86}
 use Rattle.lw_bench.proofs.Common.{Exists, TestFrame, HasProgram, HasTest, Of_x86, store_buffering_in_x86}
@@ -13,7 +14,7 @@ use Rattle.lw_bench.proofs.Common.{ends_cell, TestSyntax, ParsesTest, HasFrame, 
 use Rattle.lw_bench.proofs.Common.{x86_spelling, printed_form}
 use Rattle.lw_text.specs.Preambles.{none as no_notes}
 use Rattle.lw_bench.proofs.Classics.{one_letter}
-use Rattle.lw_bench.proofs.TokenTexts.{are_tokens, tokens_stand, token_of, plain_comment, ascii_by_test}
+use Rattle.lw_bench.proofs.TokenTexts.{are_tokens, Tokens-by_test, token_of, plain_comment, ascii_by_test}
 use Rattle.lw_litmus.specs.declared.instr.Instr.TheVariants as instr
 
 -- ---- the tokens
@@ -37,25 +38,25 @@ abbrev row_tokens : TokenList → TokenList → TokenList → TokenList
 row_tokens a b rest = a ++ codes "|" ∷ (b ++ codes ";" ∷ rest)
 
 -- The tokens of the row of loads and of the condition.
-abbrev behind_stores : TokenList
-behind_stores = row_tokens (load_tokens (codes "y")) (load_tokens (codes "x")) condition_tokens
+abbrev tokens_after_stores : TokenList
+tokens_after_stores = row_tokens (load_tokens (codes "y")) (load_tokens (codes "x")) condition_tokens
 
 -- The tokens of both rows and of the condition.
-abbrev behind_header : TokenList
-behind_header = row_tokens (store_tokens (codes "x")) (store_tokens (codes "y")) behind_stores
+abbrev tokens_after_header : TokenList
+tokens_after_header = row_tokens (store_tokens (codes "x")) (store_tokens (codes "y")) tokens_after_stores
 
 -- The header and the rest.
-abbrev behind_block : TokenList
-behind_block = codes "P0" ∷ codes "|" ∷ codes "P1" ∷ codes ";" ∷ behind_header
+abbrev tokens_after_block : TokenList
+tokens_after_block = codes "P0" ∷ codes "|" ∷ codes "P1" ∷ codes ";" ∷ tokens_after_header
 
 -- All tokens: the empty initial block, and the rest.
 abbrev all_tokens : TokenList
-all_tokens = codes "{" ∷ codes "}" ∷ behind_block
+all_tokens = codes "{" ∷ codes "}" ∷ tokens_after_block
 
 -- The text after the notes is these tokens.
-stream : Tokens store_buffering_body all_tokens
+Tokens-store_buffering : Tokens store_buffering_body all_tokens
 unfolding are_tokens
-stream = tokens_stand 120 store_buffering_body all_tokens refl
+Tokens-store_buffering = Tokens-by_test 120 store_buffering_body all_tokens refl
 
 -- The preamble before them: the language, the name and the notes.
 preamble : Preamble store_buffering_text X86 (codes "SB-x86") store_buffering_body
@@ -68,7 +69,7 @@ preamble = (
     parts = refl;
     apart = omega arith;
     blank = (refl, tt);
-    is_name = record { some = omega arith; short = omega arith; all = (refl, (refl, (refl, (refl, (refl, (refl, tt)))))) };
+    is_name = record { not_empty = omega arith; short = omega arith; all = (refl, (refl, (refl, (refl, (refl, (refl, tt)))))) };
     longest = refl;
   },
   no_notes
@@ -103,8 +104,8 @@ one_number : IsNumber (codes "1") 1
 one_number = (omega arith, inl (omega arith, (omega arith, refl)))
 
 -- `EAX` is register 0.
-eax : IsRegisterName X86 (codes "EAX") 0
-eax = (omega arith, refl)
+IsRegisterName-eax : IsRegisterName X86 (codes "EAX") 0
+IsRegisterName-eax = (omega arith, refl)
 
 -- The tokens of the condition say the quantifier and the terminals.
 condition : Condition X86 2 condition_tokens [] Exists syntax.terminals
@@ -112,47 +113,54 @@ condition = record {
   behind_list = condition_tokens;
   behind_quant = _;
   lists = inr (refl, refl, refl);
-  there = tt;
+  threads_exist = tt;
   quantifies = refl;
   says = (
     _,
     refl,
     (
       _,
-      (_, (codes "0", codes "EAX", refl, zero_number, eax), omega arith, (codes "0", refl, zero_number)),
+      (_, (codes "0", codes "EAX", refl, zero_number, IsRegisterName-eax), omega arith, (codes "0", refl, zero_number)),
       (
         _,
         refl,
-        (_, (_, (codes "1", codes "EAX", refl, one_number, eax), omega arith, (codes "0", refl, zero_number)), (_, refl, refl)),
+        (
+          _,
+          (_, (codes "1", codes "EAX", refl, one_number, IsRegisterName-eax), omega arith, (codes "0", refl, zero_number)),
+          (_, refl, refl),
+        ),
       ),
     ),
   );
 }
 
 -- If a test finds that no token of a cell ends a cell, none does.
-plain : (cell : TokenList) → list_all (λ t. not (ends_cell t)) cell ≡ true → AllByRecursion (λ t. ends_cell t ≡ false) cell
-plain [] h = tt
-plain (t ∷ cell) h = let parts = and_parts (not (ends_cell t)) _ h in (not-true _ parts.0, plain cell parts.1)
+ends_no_cell-by_test : (cell : TokenList)
+    → list_all (λ t. not (ends_cell t)) cell ≡ true
+    → AllByRecursion (λ t. ends_cell t ≡ false) cell
+ends_no_cell-by_test [] h = tt
+ends_no_cell-by_test (t ∷ cell) h =
+    let parts = and_parts (not (ends_cell t)) _ h in (not-true _ parts.0, ends_no_cell-by_test cell parts.1)
 
 -- All tokens are the block, the header, the rows and the condition of this syntax.
-parts : ParsesTest X86 all_tokens syntax
-parts = record {
-  behind_block = behind_block;
-  behind_header = behind_header;
+ParsesTest-store_buffering : ParsesTest X86 all_tokens syntax
+ParsesTest-store_buffering = record {
+  behind_block = tokens_after_block;
+  behind_header = tokens_after_header;
   behind_rows = condition_tokens;
-  block = (codes "}" ∷ behind_block, refl, refl);
-  header = ((codes "P1" ∷ codes ";" ∷ behind_header, refl, refl), omega arith);
-  there = tt;
+  block = (codes "}" ∷ tokens_after_block, refl, refl);
+  header = ((codes "P1" ∷ codes ";" ∷ tokens_after_header, refl, refl), omega arith);
+  threads_exist = tt;
   rows = (
     (
       refl,
       (
-        behind_stores,
+        tokens_after_stores,
         (
           (
-            store_tokens (codes "y") ++ codes ";" ∷ behind_stores,
-            (refl, plain (store_tokens (codes "x")) refl),
-            (refl, plain (store_tokens (codes "y")) refl),
+            store_tokens (codes "y") ++ codes ";" ∷ tokens_after_stores,
+            (refl, ends_no_cell-by_test (store_tokens (codes "x")) refl),
+            (refl, ends_no_cell-by_test (store_tokens (codes "y")) refl),
           ),
           refl,
         ),
@@ -163,8 +171,8 @@ parts = record {
             (
               (
                 load_tokens (codes "x") ++ codes ";" ∷ condition_tokens,
-                (refl, plain (load_tokens (codes "y")) refl),
-                (refl, plain (load_tokens (codes "x")) refl),
+                (refl, ends_no_cell-by_test (load_tokens (codes "y")) refl),
+                (refl, ends_no_cell-by_test (load_tokens (codes "x")) refl),
               ),
               refl,
             ),
@@ -185,12 +193,13 @@ abbrev equals_zero : ℕ → List (Terminal Formula)
 equals_zero t = Atom (Reg_is t 0 0) ∷ []
 
 -- The terminals in parentheses say that both loads are early.
-both : Derives DisjunctionLevel (Open ∷ ((equals_zero 0 ++ Conjunction ∷ equals_zero 1) ++ Close ∷ [])) both_loads_are_early
-both = conjunction (part (parens (conjunction (and (part atom) atom))))
+Derives-both_loads_early :
+    Derives DisjunctionLevel (Open ∷ ((equals_zero 0 ++ Conjunction ∷ equals_zero 1) ++ Close ∷ [])) both_loads_are_early
+Derives-both_loads_early = conjunction (part (parens (conjunction (and (part atom) atom))))
 
 -- The text of the example has this frame.
-framed : HasFrame store_buffering_text frame
-framed = record {
+HasFrame-store_buffering : HasFrame store_buffering_text frame
+HasFrame-store_buffering = record {
   short = omega arith;
   utf8 = IsUtf8-from_ascii store_buffering_text (ascii_by_test store_buffering_text refl);
   arch = X86;
@@ -200,9 +209,9 @@ framed = record {
   syntax = syntax;
   condition = both_loads_are_early;
   preamble = preamble;
-  stream = stream;
-  parts = parts;
-  proposition = both;
+  stream = Tokens-store_buffering;
+  parts = ParsesTest-store_buffering;
+  proposition = Derives-both_loads_early;
   made = refl;
 }
 
@@ -217,13 +226,14 @@ abbrev says_load : Bytes → CellSyntax (ParsesStatement x86_spelling)
 says_load x = record { labels = []; stmt = Some (printed_form (x ∷ []) (instr.Load 0 0)) }
 
 -- The tokens of a store say it.
-store_said : (x : Bytes) → IsLocationName x → ParsesCell x86_grammar (store_tokens x) (says_store x)
-store_said x place =
+ParsesCell-store_tokens : (x : Bytes) → IsLocationName x → ParsesCell x86_grammar (store_tokens x) (says_store x)
+ParsesCell-store_tokens x place =
     (store_tokens x, refl, ((1, omega arith, refl), (refl, (refl, ((refl, place), (refl, (refl, (refl, (one_number, tt)))))))))
 
 -- The tokens of a load say it.
-load_said : (x : Bytes) → IsLocationName x → ParsesCell x86_grammar (load_tokens x) (says_load x)
-load_said x place = (load_tokens x, refl, ((2, omega arith, refl), (refl, (eax, (refl, (refl, ((refl, place), (refl, tt))))))))
+ParsesCell-load_tokens : (x : Bytes) → IsLocationName x → ParsesCell x86_grammar (load_tokens x) (says_load x)
+ParsesCell-load_tokens x place =
+    (load_tokens x, refl, ((2, omega arith, refl), (refl, (IsRegisterName-eax, (refl, (refl, ((refl, place), (refl, tt))))))))
 
 -- `x` is a location's name.
 x_index : IsLocationName (codes "x")
@@ -234,35 +244,44 @@ y_index : IsLocationName (codes "y")
 y_index = one_letter (codes "y") 121 refl refl refl refl
 
 -- A thread's column: a store, and below it a load.
-column : (x y : Bytes)
+Column-store_and_load : (x y : Bytes)
     → IsLocationName x
     → IsLocationName y
     → Column x86_grammar (store_tokens x ∷ load_tokens y ∷ []) (says_store x ∷ says_load y ∷ [])
-column x y x_is y_is =
-    record { says = (store_said x x_is, (load_said y y_is, tt)); few = omega arith; once = tt; forward = forward }
+Column-store_and_load x y x_is y_is = record {
+  says = (ParsesCell-store_tokens x x_is, (ParsesCell-load_tokens y y_is, tt));
+  few = omega arith;
+  without_duplicates = tt;
+  forward = LabelsLeadForward-each;
+}
   where
-    no_label : (s : ParsesStatement x86_spelling) (k : ℕ)
+    -- A statement without a label leads forward, since it leads nowhere.
+    LabelsLeadForward-no_label : (s : ParsesStatement x86_spelling) (k : ℕ)
         → x86_grammar.label_of s ≡ None
         → LabelsLeadForward x86_grammar (says_store x ∷ says_load y ∷ []) k s
-    no_label s k lacks l is = absurd (none-some l (sym lacks ∙ is))
+    LabelsLeadForward-no_label s k lacks l is = absurd (none-some l (sym lacks ∙ is))
 
-    forward : (k : ℕ) (s : ParsesStatement x86_spelling)
+    -- All jumps of the thread's two statements lead forward.
+    LabelsLeadForward-each : (k : ℕ) (s : ParsesStatement x86_spelling)
         → slice_get (statements (says_store x ∷ says_load y ∷ [])) k ≡ Some s
         → LabelsLeadForward x86_grammar (says_store x ∷ says_load y ∷ []) k s
-    forward zero s e = no_label s 0 (ap x86_grammar.label_of (sym (same_Some _ s e)))
-    forward (suc zero) s e = no_label s 1 (ap x86_grammar.label_of (sym (same_Some _ s e)))
-    forward (suc (suc k)) s e = cc
+    LabelsLeadForward-each zero s e = LabelsLeadForward-no_label s 0 (ap x86_grammar.label_of (sym (same_Some _ s e)))
+    LabelsLeadForward-each (suc zero) s e = LabelsLeadForward-no_label s 1 (ap x86_grammar.label_of (sym (same_Some _ s e)))
+    LabelsLeadForward-each (suc (suc k)) s e = cc
 
 -- The frame says store buffering in x86.
-says : HasProgram frame store_buffering_in_x86
-says = record {
+HasProgram-store_buffering : HasProgram frame store_buffering_in_x86
+HasProgram-store_buffering = record {
   arch = refl;
   threads = (says_store (codes "x") ∷ says_load (codes "y") ∷ []) ∷ (says_store (codes "y") ∷ says_load (codes "x") ∷ []) ∷ [];
-  says = (column (codes "x") (codes "y") x_index y_index, (column (codes "y") (codes "x") y_index x_index, tt));
+  says = (
+    Column-store_and_load (codes "x") (codes "y") x_index y_index,
+    (Column-store_and_load (codes "y") (codes "x") y_index x_index, tt),
+  );
   few = omega arith;
   made = refl;
 }
 
 -- The text of the example says store buffering in x86.
-pub store_buffering_read : HasTest store_buffering_text (Of_x86 store_buffering_in_x86)
-store_buffering_read = record { frame = frame; has_frame = framed; says = says }
+pub HasTest-store_buffering : HasTest store_buffering_text (Of_x86 store_buffering_in_x86)
+HasTest-store_buffering = record { frame = frame; has_frame = HasFrame-store_buffering; says = HasProgram-store_buffering }

@@ -1,5 +1,6 @@
--- What a failed run reports is true: a fault is reported as it was found, or as memory that ran out; and what is true of the bytes read is
--- true of the whole input.
+-- What a failed run reports is true: a fault is reported as it was found, or as memory that ran out; and what
+-- is true of the bytes read is true of the whole input. Each exit by `?` in reading and rendering goes by one
+-- of these lemmas.
 use Rattle.lw_bench.proofs.Common.{◌≡◌, ◌≢◌, ◌⊎◌, inl, inr, Bool, true, false, ℕ, Option, Some, None, List}
 use Rattle.lw_bench.proofs.Common.{[], ◌++◌, length, ap, ◌∙◌, subst, length-append, if◌then◌else◌, arith}
 use Rattle.lw_bench.proofs.Common.{IfSome, append-nil, CellCause, CellFault, ScheduleCause, ScheduleFault}
@@ -8,38 +9,41 @@ use Rattle.lw_bench.proofs.Common.{Read, IsInput, text_fault, text_run_fault, ce
 use Rattle.lw_bench.proofs.Common.{schedule_fault, schedule_run_fault, LitmusTest, HasTest, TextFaultIsTrue}
 use Rattle.lw_bench.proofs.Common.{CellFaultIsTrueOf, ReadFaultIsTrue, RunFaultIsTrue, InputFaultIsTrue}
 use Rattle.lw_bench.proofs.Common.{IsNotDeviceFault}
-use Rattle.lw_bench.proofs.Outputs.{whole, in_whole}
+use Rattle.lw_bench.proofs.Outputs.{input_is_whole, HasTest-in_whole_input}
 use Rattle.lw_base.specs.declared.fault.CellCause.TheVariants as cell
 use Rattle.lw_base.specs.declared.fault.ScheduleCause.TheVariants as schedule
 use Rattle.lw_text.specs.declared.fault.TextCause.TheVariants as text
 
 -- A fault that is reported as it is, unless memory ran out.
 module _ (P : BenchFault → Type 0) (memory : P Memory) where
-  text_by : (f : TextFault) (cause : TextCause) → (cause ≢ text.Memory → P (Text f)) → P (text_fault f cause)
-  text_by f text.Memory known = memory
-  text_by f _ known = known (λ same. cc)
+  -- By the cause of a text's fault: P holds of the reported fault.
+  holds-text_fault : (f : TextFault) (cause : TextCause) → (cause ≢ text.Memory → P (Text f)) → P (text_fault f cause)
+  holds-text_fault f text.Memory known = memory
+  holds-text_fault f _ known = known (λ same. cc)
 
   -- What holds of `Memory`, and of a text's fault whose cause is not memory, holds of the fault reported for a text.
-  pub text_is_told : (f : TextFault) → (f.cause ≢ text.Memory → P (Text f)) → P (text_run_fault f)
-  text_is_told f known = text_by f f.cause known
+  pub holds-text_run_fault : (f : TextFault) → (f.cause ≢ text.Memory → P (Text f)) → P (text_run_fault f)
+  holds-text_run_fault f known = holds-text_fault f f.cause known
 
-  cell_by : (f : CellFault) (cause : CellCause) → (cause ≢ cell.Memory → P (Cell f)) → P (cell_fault f cause)
-  cell_by f cell.Memory known = memory
-  cell_by f _ known = known (λ same. cc)
+  -- By the cause of a cell's fault: P holds of the reported fault.
+  holds-cell_fault : (f : CellFault) (cause : CellCause) → (cause ≢ cell.Memory → P (Cell f)) → P (cell_fault f cause)
+  holds-cell_fault f cell.Memory known = memory
+  holds-cell_fault f _ known = known (λ same. cc)
 
   -- What holds of `Memory`, and of a cell's fault whose cause is not memory, holds of the fault reported for a cell.
-  pub cell_is_told : (f : CellFault) → (f.cause ≢ cell.Memory → P (Cell f)) → P (cell_run_fault f)
-  cell_is_told f known = cell_by f f.cause known
+  pub holds-cell_run_fault : (f : CellFault) → (f.cause ≢ cell.Memory → P (Cell f)) → P (cell_run_fault f)
+  holds-cell_run_fault f known = holds-cell_fault f f.cause known
 
-  schedule_by : (f : ScheduleFault) (cause : ScheduleCause)
+  -- By the cause of a schedule's fault: P holds of the reported fault.
+  holds-schedule_fault : (f : ScheduleFault) (cause : ScheduleCause)
       → (cause ≢ schedule.Memory → P (Schedule f))
       → P (schedule_fault f cause)
-  schedule_by f schedule.Memory known = memory
-  schedule_by f _ known = known (λ same. cc)
+  holds-schedule_fault f schedule.Memory known = memory
+  holds-schedule_fault f _ known = known (λ same. cc)
 
   -- What holds of `Memory`, and of a schedule's fault whose cause is not memory, holds of the fault reported for a schedule.
-  pub schedule_is_told : (f : ScheduleFault) → (f.cause ≢ schedule.Memory → P (Schedule f)) → P (schedule_run_fault f)
-  schedule_is_told f known = schedule_by f f.cause known
+  pub holds-schedule_run_fault : (f : ScheduleFault) → (f.cause ≢ schedule.Memory → P (Schedule f)) → P (schedule_run_fault f)
+  holds-schedule_run_fault f known = holds-schedule_fault f f.cause known
 
 -- `Memory` is no device's fault.
 pub memory_no_device : IsNotDeviceFault Memory
@@ -47,27 +51,27 @@ memory_no_device = (λ same. cc, λ same. cc)
 
 -- The fault reported for a text is no device's.
 pub text_no_device : (f : TextFault) → IsNotDeviceFault (text_run_fault f)
-text_no_device f = text_is_told IsNotDeviceFault memory_no_device f (λ known. (λ same. cc, λ same. cc))
+text_no_device f = holds-text_run_fault IsNotDeviceFault memory_no_device f (λ known. (λ same. cc, λ same. cc))
 
 -- The fault reported for a cell is no device's.
 pub cell_no_device : (f : CellFault) → IsNotDeviceFault (cell_run_fault f)
-cell_no_device f = cell_is_told IsNotDeviceFault memory_no_device f (λ known. (λ same. cc, λ same. cc))
+cell_no_device f = holds-cell_run_fault IsNotDeviceFault memory_no_device f (λ known. (λ same. cc, λ same. cc))
 
 -- The fault reported for a schedule is no device's.
 pub schedule_no_device : (f : ScheduleFault) → IsNotDeviceFault (schedule_run_fault f)
-schedule_no_device f = schedule_is_told IsNotDeviceFault memory_no_device f (λ known. (λ same. cc, λ same. cc))
+schedule_no_device f = holds-schedule_run_fault IsNotDeviceFault memory_no_device f (λ known. (λ same. cc, λ same. cc))
 
 -- A fault that equals `Memory` is no device's.
 pub memory_is_no_device : (f : BenchFault) → f ≡ Memory → IsNotDeviceFault f
 memory_is_no_device f is = rw is memory_no_device
 
 -- If a test was read, `Memory`, or a fault that is true of the test, is one that a run may report of the bytes.
-pub told_of_test : (Tells : LitmusTest → BenchFault → Type 0) (bytes : List ℕ) (test : LitmusTest) (f : BenchFault)
+pub RunFaultIsTrue-of_test : (Tells : LitmusTest → BenchFault → Type 0) (bytes : List ℕ) (test : LitmusTest) (f : BenchFault)
     → HasTest bytes test
     → (f ≡ Memory) ⊎ Tells test f
     → RunFaultIsTrue Tells bytes f
-told_of_test Tells bytes test f has (inl is) = rw is (inl tt)
-told_of_test Tells bytes test f has (inr told) = inr (test, has, told)
+RunFaultIsTrue-of_test Tells bytes test f has (inl is) = rw is (inl tt)
+RunFaultIsTrue-of_test Tells bytes test f has (inr told) = inr (test, has, told)
 
 -- Bytes that were read: the whole input, or more than a test has.
 module _ (input bytes : List ℕ) (is : (rest : List ℕ) × (input ≡ bytes ++ rest) × ((rest ≡ []) ⊎ (length bytes ≡ 65537))) where
@@ -96,7 +100,7 @@ module _ (input bytes : List ℕ) (is : (rest : List ℕ) × (input ≡ bytes ++
 
   -- If a cell's fault is true of the bytes read, it is true of the whole input.
   pub cell_in_whole : (f : CellFault) → CellFaultIsTrueOf bytes f → CellFaultIsTrueOf input f
-  cell_in_whole f told = subst (λ t. CellFaultIsTrueOf t f) (whole input bytes is told.has_frame.short) told
+  cell_in_whole f told = subst (λ t. CellFaultIsTrueOf t f) (input_is_whole input bytes is told.has_frame.short) told
 
   -- If a fault of reading a test is true of the bytes read, it is true of the whole input.
   pub test_in_whole : (f : BenchFault) → ReadFaultIsTrue bytes f → ReadFaultIsTrue input f
@@ -111,30 +115,31 @@ module _ (input bytes : List ℕ) (is : (rest : List ℕ) × (input ≡ bytes ++
       → RunFaultIsTrue Tells bytes f
       → RunFaultIsTrue Tells input f
   run_in_whole Tells f (inl told) = inl (test_in_whole f told)
-  run_in_whole Tells f (inr (test, has, told)) = inr (test, in_whole input bytes is test has, told)
+  run_in_whole Tells f (inr (test, has, told)) = inr (test, HasTest-in_whole_input input bytes is test has, told)
 
 -- If a run's fault is true of the bytes read, it is true of the input, if that is known.
-pub told_of_input : (Tells : LitmusTest → BenchFault → Type 0) (known : Option (List ℕ)) (bytes : List ℕ) (f : BenchFault)
+pub IfSome-FaultIsTrue_of_input : (Tells : LitmusTest → BenchFault → Type 0) (known : Option (List ℕ)) (bytes : List ℕ)
+    (f : BenchFault)
     → IsInput known bytes
     → RunFaultIsTrue Tells bytes f
     → InputFaultIsTrue Tells known f
-told_of_input Tells None bytes f is told = tt
-told_of_input Tells (Some input) bytes f is told = run_in_whole input bytes is Tells f told
+IfSome-FaultIsTrue_of_input Tells None bytes f is told = tt
+IfSome-FaultIsTrue_of_input Tells (Some input) bytes f is told = run_in_whole input bytes is Tells f told
 
 -- What holds of all bytes holds of a reader's, if these are known.
-pub some_told : (Tells : List ℕ → BenchFault → Type 0) (known : Option (List ℕ)) (f : BenchFault)
+pub IfSome-of_all : (Tells : List ℕ → BenchFault → Type 0) (known : Option (List ℕ)) (f : BenchFault)
     → ((bytes : List ℕ) → Tells bytes f)
     → IfSome known (λ bytes. Tells bytes f)
-some_told Tells None f told = tt
-some_told Tells (Some input) f told = told input
+IfSome-of_all Tells None f told = tt
+IfSome-of_all Tells (Some input) f told = told input
 
 -- If a device failed or memory ran out before the bytes were read, a fault claims nothing of them.
 module _ (Tells : List ℕ → BenchFault → Type 0) (known : Option (List ℕ)) where
   -- If the reader failed or memory ran out, what holds of all bytes at these faults holds of a reader's known bytes.
-  pub device_told : (f : BenchFault) (failed : Bool)
+  pub IfSome-of_input_fault : (f : BenchFault) (failed : Bool)
       → ((bytes : List ℕ) → Tells bytes Read)
       → ((bytes : List ℕ) → Tells bytes Memory)
       → f ≡ (if failed then Read else Memory)
       → IfSome known (λ bytes. Tells bytes f)
-  device_told f true read memory is = rw is (some_told Tells known Read read)
-  device_told f false read memory is = rw is (some_told Tells known Memory memory)
+  IfSome-of_input_fault f true read memory is = rw is (IfSome-of_all Tells known Read read)
+  IfSome-of_input_fault f false read memory is = rw is (IfSome-of_all Tells known Memory memory)

@@ -1,27 +1,29 @@
--- The page of a replay, written part by part, is the page of the definitions.
+-- The page of a replay, written part by part, is the page of the definitions: `AllWritten` is the invariant
+-- of each loop that writes an item for each index, and the other lemmas join the parts.
 use Rattle.lw_bench.proofs.Common.{◌≡◌, ℕ, suc, ◌<◌, ◌≤◌, ◌+◌, Some, List, [], ◌∷◌, ◌++◌, length, map, drop}
 use Rattle.lw_bench.proofs.Common.{slice_get, refl, sym, ap, ◌∙◌, append_assoc, codes, Result, Ok, Err, OnOk}
 use Rattle.lw_bench.proofs.Common.{is_ok, if◌then◌else◌, arith, option_map, decimal, append-nil, drop-cons}
 use Rattle.lw_bench.proofs.Common.{drop_all, slice_get-map, slice_get_within, get_or_from_slice_get}
-use Rattle.lw_bench.proofs.Common.{on_ok_weaker, both_written, TestHead, Arch, Replay, Stop, End, Stopped}
+use Rattle.lw_bench.proofs.Common.{on_ok_weaker, written-append, TestHead, Arch, Replay, Stop, End, Stopped}
 use Rattle.lw_bench.proofs.Common.{register_name, stop_code, stop_name, State, Thread, Processor, LineState}
 use Rattle.lw_bench.proofs.Common.{numbered, first_lines, end_text, register_names, thread_line, word_line}
 use Rattle.lw_bench.proofs.Common.{processor_title, processor_lines, source_page, machine_page}
 
 -- The items from an index on are the item there, followed by those from the next index on.
-drop_at : {X : Type 0} (xs : List X) (k : ℕ) (x : X) → slice_get xs k ≡ Some x → drop k xs ≡ x ∷ drop (k + 1) xs
-drop_at xs k x at =
+drop-get : {X : Type 0} (xs : List X) (k : ℕ) (x : X) → slice_get xs k ≡ Some x → drop k xs ≡ x ∷ drop (k + 1) xs
+drop-get xs k x at =
     let next : suc k ≡ k + 1 = omega arith in
     drop-cons xs k x (slice_get_within xs k x at)
     ∙ ap (λ y. y ∷ drop (suc k) xs) (get_or_from_slice_get xs k x x at)
     ∙ ap (λ (n : ℕ). x ∷ drop n xs) next
 
 -- The item at an index of a mapped list is the image of the item there.
-pub told_of : {X Y : Type 0} (f : X → Y) (xs : List X) (k : ℕ) (x : X) (y : Y)
+pub get-of_map : {X Y : Type 0} (f : X → Y) (xs : List X) (k : ℕ) (x : X) (y : Y)
     → slice_get xs k ≡ Some x
     → slice_get (map f xs) k ≡ Some y
     → y ≡ f x
-told_of {X} {Y} f xs k x y at read = let e : Some (f x) ≡ Some y = sym (slice_get-map f xs k ∙ ap (option_map f) at) ∙ read in cc
+get-of_map {X} {Y} f xs k x y at read =
+    let e : Some (f x) ≡ Some y = sym (slice_get-map f xs k ∙ ap (option_map f) at) ∙ read in cc
 
 -- Items are written in sequence, each with its index: `out` followed by the texts of those from k on is `start` followed by the texts of
 -- all.
@@ -40,16 +42,18 @@ module _ {X : Type 0} {tell : ℕ → X → List ℕ} {xs : List X} {start out :
     left =
         ap (λ t. t ++ rest) written
         ∙ append_assoc out part rest
-        ∙ ap (λ t. out ++ t) (ap (λ t. t ++ rest) is ∙ sym parts)
+        ∙ ap (λ t. out ++ t) (ap (λ t. t ++ rest) is ∙ sym numbered-split)
         ∙ told.left;
   }
     where
+      -- The texts of the items after the one at k.
       rest : List ℕ
       rest = numbered tell (k + 1) (drop (k + 1) xs)
 
-      parts : numbered tell k (drop k xs) ≡ tell k x ++ rest
-      parts =
-          ap (numbered tell k) (drop_at xs k x at)
+      -- The texts from k on are the text of the item at k, followed by those of the rest.
+      numbered-split : numbered tell k (drop k xs) ≡ tell k x ++ rest
+      numbered-split =
+          ap (numbered tell k) (drop-get xs k x at)
           ∙ ap (λ (n : ℕ). tell k x ++ numbered tell n (drop (k + 1) xs)) (let e : suc k ≡ k + 1 = omega arith in e)
 
   -- If all items are written, `out` is `start` followed by the texts of all.
@@ -58,14 +62,14 @@ module _ {X : Type 0} {tell : ℕ → X → List ℕ} {xs : List X} {start out :
       sym (append-nil out) ∙ ap (λ (rest : List X). out ++ numbered tell k rest) (sym (drop_all k xs whole)) ∙ told.left
 
 -- If a title, then the parts, and then the line's end were written, the whole line was.
-pub line_ended : {T E : Type 0} {first out new whole : List ℕ} (answer : Result T E) (start title parts : List ℕ)
+pub AllWritten-newline : {T E : Type 0} {first out new whole : List ℕ} (answer : Result T E) (start title parts : List ℕ)
     → first ≡ start ++ title
     → out ≡ first ++ parts
     → title ++ (parts ++ 10 ∷ []) ≡ whole
     → new ≡ (if is_ok answer then out ++ 10 ∷ [] else out)
     → OnOk answer (new ≡ start ++ whole)
-line_ended (Err x) start title parts begun told is ended = tt
-line_ended (Ok x) start title parts begun told is ended =
+AllWritten-newline (Err x) start title parts begun told is ended = tt
+AllWritten-newline (Ok x) start title parts begun told is ended =
     ended
     ∙ ap (λ t. t ++ 10 ∷ []) (told ∙ ap (λ t. t ++ parts) begun)
     ∙ append_assoc (start ++ title) parts (10 ∷ [])
@@ -73,57 +77,58 @@ line_ended (Ok x) start title parts begun told is ended =
     ∙ ap (λ t. start ++ t) is
 
 -- A processor's title is `P`, its number and a word, and the rest of the line follows.
-pub titled : (cpu : ℕ) (word rest : List ℕ) → (80 ∷ (decimal cpu ++ word)) ++ rest ≡ processor_title cpu (word ++ rest)
-titled cpu word rest = ap (λ t. 80 ∷ t) (append_assoc (decimal cpu) word rest)
+pub processor_title-append : (cpu : ℕ) (word rest : List ℕ)
+    → (80 ∷ (decimal cpu ++ word)) ++ rest ≡ processor_title cpu (word ++ rest)
+processor_title-append cpu word rest = ap (λ t. 80 ∷ t) (append_assoc (decimal cpu) word rest)
 
 -- Three parts written in turn are their concatenation.
-pub three_written : {one two new : List ℕ} (start a b c : List ℕ)
+pub AllWritten-three : {one two new : List ℕ} (start a b c : List ℕ)
     → one ≡ start ++ a
     → two ≡ one ++ b
     → new ≡ two ++ c
     → new ≡ start ++ (a ++ (b ++ c))
-three_written {one} {two} {new} start a b c e f g =
-    both_written _ two new _ c (both_written _ one two a b e f) g ∙ ap (λ t. start ++ t) (append_assoc a b c)
+AllWritten-three {one} {two} {new} start a b c e f g =
+    written-append _ two new _ c (written-append _ one two a b e f) g ∙ ap (λ t. start ++ t) (append_assoc a b c)
 
 -- In the list of a language's register names, the name of register k is at index k.
-pub register_at : (arch : Arch) (k : ℕ) → k < 6 → slice_get (register_names arch) k ≡ Some (register_name arch k)
-register_at arch (suc (suc (suc (suc (suc (suc k)))))) below = absurd (omega (arith, below))
-register_at arch _ below = refl
+pub register_names-get : (arch : Arch) (k : ℕ) → k < 6 → slice_get (register_names arch) k ≡ Some (register_name arch k)
+register_names-get arch (suc (suc (suc (suc (suc (suc k)))))) below = absurd (omega (arith, below))
+register_names-get arch _ below = refl
 
 -- Concatenation of five parts and a rest is associative.
-in_front : (a b c d e rest : List ℕ) → (a ++ (b ++ (c ++ (d ++ e)))) ++ rest ≡ a ++ (b ++ (c ++ (d ++ (e ++ rest))))
-in_front a b c d e rest = simp append_assoc
+append-assoc_five : (a b c d e rest : List ℕ) → (a ++ (b ++ (c ++ (d ++ e)))) ++ rest ≡ a ++ (b ++ (c ++ (d ++ (e ++ rest))))
+append-assoc_five a b c d e rest = simp append_assoc
 
 -- The first lines of a page, as they are written, are those of the replay.
-pub first_told : (head : TestHead) (r : Replay) (name : List ℕ)
+pub first_lines-written : (head : TestHead) (r : Replay) (name : List ℕ)
     → name ≡ head.name
     → (codes "Test " ++ (name ++ (codes "\nSteps " ++ (decimal r.done ++ codes "\nEnd "))))
     ++ (end_text r.done r.end ++ codes "\n")
     ≡ first_lines head r
-first_told head r name is =
+first_lines-written head r name is =
     rw is
-    (in_front (codes "Test ") head.name (codes "\nSteps ") (decimal r.done) (codes "\nEnd ")
+    (append-assoc_five (codes "Test ") head.name (codes "\nSteps ") (decimal r.done) (codes "\nEnd ")
     (end_text r.done r.end ++ codes "\n"))
 
 -- If the text of an end was written, and the replay ended so, the text of the replay's end was written.
-pub ended_as : {T E : Type 0} {end known : End} (answer : Result T E) (start new text : List ℕ) (done : ℕ)
+pub end_line-written : {T E : Type 0} {end known : End} (answer : Result T E) (start new text : List ℕ) (done : ℕ)
     → end ≡ known
     → text ≡ end_text done known ++ codes "\n"
     → OnOk answer (new ≡ start ++ text)
     → OnOk answer (new ≡ start ++ (end_text done end ++ codes "\n"))
-ended_as answer start new text done is told written =
+end_line-written answer start new text done is told written =
     on_ok_weaker answer (λ e. e ∙ ap (λ t. start ++ t) (told ∙ ap (λ (e : End). end_text done e ++ codes "\n") (sym is))) written
 
 -- The text written for a refused event, with its code and name, is that of the end.
-pub stop_told : (done number : ℕ) (name : List ℕ) (stop : Stop) (end : End)
+pub end_text-Stopped : (done number : ℕ) (name : List ℕ) (stop : Stop) (end : End)
     → end ≡ Stopped stop
     → number ≡ stop_code stop
     → name ≡ stop_name stop
     → codes "Stopped at " ++ (decimal done ++ (codes " by " ++ (decimal number ++ (codes " " ++ (name ++ codes "\n")))))
     ≡ end_text done end ++ codes "\n"
-stop_told done number name stop end e n m =
+end_text-Stopped done number name stop end e n m =
     rw (e, n, m)
-    (sym (in_front (codes "Stopped at ") (decimal done) (codes " by ") (decimal (stop_code stop)) (32 ∷ stop_name stop)
+    (sym (append-assoc_five (codes "Stopped at ") (decimal done) (codes " by ") (decimal (stop_code stop)) (32 ∷ stop_name stop)
     (10 ∷ [])))
 
 -- ---- a page, by its parts
@@ -139,12 +144,12 @@ pub record SourceParts (head : TestHead) (r : Replay) (s : State) (start new : L
   pub is_memory : words ≡ s.words
 
 -- The parts of a page in sequence are the page of a source test.
-pub source_page_told : (head : TestHead) (r : Replay) (s : State) (start new : List ℕ)
+pub source_page-SourceParts : (head : TestHead) (r : Replay) (s : State) (start new : List ℕ)
     → SourceParts head r s start new
     → new ≡ start ++ source_page head r s
-source_page_told head r s start new parts =
+source_page-SourceParts head r s start new parts =
     let line = word_line (codes "Memory") head.locs in
-    three_written start _ _ (line s.words) parts.begun parts.threads
+    AllWritten-three start _ _ (line s.words) parts.begun parts.threads
     (parts.memory ∙ ap (λ (ws : List ℕ). parts.two ++ line ws) parts.is_memory)
 
 -- The text of an x86 test's page, from `start`: the first lines, the processors, memory's words, and the content.
@@ -163,16 +168,16 @@ pub record MachineParts (head : TestHead) (r : Replay) (processors : List Proces
   pub is_content : in_content ≡ content
 
 -- The parts of a page in sequence are the page of an x86 test.
-pub machine_page_told : (head : TestHead) (r : Replay) (processors : List Processor) (held : ℕ → ℕ → LineState)
+pub machine_page-MachineParts : (head : TestHead) (r : Replay) (processors : List Processor) (held : ℕ → ℕ → LineState)
     (memory content start new : List ℕ)
     → MachineParts head r processors held memory content start new
     → new ≡ start ++ machine_page head r processors held memory content
-machine_page_told head r processors held memory content start new parts =
+machine_page-MachineParts head r processors held memory content start new parts =
     let first = word_line (codes "Memory") head.locs in
     let second = word_line (codes "Content") head.locs in
     let all = numbered (processor_lines head held) 0 processors in
     let behind =
-    three_written parts.one all (first memory) _ parts.lines
+    AllWritten-three parts.one all (first memory) _ parts.lines
     (parts.below ∙ ap (λ (ws : List ℕ). parts.two ++ first ws) parts.is_memory)
     (parts.last ∙ ap (λ (ws : List ℕ). parts.three ++ second ws) parts.is_content) in
-    both_written start parts.one new (first_lines head r) (all ++ (first memory ++ second content)) parts.begun behind
+    written-append start parts.one new (first_lines head r) (all ++ (first memory ++ second content)) parts.begun behind

@@ -1,110 +1,118 @@
--- What a run over devices promises, for each of its endings: from what reading, rendering and writing promise.
+-- What a run over devices promises, for each of its endings: from what reading, rendering and writing
+-- promise. `run_text` has one lemma for each way to end; the functions for single tasks weaken its result.
 use Rattle.lw_bench.proofs.Common.{◌≡◌, ◌↔◌, Bool, true, false, if◌then◌else◌, Result, Ok, Err, refl, inl, ap}
 use Rattle.lw_bench.proofs.Common.{Bytes, Option, Some, None, IfSome, Appends, BenchFault, Memory, Read}
 use Rattle.lw_bench.proofs.Common.{Write, LitmusTest, IsInput, TakesInput, TakesSome, IsReachedOnMachine}
 use Rattle.lw_bench.proofs.Common.{IsOutputOf, Writes, RunFaultIsTrue, IsNotDeviceFault, IsReachedOverCaches}
 use Rattle.lw_bench.proofs.Common.{Devices, IsRun}
-use Rattle.lw_bench.proofs.DeviceFaults.{input_told, input_apart, write_apart, fault_apart, answer_apart}
-use Rattle.lw_bench.proofs.DeviceFaults.{err_is, ok_apart}
+use Rattle.lw_bench.proofs.DeviceFaults.{Read-iff_failed, input_fault_ne_Write, Write_fault-reader_not_failed}
+use Rattle.lw_bench.proofs.DeviceFaults.{other_fault-iff_not_failed, no_device_fault-of_success}
+use Rattle.lw_bench.proofs.DeviceFaults.{Err-injective, Ok_ne_Err}
 use Rattle.lw_bench.proofs.Outputs.{output_written}
-use Rattle.lw_bench.proofs.Taken.{taken_at, some_taken_at}
-use Rattle.lw_bench.proofs.FaultTruths.{device_told, some_told, told_of_input}
+use Rattle.lw_bench.proofs.Taken.{TakesBeforeFault-TakesInput, TakesBeforeFault-TakesSome}
+use Rattle.lw_bench.proofs.FaultTruths.{IfSome-of_input_fault, IfSome-of_all, IfSome-FaultIsTrue_of_input}
 
 module _ {R W : Type 0} (readers : Devices R) (writers : Devices W) (Tells : LitmusTest → BenchFault → Type 0) (r s : R)
     (w : W) where
   module _ {T : Type 0} (IsMade : T → LitmusTest → Bytes → Type 0) (machine : IfSome (readers.bytes r) IsReachedOnMachine)
       (caches : IfSome (readers.bytes r) IsReachedOverCaches) where
     -- If the reader failed, or memory ran out before everything was read, the run satisfies its contract: it reports that fault.
-    pub unread : (f : BenchFault)
+    pub IsRun-unread : (f : BenchFault)
         → f ≡ (if readers.failed s then Read else Memory)
         → TakesSome (readers.bytes r) (readers.bytes s)
         → writers.failed w ≡ false
         → IsRun readers writers IsMade Tells r s w w (Err f)
-    unread f is some writing = record {
+    IsRun-unread f is some writing = record {
       written = tt;
       machine = machine;
       caches = caches;
-      told = device_told (RunFaultIsTrue Tells) (readers.bytes r) f (readers.failed s) (λ bytes. inl tt) (λ bytes. inl tt) is;
+      told =
+          IfSome-of_input_fault (RunFaultIsTrue Tells) (readers.bytes r) f (readers.failed s) (λ bytes. inl tt) (λ bytes. inl tt)
+          is;
       taken = tt;
-      left = some_taken_at _ _ f (readers.failed s) is some;
-      read = input_told (Err f) f f (readers.failed s) refl refl is;
-      write = fault_apart (Err f) f f Write _ refl refl (input_apart f _ is) writing;
+      left = TakesBeforeFault-TakesSome _ _ f (readers.failed s) is some;
+      read = Read-iff_failed (Err f) f f (readers.failed s) refl refl is;
+      write = other_fault-iff_not_failed (Err f) f f Write _ refl refl (input_fault_ne_Write f _ is) writing;
       untouched = λ other. refl;
     }
 
     module _ (bytes : Bytes) (input : IsInput (readers.bytes r) bytes) (taken : TakesInput (readers.bytes r) (readers.bytes s))
         (reading : readers.failed s ≡ false) where
       -- If everything was read, but nothing can be rendered from the text, the run satisfies its contract: it reports why.
-      pub unmade : (f : BenchFault)
+      pub IsRun-no_output : (f : BenchFault)
           → RunFaultIsTrue Tells bytes f
           → IsNotDeviceFault f
           → writers.failed w ≡ false
           → IsRun readers writers IsMade Tells r s w w (Err f)
-      unmade f told device writing = record {
+      IsRun-no_output f told device writing = record {
         written = tt;
         machine = machine;
         caches = caches;
-        told = told_of_input Tells _ bytes f input told;
+        told = IfSome-FaultIsTrue_of_input Tells _ bytes f input told;
         taken = tt;
-        left = taken_at _ _ f taken;
-        read = fault_apart (Err f) f f Read _ refl refl device.0 reading;
-        write = fault_apart (Err f) f f Write _ refl refl device.1 writing;
+        left = TakesBeforeFault-TakesInput _ _ f taken;
+        read = other_fault-iff_not_failed (Err f) f f Read _ refl refl device.0 reading;
+        write = other_fault-iff_not_failed (Err f) f f Write _ refl refl device.1 writing;
         untouched = λ other. refl;
       }
 
       -- If the writer failed, the run satisfies its contract: it reports the writer's fault.
-      pub unwritten : (v : W) → writers.failed v ≡ true → IsRun readers writers IsMade Tells r s w v (Err Write)
-      unwritten v failed = record {
+      pub IsRun-unwritten : (v : W) → writers.failed v ≡ true → IsRun readers writers IsMade Tells r s w v (Err Write)
+      IsRun-unwritten v failed = record {
         written = tt;
         machine = machine;
         caches = caches;
-        told = some_told (RunFaultIsTrue Tells) _ Write (λ bytes. inl tt);
+        told = IfSome-of_all (RunFaultIsTrue Tells) _ Write (λ bytes. inl tt);
         taken = tt;
-        left = taken_at _ _ Write taken;
-        read = write_apart _ reading;
+        left = TakesBeforeFault-TakesInput _ _ Write taken;
+        read = Write_fault-reader_not_failed _ reading;
         write = (λ same. failed, λ yes. refl);
         untouched = λ other. absurd (other refl);
       }
 
       -- If the output of the test was written, the run satisfies its contract: it succeeds.
-      pub done : (v : W) (answer : T) (made : Bytes)
+      pub IsRun-written : (v : W) (answer : T) (made : Bytes)
           → IsOutputOf (IsMade answer) bytes made
           → Appends (writers.bytes w) (writers.bytes v) made
           → writers.failed v ≡ false
           → IsRun readers writers IsMade Tells r s w v (Ok answer)
-      done v answer made makes appended writing = record {
+      IsRun-written v answer made makes appended writing = record {
         written = output_written (IsMade answer) _ _ _ bytes made input makes appended;
         machine = machine;
         caches = caches;
         told = tt;
         taken = taken;
         left = tt;
-        read = answer_apart answer Read _ reading;
-        write = answer_apart answer Write _ writing;
+        read = no_device_fault-of_success answer Read _ reading;
+        write = no_device_fault-of_success answer Write _ writing;
         untouched = tt;
       }
 
 -- If what was written satisfies a rule P of the test, it satisfies each rule Q that P implies.
-writes_weaker : (P Q : LitmusTest → Bytes → Type 0)
+Writes-weakened : (P Q : LitmusTest → Bytes → Type 0)
     → ((test : LitmusTest) (made : Bytes) → P test made → Q test made)
     → (known before after : Option Bytes)
     → Writes P known before after
     → Writes Q known before after
-writes_weaker P Q weaker None before after writes = tt
-writes_weaker P Q weaker (Some text) before after (made, makes, appended) =
+Writes-weakened P Q weaker None before after writes = tt
+Writes-weakened P Q weaker (Some text) before after (made, makes, appended) =
     (made, record { test = makes.test; has_test = makes.has_test; is = weaker makes.test made makes.is }, appended)
 
 -- A run whose result is computed from that of another.
 module _ {R W T U : Type 0} (readers : Devices R) (writers : Devices W) (P : T → LitmusTest → Bytes → Type 0)
     (Q : U → LitmusTest → Bytes → Type 0) (Tells : LitmusTest → BenchFault → Type 0) (r s : R) (w v : W) where
+  -- A fault is a device's or not, whatever the type of the answer.
   same_fault : (f other : BenchFault) (failed : Bool)
       → ((let a : Result T BenchFault = Err f in a) ≡ Err other ↔ failed ≡ true)
       → (let b : Result U BenchFault = Err f in b) ≡ Err other ↔ failed ≡ true
-  same_fault f other failed told = (λ same. told.0 (ap (λ e. Err e) (err_is same)), λ yes. ap (λ e. Err e) (err_is (told.1 yes)))
+  same_fault f other failed told =
+      (λ same. told.0 (ap (λ e. Err e) (Err-injective same)), λ yes. ap (λ e. Err e) (Err-injective (told.1 yes)))
 
   -- If a run consists of another that fails, its fault is that one's.
-  pub refused : (f : BenchFault) → IsRun readers writers P Tells r s w v (Err f) → IsRun readers writers Q Tells r s w v (Err f)
-  refused f run = record {
+  pub IsRun-same_fault : (f : BenchFault)
+      → IsRun readers writers P Tells r s w v (Err f)
+      → IsRun readers writers Q Tells r s w v (Err f)
+  IsRun-same_fault f run = record {
     written = tt;
     machine = run.machine;
     caches = run.caches;
@@ -116,24 +124,26 @@ module _ {R W T U : Type 0} (readers : Devices R) (writers : Devices W) (P : T �
     untouched = run.untouched;
   }
 
-  no_fault : (answer : T) (other_answer : U) (other : BenchFault) (failed : Bool)
+  -- A success is no device's fault, whatever the answer is.
+  no_device_fault-other_answer : (answer : T) (other_answer : U) (other : BenchFault) (failed : Bool)
       → ((let a : Result T BenchFault = Ok answer in a) ≡ Err other ↔ failed ≡ true)
       → (let b : Result U BenchFault = Ok other_answer in b) ≡ Err other ↔ failed ≡ true
-  no_fault answer other_answer other failed told = (λ same. absurd (ok_apart same), λ yes. absurd (ok_apart (told.1 yes)))
+  no_device_fault-other_answer answer other_answer other failed told =
+      (λ same. absurd (Ok_ne_Err same), λ yes. absurd (Ok_ne_Err (told.1 yes)))
 
   -- If a run consists of another that succeeds, so does it, and its output satisfies its own rule Q, which P implies.
-  pub answered : (answer : T) (other : U)
+  pub IsRun-weakened : (answer : T) (other : U)
       → ((test : LitmusTest) (made : Bytes) → P answer test made → Q other test made)
       → IsRun readers writers P Tells r s w v (Ok answer)
       → IsRun readers writers Q Tells r s w v (Ok other)
-  answered answer other weaker run = record {
-    written = writes_weaker (P answer) (Q other) weaker _ _ _ run.written;
+  IsRun-weakened answer other weaker run = record {
+    written = Writes-weakened (P answer) (Q other) weaker _ _ _ run.written;
     machine = run.machine;
     caches = run.caches;
     told = tt;
     taken = run.taken;
     left = tt;
-    read = no_fault answer other Read _ run.read;
-    write = no_fault answer other Write _ run.write;
+    read = no_device_fault-other_answer answer other Read _ run.read;
+    write = no_device_fault-other_answer answer other Write _ run.write;
     untouched = tt;
   }

@@ -1,33 +1,68 @@
--- From the list of a test to its report and to its list of schedules.
-use Rattle.lw_bench.proofs.Common.{marked_list_text, IsExactMarkedList, ◌≡◌, ℕ, List, length, map, sym, subst}
-use Rattle.lw_bench.proofs.Common.{All, AllByRecursion, All-map, All-weaker, TestHead, FinalState}
-use Rattle.lw_bench.proofs.Common.{HasOutcomeShape, IsEvent, Event, IsListedOutcome, OutcomeEntries}
-use Rattle.lw_bench.proofs.Common.{outcomes_of, schedules_of, report_text, schedule_list_text, scheduled}
-use Rattle.lw_bench.proofs.Common.{ListedState, projection_of, AreListedStates, Exact, LitmusTest}
+-- From the list of a test to its report and to its list of schedules. The functions of lists.rt promise the
+-- outputs by these lemmas.
+use Rattle.lw_bench.proofs.Common.{MentionsOnly, observed_words, is_true, AreObservedOutcomesOf, refl}
+use Rattle.lw_bench.proofs.Common.{Contains, project_state, marked_list_text, IsExactMarkedList, ◌≡◌, ℕ, List}
+use Rattle.lw_bench.proofs.Common.{length, map, sym, subst, All, AllByRecursion, All-map, All-weaker}
+use Rattle.lw_bench.proofs.Common.{TestHead, FinalState, HasOutcomeShape, IsEvent, Event, IsListedOutcome}
+use Rattle.lw_bench.proofs.Common.{OutcomeEntries, outcomes_of, schedules_of, report_text, schedule_list_text}
+use Rattle.lw_bench.proofs.Common.{scheduled, ListedState, projection_of, AreListedStates, Exact, LitmusTest}
 use Rattle.lw_bench.proofs.Common.{head_of_test, OutcomeOf, ProgramReplaysTo, IsExactReport}
-use Rattle.lw_bench.proofs.Common.{IsExactScheduleList, IsListOf}
-use Rattle.lw_bench.proofs.ListingTexts.{marked_list_is, report_is, schedule_list_is}
+use Rattle.lw_bench.proofs.Common.{IsExactScheduleList, IsListOf, AreOutcomesOf}
+use Rattle.lw_bench.proofs.ListingTexts.{IsMarkedList-of_listing, IsReport-of_listing}
+use Rattle.lw_bench.proofs.ListingTexts.{IsScheduleList-of_listing}
 
-module _ (test : LitmusTest) (entries : OutcomeEntries) (list : IsListOf test entries) (head : TestHead)
-    (same : head ≡ head_of_test test) where
-  -- The report rendered from a test's list is the test's report.
+-- Outcomes with the same observed words agree on the test's proposition.
+abbrev pub SameWordsAgree : Type 0
+SameWordsAgree =
+    (head : TestHead) (o p : FinalState)
+    → MentionsOnly head.threads (length head.locs) head.condition
+    → observed_words head o ≡ observed_words head p
+    → is_true head.condition o ≡ is_true head.condition p
+
+module _ (agree : SameWordsAgree) (test : LitmusTest) (outcomes : List FinalState)
+    (are_observed : AreObservedOutcomesOf test outcomes) (head : TestHead) (same : head ≡ head_of_test test)
+    (speaks : MentionsOnly head.threads (length head.locs) head.condition) where
+  -- Each outcome of the test has the state of a listed one.
+  state_observed : (o : FinalState)
+      → OutcomeOf test o
+      → (p : FinalState) × Contains outcomes p × (project_state (head_of_test test) p ≡ project_state (head_of_test test) o)
+  state_observed o has =
+      let p = are_observed.covered o has in
+      let truth =
+      agree (head_of_test test) p.0 o (subst (λ d. MentionsOnly d.threads (length d.locs) d.condition) same speaks) p.2 in
+      (p.0, p.1, λ i. record { words = p.2 i; holds = truth i })
+
+  -- The report rendered from a list that shows a test's outcomes is the test's report.
   pub report_of_list : (states : List ListedState) (text : List ℕ)
-      → AreListedStates head (outcomes_of entries) states
+      → AreListedStates head outcomes states
       → text ≡ report_text head Exact (map projection_of states)
       → IsExactReport test text
   report_of_list states text listed is =
-      report_is _ _ _ list.exactly Exact states text (subst (λ d. AreListedStates d (outcomes_of entries) states) same listed)
+      IsReport-of_listing _ _ _ are_observed.sound state_observed Exact states text
+      (subst (λ d. AreListedStates d outcomes states) same listed)
       (subst (λ d. text ≡ report_text d Exact (map projection_of states)) same is)
 
-  -- The list of marked states that results from a test's list is the test's.
+  -- The list of marked states that results from a list that shows a test's outcomes is the test's.
   pub marks_of_list : (states : List ListedState) (text : List ℕ)
-      → AreListedStates head (outcomes_of entries) states
+      → AreListedStates head outcomes states
       → text ≡ marked_list_text head (map projection_of states)
       → IsExactMarkedList test text
   marks_of_list states text listed is =
-      marked_list_is _ _ _ list.exactly states text (subst (λ d. AreListedStates d (outcomes_of entries) states) same listed)
+      IsMarkedList-of_listing _ _ _ are_observed.sound state_observed states text
+      (subst (λ d. AreListedStates d outcomes states) same listed)
       (subst (λ d. text ≡ marked_list_text d (map projection_of states)) same is)
 
+-- The outcomes have the test's threads and locations.
+pub HasOutcomeShape-of_listing : (test : LitmusTest) (outcomes : List FinalState)
+    → All (HasOutcomeShape (head_of_test test).threads (length (head_of_test test).locs)) outcomes
+    → (head : TestHead)
+    → head ≡ head_of_test test
+    → All (HasOutcomeShape head.threads (length head.locs)) outcomes
+HasOutcomeShape-of_listing test outcomes shapes head same =
+    subst (λ d. All (HasOutcomeShape d.threads (length d.locs)) outcomes) (sym same) shapes
+
+module _ (test : LitmusTest) (entries : OutcomeEntries) (list : IsListOf test entries) (head : TestHead)
+    (same : head ≡ head_of_test test) where
   -- The list of schedules rendered from a test's list is the test's list of schedules.
   pub schedules_of_list : (states : List ListedState) (text : List ℕ)
       → AreListedStates head (outcomes_of entries) states
@@ -37,21 +72,13 @@ module _ (test : LitmusTest) (entries : OutcomeEntries) (list : IsListOf test en
     program = list.program;
     of_test = list.of_test;
     is =
-        schedule_list_is _ (OutcomeOf test) entries list.exactly list.sorted (ProgramReplaysTo list.program) list.lead states text
-        (subst (λ d. AreListedStates d (outcomes_of entries) states) same listed) (rw same at is);
+        IsScheduleList-of_listing _ (OutcomeOf test) entries list.exactly list.sorted (ProgramReplaysTo list.program) list.lead
+        states text (subst (λ d. AreListedStates d (outcomes_of entries) states) same listed) (rw same at is);
   }
 
-  -- The outcomes of a test's list have the test's threads and locations.
-  pub outcomes_there : All (HasOutcomeShape head.threads (length head.locs)) (outcomes_of entries)
-  outcomes_there =
-      All-map (HasOutcomeShape head.threads (length head.locs)) (λ (e : FinalState × List Event). e.0) entries
-      (All-weaker (IsListedOutcome (head_of_test test))
-      (λ (e : FinalState × List Event). HasOutcomeShape head.threads (length head.locs) e.0) (λ e is. rw (← same) at is.outcome)
-      entries list.entries_are)
-
   -- The schedules of the list name only the test's locations.
-  pub schedules_there : All (AllByRecursion (IsEvent head.locs)) (schedules_of entries)
-  schedules_there =
+  pub IsEvent-of_schedules : All (AllByRecursion (IsEvent head.locs)) (schedules_of entries)
+  IsEvent-of_schedules =
       All-map (AllByRecursion (IsEvent head.locs)) (λ (e : FinalState × List Event). e.1) entries
       (All-weaker (IsListedOutcome (head_of_test test)) (λ e. AllByRecursion (IsEvent head.locs) e.1)
       (λ e is. subst (λ d. AllByRecursion (IsEvent d.locs) e.1) (sym same) is.schedule) entries list.entries_are)

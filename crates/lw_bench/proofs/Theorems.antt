@@ -1,16 +1,18 @@
 -- The theorems on tests as values, from those of the crates below. A premise is that outcomes over caches are those over flat memory; the
 -- laws prove it by a call.
 use Rattle.lw_bench.proofs.Common.{IsWellScopedProgram, FitsCaches, ◌≤◌, most_threads, TestHead}
-use Rattle.lw_bench.proofs.Common.{IsWellScopedSource, is_well_scoped_with, IsWellScoped-well_formed}
-use Rattle.lw_bench.proofs.Common.{source_language, x86_language, ◌≡◌, ◌↔◌, ℕ, List, Bool, refl, sym, subst}
-use Rattle.lw_bench.proofs.Common.{FinalState, Bytes, SourceOutcome, SourceTest, X86Test, IsWellFormedSource}
-use Rattle.lw_bench.proofs.Common.{IsWellFormedProgram, flat_memory, Protocol, IsMachineOutcome}
-use Rattle.lw_bench.proofs.Common.{OutcomeOverCaches, IsCompiled, IsCompiledWith, is_program, some_program}
-use Rattle.lw_bench.proofs.Common.{same_outcomes, has_outcomes, has_outcome, one_report, frame_well_formed}
-use Rattle.lw_bench.proofs.Common.{frame_columns, well_formed_source, well_formed_program, LitmusTest}
-use Rattle.lw_bench.proofs.Common.{Of_source, Of_x86, IsWellFormedTest, IsStatesReport, OutcomeOf}
-use Rattle.lw_bench.proofs.Common.{IsProgramRunFor, IsProgramOf, IsOutputOf, HasTest, Exact, X86, ap}
-use Rattle.lw_bench.proofs.Common.{HasOverCaches, IsCompilation, canonical_text, IsTextOf, is_well_scoped}
+use Rattle.lw_bench.proofs.Common.{IsWellScopedSource, IsWellScopedProgram-with_fences}
+use Rattle.lw_bench.proofs.Common.{IsWellScoped-well_formed, source_language, x86_language, ◌≡◌, ◌↔◌, ℕ, List}
+use Rattle.lw_bench.proofs.Common.{Bool, refl, sym, subst, FinalState, Bytes, SourceOutcome, SourceTest}
+use Rattle.lw_bench.proofs.Common.{X86Test, IsWellFormedSource, IsWellFormedProgram, flat_memory, Protocol}
+use Rattle.lw_bench.proofs.Common.{IsMachineOutcome, OutcomeOverCaches, IsCompiled, IsCompiledWith}
+use Rattle.lw_bench.proofs.Common.{IsWellFormedProgram-compiled, IsCompiled-exists}
+use Rattle.lw_bench.proofs.Common.{IsMachineOutcome-compiled_iff, IsMachineOutcome-of_source}
+use Rattle.lw_bench.proofs.Common.{machine_outcome-exists, IsReport-unique, frame_well_formed, frame_columns}
+use Rattle.lw_bench.proofs.Common.{well_formed_source, well_formed_program, LitmusTest, Of_source, Of_x86}
+use Rattle.lw_bench.proofs.Common.{IsWellFormedTest, IsStatesReport, OutcomeOf, IsProgramRunFor, IsProgramOf}
+use Rattle.lw_bench.proofs.Common.{IsOutputOf, HasTest, Exact, X86, ap, HasOverCaches, IsCompilation}
+use Rattle.lw_bench.proofs.Common.{canonical_text, IsTextOf, IsWellScopedProgram-compiled}
 
 -- Outcomes over caches are those over flat memory.
 abbrev pub CachesAreFlat : Type 0
@@ -37,7 +39,7 @@ pub one_report_of : ((text : Bytes) (s t : LitmusTest) → HasTest text s → Ha
     → a ≡ b
 one_report_of one text a b m n =
     let other = subst (λ (test : LitmusTest). IsStatesReport test b) (sym (one text m.test n.test m.has_test n.has_test)) n.is in
-    one_report _ (OutcomeOf m.test) (OutcomeOf m.test) (λ o. ((λ h. h), (λ h. h))) Exact a b m.is.is other.is
+    IsReport-unique _ (OutcomeOf m.test) (OutcomeOf m.test) (λ o. ((λ h. h), (λ h. h))) Exact a b m.is.is other.is
 
 -- ---- compiled programs
 
@@ -57,8 +59,8 @@ pub outcomes_over_caches : CachesAreFlat
     → (protocol : Protocol) (o : FinalState)
     → OutcomeOverCaches protocol p o ↔ SourceOutcome s o
 outcomes_over_caches caches s p starts ok compiled fits protocol o =
-    let over = caches protocol p o (is_well_scoped s p starts ok compiled) fits in
-    let same = same_outcomes s p starts o ok compiled in
+    let over = caches protocol p o (IsWellScopedProgram-compiled s p starts ok compiled) fits in
+    let same = IsMachineOutcome-compiled_iff s p starts o ok compiled in
     ((λ outcome. same.0 (over.0 outcome)), (λ outcome. over.1 (same.1 outcome)))
 
 -- A program compiled with any choice of fences has at least its source test's outcomes.
@@ -71,7 +73,8 @@ pub outcomes_with_fences : {fences : List (List Bool)} {s : SourceTest} {p : X86
     → SourceOutcome s o
     → OutcomeOverCaches protocol p o
 outcomes_with_fences {s} {p} caches ok compiled fits protocol o outcome =
-    (caches protocol p o (is_well_scoped_with _ s p _ ok compiled) fits).1 (has_outcomes _ s p _ o ok compiled outcome)
+    (caches protocol p o (IsWellScopedProgram-with_fences _ s p _ ok compiled) fits).1 (IsMachineOutcome-of_source _ s p _ o ok
+    compiled outcome)
 
 -- ---- the program that is run for a test
 
@@ -82,7 +85,7 @@ pub program_runs : (test : LitmusTest) (program : X86Test)
     → IsProgramOf test program
 program_runs (Of_source test) program ok runs =
     let scoped = IsWellScoped-well_formed source_language ok in
-    record { runs = runs; outcomes = λ o. same_outcomes test program runs.0 o scoped runs.1 }
+    record { runs = runs; outcomes = λ o. IsMachineOutcome-compiled_iff test program runs.0 o scoped runs.1 }
 program_runs (Of_x86 test) program ok runs = record {
   runs = runs;
   outcomes = λ o.
@@ -93,7 +96,7 @@ program_runs (Of_x86 test) program ok runs = record {
 -- For each well-formed test there is a program to run that has its outcomes on the machine.
 pub has_program : (test : LitmusTest) → IsWellFormedTest test → (program : X86Test) × IsProgramOf test program
 has_program (Of_source test) ok =
-    let some = some_program test (IsWellScoped-well_formed source_language ok) in
+    let some = IsCompiled-exists test (IsWellScoped-well_formed source_language ok) in
     (some.0, program_runs (Of_source test) some.0 ok (some.1, some.2))
 has_program (Of_x86 test) ok = (test, program_runs (Of_x86 test) test ok refl)
 
@@ -115,9 +118,9 @@ runs_over_caches caches (Of_x86 test) program ok runs =
 -- Each source test has an outcome.
 pub source_outcome : (s : SourceTest) → IsWellScopedSource s → (o : FinalState) × SourceOutcome s o
 source_outcome s ok =
-    let some = some_program s ok in
-    let o = has_outcome some.0 (is_well_scoped s some.0 some.1 ok some.2) in
-    (o.0, (same_outcomes s some.0 some.1 o.0 ok some.2).0 o.1)
+    let some = IsCompiled-exists s ok in
+    let o = machine_outcome-exists some.0 (IsWellScopedProgram-compiled s some.0 some.1 ok some.2) in
+    (o.0, (IsMachineOutcome-compiled_iff s some.0 some.1 o.0 ok some.2).0 o.1)
 
 -- Each x86 test that fits the caches has an outcome over them.
 pub cached_outcome : CachesAreFlat
@@ -125,7 +128,7 @@ pub cached_outcome : CachesAreFlat
     → IsWellScopedProgram p
     → FitsCaches p
     → (o : FinalState) × OutcomeOverCaches protocol p o
-cached_outcome caches protocol p ok fits = let o = has_outcome p ok in (o.0, (caches protocol p o.0 ok fits).1 o.1)
+cached_outcome caches protocol p ok fits = let o = machine_outcome-exists p ok in (o.0, (caches protocol p o.0 ok fits).1 o.1)
 
 -- ---- texts of compiled programs
 
@@ -138,7 +141,7 @@ abbrev ReadsBack : Type 0
 ReadsBack = (p : X86Test) → IsWellFormedProgram p → IsTextOf (canonical_text p) p
 
 -- The compiled text of a source test's text says an x86 test with the same outcomes.
-pub compiled_text_read : HasOneTest
+pub HasTest-of_compilation : HasOneTest
     → ReadsBack
     → (text made : Bytes) (source : SourceTest)
     → HasTest text (Of_source source)
@@ -147,14 +150,16 @@ pub compiled_text_read : HasOneTest
     × HasTest made (Of_x86 program)
     × (program.head ≡ record source.head { arch = X86 })
     × ((o : FinalState) → OutcomeOf (Of_x86 program) o ↔ OutcomeOf (Of_source source) o)
-compiled_text_read one back text made source has makes =
+HasTest-of_compilation one back text made source has makes =
     let is =
     subst (λ (t : LitmusTest). IsCompilation t made) (one text makes.test (Of_source source) makes.has_test has) makes.is in
     let formed : IsWellFormedSource source = well_formed text (Of_source source) has in
-    let read = back is.program (is_program source is.program is.starts formed is.compiled) in (
+    let read = back is.program (IsWellFormedProgram-compiled source is.program is.starts formed is.compiled) in (
       is.program,
       subst (λ (t : Bytes). HasTest t (Of_x86 is.program)) (sym is.is)
           (record { frame = read.frame; has_frame = read.framed; says = read.says }),
       is.compiled.head,
-      λ o. same_outcomes source is.program is.starts o (IsWellScoped-well_formed source_language formed) is.compiled,
+      λ o.
+          IsMachineOutcome-compiled_iff source is.program is.starts o (IsWellScoped-well_formed source_language formed)
+          is.compiled,
     )

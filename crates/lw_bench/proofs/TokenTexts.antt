@@ -1,4 +1,5 @@
--- Texts as sequences of tokens, by a test that computes: for the texts of examples, which are given byte by byte.
+-- Texts as sequences of tokens, by a test that computes: for the texts of examples, which are given byte by
+-- byte. ExampleTexts proves so that the bytes of the example are its tokens.
 use Rattle.lw_bench.proofs.Common.{◌≡◌, ℕ, zero, suc, ◌<◌, ◌==◌, ◌&&◌, ◌⊎◌, not, Bool, true, false}
 use Rattle.lw_bench.proofs.Common.{if◌then◌else◌, Option, Some, None, [], ◌∷◌, ◌++◌, refl, sym, inl, inr}
 use Rattle.lw_bench.proofs.Common.{arith, Bytes, and_parts, false≢true, nat_lt, none-some, same_Some, ◌||◌}
@@ -6,7 +7,7 @@ use Rattle.lw_bench.proofs.Common.{digit_value, is_ascii_digit, list_all, IsAsci
 use Rattle.lw_bench.proofs.Common.{not-true, nat_tests, TokenList, first_byte_is, is_blank, is_name_byte}
 use Rattle.lw_bench.proofs.Common.{Comment, closed, other, begins_mark, none, blank, IsNameOrNumber, IsSymbol}
 use Rattle.lw_bench.proofs.Common.{IsToken, Tokens, is_two_byte_symbol, is_one_byte_symbol, opens_comment}
-use Rattle.lw_bench.proofs.Common.{all_pass, is_name_text, name_by_test}
+use Rattle.lw_bench.proofs.Common.{list_all-AllByRecursion, is_name_text, name_by_test}
 
 -- ---- one token
 
@@ -32,22 +33,23 @@ abbrev pub is_token_text : Bytes → Bytes → Bool
 is_token_text t rest = is_name_shaped t rest || is_symbol_text t rest
 
 -- If a disjunction of tests is true, the first or the second is.
-either : (a b : Bool) → (a || b) ≡ true → (a ≡ true) ⊎ (b ≡ true)
-either true b h = inl refl
-either false b h = inr h
+or_true-cases : (a b : Bool) → (a || b) ≡ true → (a ≡ true) ⊎ (b ≡ true)
+or_true-cases true b h = inl refl
+or_true-cases false b h = inr h
 
 -- A decimal digit is below ten.
-digit_small : (d : ℕ) → is_ascii_digit d ≡ true → digit_value d < 10
-digit_small d h = grind (arith, nat_tests)
+digit_value_below_10 : (d : ℕ) → is_ascii_digit d ≡ true → digit_value d < 10
+digit_value_below_10 d h = grind (arith, nat_tests)
 
 -- A text that passes `is_kind_text` is a name or a number.
 kind_of : (w : Bytes) → is_kind_text w ≡ true → IsNameOrNumber w
 kind_of [] h = inl (name_by_test [] h)
-kind_of (d ∷ []) h = go (either (is_ascii_digit d) (is_name_text (d ∷ [])) h)
+kind_of (d ∷ []) h = go (or_true-cases (is_ascii_digit d) (is_name_text (d ∷ [])) h)
   where
     go : (is_ascii_digit d ≡ true) ⊎ (is_name_text (d ∷ []) ≡ true) → IsNameOrNumber (d ∷ [])
     go (inl digit) =
-        let small = digit_small d digit in inr (digit_value d, (omega (arith, small), inl (omega arith, (small, omega arith))))
+        let small = digit_value_below_10 d digit in
+        inr (digit_value d, (omega (arith, small), inl (omega arith, (small, omega arith))))
     go (inr name) = inl (name_by_test (d ∷ []) name)
 kind_of (d ∷ e ∷ w) h = inl (name_by_test (d ∷ e ∷ w) h)
 
@@ -63,41 +65,45 @@ symbol_of (b ∷ c ∷ d ∷ more) rest h = absurd (false≢true h)
 
 -- A text that passes `is_token_text` is a token.
 pub token_of : (t rest : Bytes) → is_token_text t rest ≡ true → IsToken t rest
-token_of t rest h = go (either (is_name_shaped t rest) (is_symbol_text t rest) h)
+token_of t rest h = go (or_true-cases (is_name_shaped t rest) (is_symbol_text t rest) h)
   where
     go : (is_name_shaped t rest ≡ true) ⊎ (is_symbol_text t rest ≡ true) → IsToken t rest
     go (inl word) =
         let parts = and_parts (list_all is_name_byte t) _ word in
         let ends = and_parts (not (first_byte_is is_name_byte rest)) _ parts.1 in
-        inl (record { all = all_pass is_name_byte t parts.0; longest = not-true _ ends.0; kind = kind_of t ends.1 })
+        inl (record {
+          all = list_all-AllByRecursion is_name_byte t parts.0;
+          longest = not-true _ ends.0;
+          kind = kind_of t ends.1;
+        })
     go (inr symbol) = inr (symbol_of t rest symbol)
 
 -- ---- sequences
 
 -- Returns what follows a token, if the text starts with it.
-abbrev behind : Bytes → Bytes → Option Bytes
-behind [] text = Some text
-behind (a ∷ t) [] = None
-behind (a ∷ t) (b ∷ text) = if a == b then behind t text else None
+abbrev rest_after : Bytes → Bytes → Option Bytes
+rest_after [] text = Some text
+rest_after (a ∷ t) [] = None
+rest_after (a ∷ t) (b ∷ text) = if a == b then rest_after t text else None
 
 -- The text is the token, followed by the rest.
-behind_is : (t text rest : Bytes) → behind t text ≡ Some rest → text ≡ t ++ rest
-behind_is [] text rest h = same_Some text rest h
-behind_is (a ∷ t) [] rest h = absurd (none-some rest h)
-behind_is (a ∷ t) (b ∷ text) rest h = go (a == b) refl h (behind_is t text rest)
+rest_after-append : (t text rest : Bytes) → rest_after t text ≡ Some rest → text ≡ t ++ rest
+rest_after-append [] text rest h = same_Some text rest h
+rest_after-append (a ∷ t) [] rest h = absurd (none-some rest h)
+rest_after-append (a ∷ t) (b ∷ text) rest h = go (a == b) refl h (rest_after-append t text rest)
   where
     go : (same : Bool)
         → (a == b) ≡ same
-        → (if same then behind t text else None) ≡ Some rest
-        → (behind t text ≡ Some rest → text ≡ t ++ rest)
+        → (if same then rest_after t text else None) ≡ Some rest
+        → (rest_after t text ≡ Some rest → text ≡ t ++ rest)
         → b ∷ text ≡ (a ∷ t) ++ rest
     go true is found on = rw (sym (eqb-true a b is), on found) refl
     go false is found on = absurd (none-some rest found)
 
 -- Tests whether t is a token before the rest, and `more` is true of that; false if the text does not start with t.
-abbrev goes_on : (Bytes → Bool) → Bytes → Option Bytes → Bool
-goes_on more t None = false
-goes_on more t (Some rest) = is_token_text t rest && more rest
+abbrev token_then : (Bytes → Bool) → Bytes → Option Bytes → Bool
+token_then more t None = false
+token_then more t (Some rest) = is_token_text t rest && more rest
 
 -- Tests whether the text is a sequence of these tokens, with at most n blanks and tokens.
 unfoldable pub are_tokens : ℕ → Bytes → TokenList → Bool
@@ -106,33 +112,36 @@ are_tokens (suc n) [] [] = true
 are_tokens (suc n) [] (t ∷ ts) = false
 are_tokens (suc n) (b ∷ text) [] = is_blank b && are_tokens n text []
 are_tokens (suc n) (b ∷ text) (t ∷ ts) =
-    if is_blank b then are_tokens n text (t ∷ ts) else goes_on (λ rest. are_tokens n rest ts) t (behind t (b ∷ text))
+    if is_blank b then are_tokens n text (t ∷ ts) else token_then (λ rest. are_tokens n rest ts) t (rest_after t (b ∷ text))
 
 module _ (t : Bytes) (ts : TokenList) (more : Bytes → Bool) (rows : (rest : Bytes) → more rest ≡ true → Tokens rest ts) where
-  first : (text : Bytes) (o : Option Bytes) → behind t text ≡ o → goes_on more t o ≡ true → Tokens text (t ∷ ts)
-  first text None is h = absurd (false≢true h)
-  first text (Some rest) is h =
+  -- If the token is next and the rest passes, the text is a sequence of these tokens.
+  Tokens-first : (text : Bytes) (o : Option Bytes) → rest_after t text ≡ o → token_then more t o ≡ true → Tokens text (t ∷ ts)
+  Tokens-first text None is h = absurd (false≢true h)
+  Tokens-first text (Some rest) is h =
       let parts = and_parts (is_token_text t rest) _ h in
-      rw (behind_is t text rest is) (rest, (none, token_of t rest parts.0), rows rest parts.1)
+      rw (rest_after-append t text rest is) (rest, (none, token_of t rest parts.0), rows rest parts.1)
 
+  -- The text starts with a blank and the rest is these tokens, or it starts with the token.
   blank_or_first : (b : ℕ) (text : Bytes) (is : Bool) (so : Bool)
       → is_blank b ≡ is
       → (so ≡ true → Tokens text (t ∷ ts))
-      → (if is then so else goes_on more t (behind t (b ∷ text))) ≡ true
+      → (if is then so else token_then more t (rest_after t (b ∷ text))) ≡ true
       → Tokens (b ∷ text) (t ∷ ts)
   blank_or_first b text true so is on h = let row = on h in (row.0, (blank is row.1.0, row.1.1), row.2)
-  blank_or_first b text false so is on h = first (b ∷ text) (behind t (b ∷ text)) refl h
+  blank_or_first b text false so is on h = Tokens-first (b ∷ text) (rest_after t (b ∷ text)) refl h
 
 -- A text that passes `are_tokens` is a sequence of these tokens.
-pub tokens_stand : (n : ℕ) (text : Bytes) (ts : TokenList) → are_tokens n text ts ≡ true → Tokens text ts
+pub Tokens-by_test : (n : ℕ) (text : Bytes) (ts : TokenList) → are_tokens n text ts ≡ true → Tokens text ts
 unfolding are_tokens
-tokens_stand zero text ts h = absurd (false≢true h)
-tokens_stand (suc n) [] [] h = none
-tokens_stand (suc n) [] (t ∷ ts) h = absurd (false≢true h)
-tokens_stand (suc n) (b ∷ text) [] h = let parts = and_parts (is_blank b) _ h in blank parts.0 (tokens_stand n text [] parts.1)
-tokens_stand (suc n) (b ∷ text) (t ∷ ts) h =
-    blank_or_first t ts (λ rest. are_tokens n rest ts) (λ rest so. tokens_stand n rest ts so) b text (is_blank b)
-    (are_tokens n text (t ∷ ts)) refl (λ so. tokens_stand n text (t ∷ ts) so) h
+Tokens-by_test zero text ts h = absurd (false≢true h)
+Tokens-by_test (suc n) [] [] h = none
+Tokens-by_test (suc n) [] (t ∷ ts) h = absurd (false≢true h)
+Tokens-by_test (suc n) (b ∷ text) [] h =
+    let parts = and_parts (is_blank b) _ h in blank parts.0 (Tokens-by_test n text [] parts.1)
+Tokens-by_test (suc n) (b ∷ text) (t ∷ ts) h =
+    blank_or_first t ts (λ rest. are_tokens n rest ts) (λ rest so. Tokens-by_test n rest ts so) b text (is_blank b)
+    (are_tokens n text (t ∷ ts)) refl (λ so. Tokens-by_test n text (t ∷ ts) so) h
 
 -- ---- a comment without inner comments
 

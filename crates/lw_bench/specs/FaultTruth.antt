@@ -57,7 +57,7 @@ pub record CellFaultIsTrueOf (bytes : Bytes) (f : CellFault) : Type 0 where
   pub has_frame : HasFrame bytes frame
   pub cells : List (List PlacedCell)
   pub has_cells : HasCells bytes cells
-  pub are : texts_of_grid cells ≡ frame.cells
+  pub cells_are : texts_of_grid cells ≡ frame.cells
   pub none : (test : LitmusTest) → FrameHasTest frame test → ⊥
   pub place : f.at ≤ length bytes
   pub cause : CellFaultIsTrueIn frame.head.arch frame.head.locs cells f

@@ -1,12 +1,14 @@
 -- The report of a test, and the list of its schedules, for tests of either language.
-use Rattle.std.specs.Prelude.{◌↔◌, All, Contains}
+use Rattle.std.specs.Prelude.{◌↔◌, All, Contains, List, length}
+use Rattle.lw_base.specs.FinalWords.{ContainsWordsOf}
 use Rattle.lw_base.specs.ListedOutcomes.{IsListedOutcome}
-use Rattle.lw_base.specs.Outcomes.{FinalState}
+use Rattle.lw_base.specs.Outcomes.{FinalState, HasOutcomeShape}
 use Rattle.lw_base.specs.Types.{Bytes}
 use Rattle.lw_paths.specs.Counts.{IsWithinLimits}
 use Rattle.lw_outcome_map.specs.Listings.{OutcomeEntries, outcomes_of, IsStrictlySorted}
 use Rattle.lw_litmus.specs.Sources.{source_language}
 use Rattle.lw_litmus.specs.Programs.{x86_language}
+use Rattle.lw_report.specs.Observed.{observed}
 use Rattle.lw_report.specs.Reports.{IsReport, IsScheduleList, IsMarkedList}
 use Rattle.lw_report.specs.declared.judgement.Claim.TheVariants.{Exact}
 use Rattle.lw_litmus.specs.Tests.{X86Test}
@@ -37,6 +39,18 @@ pub record IsExactScheduleList (test : LitmusTest) (text : Bytes) : Type 0 where
 pub record IsStatesReport (test : LitmusTest) (text : Bytes) : Type 0 where
   pub within : IsWithinListLimits test
   pub is : IsExactReport test text
+
+-- The outcomes are exactly the test's, and have its threads and locations.
+pub record AreOutcomesOf (test : LitmusTest) (outcomes : List FinalState) : Type 0 where
+  pub exactly : (o : FinalState) → Contains outcomes o ↔ OutcomeOf test o
+  pub shapes : All (HasOutcomeShape (head_of_test test).threads (length (head_of_test test).locs)) outcomes
+
+-- Each outcome of the list is one of the test, and has its threads and locations; and each outcome of the test has the observed words of
+-- one of the list.
+pub record AreObservedOutcomesOf (test : LitmusTest) (outcomes : List FinalState) : Type 0 where
+  pub sound : (o : FinalState) → Contains outcomes o → OutcomeOf test o
+  pub covered : (o : FinalState) → OutcomeOf test o → ContainsWordsOf (observed (head_of_test test)) outcomes o
+  pub shapes : All (HasOutcomeShape (head_of_test test).threads (length (head_of_test test).locs)) outcomes
 
 -- The entries are the test's list: exactly its outcomes, sorted, without duplicates, with schedules of the program that reach them.
 pub record IsListOf (test : LitmusTest) (entries : OutcomeEntries) : Type 0 where

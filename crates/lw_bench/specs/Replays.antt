@@ -23,8 +23,8 @@ pub record SourcePage (test : SourceTest) (events : List Event) (page : Bytes) (
   pub replay : Replay
   pub state : State
   pub replayed : IsSourceReplay test.threads events (initial_state test) replay state
-  pub ended : replay.end ≡ end
-  pub told : page ≡ source_page test.head replay state
+  pub end_is : replay.end ≡ end
+  pub page_is : page ≡ source_page test.head replay state
 
 -- The same for an x86 test, on the machine over a memory with the initial state m; `words` are memory's words without the caches.
 pub record MachinePage
@@ -32,9 +32,9 @@ pub record MachinePage
   pub replay : Replay
   pub state : MachineState M
   pub replayed : IsMachineReplay mem test.threads events (initial_machine_state test m) replay state
-  pub ended : replay.end ≡ end
+  pub end_is : replay.end ≡ end
   -- The page is the text of this state.
-  pub told :
+  pub page_is :
       page ≡ machine_page test.head replay state.processors (mem.state state.memory) (words state.memory) (mem.content state.memory)
 
 -- The page is of an x86 test's replay by these events over caches of a protocol, empty at the start.

@@ -14,7 +14,7 @@ ghost use Rattle.lw_tso.specs.Endings.{CanTerminate};
 ghost use Rattle.lw_tso.specs.Machines.{MachineState};
 ghost use Rattle.lw_tso_caches.specs.OverCaches.{FitsCaches, RunsToOverCaches, OutcomeOverCaches};
 
-use lw_mesi::empty_caches_are_kept;
+use lw_mesi::empty_caches_are_coherent;
 use lw_tso_caches::outcomes_over_caches_are_flat;
 
 /// States that an x86 test has the same outcomes over caches of any two protocols, empty at the start. So a protocol
@@ -35,7 +35,7 @@ pub fn caches_are_coherent_in_every_run()
         → IsWellScopedProgram test → FitsCaches test → RunsToOverCaches protocol test events s
         → SatisfiesProtocol protocol s.memory }
 {
-    empty_caches_are_kept();
+    empty_caches_are_coherent();
 }
 
 /// States that every run of an x86 test over such caches can be extended to a final state, by a few more events of
@@ -45,5 +45,5 @@ pub fn every_run_over_caches_ends()
         → IsWellScopedProgram test → FitsCaches test → RunsToOverCaches protocol test events s
         → CanTerminate (caches_by protocol) test.threads s }
 {
-    empty_caches_are_kept();
+    empty_caches_are_coherent();
 }

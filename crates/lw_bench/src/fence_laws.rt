@@ -16,17 +16,17 @@ ghost use Rattle.lw_tso.specs.Runs.{IsMachineOutcome};
 ghost use Rattle.lw_tso_caches.specs.OverCaches.{FitsCaches, OutcomeOverCaches};
 
 use crate::laws::compiled_programs_have_their_sources_outcomes;
-use lw_tso::{fences_only_take_outcomes_away, tests_without_fences_are_well_formed};
+use lw_tso::{fences_only_remove_outcomes, tests_without_fences_are_well_formed};
 use lw_tso_caches::outcomes_over_caches_are_flat;
 
 /// States that fences only remove outcomes over caches too, of each protocol: every outcome of a test with MFENCEs
 /// inserted, at any places, is an outcome of the test.
-pub fn fences_only_take_outcomes_away_over_caches()
+pub fn fences_only_remove_outcomes_over_caches()
     ensures { (protocol : Protocol) (test fenced : X86Test) (o : FinalState) → IsWellScopedProgram fenced → FitsCaches fenced
         → IsFencedTest test fenced → OutcomeOverCaches protocol fenced o → OutcomeOverCaches protocol test o }
 {
     outcomes_over_caches_are_flat();
-    fences_only_take_outcomes_away();
+    fences_only_remove_outcomes();
     tests_without_fences_are_well_formed();
 }
 
@@ -57,14 +57,14 @@ pub fn more_fences_have_no_more_outcomes()
         → FitsCaches other → IsCompiledWithoutFences source program starts → IsCompiledWith fences source other begins
         → OutcomeOverCaches protocol other o → OutcomeOverCaches protocol program o }
 {
-    fences_only_take_outcomes_away();
-    fences_only_take_outcomes_away_over_caches();
+    fences_only_remove_outcomes();
+    fences_only_remove_outcomes_over_caches();
 }
 
 /// States, of a source in which no statement needs a fence by the compiler's rule (no load follows a store without a
 /// locked instruction between), that the compiled program is the one without fences, and has exactly the source's
 /// outcomes.
-pub fn no_fence_is_needed_where_no_store_waits()
+pub fn no_fence_is_needed_if_no_store_waits()
     ensures same_program { (source : SourceTest) (program : X86Test) (starts : List (List ℕ)) → NeedsNoFence source
         → IsCompiled source program starts ↔ IsCompiledWithoutFences source program starts }
     ensures flat_memory { (source : SourceTest) (program : X86Test) (starts : List (List ℕ)) (o : FinalState)

@@ -58,7 +58,7 @@ pub fn message_passing_is_forbidden_on_x86()
 
 /// States that every test of a text is well-formed. So it is well-scoped (`well_formed_tests_are_well_scoped`) and has
 /// at most four threads, which is what the laws below require of a test.
-pub fn what_a_text_says_is_well_formed()
+pub fn tests_of_texts_are_well_formed()
     ensures { (text : Bytes) (test : LitmusTest) → HasTest text test → IsWellFormedTest test }
 {}
 
@@ -148,7 +148,7 @@ pub(crate) fn what_is_known_is_reached_on_the_machine()
 }
 
 /// States that outcomes are the same over any two protocols, for every text that is a test, of its x86 program.
-pub fn protocols_cannot_be_told_apart()
+pub fn outcomes_of_texts_do_not_depend_on_the_protocol()
     ensures { (protocol other : Protocol) (text : Bytes) (test : LitmusTest) (program : X86Test) (o : FinalState)
         → HasTest text test → IsProgramRunFor test program
         → OutcomeOverCaches protocol program o ↔ OutcomeOverCaches other program o }

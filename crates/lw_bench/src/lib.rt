@@ -39,8 +39,8 @@ pub use fault::{
     usage_status,
 };
 pub use fence_laws::{
-    fences_only_take_outcomes_away_over_caches, more_fences_have_no_more_outcomes,
-    no_fence_is_needed_where_no_store_waits, store_buffering_is_forbidden_with_fences,
+    fences_only_remove_outcomes_over_caches, more_fences_have_no_more_outcomes,
+    no_fence_is_needed_if_no_store_waits, store_buffering_is_forbidden_with_fences,
 };
 pub use films::film;
 pub use input::read_input;
@@ -50,11 +50,13 @@ pub use laws::{
     compiled_programs_have_their_sources_outcomes_over_every_memory,
     compiled_texts_have_their_sources_outcomes, every_test_has_an_outcome,
     every_test_has_its_program, interleaving_outcomes_need_no_fences,
-    message_passing_is_forbidden_on_x86, protocols_cannot_be_told_apart,
+    message_passing_is_forbidden_on_x86, outcomes_of_texts_do_not_depend_on_the_protocol,
     store_buffering_is_allowed_on_x86, store_buffering_is_forbidden_by_interleaving,
-    the_text_of_store_buffering_has_this_report, what_a_text_says_is_well_formed,
+    tests_of_texts_are_well_formed, the_text_of_store_buffering_has_this_report,
 };
-pub use lists::{list_test, marks_of_listing, report_of_listing, schedules_of_listing};
+pub use lists::{
+    list_outcomes, list_test, marks_of_listing, report_of_listing, schedules_of_listing,
+};
 pub use litmus_test::{
     LitmusTest, a_text_has_one_cell_fault, a_text_has_one_fault, a_text_has_one_test, read_test,
 };

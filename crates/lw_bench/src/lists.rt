@@ -1,16 +1,20 @@
 //! The report of a test's states, and the list of their schedules.
 ghost use Rattle.std.specs.Prelude.{◌≡◌, ◌⊎◌, IfOk, IfErr, OnOk};
 ghost use Rattle.lw_bench.specs.LitmusTests.{litmus_test_of};
-ghost use Rattle.lw_bench.specs.Lists.{IsWithinListLimits, IsListOf, IsExactReport, IsExactMarkedList, IsExactScheduleList, IsStatesReport, IsScheduleReport};
+ghost use Rattle.lw_outcome_map.specs.Listings.{outcomes_of};
+ghost use Rattle.lw_bench.specs.Lists.{IsWithinListLimits, IsListOf, AreOutcomesOf, AreObservedOutcomesOf, IsExactReport, IsExactMarkedList, IsExactScheduleList, IsStatesReport, IsScheduleReport};
 ghost use Rattle.lw_bench.specs.FaultTruth.{TestLimitFaultIsTrue, ListFaultIsTrue, IsNotDeviceFault};
 
 use crate::fault::BenchFault;
 use crate::litmus_test::LitmusTest;
 use lw_base::Text;
-use lw_finals::{list_raw, list_source};
-use lw_outcome_map::Listing;
+use lw_finals::{list_raw, list_raw_outcomes, list_source, list_source_outcomes};
+use lw_outcome_map::{Listing, OutcomeList};
 use lw_paths::ListFault;
-use lw_report::{Claim, states_of, write_marks, write_report, write_schedules};
+use lw_report::{
+    Claim, outcomes_with_the_same_words_agree, states_of, write_marks, write_report,
+    write_schedules,
+};
 use lw_tso_caches::outcomes_over_caches_are_flat;
 use std::alloc::{AllocError, Allocator};
 
@@ -30,6 +34,22 @@ pub fn list_test<A: Allocator + Copy>(
     }
 }
 
+/// Lists all outcomes of a test, without schedules.
+pub fn list_outcomes<A: Allocator + Copy>(
+    alloc: A,
+    test: &LitmusTest<A>,
+) -> Result<OutcomeList<A>, ListFault>
+    ensures listed { IfOk result (λ l. AreOutcomesOf (litmus_test_of test.now) (outcomes_of l)) }
+    ensures within { OnOk result (IsWithinListLimits (litmus_test_of test.now)) }
+    ensures limit { IfErr result (TestLimitFaultIsTrue (litmus_test_of test.now)) }
+{
+    outcomes_over_caches_are_flat();
+    match test {
+        LitmusTest::Source(source) => list_source_outcomes(alloc, source),
+        LitmusTest::X86(program) => list_raw_outcomes(alloc, program),
+    }
+}
+
 /// Renders the report of the outcomes of a test.
 pub(crate) fn report_of<A: Allocator + Copy>(
     alloc: A,
@@ -39,19 +59,21 @@ pub(crate) fn report_of<A: Allocator + Copy>(
     ensures told { IfErr result (λ f. (f ≡ BenchFault.Memory) ⊎ ListFaultIsTrue (litmus_test_of test.now) f) }
     ensures device { IfErr result IsNotDeviceFault }
 {
-    let listing = list_test(alloc, test)?;
+    let listing = list_outcomes(alloc, test)?;
     Ok(report_of_listing(alloc, test, listing)?)
 }
 
-/// Renders the report of a test with this list. The list is dropped before the report is written.
-pub fn report_of_listing<A: Allocator + Copy>(
+/// Renders the report of a test with this list, which may have one outcome for each list of observed words, and may keep
+/// schedules. The list is dropped before the report is written.
+pub fn report_of_listing<A: Allocator + Copy, K: Drop>(
     alloc: A,
     test: &LitmusTest<A>,
-    listing: Listing<A>,
+    listing: Listing<A, K>,
 ) -> Result<Text<A>, AllocError>
-    requires { IsListOf (litmus_test_of test.now) listing }
+    requires { AreObservedOutcomesOf (litmus_test_of test.now) (outcomes_of listing) }
     ensures { IfOk result (IsExactReport (litmus_test_of test.now)) }
 {
+    outcomes_with_the_same_words_agree();
     let head = test.head();
     let states = states_of(alloc, head, &listing);
     drop(listing);
@@ -92,15 +114,17 @@ pub fn schedules_of_listing<A: Allocator + Copy>(
     list
 }
 
-/// Renders the list of the states of a test with this list, each marked by whether the proposition is true in it.
-pub fn marks_of_listing<A: Allocator + Copy>(
+/// Renders the list of the states of a test, each marked by whether the proposition is true in it, from a list that may have
+/// one outcome for each list of observed words.
+pub fn marks_of_listing<A: Allocator + Copy, K: Drop>(
     alloc: A,
     test: &LitmusTest<A>,
-    listing: Listing<A>,
+    listing: Listing<A, K>,
 ) -> Result<Text<A>, AllocError>
-    requires { IsListOf (litmus_test_of test.now) listing }
+    requires { AreObservedOutcomesOf (litmus_test_of test.now) (outcomes_of listing) }
     ensures { IfOk result (IsExactMarkedList (litmus_test_of test.now)) }
 {
+    outcomes_with_the_same_words_agree();
     let head = test.head();
     let states = states_of(alloc, head, &listing);
     drop(listing);

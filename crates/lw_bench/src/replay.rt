@@ -15,7 +15,7 @@ use lw_interleaving::SourceRun;
 use lw_litmus::{Program, Source};
 use lw_memory::MemorySystem;
 use lw_mesi::{
-    MesiProtocol, MoesiProtocol, Protocol, ProtocolType, SnoopingCaches, empty_caches_are_kept,
+    MesiProtocol, MoesiProtocol, Protocol, ProtocolType, SnoopingCaches, empty_caches_are_coherent,
 };
 use lw_tso::Machine;
 use std::alloc::Allocator;
@@ -67,7 +67,7 @@ fn page_over_caches<P: ProtocolType + Drop, A: Allocator + Copy>(
     ensures found { IfOk result (λ x. CachesPage P.protocol (program_of program.now) events.now x.0 x.1) }
     ensures fault { IfErr result (λ f. f ≡ BenchFault.Memory) }
 {
-    empty_caches_are_kept();
+    empty_caches_are_coherent();
     let words = program.head.init_words.as_slice();
     let caches: SnoopingCaches<P, A> = SnoopingCaches::new(alloc, program.head.threads, words)?;
     page_over_memory(alloc, program, caches, events)

@@ -35,21 +35,22 @@ pub use Rattle.std.specs.Ordering.{ordering_reverse, ordering_then}
 pub use lib.Pointwise.{pointwise}
 pub use Rattle.lw_base.proofs.Common.{And, Bytes, FinalState, Formula, HasOutcomeShape, IsEvent}
 pub use Rattle.lw_base.proofs.Common.{IsSeenInRange, MentionsOnly, NameTable, Not, Or, Reg_is, TestHead}
-pub use Rattle.lw_base.proofs.Common.{Word_is, all_registers, condition_text, formula_of, head_of, joined}
-pub use Rattle.lw_base.proofs.Common.{locations, most_threads, register_name, schedule_text, seen_eq}
+pub use Rattle.lw_base.proofs.Common.{Word_is, all_registers, condition_text, final_word, formula_of, head_of}
+pub use Rattle.lw_base.proofs.Common.{joined, locations, most_threads, register_name, schedule_text, seen_eq}
 pub use Rattle.lw_base.proofs.Common.{thread_registers}
-pub use Rattle.lw_base.proofs.api.Elements.{all_filter}
+pub use Rattle.lw_base.proofs.api.Elements.{AllByRecursion-filter}
 pub use Rattle.lw_base.proofs.api.Members.{Contains-cons, Contains-head, Contains-tail, not-Contains-nil}
-pub use Rattle.lw_base.proofs.api.SeenLists.{all_seen}
-pub use Rattle.lw_base.proofs.api.SeenMembership.{has_left, has_location, has_register, has_right, has_seen}
-pub use Rattle.lw_base.proofs.api.SeenMembership.{same_seen_is, same_seen_itself}
-pub use Rattle.lw_base.proofs.api.Writing.{both_written, items_all, items_more, pushed, then_written}
-pub use Rattle.lw_base.proofs.api.Writing.{written_as}
+pub use Rattle.lw_base.proofs.api.SeenLists.{IsSeenInRange-all_seen}
+pub use Rattle.lw_base.proofs.api.SeenMembership.{has_seen, has_seen-append_left, has_seen-append_right}
+pub use Rattle.lw_base.proofs.api.SeenMembership.{has_seen-location, has_seen-register, seen_eq-refl}
+pub use Rattle.lw_base.proofs.api.SeenMembership.{seen_eq-sound}
+pub use Rattle.lw_base.proofs.api.Writing.{OnOk-push_str, items_written-all, items_written-push}
+pub use Rattle.lw_base.proofs.api.Writing.{written-append, written-equal_text, written-two_parts}
 pub use Rattle.lw_base.specs.declared.event.Event.{Event}
 pub use Rattle.lw_base.specs.declared.head.Quant.TheVariants.{Exists, Forall, NotExists}
 pub use Rattle.lw_base.specs.declared.head.Seen.{Seen}
 pub use Rattle.lw_base.specs.declared.head.Seen.TheVariants.{Location, Register}
-pub use Rattle.lw_outcome_map.specs.Listings.{OutcomeEntries, outcomes_of, schedules_of}
+pub use Rattle.lw_outcome_map.specs.Listings.{OutcomeEntries, OutcomesWith, outcomes_of, schedules_of}
 pub use Rattle.lw_report.specs.Judgement.{OkMeans, negative, positive, verdict_of}
 pub use Rattle.lw_report.specs.Observed.{is_named, is_observed, observed, observed_words}
 pub use Rattle.lw_report.specs.Reports.{IsMarkedList, IsReport, IsScheduleList, claim_line, count_line}
@@ -59,7 +60,7 @@ pub use Rattle.lw_report.specs.Reports.{scheduled, scheduled_lines, state_line, 
 pub use Rattle.lw_report.specs.Reports.{word_text}
 pub use Rattle.lw_report.specs.States.{AreListedStates, AreStatesOf, IsFirstWithWords, IsSmallestOf}
 pub use Rattle.lw_report.specs.States.{ListedState, ProjectedState, project_state, projection_of}
-pub use Rattle.lw_report.specs.Truth.{final_word, is_true}
+pub use Rattle.lw_report.specs.Truth.{is_true}
 pub use Rattle.lw_report.specs.declared.judgement.Claim.{Claim}
 pub use Rattle.lw_report.specs.declared.judgement.Claim.TheVariants.{Exact}
 pub use Rattle.lw_report.specs.inner.Labels.{gap, label, labelled_word, labelled_words, labels, schedule_line}

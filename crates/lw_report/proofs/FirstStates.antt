@@ -1,4 +1,5 @@
--- Removing duplicates from sorted states: the first of those with the same words remains.
+-- Removing duplicates from sorted states: the first of those with the same words remains. For
+-- `first_of_each`; the first one has the smallest index in the listing.
 use Rattle.lw_report.proofs.Common.{◌≡◌, ℕ, suc, ◌+◌, ◌≤◌, ◌⊎◌, inl, inr, Bool, true, false, List, [], ◌∷◌}
 use Rattle.lw_report.proofs.Common.{get_or, refl, sym, ap, ◌∙◌, subst, arith, All, Contains, nat_eq, IsSorted}
 use Rattle.lw_report.proofs.Common.{nat_cmp, is_lt, Ordering, Less, Equal, Greater, lt-ltb, slice_cmp}
@@ -11,7 +12,7 @@ use Rattle.lw_report.proofs.Common.{Contains-from_dedup, IsStrictlySortedBy-dedu
 use Rattle.lw_report.proofs.Common.{exact_bytes, is_eq-slice_cmp, state_cmp, AreFirstStates, ListedState}
 use Rattle.lw_report.proofs.Common.{pointwise, Contains-cons}
 use Rattle.std.specs.List.Sorted.{IsStrictlySortedBy}
-use Rattle.lw_report.proofs.api.OneList.{not_below_itself}
+use Rattle.lw_report.proofs.api.OneList.{words_less-irreflexive}
 
 -- ---- The order.
 
@@ -20,16 +21,16 @@ abbrev words_cmp : ListedState → ListedState → Ordering
 words_cmp s t = slice_cmp nat_cmp s.words t.words
 
 -- Tests whether two states have the same words.
-abbrev pub same_words : ListedState → ListedState → Bool
-same_words s t = pointwise nat_eq s.words t.words
+abbrev pub have_same_words : ListedState → ListedState → Bool
+have_same_words s t = pointwise nat_eq s.words t.words
 
 -- A state is not greater than another: its words are less, or they are the same and its index is not greater.
 abbrev NotAbove : ListedState → ListedState → Type 0
 NotAbove s t = (words_cmp s t ≡ Less) ⊎ ((s.words ≡ t.words) × (s.entry ≤ t.entry))
 
 -- A state that is not sorted after another is not greater.
-not_above : (s t : ListedState) → is_lt (state_cmp t s) ≡ false → NotAbove s t
-not_above s t h = go (words_cmp t s) refl
+NotAbove-if_not_sorted_after : (s t : ListedState) → is_lt (state_cmp t s) ≡ false → NotAbove s t
+NotAbove-if_not_sorted_after s t h = go (words_cmp t s) refl
   where
     go : (o : Ordering) → words_cmp t s ≡ o → NotAbove s t
     go Less e = let clash : true ≡ false = rw e at h in absurd cc
@@ -46,24 +47,25 @@ not_above s t h = go (words_cmp t s) refl
     go Greater e = inl (nat_list_cmp_total.antisymm s.words t.words ∙ ap ordering_reverse e)
 
 -- Of two states with the same words, the one before has the smaller or the same index of an outcome.
-smaller_entry : (s t : ListedState) → NotAbove s t → t.words ≡ s.words → s.entry ≤ t.entry
-smaller_entry s t (inl less) e =
-    absurd (not_below_itself s.words (subst (λ (w : List ℕ). slice_cmp nat_cmp s.words w ≡ Less) e less))
-smaller_entry s t (inr p) e = p.1
+entry_le-if_not_above : (s t : ListedState) → NotAbove s t → t.words ≡ s.words → s.entry ≤ t.entry
+entry_le-if_not_above s t (inl less) e =
+    absurd (words_less-irreflexive s.words (subst (λ (w : List ℕ). slice_cmp nat_cmp s.words w ≡ Less) e less))
+entry_le-if_not_above s t (inr p) e = p.1
 
 -- The order by words is total.
-words_total : IsTotalOrder words_cmp
-words_total = on_total (λ (s : ListedState). s.words) nat_list_cmp_total
+words_cmp-IsTotalOrder : IsTotalOrder words_cmp
+words_cmp-IsTotalOrder = on_total (λ (s : ListedState). s.words) nat_list_cmp_total
 
 -- The order of states, by their words and then by the index of their outcome, is total.
-state_cmp_total : IsTotalOrder state_cmp
-state_cmp_total =
-    then_total words_total (then_total (on_total (λ (s : ListedState). s.entry) nat_cmp_total) (on_total _ bool_cmp_total))
+state_cmp-IsTotalOrder : IsTotalOrder state_cmp
+state_cmp-IsTotalOrder =
+    then_total words_cmp-IsTotalOrder
+    (then_total (on_total (λ (s : ListedState). s.entry) nat_cmp_total) (on_total _ bool_cmp_total))
 
 -- If states are ascending, their words are.
-words_up : (o r : Ordering) → is_lt (ordering_then o r) ≡ false → is_lt o ≡ false
-words_up Less r h = h
-words_up _ r h = refl
+ordering_then-not_less : (o r : Ordering) → is_lt (ordering_then o r) ≡ false → is_lt o ≡ false
+ordering_then-not_less Less r h = h
+ordering_then-not_less _ r h = refl
 
 -- ---- The first state with its words has the smallest index.
 
@@ -72,25 +74,26 @@ abbrev IsSmallest : List ListedState → ListedState → Type 0
 IsSmallest all s = (t : ListedState) → Contains all t → t.words ≡ s.words → s.entry ≤ t.entry
 
 -- If only the first of those with the same words remain of sorted states, each has the smallest index among those with its words.
-smallest_from : (k : ListedState) (xs : List ListedState)
+IsSmallest-dedup_from : (k : ListedState) (xs : List ListedState)
     → All (NotAbove k) xs
     → AllPairs NotAbove xs
-    → All (IsSmallest (k ∷ xs)) (dedup_from same_words k xs)
-smallest_from k [] first rest = All-cons (IsSmallest (k ∷ [])) k [] own (All-nil (IsSmallest (k ∷ [])))
+    → All (IsSmallest (k ∷ xs)) (dedup_from have_same_words k xs)
+IsSmallest-dedup_from k [] first rest = All-cons (IsSmallest (k ∷ [])) k [] own (All-nil (IsSmallest (k ∷ [])))
   where
     own : IsSmallest (k ∷ []) k
     own t h e = elim (Contains-cons k t [] h) [
       | inl is ↦ subst (λ (y : ListedState). k.entry ≤ y.entry) is (omega arith)
       | inr (j, lt, at) ↦ absurd (omega arith)
     ]
-smallest_from k (x ∷ xs) first rest = elim (cases_Bool (same_words x k)) [
+IsSmallest-dedup_from k (x ∷ xs) first rest = elim (cases_Bool (have_same_words x k)) [
   | inl same ↦
       rw same
-      (All-weaker (IsSmallest (k ∷ xs)) (IsSmallest (k ∷ x ∷ xs)) (λ s old. passed (same_text x.words k.words (sym same)) s old)
-      (dedup_from same_words k xs) (smallest_from k xs (All-tail (NotAbove k) x xs first) later))
-  | inr other ↦ rw other (All-cons (IsSmallest (k ∷ x ∷ xs)) k (dedup_from same_words x xs) own (λ j d lt.
-      kept (other_text x.words k.words (sym other)) (get_or (dedup_from same_words x xs) j d)
-      (Contains-get_or (dedup_from same_words x xs) j d lt) (smallest_from x xs next later j d lt)))
+      (All-weaker (IsSmallest (k ∷ xs)) (IsSmallest (k ∷ x ∷ xs))
+      (λ s old. IsSmallest-skip_same_words (same_text x.words k.words (sym same)) s old) (dedup_from have_same_words k xs)
+      (IsSmallest-dedup_from k xs (All-tail (NotAbove k) x xs first) later))
+  | inr other ↦ rw other (All-cons (IsSmallest (k ∷ x ∷ xs)) k (dedup_from have_same_words x xs) own (λ j d lt.
+      IsSmallest-keep_greater (other_text x.words k.words (sym other)) (get_or (dedup_from have_same_words x xs) j d)
+      (Contains-get_or (dedup_from have_same_words x xs) j d lt) (IsSmallest-dedup_from x xs next later j d lt)))
 ]
   where
     here : NotAbove k x
@@ -105,34 +108,34 @@ smallest_from k (x ∷ xs) first rest = elim (cases_Bool (same_words x k)) [
     own : IsSmallest (k ∷ x ∷ xs) k
     own t h e = elim (Contains-cons k t (x ∷ xs) h) [
       | inl is ↦ subst (λ (y : ListedState). k.entry ≤ y.entry) is (omega arith)
-      | inr there ↦ smaller_entry k t (All-contains (NotAbove k) (x ∷ xs) t first there) e
+      | inr there ↦ entry_le-if_not_above k t (All-contains (NotAbove k) (x ∷ xs) t first there) e
     ]
 
     -- The state x has the words of k and is removed.
-    passed : x.words ≡ k.words → (s : ListedState) → IsSmallest (k ∷ xs) s → IsSmallest (k ∷ x ∷ xs) s
-    passed same s old t h e = elim (Contains-cons k t (x ∷ xs) h) [
+    IsSmallest-skip_same_words : x.words ≡ k.words → (s : ListedState) → IsSmallest (k ∷ xs) s → IsSmallest (k ∷ x ∷ xs) s
+    IsSmallest-skip_same_words same s old t h e = elim (Contains-cons k t (x ∷ xs) h) [
       | inl is ↦ old t (0, omega arith, is) e
       | inr there ↦ elim (Contains-cons x t xs there) [
         | inl is ↦
             let words : t.words ≡ x.words = ap (λ (y : ListedState). y.words) (sym is) in
             let first_of = old k (0, omega arith, refl) (sym same ∙ sym words ∙ e) in
-            omega (arith, first_of, smaller_entry k x here same, ap (λ (y : ListedState). y.entry) is)
+            omega (arith, first_of, entry_le-if_not_above k x here same, ap (λ (y : ListedState). y.entry) is)
         | inr (j, lt, at) ↦ old t (suc j, omega (arith, lt), at) e
       ]
     ]
 
     -- A state after k remains if its words are greater.
-    kept : (x.words ≡ k.words → ⊥)
+    IsSmallest-keep_greater : (x.words ≡ k.words → ⊥)
         → (s : ListedState)
-        → Contains (dedup_from same_words x xs) s
+        → Contains (dedup_from have_same_words x xs) s
         → IsSmallest (x ∷ xs) s
         → IsSmallest (k ∷ x ∷ xs) s
-    kept other s among old t h e = elim (Contains-cons k t (x ∷ xs) h) [
+    IsSmallest-keep_greater other s among old t h e = elim (Contains-cons k t (x ∷ xs) h) [
       | inr there ↦ old t there e
       | inl is ↦
           let words : k.words ≡ s.words = ap (λ (y : ListedState). y.words) is ∙ e in
-          absurd (not_below_itself k.words
-          (above here (elim (Contains-cons x s xs (Contains-from_dedup same_words (x ∷ xs) s among)) [
+          absurd (words_less-irreflexive k.words
+          (above here (elim (Contains-cons x s xs (Contains-from_dedup have_same_words (x ∷ xs) s among)) [
             | inl same ↦ inr (ap (λ (y : ListedState). y.words) same ∙ sym words)
             | inr far ↦ elim (All-contains (NotAbove x) xs s next far) [
               | inl less ↦ inl (subst (λ (w : List ℕ). slice_cmp nat_cmp x.words w ≡ Less) (sym words) less)
@@ -149,32 +152,36 @@ smallest_from k (x ∷ xs) first rest = elim (cases_Bool (same_words x k)) [
         above (inr p) (inl more) = absurd (other (sym p.0))
 
 -- States whose words are ascending step by step are ascending in all pairs.
-strictly : (ks : List ListedState) → IsStrictlySortedBy words_cmp ks → AllPairs (λ s t. words_cmp s t ≡ Less) ks
+AllPairs-of_strictly_sorted : (ks : List ListedState)
+    → IsStrictlySortedBy words_cmp ks
+    → AllPairs (λ s t. words_cmp s t ≡ Less) ks
 unfolding IsStrictlySortedBy
-strictly [] h = λ i j d lt within. absurd (omega (arith, within))
-strictly (k ∷ ks) h =
-    AllPairs-cons (λ s t. words_cmp s t ≡ Less) k ks (All-from_recursion (λ t. words_cmp k t ≡ Less) ks h.0) (strictly ks h.1)
+AllPairs-of_strictly_sorted [] h = λ i j d lt within. absurd (omega (arith, within))
+AllPairs-of_strictly_sorted (k ∷ ks) h =
+    AllPairs-cons (λ s t. words_cmp s t ≡ Less) k ks (All-from_recursion (λ t. words_cmp k t ≡ Less) ks h.0)
+    (AllPairs-of_strictly_sorted ks h.1)
 
 -- Removing all except the first of those with the same words from sorted states leaves the first states.
-pub are_firsts : (all : List ListedState) → IsSorted state_cmp all → AreFirstStates all (dedup same_words all)
-are_firsts all up = record {
+pub AreFirstStates-dedup : (all : List ListedState) → IsSorted state_cmp all → AreFirstStates all (dedup have_same_words all)
+AreFirstStates-dedup all up = record {
   sorted =
-      strictly (dedup same_words all)
-      (IsStrictlySortedBy-dedup words_total (λ x y. sym (is_eq-slice_cmp x.words y.words)) all
-      (λ k d low within. words_up (words_cmp (get_or all (k + 1) d) (get_or all k d)) _ (up k d low within)));
+      AllPairs-of_strictly_sorted (dedup have_same_words all)
+      (IsStrictlySortedBy-dedup words_cmp-IsTotalOrder (λ x y. sym (is_eq-slice_cmp x.words y.words)) all
+      (λ k d low within. ordering_then-not_less (words_cmp (get_or all (k + 1) d) (get_or all k d)) _ (up k d low within)));
   among = λ k d lt.
-      Contains-from_dedup same_words all (get_or (dedup same_words all) k d) (Contains-get_or (dedup same_words all) k d lt);
+      Contains-from_dedup have_same_words all (get_or (dedup have_same_words all) k d)
+      (Contains-get_or (dedup have_same_words all) k d lt);
   smallest = go all (λ i j d lt within.
-      not_above (get_or all i d) (get_or all j d)
-      (sorted_far (λ s t. is_lt (state_cmp s t)) (ranks_by state_cmp_total (λ (s : ListedState). s)) all up i j d
+      NotAbove-if_not_sorted_after (get_or all i d) (get_or all j d)
+      (sorted_far (λ s t. is_lt (state_cmp s t)) (ranks_by state_cmp-IsTotalOrder (λ (s : ListedState). s)) all up i j d
       (omega (arith, lt)) within));
   each = λ t h.
       let a = Any-dedup (on_texts_equal (λ (s : ListedState). s.words)) all t h in
       (a.1, (a.0, a.2, a.3), sym (same_text t.words (a.1).words (sym a.4)));
 }
   where
-    go : (all : List ListedState) → AllPairs NotAbove all → All (IsSmallest all) (dedup same_words all)
+    go : (all : List ListedState) → AllPairs NotAbove all → All (IsSmallest all) (dedup have_same_words all)
     go [] pairs = All-nil (IsSmallest [])
     go (k ∷ xs) pairs =
-        smallest_from k xs (λ j d lt. pairs 0 (suc j) d (omega arith) (omega (arith, lt)))
+        IsSmallest-dedup_from k xs (λ j d lt. pairs 0 (suc j) d (omega arith) (omega (arith, lt)))
         (λ i j d lt within. pairs (suc i) (suc j) d (omega (arith, lt)) (omega (arith, within)))

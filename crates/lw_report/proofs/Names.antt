@@ -1,33 +1,36 @@
--- The observed names of a test are registers and locations of it; and how they, and their labels, are listed one by one.
+-- The observed names of a test are registers and locations of it; and how they, and their labels, are listed
+-- one by one. Lemmas for the loops of `projection.rt`.
 use Rattle.lw_report.proofs.Common.{◌≡◌, ℕ, zero, suc, ◌+◌, ◌<◌, ◌≤◌, Bool, List, [], ◌∷◌, ◌++◌, length, map}
 use Rattle.lw_report.proofs.Common.{take, get_or, sym, ap, ◌∙◌, append_assoc, zero-add, length-take}
 use Rattle.lw_report.proofs.Common.{get_or-take, arith, flat_map, All, filter, append-nil, take_all}
 use Rattle.lw_report.proofs.Common.{range_with_len, map-append, take_more, All-from_recursion, All-same}
 use Rattle.lw_report.proofs.Common.{filter-append, get_or-range_with_len, map-range_with_len_more, TestHead}
 use Rattle.lw_report.proofs.Common.{most_threads, IsSeenInRange, Seen, thread_registers, all_registers}
-use Rattle.lw_report.proofs.Common.{locations, all_filter, all_seen, is_observed, observed}
+use Rattle.lw_report.proofs.Common.{locations, AllByRecursion-filter, IsSeenInRange-all_seen, is_observed}
+use Rattle.lw_report.proofs.Common.{observed}
 
 -- Each observed name is a register or a location of the test.
-pub all_there : (head : TestHead) (names : List Seen)
+pub IsSeenInRange-observed : (head : TestHead) (names : List Seen)
     → names ≡ observed head
     → All (IsSeenInRange head.threads (length head.locs)) names
-all_there head names e =
+IsSeenInRange-observed head names e =
     let seen : List Seen = all_registers head.threads ++ locations (length head.locs) in
     All-same (IsSeenInRange head.threads (length head.locs)) names (observed head) e
-    (All-from_recursion _ (observed head) (all_filter _ (is_observed head) seen (all_seen head.threads (length head.locs))))
+    (All-from_recursion _ (observed head)
+    (AllByRecursion-filter _ (is_observed head) seen (IsSeenInRange-all_seen head.threads (length head.locs))))
 
 -- ---- Listing the observed names.
 
 module _ (p : Seen → Bool) (f : ℕ → Seen) (k : ℕ) (start names : List Seen)
     (before : names ≡ start ++ filter p (map f (range_with_len 0 k))) where
   -- Appending the one at k, if it passes p, extends the list of those of the first k registers or locations that pass p to k + 1.
-  pub put_more : (len : ℕ) (all : List ℕ) (x d : ℕ) (new : List Seen)
+  pub filter_prefix-push : (len : ℕ) (all : List ℕ) (x d : ℕ) (new : List Seen)
       → all ≡ range_with_len 0 len
       → k < len
       → x ≡ get_or all k d
       → new ≡ names ++ filter p (f x ∷ [])
       → new ≡ start ++ filter p (map f (range_with_len 0 (k + 1)))
-  put_more len all x d new are lt is added =
+  filter_prefix-push len all x d new are lt is added =
       let number = is ∙ ap (λ l. get_or l k d) are ∙ get_or-range_with_len 0 len k d lt ∙ zero-add k in
       let done = filter p (map f (range_with_len 0 k)) in
       let more = ap (filter p) (map-range_with_len_more f 0 k k (zero-add k)) ∙ filter-append p _ _ in
@@ -38,29 +41,29 @@ module _ (p : Seen → Bool) (f : ℕ → Seen) (k : ℕ) (start names : List Se
       ∙ ap (λ l. start ++ l) (sym more)
 
   -- When k is n, all of the n registers or locations that pass p are listed.
-  pub put_all : (n : ℕ) → k ≤ n → n ≤ k → names ≡ start ++ filter p (map f (range_with_len 0 n))
-  put_all n most least =
+  pub filter_prefix-all : (n : ℕ) → k ≤ n → n ≤ k → names ≡ start ++ filter p (map f (range_with_len 0 n))
+  filter_prefix-all n most least =
       let is : k ≡ n = omega (arith, most, least) in before ∙ ap (λ (m : ℕ). start ++ filter p (map f (range_with_len 0 m))) is
 
 -- The registers of n + 1 threads are those of n threads, followed by those of one more.
-registers_from : (a n : ℕ)
+thread_registers-suc : (a n : ℕ)
     → flat_map thread_registers (range_with_len a (suc n))
     ≡ flat_map thread_registers (range_with_len a n) ++ thread_registers (a + n)
-registers_from a zero = append-nil (thread_registers a) ∙ ap thread_registers (let is : a ≡ a + 0 = omega arith in is)
-registers_from a (suc n) =
+thread_registers-suc a zero = append-nil (thread_registers a) ∙ ap thread_registers (let is : a ≡ a + 0 = omega arith in is)
+thread_registers-suc a (suc n) =
     let done = flat_map thread_registers (range_with_len (a + 1) n) in
     let is : a + 1 + n ≡ a + suc n = omega arith in
-    ap (λ l. thread_registers a ++ l) (registers_from (a + 1) n)
+    ap (λ l. thread_registers a ++ l) (thread_registers-suc (a + 1) n)
     ∙ sym (append_assoc (thread_registers a) done (thread_registers (a + 1 + n)))
     ∙ ap (λ t. (thread_registers a ++ done) ++ thread_registers t) is
 
 -- The k-th of the first processors is processor k.
-pub number_is : (cpus : List ℕ) (threads k cpu : ℕ)
+pub cpu_eq_index : (cpus : List ℕ) (threads k cpu : ℕ)
     → cpus ≡ range_with_len 0 most_threads
     → k < length (take threads cpus)
     → cpu ≡ get_or (take threads cpus) k cpu
     → cpu ≡ k
-number_is cpus threads k cpu all lt is =
+cpu_eq_index cpus threads k cpu all lt is =
     let many : length cpus ≡ most_threads = ap length all in
     let within : k < threads = omega (arith, lt, length-take threads cpus) in
     is
@@ -70,37 +73,37 @@ number_is cpus threads k cpu all lt is =
     ∙ zero-add k
 
 -- Appending the registers of thread k that pass p extends those of the first k threads to k + 1.
-pub registers_more : (p : Seen → Bool) (k cpu : ℕ) (names new : List Seen)
+pub all_registers-next_thread : (p : Seen → Bool) (k cpu : ℕ) (names new : List Seen)
     → cpu ≡ k
     → names ≡ filter p (all_registers k)
     → new ≡ names ++ filter p (thread_registers cpu)
     → new ≡ filter p (all_registers (k + 1))
-registers_more p k cpu names new number before added =
+all_registers-next_thread p k cpu names new number before added =
     let next : suc k ≡ k + 1 = omega arith in
     let more : all_registers (k + 1) ≡ all_registers k ++ thread_registers k =
-    ap all_registers (sym next) ∙ registers_from 0 k ∙ ap (λ (t : ℕ). all_registers k ++ thread_registers t) (zero-add k) in
+    ap all_registers (sym next) ∙ thread_registers-suc 0 k ∙ ap (λ (t : ℕ). all_registers k ++ thread_registers t) (zero-add k) in
     added
     ∙ ap (λ l. l ++ filter p (thread_registers cpu)) before
     ∙ ap (λ (t : ℕ). filter p (all_registers k) ++ filter p (thread_registers t)) number
     ∙ sym (ap (filter p) more ∙ filter-append p _ _)
 
 -- If as many processors are listed as there are threads, and k is past the last of them, k is the number of threads.
-pub number_of_all : (cpus : List ℕ) (threads k : ℕ)
+pub cpu_count-is_threads : (cpus : List ℕ) (threads k : ℕ)
     → cpus ≡ range_with_len 0 most_threads
     → threads ≤ most_threads
     → k ≤ length (take threads cpus)
     → length (take threads cpus) ≤ k
     → k ≡ threads
-number_of_all cpus threads k all few most least =
+cpu_count-is_threads cpus threads k all few most least =
     let many : length cpus ≡ most_threads = ap length all in omega (arith, few, many, most, least, length-take threads cpus)
 
 -- The observed registers of all threads, followed by the observed locations, are the observed names.
-pub observed_all : (head : TestHead) (k : ℕ) (names new : List Seen)
+pub observed-registers_and_locations : (head : TestHead) (k : ℕ) (names new : List Seen)
     → k ≡ head.threads
     → names ≡ filter (is_observed head) (all_registers k)
     → new ≡ names ++ filter (is_observed head) (locations (length head.locs))
     → new ≡ observed head
-observed_all head k names new is before added =
+observed-registers_and_locations head k names new is before added =
     let p = is_observed head in
     added
     ∙ ap (λ (l : List Seen). l ++ filter p (locations (length head.locs)))
@@ -111,13 +114,13 @@ observed_all head k names new is before added =
 
 module _ {Y : Type 0} (f : Seen → Y) (names : List Seen) (k : ℕ) (made : List Y) (before : made ≡ map f (take k names)) where
   -- Appending the value of f for the name at k extends the values for the first k names to k + 1.
-  pub made_more : (s : Seen) (x : Y) (new : List Y)
+  pub map_prefix-push : (s : Seen) (x : Y) (new : List Y)
       → k < length names
       → s ≡ get_or names k s
       → x ≡ f s
       → new ≡ made ++ x ∷ []
       → new ≡ map f (take (k + 1) names)
-  made_more s x new lt is told pushed =
+  map_prefix-push s x new lt is told pushed =
       let more = take_more names k s lt ∙ ap (λ y. take k names ++ y ∷ []) (sym is) in
       pushed
       ∙ ap (λ y. made ++ y ∷ []) told
@@ -125,5 +128,5 @@ module _ {Y : Type 0} (f : Seen → Y) (names : List Seen) (k : ℕ) (made : Lis
       ∙ sym (ap (map f) more ∙ map-append f (take k names) (s ∷ []))
 
   -- When as many values are appended as there are names, they are the values of f for all names.
-  pub made_all : length names ≤ k → made ≡ map f names
-  made_all le = before ∙ ap (map f) (take_all k names le)
+  pub map_prefix-all : length names ≤ k → made ≡ map f names
+  map_prefix-all le = before ∙ ap (map f) (take_all k names le)

@@ -1,4 +1,5 @@
--- The verdict, computed from the numbers of states, is a statement about all outcomes.
+-- The verdict, computed from the numbers of states, is a statement about all outcomes. For the law that says
+-- what `Ok` means.
 use Rattle.lw_report.proofs.Common.{not-true, ◌↔◌, ◌≡◌, ℕ, suc, ◌⊎◌, inl, inr, Bool, true, false, List, []}
 use Rattle.lw_report.proofs.Common.{◌∷◌, length, refl, sym, ap, ◌∙◌, arith, filter, not, ◌==◌, Contains}
 use Rattle.lw_report.proofs.Common.{eqb-true, cases_Bool, TestHead, FinalState, positive, negative, OkMeans}
@@ -19,18 +20,18 @@ abbrev TellsIfAny : {X : Type 0} → (X → Type 0) → (X → Bool) → ℕ →
 TellsIfAny Has p n = ((n == 0) ≡ true) × NonePasses Has p ⊎ ((n == 0) ≡ false) × SomePasses Has p
 
 -- A successor is not 0.
-not_zero : (n : ℕ) → (suc n == 0) ≡ false
-not_zero n = elim (cases_Bool (suc n == 0)) [ inl e ↦ absurd (omega (arith, eqb-true (suc n) 0 e)) | inr e ↦ e ]
+suc_eq_zero-false : (n : ℕ) → (suc n == 0) ≡ false
+suc_eq_zero-false n = elim (cases_Bool (suc n == 0)) [ inl e ↦ absurd (omega (arith, eqb-true (suc n) 0 e)) | inr e ↦ e ]
 
 -- The number of a list's elements that pass a test is 0 if and only if none does.
-filter_decides : {X : Type 0} (p : X → Bool) (xs : List X) → TellsIfAny (Contains xs) p (length (filter p xs))
-filter_decides {X} p [] = inl (refl, λ x h. absurd (let lt = h.1 in omega arith))
-filter_decides {X} p (x ∷ xs) = go (cases_Bool (p x)) (filter_decides p xs)
+TellsIfAny-length_filter : {X : Type 0} (p : X → Bool) (xs : List X) → TellsIfAny (Contains xs) p (length (filter p xs))
+TellsIfAny-length_filter {X} p [] = inl (refl, λ x h. absurd (let lt = h.1 in omega arith))
+TellsIfAny-length_filter {X} p (x ∷ xs) = go (cases_Bool (p x)) (TellsIfAny-length_filter p xs)
   where
     go : (p x ≡ true) ⊎ (p x ≡ false)
         → TellsIfAny (Contains xs) p (length (filter p xs))
         → TellsIfAny (Contains (x ∷ xs)) p (length (filter p (x ∷ xs)))
-    go (inl t) rest = inr (rw t (not_zero (length (filter p xs))), (x, Contains-head x x xs refl, t))
+    go (inl t) rest = inr (rw t (suc_eq_zero-false (length (filter p xs))), (x, Contains-head x x xs refl, t))
     go (inr t) (inl nothing) =
         inl (rw t nothing.0, λ y h. elim (Contains-cons x y xs h) [ inl e ↦ ap p (sym e) ∙ t | inr k ↦ nothing.1 y k ])
     go (inr t) (inr some) = inr (rw t some.0, (some.1.0, Contains-tail x some.1.0 xs some.1.1, some.1.2))
@@ -40,7 +41,7 @@ counted : (head : TestHead) (Has : FinalState → Type 0) (states : List Project
     → AreStatesOf head Has states
     → (p : Bool → Bool)
     → TellsIfAny Has (λ o. p (is_true head.condition o)) (length (filter (λ (s : ProjectedState). p s.holds) states))
-counted head Has states are p = go (filter_decides (λ (s : ProjectedState). p s.holds) states)
+counted head Has states are p = go (TellsIfAny-length_filter (λ (s : ProjectedState). p s.holds) states)
   where
     go : TellsIfAny (Contains states) (λ (s : ProjectedState). p s.holds)
         (length (filter (λ (s : ProjectedState). p s.holds) states))
@@ -52,30 +53,30 @@ counted head Has states are p = go (filter_decides (λ (s : ProjectedState). p s
         inr (some.0, (o, has, ap (λ (s : ProjectedState). p s.holds) is ∙ some.1.2))
 
 -- A truth value that is not false is true.
-not_false : (b : Bool) → not b ≡ false → b ≡ true
-not_false true e = refl
-not_false false e = absurd cc
+true-if_not_false : (b : Bool) → not b ≡ false → b ≡ true
+true-if_not_false true e = refl
+true-if_not_false false e = absurd cc
 
 -- The meaning of `Ok` if the states are complete: the proposition is true in p of them, and false in q.
 module _ {Has : FinalState → Type 0} {holds : FinalState → Bool} (p q : ℕ) where
-  not_both : NonePasses Has holds → SomePasses Has holds → ⊥
-  not_both none (o, has, is) = let f = none o has in cc
+  not-NonePasses-SomePasses : NonePasses Has holds → SomePasses Has holds → ⊥
+  not-NonePasses-SomePasses none (o, has, is) = let f = none o has in cc
 
   -- For `exists`, `Ok` means that the proposition is true in some outcome.
-  exists_some : TellsIfAny Has holds p → verdict_of Exact Exists p q ≡ verdict.Ok ↔ SomePasses Has holds
-  exists_some (inl none) = rw none.0 (λ e. absurd cc, λ some. absurd (not_both none.1 some))
-  exists_some (inr some) = rw some.0 (λ e. some.1, λ _. refl)
+  Ok-iff_some_passes : TellsIfAny Has holds p → verdict_of Exact Exists p q ≡ verdict.Ok ↔ SomePasses Has holds
+  Ok-iff_some_passes (inl none) = rw none.0 (λ e. absurd cc, λ some. absurd (not-NonePasses-SomePasses none.1 some))
+  Ok-iff_some_passes (inr some) = rw some.0 (λ e. some.1, λ _. refl)
 
   -- For `~exists`, `Ok` means that it is true in none.
-  exists_none : TellsIfAny Has holds p → verdict_of Exact NotExists p q ≡ verdict.Ok ↔ NonePasses Has holds
-  exists_none (inl none) = rw none.0 (λ e. none.1, λ _. refl)
-  exists_none (inr some) = rw some.0 (λ e. absurd cc, λ none. absurd (not_both none some.1))
+  Ok-iff_none_passes : TellsIfAny Has holds p → verdict_of Exact NotExists p q ≡ verdict.Ok ↔ NonePasses Has holds
+  Ok-iff_none_passes (inl none) = rw none.0 (λ e. none.1, λ _. refl)
+  Ok-iff_none_passes (inr some) = rw some.0 (λ e. absurd cc, λ none. absurd (not-NonePasses-SomePasses none some.1))
 
   -- For `forall`, `Ok` means that it is true in all.
-  all_pass : TellsIfAny Has (λ o. not (holds o)) q
+  Ok-iff_all_pass : TellsIfAny Has (λ o. not (holds o)) q
       → verdict_of Exact Forall p q ≡ verdict.Ok ↔ ((o : FinalState) → Has o → holds o ≡ true)
-  all_pass (inl none) = rw none.0 (λ e o has. not_false (holds o) (none.1 o has), λ _. refl)
-  all_pass (inr (counted, (o, has, is))) = rw counted (
+  Ok-iff_all_pass (inl none) = rw none.0 (λ e o has. true-if_not_false (holds o) (none.1 o has), λ _. refl)
+  Ok-iff_all_pass (inr (counted, (o, has, is))) = rw counted (
     λ e. absurd cc,
     λ all.
         absurd (let t = all o has in
@@ -84,13 +85,13 @@ module _ {Has : FinalState → Type 0} {holds : FinalState → Bool} (p q : ℕ)
   )
 
 -- The meaning of `Ok` for all outcomes, by the numbers of their states.
-pub means_of_all : (head : TestHead) (Has : FinalState → Type 0) (states : List ProjectedState)
+pub OkMeans-of_outcomes : (head : TestHead) (Has : FinalState → Type 0) (states : List ProjectedState)
     → AreStatesOf head Has states
     → OkMeans head Has (positive states) (negative states)
-means_of_all head Has states are =
+OkMeans-of_outcomes head Has states are =
     let true_ones = counted head Has states are (λ b. b) in
     record {
-      exists_some = exists_some (positive states) (negative states) true_ones;
-      exists_none = exists_none (positive states) (negative states) true_ones;
-      all = all_pass (positive states) (negative states) (counted head Has states are not);
+      exists_some = Ok-iff_some_passes (positive states) (negative states) true_ones;
+      exists_none = Ok-iff_none_passes (positive states) (negative states) true_ones;
+      all = Ok-iff_all_pass (positive states) (negative states) (counted head Has states are not);
     }

@@ -1,13 +1,13 @@
 -- The observed names: those in the condition, and those in the list.
-use Rattle.std.specs.Prelude.{ℕ, Bool, false, ◌||◌, List, ◌++◌, length, map, filter}
+use Rattle.std.specs.Prelude.{ℕ, Bool, false, ◌||◌, List, ◌++◌, length, filter}
 use Rattle.std.specs.List.{list_any}
 use Rattle.lw_base.specs.Formula.{Formula, Yes, No, Reg_is, Word_is, Not, And, Or}
+use Rattle.lw_base.specs.FinalWords.{final_words}
 use Rattle.lw_base.specs.Heads.{TestHead}
 use Rattle.lw_base.specs.Outcomes.{FinalState}
 use Rattle.lw_base.specs.declared.head.Seen.{Seen}
 use Rattle.lw_base.specs.declared.head.Seen.TheVariants.{Register, Location}
 use Rattle.lw_base.specs.SeenLists.{seen_eq, all_registers, locations}
-use Rattle.lw_report.specs.Truth.{final_word}
 
 -- Tests whether a proposition names a register or a location.
 abbrev pub is_named : Formula → Seen → Bool
@@ -29,4 +29,4 @@ observed head = filter (is_observed head) (all_registers head.threads ++ locatio
 
 -- The words of the observed names in an outcome.
 abbrev pub observed_words : TestHead → FinalState → List ℕ
-observed_words head o = map (final_word o) (observed head)
+observed_words head o = final_words (observed head) o

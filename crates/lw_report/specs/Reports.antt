@@ -103,8 +103,8 @@ report_text head claim states =
 -- The text is the report of a set of outcomes.
 pub record IsReport (head : TestHead) (Has : FinalState → Type 0) (claim : Claim) (text : Bytes) : Type 0 where
   pub states : List ProjectedState
-  pub are : AreStatesOf head Has states
-  pub is : text ≡ report_text head claim states
+  pub states_are : AreStatesOf head Has states
+  pub text_is : text ≡ report_text head claim states
 
 -- ---- The list of schedules.
 
@@ -125,9 +125,9 @@ scheduled schedules s = (projection_of s, slice_index_or schedules s.entry [])
 pub record IsScheduleList
     (head : TestHead) (Has : FinalState → Type 0) (Leads : List Event → FinalState → Type 0) (text : Bytes) : Type 0 where
   pub states : List (ProjectedState × List Event)
-  pub are : AreStatesOf head Has (map (λ s. s.0) states)
+  pub states_are : AreStatesOf head Has (map (λ s. s.0) states)
   pub lead : All (λ s. (o : FinalState) × IsSmallestOf head Has s.0.words o × Leads s.1 o) states
-  pub is : text ≡ schedule_list_text head states
+  pub text_is : text ≡ schedule_list_text head states
 
 -- ---- The list of marked states.
 
@@ -147,5 +147,5 @@ marked_list_text head states = flat_map (marked_line head) states
 -- The text is the list of the states of a set of outcomes, each with its mark.
 pub record IsMarkedList (head : TestHead) (Has : FinalState → Type 0) (text : Bytes) : Type 0 where
   pub states : List ProjectedState
-  pub are : AreStatesOf head Has states
-  pub is : text ≡ marked_list_text head states
+  pub states_are : AreStatesOf head Has states
+  pub text_is : text ≡ marked_list_text head states

@@ -50,5 +50,5 @@ pub record IsFirstWithWords (head : TestHead) (outcomes : List FinalState) (s : 
 
 -- The states of the listed outcomes, each with the index of the first outcome with its words.
 pub record AreListedStates (head : TestHead) (outcomes : List FinalState) (states : List ListedState) : Type 0 where
-  pub are : AreStatesOf head (Contains outcomes) (map projection_of states)
+  pub states_are : AreStatesOf head (Contains outcomes) (map projection_of states)
   pub entries : All (IsFirstWithWords head outcomes) states

@@ -1,14 +1,10 @@
 -- The truth of a proposition in an outcome.
-use Rattle.std.specs.Prelude.{ℕ, Bool, true, false, not, ◌==◌, ◌&&◌, ◌||◌, slice_index, slice_index_or, []}
+use Rattle.std.specs.Prelude.{ℕ, Bool, true, false, not, ◌==◌, ◌&&◌, ◌||◌}
 use Rattle.lw_base.specs.Formula.{Formula, Yes, No, Reg_is, Word_is, Not, And, Or}
+use Rattle.lw_base.specs.FinalWords.{final_word}
 use Rattle.lw_base.specs.Outcomes.{FinalState}
 use Rattle.lw_base.specs.declared.head.Seen.{Seen}
 use Rattle.lw_base.specs.declared.head.Seen.TheVariants.{Register, Location}
-
--- The final word of a register or a location.
-abbrev pub final_word : FinalState → Seen → ℕ
-final_word o (Register t r) = slice_index (slice_index_or o.regs t []) r
-final_word o (Location x) = slice_index o.words x
 
 -- Tests whether a proposition is true in an outcome.
 abbrev pub is_true : Formula → FinalState → Bool

@@ -21,7 +21,7 @@ pub trait OutcomeSet {
 }
 
 /// States that outcomes with the same words of the observed names agree on the test's proposition.
-pub fn same_words_agree()
+pub fn outcomes_with_the_same_words_agree()
     ensures { (head : TestHead) (o p : FinalState) → MentionsOnly head.threads (length head.locs) head.condition
         → observed_words head o ≡ observed_words head p → is_true head.condition o ≡ is_true head.condition p }
 {}

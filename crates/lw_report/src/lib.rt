@@ -15,10 +15,11 @@ mod truth;
 
 pub use judgement::{Claim, Observation, Verdict};
 pub use laws::{
-    OutcomeSet, a_set_has_one_report, exact_verdicts_are_of_all_outcomes, same_words_agree,
+    OutcomeSet, a_set_has_one_report, exact_verdicts_are_of_all_outcomes,
+    outcomes_with_the_same_words_agree,
 };
 pub use marks::write_marks;
-pub use projection::project;
+pub use projection::{observed, project};
 pub use report::{verdict, write_report};
 pub use schedules::write_schedules;
 pub use states::{State, States, states_of};

@@ -1,4 +1,5 @@
-//! The list of a test's states, each marked by whether the proposition is true in it.
+//! The list that `beyond marks` prints: a test's states, each after `+` if the proposition is true in it, and after `-`
+//! otherwise.
 ghost use Rattle.std.specs.Prelude.{◌≡◌, ◌≤◌, ◌++◌, map, IfOk, OnOk};
 ghost use Rattle.std.specs.List.{flat_map};
 ghost use Rattle.std.specs.String.{string_bytes};

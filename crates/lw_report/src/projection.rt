@@ -1,6 +1,7 @@
 //! The observed names of a test, and their words in an outcome.
-ghost use Rattle.std.specs.Prelude.{◌≡◌, ◌≤◌, ◌++◌, ◌∷◌, [], length, map, filter, All, IfOk, OnOk};
+ghost use Rattle.std.specs.Prelude.{◌≡◌, ◌≤◌, ◌++◌, ◌∷◌, [], length, filter, All, IfOk, OnOk};
 ghost use Rattle.std.specs.List.{list_any};
+ghost use Rattle.lw_base.specs.FinalWords.{final_word, final_words};
 ghost use Rattle.lw_base.specs.Heads.{head_of};
 ghost use Rattle.lw_base.specs.Limits.{most_threads};
 ghost use Rattle.lw_base.specs.Outcomes.{HasOutcomeShape};
@@ -9,7 +10,6 @@ ghost use Rattle.lw_base.specs.WellFormed.{IsSeenInRange};
 ghost use Rattle.lw_base.specs.SeenLists.{seen_eq, thread_registers, locations};
 ghost use Rattle.lw_report.specs.Observed as specs;
 ghost use Rattle.lw_report.specs.Observed.{is_observed, observed_words};
-ghost use Rattle.lw_report.specs.Truth.{final_word};
 
 use lw_base::{Cpu, Head, Loc, Outcome, Prop, Reg, Seen, Sequence, Word};
 use std::alloc::{AllocError, AllocFailed, Allocator};
@@ -31,8 +31,9 @@ pub fn project<A: Allocator + Copy, B: Allocator, C: Allocator>(
     words
 }
 
-/// Returns the observed names of a test: registers by thread and index, then locations by index.
-pub(crate) fn observed<A: Allocator, B: Allocator>(
+/// Returns the observed names of a test: registers by thread and index, then locations by index. Fails only if memory runs
+/// out.
+pub fn observed<A: Allocator, B: Allocator>(
     alloc: A,
     head: &Head<B>,
 ) -> Result<Sequence<Seen, A>, AllocError>
@@ -119,7 +120,7 @@ pub(crate) fn words_of<A: Allocator, B: Allocator>(
 ) -> Result<Sequence<Word, A>, AllocError>
     requires names { All (IsSeenInRange (length outcome.now.regs) (length outcome.now.words)) names.now }
     requires outcome { HasOutcomeShape (length outcome.now.regs) (length outcome.now.words) outcome.now }
-    ensures { IfOk result (λ words. words ≡ map (final_word outcome.now) names.now) }
+    ensures { IfOk result (λ words. words ≡ final_words names.now outcome.now) }
 {
     let mut words = Vec::with_capacity(alloc, names.len())?;
     for name in names {

@@ -46,10 +46,10 @@ pub type States<A = Global> = Sequence<State<A>, A>;
 /// Returns the states of the listed outcomes of a test with this head, each with the index of the smallest outcome
 /// with its words and the truth of the test's proposition. The outcomes have the head's threads and locations, and
 /// its proposition names no others.
-pub fn states_of<A: Allocator + Copy>(
+pub fn states_of<A: Allocator + Copy, K>(
     alloc: A,
     head: &Head<A>,
-    listing: &Listing<A>,
+    listing: &Listing<A, K>,
 ) -> Result<States<A>, AllocError>
     requires threads { head.now.threads ≤ most_threads }
     requires condition { MentionsOnly head.now.threads (length head.now.locs) (formula_of head.now.prop) }
@@ -57,15 +57,15 @@ pub fn states_of<A: Allocator + Copy>(
     ensures { IfOk result (λ states. AreListedStates (head_of head.now) (outcomes_of listing.now) states) }
 {
     let mut states = unsorted_states(alloc, head, listing)?;
-    states.sort()?;
+    states.sort_unstable();
     Ok(first_of_each(states))
 }
 
 /// Returns the states of all outcomes of a listing, one for each outcome, not yet sorted.
-fn unsorted_states<A: Allocator + Copy>(
+fn unsorted_states<A: Allocator + Copy, K>(
     alloc: A,
     head: &Head<A>,
-    listing: &Listing<A>,
+    listing: &Listing<A, K>,
 ) -> Result<Vec<State<A>, A>, AllocError>
     requires threads { head.now.threads ≤ most_threads }
     requires condition { MentionsOnly head.now.threads (length head.now.locs) (formula_of head.now.prop) }
@@ -79,11 +79,11 @@ fn unsorted_states<A: Allocator + Copy>(
 }
 
 /// Returns the states of all outcomes of a listing, one for each outcome, for these observed names.
-fn project_outcomes<A: Allocator + Copy>(
+fn project_outcomes<A: Allocator + Copy, K>(
     alloc: A,
     head: &Head<A>,
     names: &[Seen],
-    listing: &Listing<A>,
+    listing: &Listing<A, K>,
 ) -> Result<Vec<State<A>, A>, AllocError>
     requires condition { MentionsOnly head.now.threads (length head.now.locs) (formula_of head.now.prop) }
     requires names { names.now ≡ specs.observed (head_of head.now) }

@@ -1,3 +1,6 @@
+-- Law: the ranks of coherence order are a total order of each location's writes, and each such order has
+-- ranks. The second half is the interesting one (`order_has_ranks`): a total order without a cycle, of
+-- finitely many events, can be numbered.
 use Rattle.lw_axiomatic.proofs.CoherenceOrders.{ranks_are_an_order, order_has_ranks}
 use Rattle.lw_axiomatic.proofs.herd.coherence_ranks_are_total_orders.Goals as goal
 

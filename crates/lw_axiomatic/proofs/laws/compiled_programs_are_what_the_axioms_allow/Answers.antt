@@ -1,9 +1,13 @@
-use Rattle.lw_axiomatic.proofs.Common.{same_outcomes, is_well_scoped}
+-- Law: a source test's outcomes are those that the axioms allow its compiled program. Two equivalences in
+-- sequence: the compiler's, between the source and the machine (`IsMachineOutcome-compiled_iff`), and the theorem of this
+-- crate, between the machine and the axioms. The second needs a well-scoped program, which a compiled one is.
+use Rattle.lw_axiomatic.proofs.Common.{IsMachineOutcome-compiled_iff, IsWellScopedProgram-compiled}
 use Rattle.lw_axiomatic.proofs.laws.compiled_programs_are_what_the_axioms_allow.Goals as goal
 
 pub returns : goal.returns
-returns c source program starts o ok compiled =
-    let same = same_outcomes source program starts o ok compiled in
+returns c source program starts o well_scoped compiled =
+    let same = IsMachineOutcome-compiled_iff source program starts o well_scoped compiled in
     let axioms =
-    c.the_machine_is_what_the_axioms_allow.ensures.flat_memory program o (is_well_scoped source program starts ok compiled) in
+    c.the_machine_is_what_the_axioms_allow.ensures.flat_memory program o
+    (IsWellScopedProgram-compiled source program starts well_scoped compiled) in
     (λ outcome. axioms.0 (same.1 outcome), λ a. same.0 (axioms.1 a))

@@ -1,3 +1,6 @@
+-- Law: an execution with a fence before each load of a shared location is sequentially consistent. A load
+-- whose word another thread overwrites is of a shared location, so it is fenced where overwritten, and the
+-- law of those executions applies.
 use Rattle.lw_axiomatic.proofs.Sequenced.{fenced_where_overwritten-from_shared}
 use Rattle.lw_axiomatic.proofs.programs.executions_fenced_where_shared_are_sequential.Goals as goal
 

@@ -1,4 +1,8 @@
-use Rattle.lw_axiomatic.proofs.FencedTests.{fenced_executions}
+-- Law: a test with a fence between each store and each later load has only sequentially consistent outcomes.
+-- Its executions are fenced, since their paths are paths of the code (`IsFenced-IsFencedInAllThreads`); the other
+-- direction holds of every test. On the machine both sides are exchanged by the laws of the axioms and of
+-- interleaving.
+use Rattle.lw_axiomatic.proofs.FencedTests.{IsFenced-IsFencedInAllThreads}
 use Rattle.lw_axiomatic.proofs.Sequenced.{fenced_where_overwritten-from_fenced}
 use Rattle.lw_axiomatic.proofs.programs.fenced_tests_have_sequential_outcomes.Goals as goal
 
@@ -7,15 +11,15 @@ returns c = record {
   axioms = λ test o fenced. (
     λ a.
         c.executions_fenced_where_overwritten_are_sequential.ensures.outcomes test o
-        (λ x candidate axioms. fenced_where_overwritten-from_fenced test x (fenced_executions candidate fenced)) a,
+        (λ x candidate axioms. fenced_where_overwritten-from_fenced test x (IsFenced-IsFencedInAllThreads candidate fenced)) a,
     λ s. c.sequential_outcomes_are_allowed.ensures.outcomes test o s,
   );
-  flat_memory = λ test o ok fenced.
-      let machine = c.the_machine_is_what_the_axioms_allow.ensures.flat_memory test o ok in
-      let same = c.interleaving_outcomes_are_sequential.ensures.x86 test o ok in (
+  flat_memory = λ test o well_scoped fenced.
+      let machine = c.the_machine_is_what_the_axioms_allow.ensures.flat_memory test o well_scoped in
+      let same = c.interleaving_outcomes_are_sequential.ensures.x86 test o well_scoped in (
         λ run.
             same.1 (c.executions_fenced_where_overwritten_are_sequential.ensures.outcomes test o
-            (λ x candidate axioms. fenced_where_overwritten-from_fenced test x (fenced_executions candidate fenced))
+            (λ x candidate axioms. fenced_where_overwritten-from_fenced test x (IsFenced-IsFencedInAllThreads candidate fenced))
             (machine.0 run)),
         λ run. machine.1 (c.sequential_outcomes_are_allowed.ensures.outcomes test o (same.0 run)),
       );

@@ -1,3 +1,6 @@
+-- Law: program order and reads-from together have no cycle. The numbers `done` of an execution with times
+-- increase along both (`no_thin_air`): a write has reached memory before another thread's read of it is done,
+-- so the write is done before. A candidate that satisfies the axioms has times.
 use Rattle.lw_axiomatic.proofs.Atomic.{no_thin_air}
 use Rattle.lw_axiomatic.proofs.programs.no_word_comes_out_of_thin_air.Goals as goal
 

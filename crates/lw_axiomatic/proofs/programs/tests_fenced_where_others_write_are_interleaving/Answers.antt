@@ -1,4 +1,7 @@
-use Rattle.lw_axiomatic.proofs.FencedTests.{fenced_where_shared}
+-- Law: a test with a fence before each load of what another thread's code writes has only the outcomes of
+-- interleaving. Its executions are fenced where shared, so fenced where overwritten, and such executions are
+-- sequentially consistent.
+use Rattle.lw_axiomatic.proofs.FencedTests.{IsFencedWhereShared-IsFencedWhereOthersWrite}
 use Rattle.lw_axiomatic.proofs.Sequenced.{fenced_where_overwritten-from_shared}
 use Rattle.lw_axiomatic.proofs.programs.tests_fenced_where_others_write_are_interleaving.Goals as goal
 
@@ -6,16 +9,16 @@ pub returns : goal.returns
 returns c = record {
   axioms = λ test o fenced. (
     λ a.
-        c.executions_fenced_where_overwritten_are_sequential.ensures.outcomes test o
-        (λ x candidate axioms. fenced_where_overwritten-from_shared test x (fenced_where_shared candidate fenced)) a,
+        c.executions_fenced_where_overwritten_are_sequential.ensures.outcomes test o (λ x candidate axioms.
+        fenced_where_overwritten-from_shared test x (IsFencedWhereShared-IsFencedWhereOthersWrite candidate fenced)) a,
     λ s. c.sequential_outcomes_are_allowed.ensures.outcomes test o s,
   );
-  flat_memory = λ test o ok fenced.
-      let machine = c.the_machine_is_what_the_axioms_allow.ensures.flat_memory test o ok in
-      let same = c.interleaving_outcomes_are_sequential.ensures.x86 test o ok in (
+  flat_memory = λ test o well_scoped fenced.
+      let machine = c.the_machine_is_what_the_axioms_allow.ensures.flat_memory test o well_scoped in
+      let same = c.interleaving_outcomes_are_sequential.ensures.x86 test o well_scoped in (
         λ run.
-            same.1 (c.executions_fenced_where_overwritten_are_sequential.ensures.outcomes test o
-            (λ x candidate axioms. fenced_where_overwritten-from_shared test x (fenced_where_shared candidate fenced))
+            same.1 (c.executions_fenced_where_overwritten_are_sequential.ensures.outcomes test o (λ x candidate axioms.
+            fenced_where_overwritten-from_shared test x (IsFencedWhereShared-IsFencedWhereOthersWrite candidate fenced))
             (machine.0 run)),
         λ run. machine.1 (c.sequential_outcomes_are_allowed.ensures.outcomes test o (same.0 run)),
       );

@@ -1,3 +1,6 @@
+-- Law: a test without data races has only the outcomes of interleaving. A triangular race is a data race,
+-- that of its load and its write (`data_race-triangular`); so the test has no triangular race either, and the
+-- law of those applies.
 use Rattle.lw_axiomatic.proofs.DataRaces.{data_race-triangular}
 use Rattle.lw_axiomatic.proofs.programs.tests_without_data_races_are_interleaving.Goals as goal
 
@@ -5,7 +8,8 @@ pub returns : goal.returns
 returns c =
     let law = c.tests_without_triangular_races_are_interleaving.ensures in
     record {
-      axioms = λ test o ok none. law.axioms test o ok (λ race. none (data_race-triangular test race));
-      flat_memory = λ test o ok none. law.flat_memory test o ok (λ race. none (data_race-triangular test race));
-      caches = λ protocol test o ok fits none. law.caches protocol test o ok fits (λ race. none (data_race-triangular test race));
+      axioms = λ test o well_scoped none. law.axioms test o well_scoped (λ race. none (data_race-triangular test race));
+      flat_memory = λ test o well_scoped none. law.flat_memory test o well_scoped (λ race. none (data_race-triangular test race));
+      caches = λ protocol test o well_scoped fits none.
+          law.caches protocol test o well_scoped fits (λ race. none (data_race-triangular test race));
     }

@@ -1,3 +1,5 @@
+-- Law: a test has the same outcomes over caches of two protocols. Both sets are the outcomes over flat
+-- memory, by `outcomes_over_caches_are_flat`, applied once to each protocol.
 use Rattle.lw_bench.proofs.cache_laws.protocols_have_the_same_outcomes.Goals as goal
 
 pub returns : goal.returns

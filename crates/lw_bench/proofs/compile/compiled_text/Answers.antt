@@ -1,5 +1,8 @@
+-- `compiled_text` promises that the text is that of the source test's compiled program, with the same
+-- outcomes on the machine and over caches. The text is what `write_program` ensures, the outcomes what
+-- `compile` ensures; `IsCompilation-OutcomeOverCaches` adds the caches.
 use Rattle.lw_bench.proofs.Common.{IfOk-weaker, source_of, program_of, IsCompiledText}
-use Rattle.lw_bench.proofs.Compilations.{by_flat}
+use Rattle.lw_bench.proofs.Compilations.{IsCompilation-OutcomeOverCaches}
 use Rattle.lw_bench.proofs.compile.compiled_text.Goals as goal
 
 pub returns : goal.returns
@@ -13,5 +16,7 @@ returns g c =
       starts = compiled.starts;
       compiled = told.compiled;
       is = is;
-      outcomes = by_flat source program c.outcomes_over_caches_are_flat.ensures compiled.program.well_formed told.outcomes;
+      outcomes =
+          IsCompilation-OutcomeOverCaches source program c.outcomes_over_caches_are_flat.ensures compiled.program.well_formed
+          told.outcomes;
     }) c.write_program-text.ensures.text

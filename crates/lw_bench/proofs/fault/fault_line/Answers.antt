@@ -1,3 +1,5 @@
+-- `fault_line` promises that the line is the printed text of the fault. The three kinds with a place are the
+-- line of `placed_line`, with the code and the name of the cause put in; the other kinds are constants.
 use Rattle.lw_bench.proofs.fault.fault_line.Goals as goal
 
 pub returns-in-Text : goal.returns-in-Text

@@ -1,3 +1,5 @@
+-- At each round the pages of all prefixes shorter than `count` have been written to `out`, and `count` is at
+-- most the number of events.
 use Rattle.lw_bench.proofs.Common.{◌≤◌, length, IsFilmOf, string_bytes, litmus_test_of}
 use Rattle.lw_bench.proofs.films.film_of_events.Given as goal
 

@@ -1,3 +1,5 @@
+-- At each round the reader has not failed, and `bytes` has exactly what has been read since the start, at
+-- most 65,537 bytes. The number of bytes that may still be read decreases.
 use Rattle.lw_bench.proofs.Common.{◌≡◌, ◌-◌, ◌≤◌, false, length, Consumes}
 use Rattle.lw_bench.proofs.input.read_input.Given as goal
 

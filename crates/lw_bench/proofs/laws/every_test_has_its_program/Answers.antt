@@ -1,3 +1,6 @@
+-- Law: every test of a text has an x86 program with exactly the test's outcomes on the machine and over
+-- caches. The interesting case is a source test: its program is the compiled one. A test of a text is
+-- well-formed, as the three lemmas require.
 use Rattle.lw_bench.proofs.Theorems.{well_formed, has_program, program_runs, runs_over_caches}
 use Rattle.lw_bench.proofs.laws.every_test_has_its_program.Goals as goal
 

@@ -1,3 +1,5 @@
+-- Law: each outcome of interleaving is one of the program compiled with any fences, or with none. Both
+-- clauses are `outcomes_with_fences`: this half of the compiler's proof does not depend on where fences are.
 use Rattle.lw_bench.proofs.Theorems.{outcomes_with_fences}
 use Rattle.lw_bench.proofs.laws.interleaving_outcomes_need_no_fences.Goals as goal
 

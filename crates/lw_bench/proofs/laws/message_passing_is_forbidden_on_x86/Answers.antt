@@ -1,3 +1,5 @@
+-- Law: no outcome of message passing over caches has the flag without the message. The outcome is one over
+-- flat memory, where `message_passing_forbidden` holds by a computed search of all runs.
 use Rattle.lw_bench.proofs.Common.{IsWellScoped-well_formed, x86_language, message_passing_in_x86}
 use Rattle.lw_bench.proofs.Classics.{message_passing_formed, message_passing_forbidden}
 use Rattle.lw_bench.proofs.laws.message_passing_is_forbidden_on_x86.Goals as goal

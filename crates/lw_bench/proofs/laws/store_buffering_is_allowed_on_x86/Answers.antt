@@ -1,3 +1,5 @@
+-- Law: over caches store buffering has an outcome with both loads 0. `store_buffering_allowed` is such a run
+-- over flat memory, event by event, and outcomes over flat memory are outcomes over caches.
 use Rattle.lw_bench.proofs.Common.{IsWellScoped-well_formed, x86_language, store_buffering_in_x86}
 use Rattle.lw_bench.proofs.Classics.{store_buffering_formed, store_buffering_allowed}
 use Rattle.lw_bench.proofs.laws.store_buffering_is_allowed_on_x86.Goals as goal

@@ -1,6 +1,9 @@
+-- Law: `every_test_has_its_program` for the bytes of a device, if they are known. What holds of all texts
+-- holds of an optional one (`if_known`).
 use Rattle.lw_bench.proofs.Common.{Option, Some, None, IfSome, Bytes}
 use Rattle.lw_bench.proofs.laws.what_is_known_is_reached_on_the_machine.Goals as goal
 
+-- What holds of each text holds of an optional one.
 if_known : (P : Bytes → Type 0) → ((text : Bytes) → P text) → (known : Option Bytes) → IfSome known P
 if_known P each None = tt
 if_known P each (Some text) = each text

@@ -1,6 +1,9 @@
-use Rattle.lw_bench.proofs.Common.{length, has_locations, TestHead, head_of, litmus_test_of, IfOk-weaker}
-use Rattle.lw_bench.proofs.Common.{IsExactReport}
-use Rattle.lw_bench.proofs.TestReports.{report_of_list, outcomes_there}
+-- `report_of_listing` promises the report of the test's outcomes. The states are those of the listing, which
+-- has exactly these outcomes, so the printed text is the report of the set (`report_of_list`). The other
+-- goals are the bounds of a well-formed head.
+use Rattle.lw_bench.proofs.Common.{length, MentionsLocationsBelow-if_mentions_only, TestHead, head_of}
+use Rattle.lw_bench.proofs.Common.{litmus_test_of, IfOk-weaker, outcomes_of, IsExactReport}
+use Rattle.lw_bench.proofs.TestReports.{report_of_list, HasOutcomeShape-of_listing}
 use Rattle.lw_bench.proofs.lists.report_of_listing.Goals as goal
 
 pub states_of-states-requires-clause-threads : goal.states_of-states-requires-clause-threads
@@ -11,17 +14,19 @@ states_of-states-requires-clause-condition g c = c.head-head.ensures.formed.cond
 
 pub states_of-states-requires-clause-outcomes : goal.states_of-states-requires-clause-outcomes
 states_of-states-requires-clause-outcomes g c =
-    outcomes_there (litmus_test_of c.args.test.now) c.args.listing c.requires _ c.head-head.ensures.head
+    HasOutcomeShape-of_listing (litmus_test_of c.args.test.now) (outcomes_of c.args.listing) c.requires.shapes _
+    c.head-head.ensures.head
 
 pub write_report-report-requires-clause-locations : goal.write_report-report-requires-clause-locations
 write_report-report-requires-clause-locations g c =
     let head : TestHead = head_of c.head-head.result.now in
-    has_locations head.threads (length head.locs) head.condition c.head-head.ensures.formed.condition
+    MentionsLocationsBelow-if_mentions_only head.threads (length head.locs) head.condition c.head-head.ensures.formed.condition
 
 pub returns : goal.returns
 returns g c =
     IfOk-weaker _ _ (IsExactReport (litmus_test_of c.args.test.now)) (λ text is.
-    report_of_list _ c.args.listing c.requires _ c.head-head.ensures.head c.in_ok-states.states text c.in_ok-states.ensures is)
+    report_of_list c.outcomes_with_the_same_words_agree.ensures _ (outcomes_of c.args.listing) c.requires _
+    c.head-head.ensures.head c.head-head.ensures.formed.condition c.in_ok-states.states text c.in_ok-states.ensures is)
     c.write_report-report.ensures
 
 pub write_report-report-requires-clause-threads : goal.write_report-report-requires-clause-threads

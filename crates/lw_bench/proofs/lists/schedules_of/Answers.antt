@@ -1,3 +1,5 @@
+-- `schedules_of` promises the list of the test's schedules, if the test is within the limits. Immediate: that
+-- the listing is complete is what `list_test` ensures and `schedules_of_listing` requires.
 use Rattle.lw_bench.proofs.lists.schedules_of.Goals as goal
 
 pub schedules_of_listing-list-requires : goal.schedules_of_listing-list-requires

@@ -1,5 +1,9 @@
+-- `schedules_of_listing` promises the list of states, each with a schedule that reaches it. The schedules are
+-- those of the listing's entries, and name only locations of the test (`IsEvent-of_schedules`);
+-- `schedules_of_list` goes from the listing to the test.
 use Rattle.lw_bench.proofs.Common.{IfOk-weaker, litmus_test_of, IsExactScheduleList}
-use Rattle.lw_bench.proofs.TestReports.{schedules_of_list, outcomes_there, schedules_there}
+use Rattle.lw_bench.proofs.api.TestLists.{AreOutcomesOf-IsListOf}
+use Rattle.lw_bench.proofs.TestReports.{schedules_of_list, HasOutcomeShape-of_listing, IsEvent-of_schedules}
 use Rattle.lw_bench.proofs.lists.schedules_of_listing.Goals as goal
 
 pub states_of-requires-clause-threads : goal.states_of-requires-clause-threads
@@ -10,14 +14,15 @@ states_of-requires-clause-condition g c = c.head-head.ensures.formed.condition
 
 pub states_of-requires-clause-outcomes : goal.states_of-requires-clause-outcomes
 states_of-requires-clause-outcomes g c =
-    outcomes_there (litmus_test_of c.args.test.now) c.args.listing.now c.requires _ c.head-head.ensures.head
+    HasOutcomeShape-of_listing (litmus_test_of c.args.test.now) _ (AreOutcomesOf-IsListOf _ _ c.requires).shapes _
+    c.head-head.ensures.head
 
 pub write_schedules-list-requires-clause-threads : goal.write_schedules-list-requires-clause-threads
 write_schedules-list-requires-clause-threads g c = c.head-head.ensures.formed.few
 
 pub write_schedules-list-requires-clause-schedules : goal.write_schedules-list-requires-clause-schedules
 write_schedules-list-requires-clause-schedules g c =
-    schedules_there (litmus_test_of c.args.test.now) c.args.listing.now c.requires _ c.head-head.ensures.head
+    IsEvent-of_schedules (litmus_test_of c.args.test.now) c.args.listing.now c.requires _ c.head-head.ensures.head
 
 pub write_schedules-list-requires-clause-states : goal.write_schedules-list-requires-clause-states
 write_schedules-list-requires-clause-states g c = c.in_ok-states.ensures

@@ -1,3 +1,5 @@
+-- At each round the writer has not failed, and has all of `bytes` except `rest`, after what it had at the
+-- start. The rest becomes shorter.
 use Rattle.lw_bench.proofs.Common.{◌≡◌, false, length, WritesPrefix}
 use Rattle.lw_bench.proofs.output.write_output.Given as goal
 

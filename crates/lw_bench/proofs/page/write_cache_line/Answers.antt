@@ -1,6 +1,10 @@
+-- `write_cache_line` promises a line with the state of each location in a processor's cache. The loop goes
+-- through the first items of `Loc::all()`, so the item at an index is that index (`is_index`); `AllWritten`
+-- says what has been written.
 use Rattle.lw_bench.proofs.Common.{◌≤◌, codes, length, slice_get, refl, sym, ap, ◌∙◌, arith, length-take}
 use Rattle.lw_bench.proofs.Common.{is_index, named, letter}
-use Rattle.lw_bench.proofs.Pages.{AllWritten-step, AllWritten-of_every, line_ended, titled}
+use Rattle.lw_bench.proofs.Pages.{AllWritten-step, AllWritten-of_every, AllWritten-newline}
+use Rattle.lw_bench.proofs.Pages.{processor_title-append}
 use Rattle.lw_bench.proofs.page.write_cache_line.Goals as goal
 
 pub loop-loc-init : goal.loop-loc-init
@@ -25,8 +29,9 @@ returns g c =
       table,
       c.loop-loc-test.false,
     ) in
-    line_ended c.push_str.result _ _ _ (rw c.index.ensures.value at c.in_ok-write.ensures.bytes)
-    (AllWritten-of_every c.loop-loc.invariant whole) (titled c.args.cpu (codes " lines") _) c.push_str.ensures.bytes
+    AllWritten-newline c.push_str.result _ _ _ (rw c.index.ensures.value at c.in_ok-write.ensures.bytes)
+    (AllWritten-of_every c.loop-loc.invariant whole) (processor_title-append c.args.cpu (codes " lines") _)
+    c.push_str.ensures.bytes
 
 pub name-requires : goal.name-requires
 name-requires g c =

@@ -1,5 +1,8 @@
+-- `write_machine_page` promises the page of an x86 test's replay. It is the parts in sequence, as the callees
+-- ensure them (`machine_page-MachineParts`). Registers and words are those of `state`, which is required to be the
+-- outcome of the machine's state.
 use Rattle.lw_bench.proofs.Common.{◌∙◌, length, ap, on_ok_weaker, head_of, string_bytes, FinalState}
-use Rattle.lw_bench.proofs.Pages.{machine_page_told}
+use Rattle.lw_bench.proofs.Pages.{machine_page-MachineParts}
 use Rattle.lw_bench.proofs.page.write_machine_page.Goals as goal
 
 pub write_processors-requires : goal.write_processors-requires
@@ -19,7 +22,8 @@ write_words-requires g c =
 
 pub returns : goal.returns
 returns g c =
-    on_ok_weaker c.write_words.result (λ is. machine_page_told (head_of c.args.head.now) c.args.replay _ _ _ _ _ _ (record {
+    on_ok_weaker c.write_words.result
+    (λ is. machine_page-MachineParts (head_of c.args.head.now) c.args.replay _ _ _ _ _ _ (record {
       one = string_bytes c.write_first_lines.new.out;
       two = string_bytes c.write_processors.new.out;
       three = string_bytes c.write_memory.new.out;

@@ -1,6 +1,9 @@
+-- `write_memory` promises a line with each location's word in memory. The loop goes through the first items
+-- of `Loc::all()`, so the item at an index is that index (`is_index`); `AllWritten` says what has been
+-- written.
 use Rattle.lw_bench.proofs.Common.{◌≤◌, codes, decimal, length, slice_get, slice_index, refl, sym, ap, ◌∙◌}
 use Rattle.lw_bench.proofs.Common.{arith, length-take, is_index, named}
-use Rattle.lw_bench.proofs.Pages.{AllWritten-step, AllWritten-of_every, line_ended}
+use Rattle.lw_bench.proofs.Pages.{AllWritten-step, AllWritten-of_every, AllWritten-newline}
 use Rattle.lw_bench.proofs.page.write_memory.Goals as goal
 
 pub loop-loc-init : goal.loop-loc-init
@@ -25,7 +28,7 @@ returns g c =
       table,
       c.loop-loc-test.false,
     ) in
-    line_ended c.push_str-2.result _ (codes "Memory") _ c.in_ok-push_str.ensures.bytes
+    AllWritten-newline c.push_str-2.result _ (codes "Memory") _ c.in_ok-push_str.ensures.bytes
     (AllWritten-of_every c.loop-loc.invariant whole) refl c.push_str-2.ensures.bytes
 
 pub name-requires : goal.name-requires

@@ -1,6 +1,9 @@
+-- `write_processors` promises the lines of all processors. The loop goes through the first items of
+-- `Cpu::all()`, so the item at an index is that index (`is_index`); the machine has as many processors as the
+-- head has threads.
 use Rattle.lw_bench.proofs.Common.{List, ℕ, [], length, length-take, map, slice_get, slice_index_or, refl, ap}
 use Rattle.lw_bench.proofs.Common.{◌∙◌, arith, length-map, head_of, most_threads, is_index, Processor}
-use Rattle.lw_bench.proofs.Common.{get_some, processor_lines}
+use Rattle.lw_bench.proofs.Common.{slice_get-in_range, processor_lines}
 use Rattle.lw_bench.proofs.Pages.{AllWritten-step, AllWritten-of_every}
 use Rattle.lw_bench.proofs.page.write_processors.Goals as goal
 
@@ -13,7 +16,7 @@ loop-cpu-preserved g c =
     let k = c.loop-cpu.cpu-index in
     let is = is_index most_threads _ c.all.ensures refl c.loop-cpu-test.true c.cpu-item.is in
     let here =
-    get_some processors k
+    slice_get-in_range processors k
     (omega (arith, c.requires.threads, c.loop-cpu-test.true, length-take c.args.head.now.threads c.all.result)) in
     AllWritten-step c.loop-cpu.invariant here.0 _ _ here.1
     (ap (λ k. processor_lines (head_of c.args.head.now) (g.M.MemorySystem.state c.args.machine.now.state.memory) k here.0) is)

@@ -1,3 +1,4 @@
+-- At each round `out` has, after what it had at the start, the lines of the processors before the index.
 use Rattle.lw_bench.proofs.Common.{string_bytes, head_of, processor_lines}
 use Rattle.lw_bench.proofs.Pages.{AllWritten}
 use Rattle.lw_bench.proofs.page.write_processors.Given as goal

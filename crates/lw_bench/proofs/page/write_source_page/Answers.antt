@@ -1,5 +1,8 @@
+-- `write_source_page` promises the page of a source test's replay. It is the parts in sequence, as the
+-- callees ensure them (`source_page-SourceParts`). Registers and words are those of `state`, which is required to be
+-- the outcome of the run's state.
 use Rattle.lw_bench.proofs.Common.{◌∙◌, length, ap, on_ok_weaker, head_of, string_bytes, FinalState}
-use Rattle.lw_bench.proofs.Pages.{source_page_told}
+use Rattle.lw_bench.proofs.Pages.{source_page-SourceParts}
 use Rattle.lw_bench.proofs.page.write_source_page.Goals as goal
 
 pub write_threads-requires : goal.write_threads-requires
@@ -15,7 +18,7 @@ write_words-requires g c =
 
 pub returns : goal.returns
 returns g c =
-    on_ok_weaker c.write_words.result (λ is. source_page_told (head_of c.args.head.now) c.args.replay _ _ _ (record {
+    on_ok_weaker c.write_words.result (λ is. source_page-SourceParts (head_of c.args.head.now) c.args.replay _ _ _ (record {
       one = string_bytes c.write_first_lines.new.out;
       two = string_bytes c.write_threads.new.out;
       words = c.as_slice-2.result.now;

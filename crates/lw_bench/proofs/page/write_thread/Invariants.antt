@@ -1,3 +1,5 @@
+-- At each round `out` has, after what it had before the loop, the name and the word of each register before
+-- the index.
 use Rattle.lw_bench.proofs.Common.{string_bytes, named, word_at, register_names}
 use Rattle.lw_bench.proofs.Pages.{AllWritten}
 use Rattle.lw_bench.proofs.page.write_thread.Given as goal

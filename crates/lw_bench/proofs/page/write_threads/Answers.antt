@@ -1,7 +1,11 @@
+-- `write_threads` promises a line for each thread of a source test. The loop goes through the first items of
+-- `Cpu::all()`, so the item at an index is that index (`is_index`); position and registers are those of the
+-- run's thread at this index.
 use Rattle.lw_bench.proofs.Common.{[], length, length-take, map, slice_get, slice_index_or, refl, sym, ap}
 use Rattle.lw_bench.proofs.Common.{ap₂, ◌∙◌, arith, option_map, slice_get-map, get_or_from_slice_get}
-use Rattle.lw_bench.proofs.Common.{length-map, Thread, most_threads, is_index, get_some, thread_line}
-use Rattle.lw_bench.proofs.Pages.{AllWritten-step, AllWritten-of_every, told_of}
+use Rattle.lw_bench.proofs.Common.{length-map, Thread, most_threads, is_index, slice_get-in_range}
+use Rattle.lw_bench.proofs.Common.{thread_line}
+use Rattle.lw_bench.proofs.Pages.{AllWritten-step, AllWritten-of_every, get-of_map}
 use Rattle.lw_bench.proofs.page.write_threads.Goals as goal
 
 pub loop-cpu-init : goal.loop-cpu-init
@@ -13,10 +17,10 @@ loop-cpu-preserved g c =
     let k = c.loop-cpu.cpu-index in
     let is = is_index most_threads _ c.all.ensures refl c.loop-cpu-test.true c.cpu-item.is in
     let here =
-    get_some threads k
+    slice_get-in_range threads k
     (omega (arith, c.requires.threads, c.loop-cpu-test.true, length-take c.args.head.now.threads c.all.result)) in
     let position =
-    told_of (λ (t : Thread). t.position) threads k here.0 c.position.result here.1
+    get-of_map (λ (t : Thread). t.position) threads k here.0 c.position.result here.1
     (ap (slice_get (map (λ (t : Thread). t.position) threads)) (sym is) ∙ c.position.ensures) in
     let listed =
     ap (λ l. slice_get l k) c.requires.regs

@@ -1,3 +1,4 @@
+-- At each round `out` has, after what it had at the start, the lines of the threads before the index.
 use Rattle.lw_bench.proofs.Common.{string_bytes, Thread, thread_line}
 use Rattle.lw_bench.proofs.Pages.{AllWritten}
 use Rattle.lw_bench.proofs.page.write_threads.Given as goal

@@ -1,3 +1,6 @@
+-- `answer` is the public call. That bytes are the task's output, and faults true, is what `render_text`
+-- ensures; the clauses on the machine and on caches are the law `every_test_has_its_program`, which holds of
+-- every text.
 use Rattle.lw_bench.proofs.render.answer.Goals as goal
 
 pub returns-clause-made : goal.returns-clause-made

@@ -1,5 +1,8 @@
+-- `render_text` promises the output for the text's test, or a fault that is true of the text. A fault of
+-- reading is true of the text by `read_test`; a fault of rendering is true of the test, so of the text that
+-- says this test (`RunFaultIsTrue-of_test`).
 use Rattle.lw_bench.proofs.Common.{inl, IfOk-weaker, IfErr-weaker, Err-clause_propagated, litmus_test_of}
-use Rattle.lw_bench.proofs.FaultTruths.{told_of_test}
+use Rattle.lw_bench.proofs.FaultTruths.{RunFaultIsTrue-of_test}
 use Rattle.lw_bench.proofs.render.render_text.Goals as goal
 
 pub returns-in_err-test-clause-told : goal.returns-in_err-test-clause-told
@@ -17,5 +20,5 @@ returns-clause-found g c =
 pub returns-clause-told : goal.returns-clause-told
 returns-clause-told g c =
     IfErr-weaker c.render-made.result _ _
-    (λ f told. told_of_test (g.O.Renderer.tells c.args.output.now) c.args.text.now _ f c.in_ok-test.ensures.found told)
+    (λ f told. RunFaultIsTrue-of_test (g.O.Renderer.tells c.args.output.now) c.args.text.now _ f c.in_ok-test.ensures.found told)
     c.render-made.ensures.told

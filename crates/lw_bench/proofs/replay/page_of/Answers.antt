@@ -1,8 +1,11 @@
+-- `page_of` promises the page of the replay by the schedule, or a true fault of the schedule. The events are
+-- those of the schedule (`IsReplay-IsPageOf`). A rejected schedule is none of the test's, as `read_schedule` ensures,
+-- for the head's table of names.
 use Rattle.lw_bench.proofs.Common.{◌≡◌, ◌⊎◌, inl, inr, ap, refl, IfOk-weaker, IfErr-weaker}
 use Rattle.lw_bench.proofs.Common.{Err-clause_propagated, TestHead, litmus_test_of, IsReplayPage}
 use Rattle.lw_bench.proofs.Common.{ReplayFaultIsTrue, Memory}
-use Rattle.lw_bench.proofs.Replays.{page_told}
-use Rattle.lw_bench.proofs.FaultTruths.{schedule_is_told, schedule_no_device, memory_is_no_device}
+use Rattle.lw_bench.proofs.Replays.{IsReplay-IsPageOf}
+use Rattle.lw_bench.proofs.FaultTruths.{holds-schedule_run_fault, schedule_no_device, memory_is_no_device}
 use Rattle.lw_bench.proofs.replay.page_of.Goals as goal
 
 pub returns-in_err-events-clause-told : goal.returns-in_err-events-clause-told
@@ -10,7 +13,8 @@ returns-in_err-events-clause-told g c =
     let test = litmus_test_of c.args.test.now in
     let table = ap (λ (h : TestHead). h.locs) c.head.ensures.head in
     Err-clause_propagated _ _ c.from_residual.ensures.1
-    (schedule_is_told (λ f. (f ≡ Memory) ⊎ ReplayFaultIsTrue c.args.schedule.now test f) (inl refl) _ (λ known. inr (record {
+    (holds-schedule_run_fault (λ f. (f ≡ Memory) ⊎ ReplayFaultIsTrue c.args.schedule.now test f) (inl refl) _
+    (λ known. inr (record {
       none = λ events is. c.in_err-events.ensures.fault known events (rw table is);
       first = rw table at (c.in_err-events.ensures.first known);
     })))
@@ -23,8 +27,8 @@ returns-clause-found g c =
     let test = litmus_test_of c.args.test.now in
     let table = ap (λ (h : TestHead). h.locs) c.head.ensures.head in
     IfOk-weaker c.page_of_events-page.result _ (λ x. IsReplayPage c.args.protocol test c.args.schedule.now x.0 x.1) (λ x tells.
-    page_told c.args.protocol test c.args.schedule.now x.0 x.1 table c.in_ok-events.ensures.found c.as_slice.ensures tells)
-    c.page_of_events-page.ensures.found
+    IsReplay-IsPageOf c.args.protocol test c.args.schedule.now x.0 x.1 table c.in_ok-events.ensures.found c.as_slice.ensures
+    tells) c.page_of_events-page.ensures.found
 
 pub returns-clause-told : goal.returns-clause-told
 returns-clause-told g c = IfErr-weaker _ _ _ (λ f is. inl is) c.page_of_events-page.ensures.fault

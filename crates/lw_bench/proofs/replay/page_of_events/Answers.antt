@@ -1,3 +1,5 @@
+-- `page_of_events` promises the page of the test's replay by the events. Each of the three arms passes on
+-- what its callee ensures: a source test runs on one memory, an x86 test over the caches of the protocol.
 use Rattle.lw_bench.proofs.replay.page_of_events.Goals as goal
 
 pub returns-in-Source-default-clause-found : goal.returns-in-Source-default-clause-found

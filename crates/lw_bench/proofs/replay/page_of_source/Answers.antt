@@ -1,3 +1,6 @@
+-- `page_of_source` promises the page of a source test's replay. The replay starts in the initial state, as
+-- `SourceRun::new` ensures. That the page's numbers of threads and words are the test's follows from the run,
+-- which preserves both.
 use Rattle.lw_bench.proofs.Common.{refl, ap, ◌∙◌, length, length-map, State}
 use Rattle.lw_bench.proofs.replay.page_of_source.Goals as goal
 
@@ -8,8 +11,8 @@ returns-clause-found g c =
       replay = c.run-replay.result;
       state = c.run-replay.new.self.state;
       replayed = replayed;
-      ended = refl;
-      told = c.in_ok-page.ensures;
+      end_is = refl;
+      page_is = c.in_ok-page.ensures;
     }
 
 pub source_page-page-requires : goal.source_page-page-requires

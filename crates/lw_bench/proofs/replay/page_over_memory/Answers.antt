@@ -1,3 +1,6 @@
+-- `page_over_memory` promises the page of an x86 test's replay over a memory system. The machine starts with
+-- the memory, as `new` ensures. That the page's numbers of processors and words are the test's follows from
+-- the run, which preserves both.
 use Rattle.lw_bench.proofs.Common.{refl, ap, ◌∙◌, length, length-map}
 use Rattle.lw_bench.proofs.replay.page_over_memory.Goals as goal
 
@@ -8,8 +11,8 @@ returns-clause-found g c =
       replay = c.run-replay.result;
       state = c.run-replay.new.self.state;
       replayed = replayed;
-      ended = refl;
-      told = c.in_ok-page.ensures;
+      end_is = refl;
+      page_is = c.in_ok-page.ensures;
     }
 
 pub new-requires : goal.new-requires

@@ -1,3 +1,6 @@
+-- `run_command` promises the ending of the whole program. The one goal by hand is the case that the words
+-- name a task and the input was read: it ends as `end_task` ensures, so the second half of the clause `ended`
+-- holds.
 use Rattle.lw_bench.proofs.Common.{IfOk, inr, sym, subst, IfErr, EndsTask, Reports}
 use Rattle.lw_bench.proofs.whole_command.run_command.Goals as goal
 

@@ -1,3 +1,4 @@
+-- At each round `texts` has the texts of the words before the index.
 use Rattle.lw_bench.proofs.Common.{◌≡◌, map, take, string_bytes, List, ℕ, Bor}
 use Rattle.lw_bench.proofs.whole_command.texts_of.Given as goal
 

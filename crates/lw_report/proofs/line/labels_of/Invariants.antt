@@ -1,3 +1,5 @@
+-- At each round `texts` are the labels of the first names, and `before` is the prefix of the next one: empty
+-- at first, a space afterwards.
 use Rattle.lw_report.proofs.Common.{◌≡◌, take, head_of, gap, labels}
 use Rattle.lw_report.proofs.line.labels_of.Given as goal
 

@@ -1,6 +1,8 @@
+-- Of `write_state`, which appends each word after its label, and ends the line. `labelled_words-push` adds one
+-- label with its word; after the last, `labelled_words-all` says that all of the line but its end is written.
 use Rattle.lw_report.proofs.Common.{◌++◌, ◌∙◌, ap, append_assoc, codes, refl, get_or, arith, decimal}
-use Rattle.lw_report.proofs.Common.{string_bytes, Bytes, then_written, pushed}
-use Rattle.lw_report.proofs.Lines.{labelled_more, labelled_all}
+use Rattle.lw_report.proofs.Common.{string_bytes, Bytes, written-two_parts, OnOk-push_str}
+use Rattle.lw_report.proofs.Lines.{labelled_words-push, labelled_words-all}
 use Rattle.lw_report.proofs.line.write_state.Goals as goal
 
 pub loop-index-preserved : goal.loop-index-preserved
@@ -10,11 +12,11 @@ loop-index-preserved g c =
     c.in_ok-write_word.ensures
     ∙ (ap (λ (t : Bytes). t ++ rest) c.in_ok-push_str.ensures.bytes
     ∙ append_assoc (string_bytes c.loop-index.out) c.as_str.result.now rest) in
-    labelled_more c.args.labels.now c.args.words.now c.loop-index.index _ _ _ (record {
+    labelled_words-push c.args.labels.now c.args.words.now c.loop-index.index _ _ _ (record {
       end = c.min-index-end.result;
       name = c.index-labels-index.result;
       text = c.as_str.result.now;
-      within = c.loop-index-test.true;
+      index_in_range = c.loop-index-test.true;
       least = c.min-index-end.ensures;
       is_name = c.index-labels-index.is;
       is_text = c.as_str.ensures;
@@ -27,6 +29,6 @@ returns g c =
     let last = string_bytes c.loop-index.out in
     let end = string_bytes c.push_str-2.new.self in
     let told =
-    labelled_all c.args.labels.now c.args.words.now c.loop-index.index c.min-index-end.result _ _
+    labelled_words-all c.args.labels.now c.args.words.now c.loop-index.index c.min-index-end.result _ _
     (omega (arith, c.loop-index-test.false)) c.min-index-end.ensures c.loop-index.invariant in
-    then_written _ start end _ _ told refl (pushed _ last end (codes "\n") c.push_str-2.ensures.bytes)
+    written-two_parts _ start end _ _ told refl (OnOk-push_str _ last end (codes "\n") c.push_str-2.ensures.bytes)

@@ -1,3 +1,4 @@
+-- At each round what was written, followed by the labels and words from `index` on, makes the whole line.
 use Rattle.lw_report.proofs.Common.{◌≡◌, ◌++◌, drop, zip, flat_map, string_bytes, labelled_word}
 use Rattle.lw_report.proofs.Common.{labelled_words}
 use Rattle.lw_report.proofs.line.write_state.Given as goal

@@ -1,5 +1,7 @@
+-- Of `write_word`, which appends a word in decimal and a semicolon. The case of a number below 10: its
+-- decimal is one character (`decimal_digit`). The search proves the other case, which formats the word.
 use Rattle.lw_report.proofs.Common.{◌++◌, ◌∙◌, ap, sym, codes, refl, arith, string_bytes, decimal_digit}
-use Rattle.lw_report.proofs.Common.{Bytes, then_written, pushed}
+use Rattle.lw_report.proofs.Common.{Bytes, written-two_parts, OnOk-push_str}
 use Rattle.lw_report.proofs.line.write_word.Goals as goal
 
 -- The word is a single digit, followed by the character that ends it.
@@ -11,5 +13,5 @@ returns-then-word-lt10 g c =
     let end = string_bytes c.push-then-word-lt10.new.self in
     let is_digit =
     c.in_ok-push.ensures.ascii (omega (arith, c.if-word-lt10.true)) ∙ sym (decimal_digit c.args.word c.if-word-lt10.true) in
-    then_written _ out end _ (codes ";") (c.in_ok-push.ensures.bytes ∙ ap (λ (t : Bytes). out ++ t) is_digit) refl
-    (pushed _ digit end (codes ";") c.push-then-word-lt10.ensures.bytes)
+    written-two_parts _ out end _ (codes ";") (c.in_ok-push.ensures.bytes ∙ ap (λ (t : Bytes). out ++ t) is_digit) refl
+    (OnOk-push_str _ digit end (codes ";") c.push-then-word-lt10.ensures.bytes)

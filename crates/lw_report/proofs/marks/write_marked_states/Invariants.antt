@@ -1,3 +1,5 @@
+-- At each round what was written, followed by the lines of the remaining states, makes the lines of all
+-- states.
 use Rattle.lw_report.proofs.Common.{marked_line, ◌≡◌, ◌++◌, drop, flat_map, string_bytes, head_of}
 use Rattle.lw_report.proofs.Common.{projection_of}
 use Rattle.lw_report.proofs.marks.write_marked_states.Given as goal

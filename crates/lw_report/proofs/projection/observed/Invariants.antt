@@ -1,3 +1,4 @@
+-- At each round the names are the observed registers of the first `cpu` threads.
 use Rattle.lw_report.proofs.Common.{◌≡◌, filter, head_of, all_registers, is_observed}
 use Rattle.lw_report.proofs.projection.observed.Given as goal
 

@@ -1,3 +1,4 @@
+-- At each round the observed ones of the first `loc` locations are appended.
 use Rattle.lw_report.proofs.Common.{◌≡◌, ◌++◌, filter, head_of, locations, is_observed}
 use Rattle.lw_report.proofs.projection.push_locations.Given as goal
 

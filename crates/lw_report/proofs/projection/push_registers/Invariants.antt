@@ -1,3 +1,4 @@
+-- At each round the observed ones of the thread's first registers are appended.
 use Rattle.lw_report.proofs.Common.{◌≡◌, ◌++◌, map, filter, range_with_len, head_of, Register, is_observed}
 use Rattle.lw_report.proofs.projection.push_registers.Given as goal
 

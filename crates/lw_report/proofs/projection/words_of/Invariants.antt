@@ -1,4 +1,5 @@
-use Rattle.lw_report.proofs.Common.{◌≡◌, map, take, final_word}
+-- At each round `words` are the words of the first names.
+use Rattle.lw_report.proofs.Common.{final_word, ◌≡◌, map, take}
 use Rattle.lw_report.proofs.projection.words_of.Given as goal
 
 abbrev pub invariant-loop-name : goal.invariant-loop-name

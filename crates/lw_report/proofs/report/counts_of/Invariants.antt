@@ -1,3 +1,5 @@
+-- At each round `positive` is the number of the first states in which the proposition is true, and so at most
+-- their number.
 use Rattle.lw_report.proofs.Common.{◌≡◌, ◌≤◌, length, take, filter, ListedState}
 use Rattle.lw_report.proofs.report.counts_of.Given as goal
 

@@ -1,5 +1,7 @@
-use Rattle.lw_report.proofs.Common.{◌++◌, ◌∙◌, ap, codes, decimal, head_of, then_written, verdict_text}
-use Rattle.lw_report.proofs.Lines.{judgement_told}
+-- Of `write_judgement`, which appends what follows the states in a report. `judgement_lines-as_written` says that the
+-- lines of verdict, numbers and condition, and then the observation, make that text.
+use Rattle.lw_report.proofs.Common.{◌++◌, ◌∙◌, ap, codes, decimal, head_of, written-two_parts, verdict_text}
+use Rattle.lw_report.proofs.Lines.{judgement_lines-as_written}
 use Rattle.lw_report.proofs.report.write_judgement.Goals as goal
 
 pub write_condition-requires : goal.write_condition-requires
@@ -14,7 +16,7 @@ returns g c =
     c.word.result.now
     ++ (codes "\nPositive: "
     ++ (decimal p ++ (codes " Negative: " ++ (decimal q ++ (codes "\nCondition " ++ (c.as_str.result.now ++ codes "\n")))))) in
-    then_written c.write_observation.result _ _ first _ c.in_ok-writeln.ensures.bytes
-    (judgement_told head c.args.claim p q c.word.result.now c.as_str.result.now
+    written-two_parts c.write_observation.result _ _ first _ c.in_ok-writeln.ensures.bytes
+    (judgement_lines-as_written head c.args.claim p q c.word.result.now c.as_str.result.now
     (c.word.ensures ∙ ap verdict_text c.verdict_of.ensures) (c.as_str.ensures ∙ c.in_ok-condition.ensures))
     c.write_observation.ensures

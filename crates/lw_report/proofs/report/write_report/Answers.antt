@@ -1,9 +1,11 @@
+-- Of `write_report`, which renders the report of the states. `report_text-of_parts` puts its three parts together,
+-- title, states and judgement, which are written in sequence into an empty text.
 use Rattle.lw_report.proofs.Common.{◌∙◌, head_of, string_bytes}
-use Rattle.lw_report.proofs.Lines.{report_written}
+use Rattle.lw_report.proofs.Lines.{report_text-of_parts}
 use Rattle.lw_report.proofs.report.write_report.Goals as goal
 
 pub returns : goal.returns
-returns g c = c.from.ensures ∙ report_written (head_of c.args.head.now) _ _ _ (record {
+returns g c = c.from.ensures ∙ report_text-of_parts (head_of c.args.head.now) _ _ _ (record {
   first = string_bytes c.new-out.result;
   title = string_bytes c.write_title.new.out;
   lines = string_bytes c.write_states.new.out;

@@ -1,3 +1,5 @@
+-- At each round what was written, followed by the lines of the remaining states, makes the lines of all
+-- states.
 use Rattle.lw_report.proofs.Common.{◌≡◌, ◌++◌, drop, flat_map, string_bytes, head_of, state_line}
 use Rattle.lw_report.proofs.report.write_states.Given as goal
 

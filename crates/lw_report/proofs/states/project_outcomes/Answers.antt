@@ -1,16 +1,18 @@
+-- Of `project_outcomes`, which returns the state of each outcome of a listing. `AreStatesOfFirst-push` adds the state
+-- of the next outcome, which has the test's threads and locations (`HasOutcomeShape-of_entry`).
 use Rattle.lw_report.proofs.Common.{◌≡◌, ℕ, ◌∷◌, [], ◌++◌, ◌∙◌, length, ap, subst, arith, head_of}
 use Rattle.lw_report.proofs.Common.{outcomes_of, AreStatesOfFirst, ListedState}
-use Rattle.lw_report.proofs.ListedStates.{outcome_of_entry, states_more}
+use Rattle.lw_report.proofs.ListedStates.{HasOutcomeShape-of_entry, AreStatesOfFirst-push}
 use Rattle.lw_report.proofs.states.project_outcomes.Goals as goal
 
 pub state_of-requires-clause-outcome : goal.state_of-requires-clause-outcome
 state_of-requires-clause-outcome g c =
-    outcome_of_entry (head_of c.args.head.now) c.args.listing.now c.loop-entry.entry c.outcome.result.now c.requires.outcomes
-    c.outcome.ensures
+    HasOutcomeShape-of_entry (head_of c.args.head.now) c.args.listing.now c.loop-entry.entry c.outcome.result.now
+    c.requires.outcomes c.outcome.ensures
 
 pub loop-entry-preserved : goal.loop-entry-preserved
 loop-entry-preserved g c =
-    states_more _ _ _ _ _ _ c.loop-entry.invariant c.outcome.ensures
+    AreStatesOfFirst-push _ _ _ _ _ _ c.loop-entry.invariant c.outcome.ensures
     (c.in_ok-push.ensures.items ∙ ap (λ (s : ListedState). c.loop-entry.states.items ++ s ∷ []) c.in_ok-state_of.ensures)
 
 pub returns : goal.returns

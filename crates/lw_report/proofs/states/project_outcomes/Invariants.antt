@@ -1,3 +1,4 @@
+-- At each round the states are those of the first `entry` outcomes.
 use Rattle.lw_report.proofs.Common.{head_of, outcomes_of, AreStatesOfFirst}
 use Rattle.lw_report.proofs.states.project_outcomes.Given as goal
 

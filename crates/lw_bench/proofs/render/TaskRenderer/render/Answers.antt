@@ -1,3 +1,5 @@
+-- `render` of a task promises the output of the task on the test, and its exit status. Each arm passes on
+-- what its callee ensures: a replay's status is that of its end, the others' that of success.
 use Rattle.lw_bench.proofs.render.TaskRenderer.render.Goals as goal
 
 pub returns-in_ok-report_of-in-States-clause-found : goal.returns-in_ok-report_of-in-States-clause-found

@@ -1,5 +1,8 @@
+-- Law: a source test in which no load follows a waiting store needs no fence: compiled without fences it has
+-- its outcomes. The compiler inserts none there, so the program without fences is the compiled one
+-- (`without_needless_fences`).
 use Rattle.lw_bench.proofs.Common.{without_needless_fences}
-use Rattle.lw_bench.proofs.fence_laws.no_fence_is_needed_where_no_store_waits.Goals as goal
+use Rattle.lw_bench.proofs.fence_laws.no_fence_is_needed_if_no_store_waits.Goals as goal
 
 pub returns : goal.returns
 returns c =

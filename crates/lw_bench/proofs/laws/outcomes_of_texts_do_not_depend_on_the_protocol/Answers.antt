@@ -1,5 +1,7 @@
+-- Law: of a text's test, outcomes are the same over any two protocols. Over each protocol they are the test's
+-- outcomes (`runs_over_caches`); the two equivalences are composed.
 use Rattle.lw_bench.proofs.Theorems.{well_formed, runs_over_caches}
-use Rattle.lw_bench.proofs.laws.protocols_cannot_be_told_apart.Goals as goal
+use Rattle.lw_bench.proofs.laws.outcomes_of_texts_do_not_depend_on_the_protocol.Goals as goal
 
 pub returns : goal.returns
 returns c = λ protocol other text test program o says runs.
