@@ -1,4 +1,4 @@
-//! Answering a request on a text.
+//! The public call: answers a request on a text.
 ghost use Rattle.std.specs.Prelude.{IfOk, IfErr};
 ghost use Rattle.lw_bench.specs.LitmusTests.{litmus_test_of};
 ghost use Rattle.lw_bench.specs.Lists.{IsReachedOnMachine, IsReachedOverCaches};
@@ -11,16 +11,17 @@ use lw_base::Text;
 use lw_bench::{every_test_has_its_program, read_test};
 use std::alloc::Allocator;
 
-/// The answer to a request.
+/// The output of a request, and how its list was made.
 #[derive(Drop)]
 pub struct Answer<A: Allocator> {
-    /// The requested bytes.
+    /// The bytes of the output.
     pub text: Text<A>,
     /// How the list was made.
     pub method: Method,
 }
 
-/// Reads a text as a test, and renders the output of a request.
+/// Reads a text as a test, and renders the output of a request. Fails if the text is no test, memory runs out, or a search exceeds the
+/// budget.
 fn answer_text<A: Allocator + Copy>(
     alloc: A,
     request: &Request,
@@ -38,8 +39,8 @@ fn answer_text<A: Allocator + Copy>(
     Ok(Answer { text, method })
 }
 
-/// Answers a request on a text: renders the report or the list of schedules that `lw` would print if it had no
-/// limits.
+/// Answers a request on a text: renders the report, the states with schedules, or the marked states, without the limits of lists. Fails if
+/// the text is no test, memory runs out, or a search exceeds the budget.
 pub fn answer_request<A: Allocator + Copy>(
     alloc: A,
     request: &Request,
@@ -51,11 +52,11 @@ pub fn answer_request<A: Allocator + Copy>(
         (λ test made. IsMadeFor request.now.output test made × IsListedBy test request.now a.method) text.now a.text) }
     // A fault is true of the text, of a cell, or of the states of the test's x86 program.
     ensures refused { IfErr result (RefusesText request.now text.now) }
-    // For every test of the bytes, its outcomes are those that its x86 program reaches on the machine,
+    // The outcomes of every test of the bytes are those that its x86 program reaches on the machine.
     ensures machine { IsReachedOnMachine text.now }
-    // and over caches of each protocol.
+    // They are also those that it reaches over caches of each protocol.
     ensures caches { IsReachedOverCaches text.now }
-    // It reports no failure of a device.
+    // A fault is never the failure of a device.
     ensures device { IfErr result IsNoDevice }
 {
     every_test_has_its_program();

@@ -2,7 +2,7 @@
 
 use crate::lists::{Output, Request};
 
-/// The budget of a search if the words name none.
+/// The budget of a search, in states, if the words name none.
 const DEFAULT_BUDGET: usize = 10_000_000;
 
 /// A command: a request, and whether the method of its list is to be reported.
@@ -15,7 +15,7 @@ pub struct Command {
 }
 
 /// Parses the words after the program's name: the options `--search`, `--budget N` and `--method`, each at most once
-/// and in any order, followed by `states` or `schedules`. Returns `None` for all other words. Does not allocate.
+/// and in any order, followed by `states`, `schedules` or `marks`. Returns `None` for all other words. Does not allocate.
 pub fn command_of(words: &[&str]) -> Option<Command> {
     let mut rest = words;
     let mut search = false;
@@ -57,7 +57,7 @@ fn budget_of(word: &str) -> Option<usize> {
     word.parse::<usize>().ok()
 }
 
-/// Returns the output that the last word names, or `None` if it names none or is not the last.
+/// Returns the output that the only word names. Returns `None` if it names none, or there is not exactly one word.
 fn output_of(words: &[&str]) -> Option<Output> {
     let [word] = words else {
         return None;

@@ -1,4 +1,4 @@
-//! Why a request is rejected, and its line and exit status.
+//! The causes for which a request is rejected, each with its line and exit status.
 ghost use Rattle.std.specs.Prelude.{◌≡◌, IfOk};
 ghost use Rattle.std.specs.String.{string_bytes};
 ghost use Rattle.lw_bench.specs.declared.fault.BenchFault.TheVariants as bench;
@@ -8,12 +8,12 @@ ghost use Rattle.lw_beyond.specs.Faults.{fault_text, fault_status};
 use lw_bench::BenchFault;
 use std::alloc::{AllocError, Allocator};
 
-/// Why a request is rejected.
+/// The cause for which a request is rejected.
 #[derive(Clone, Copy)]
 pub enum BeyondFault {
-    /// What `lw` reports too: a fault of the text or of a cell, memory that ran out, or a device that failed.
+    /// A fault that `lw` reports too: of the text or of a cell, memory that ran out, or a device that failed.
     Bench(BenchFault),
-    /// The search found more states than this budget.
+    /// A search that found more states than this budget.
     Budget(usize),
 }
 

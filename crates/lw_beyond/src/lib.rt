@@ -1,12 +1,13 @@
-//! Complete lists of any size: within the limits of lists by the enumeration of orders of lw_finals, past them by the
-//! search of the machine's states of lw_search, within a budget of states.
-//! `answer_request` renders the bytes that `lw states` or `lw schedules` would print if it had no limits, and says
-//! how the list was made. The program `beyond` calls it; the program `lw` does not depend on this crate.
+//! Complete lists of tests of any size. Within the limits of lists they are made by lw_finals's enumeration of orders, past them by
+//! lw_search's search of the machine's states, within a budget.
+//! `answer_request` renders the output (a report, states with schedules, or marked states), and says how the list was made. The program
+//! `beyond` calls it; the program `lw` does not depend on this crate.
 #![tactic(auto)]
 
 mod answers;
 mod command;
 mod fault;
+mod kinds;
 mod lists;
 
 pub use answers::{Answer, answer_request};

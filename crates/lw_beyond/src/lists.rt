@@ -1,17 +1,16 @@
-//! The complete list of a test, by orders or by a search.
-ghost use Rattle.std.specs.Prelude.{◌≡◌, ◌≤◌, IfOk, IfErr, MatchOption};
+//! The complete list of a test, by orders or by a search, and the output that is rendered from it.
+ghost use Rattle.std.specs.Prelude.{IfOk, IfErr, MatchOption};
 ghost use Rattle.lw_bench.specs.LitmusTests.{litmus_test_of};
-ghost use Rattle.lw_bench.specs.Lists.{IsWithinListLimits, IsListOf};
-ghost use Rattle.lw_beyond.specs.Requests.{PassesLimit, VisitsStatesOf, ExceedsBudgetOf, IsListedBy, IsMadeFor, NeedsSearch, RefusesList};
-ghost use Rattle.lw_search.specs.declared.fault.SearchFault.TheVariants as search;
+ghost use Rattle.lw_bench.specs.Lists.{IsWithinListLimits, IsExactReport, IsExactMarkedList, IsExactScheduleList};
+ghost use Rattle.lw_beyond.specs.Requests.{PassesLimit, IsListedBy, IsMadeFor, NeedsSearch, RefusesList};
 
 use crate::fault::BeyondFault;
+use crate::kinds::{ForReports, ListKind, WithSchedules};
 use lw_base::Text;
-use lw_bench::{LitmusTest, list_test, marks_of_listing, report_of_listing, schedules_of_listing};
+use lw_bench::{LitmusTest, marks_of_listing, report_of_listing, schedules_of_listing};
 use lw_outcome_map::Listing;
 use lw_paths::ListFault;
-use lw_search::{SearchFault, Searched, reach_program, reach_source};
-use lw_tso_caches::outcomes_over_caches_are_flat;
+use lw_search::SearchFault;
 use std::alloc::{AllocError, Allocator};
 
 /// The output that is rendered from a list.
@@ -45,96 +44,106 @@ pub enum Method {
     Search(usize),
 }
 
-/// Lists a test by a search of the states of its x86 program.
-fn list_by_search<A: Allocator + Copy>(
-    alloc: A,
-    test: &LitmusTest<A>,
-    budget: usize,
-) -> Result<Searched<A>, SearchFault>
-    ensures listed { IfOk result (λ s. IsListOf (litmus_test_of test.now) s.listing) }
-    ensures visited { IfOk result (λ s. VisitsStatesOf (litmus_test_of test.now) s.states) }
-    ensures within { IfOk result (λ s. s.states ≤ budget) }
-    ensures budget { IfErr result (λ f. f ≡ search.Budget → ExceedsBudgetOf (litmus_test_of test.now) budget) }
-{
-    outcomes_over_caches_are_flat();
-    match test {
-        LitmusTest::Source(source) => reach_source(alloc, source, budget),
-        LitmusTest::X86(program) => reach_program(alloc, program, budget),
-    }
-}
+/// A list of a kind, and how it was made.
+type Made<A, K> = (Listing<A, K>, Method);
 
-/// Lists a test by orders. Returns `None` if the test exceeds a limit of lists.
-fn list_by_orders<A: Allocator + Copy>(
+/// Lists a test by orders. Returns `None` if the test exceeds a limit of lists. Fails only if memory runs out.
+fn list_within_limits<A: Allocator + Copy, L: ListKind<A>>(
     alloc: A,
     test: &LitmusTest<A>,
-) -> Result<Option<Listing<A>>, AllocError>
+) -> Result<Option<Listing<A, L::Kept>>, AllocError>
     ensures { IfOk result (λ found. MatchOption found (PassesLimit (litmus_test_of test.now))
-        (λ l. IsListOf (litmus_test_of test.now) l × IsWithinListLimits (litmus_test_of test.now))) }
+        (λ l. L.lists (litmus_test_of test.now) l × IsWithinListLimits (litmus_test_of test.now))) }
 {
-    match list_test(alloc, test) {
+    match L::list_by_orders(alloc, test) {
         Ok(listing) => Ok(Some(listing)),
         Err(ListFault::Memory) => Err(AllocError),
         Err(_) => Ok(None),
     }
 }
 
-/// Lists a test by a search, for a request that asks for a search or a test that exceeds a limit.
-fn list_found<A: Allocator + Copy>(
+/// Lists a test by a search within the request's budget. The clauses on the method and on faults assume that a search is needed.
+fn list_by_required_search<A: Allocator + Copy, L: ListKind<A>>(
     alloc: A,
     test: &LitmusTest<A>,
     request: &Request,
-) -> Result<(Listing<A>, Method), BeyondFault>
-    ensures listed { IfOk result (λ x. IsListOf (litmus_test_of test.now) x.0) }
+) -> Result<Made<A, L::Kept>, BeyondFault>
+    ensures listed { IfOk result (λ x. L.lists (litmus_test_of test.now) x.0) }
     ensures method { NeedsSearch (litmus_test_of test.now) request.now
         → IfOk result (λ x. IsListedBy (litmus_test_of test.now) request.now x.1) }
     ensures refused { NeedsSearch (litmus_test_of test.now) request.now
         → IfErr result (RefusesList (litmus_test_of test.now) request.now) }
 {
-    match list_by_search(alloc, test, request.budget) {
+    match L::list_by_search(alloc, test, request.budget) {
         Ok(searched) => Ok((searched.listing, Method::Search(searched.states))),
         Err(SearchFault::Memory) => Err(BeyondFault::from(AllocError)),
         Err(SearchFault::Budget) => Err(BeyondFault::Budget(request.budget)),
     }
 }
 
-/// Lists a test: by orders if it is within the limits of lists and no search is asked for, and by a search otherwise.
-fn list_of<A: Allocator + Copy>(
+/// Lists a test: by orders if it is within the limits of lists and no search is requested, and by a search otherwise.
+fn list_of<A: Allocator + Copy, L: ListKind<A>>(
     alloc: A,
     test: &LitmusTest<A>,
     request: &Request,
-) -> Result<(Listing<A>, Method), BeyondFault>
-    ensures listed { IfOk result (λ x. IsListOf (litmus_test_of test.now) x.0) }
+) -> Result<Made<A, L::Kept>, BeyondFault>
+    ensures listed { IfOk result (λ x. L.lists (litmus_test_of test.now) x.0) }
     ensures method { IfOk result (λ x. IsListedBy (litmus_test_of test.now) request.now x.1) }
     ensures refused { IfErr result (RefusesList (litmus_test_of test.now) request.now) }
 {
     if request.search {
-        return list_found(alloc, test, request);
+        return list_by_required_search::<A, L>(alloc, test, request);
     }
-    match list_by_orders(alloc, test)? {
+    match list_within_limits::<A, L>(alloc, test)? {
         Some(listing) => Ok((listing, Method::Orders)),
-        None => list_found(alloc, test, request),
+        None => list_by_required_search::<A, L>(alloc, test, request),
     }
 }
 
-/// Renders the output of a test from its list.
-fn write_output<A: Allocator + Copy>(
+/// Renders the report of a test for a request, and returns it with the method of the list.
+fn make_report<A: Allocator + Copy>(
     alloc: A,
     test: &LitmusTest<A>,
-    output: Output,
-    listing: Listing<A>,
-) -> Result<Text<A>, AllocError>
-    requires { IsListOf (litmus_test_of test.now) listing }
-    ensures { IfOk result (IsMadeFor output (litmus_test_of test.now)) }
+    request: &Request,
+) -> Result<(Text<A>, Method), BeyondFault>
+    ensures made { IfOk result (λ x. IsExactReport (litmus_test_of test.now) x.0) }
+    ensures method { IfOk result (λ x. IsListedBy (litmus_test_of test.now) request.now x.1) }
+    ensures refused { IfErr result (RefusesList (litmus_test_of test.now) request.now) }
 {
-    match output {
-        Output::States => report_of_listing(alloc, test, listing),
-        Output::Schedules => {
-            let text = schedules_of_listing(alloc, test, &listing);
-            drop(listing);
-            text
-        }
-        Output::Marks => marks_of_listing(alloc, test, listing),
-    }
+    let (listing, method) = list_of::<A, ForReports>(alloc, test, request)?;
+    let text = report_of_listing(alloc, test, listing)?;
+    Ok((text, method))
+}
+
+/// Renders the list of a test's schedules for a request, and returns it with the method of the list.
+fn make_schedules<A: Allocator + Copy>(
+    alloc: A,
+    test: &LitmusTest<A>,
+    request: &Request,
+) -> Result<(Text<A>, Method), BeyondFault>
+    ensures made { IfOk result (λ x. IsExactScheduleList (litmus_test_of test.now) x.0) }
+    ensures method { IfOk result (λ x. IsListedBy (litmus_test_of test.now) request.now x.1) }
+    ensures refused { IfErr result (RefusesList (litmus_test_of test.now) request.now) }
+{
+    let (listing, method) = list_of::<A, WithSchedules>(alloc, test, request)?;
+    let text = schedules_of_listing(alloc, test, &listing);
+    drop(listing);
+    Ok((text?, method))
+}
+
+/// Renders the list of a test's marked states for a request, and returns it with the method of the list.
+fn make_marks<A: Allocator + Copy>(
+    alloc: A,
+    test: &LitmusTest<A>,
+    request: &Request,
+) -> Result<(Text<A>, Method), BeyondFault>
+    ensures made { IfOk result (λ x. IsExactMarkedList (litmus_test_of test.now) x.0) }
+    ensures method { IfOk result (λ x. IsListedBy (litmus_test_of test.now) request.now x.1) }
+    ensures refused { IfErr result (RefusesList (litmus_test_of test.now) request.now) }
+{
+    let (listing, method) = list_of::<A, ForReports>(alloc, test, request)?;
+    let text = marks_of_listing(alloc, test, listing)?;
+    Ok((text, method))
 }
 
 /// Renders the output of a test for a request, and returns it with the method of the list.
@@ -147,7 +156,9 @@ pub(crate) fn make<A: Allocator + Copy>(
     ensures method { IfOk result (λ x. IsListedBy (litmus_test_of test.now) request.now x.1) }
     ensures refused { IfErr result (RefusesList (litmus_test_of test.now) request.now) }
 {
-    let (listing, method) = list_of(alloc, test, request)?;
-    let text = write_output(alloc, test, request.output, listing)?;
-    Ok((text, method))
+    match request.output {
+        Output::States => make_report(alloc, test, request),
+        Output::Schedules => make_schedules(alloc, test, request),
+        Output::Marks => make_marks(alloc, test, request),
+    }
 }

@@ -1,4 +1,5 @@
--- What a call tells, from what there is to tell.
+-- When the result of a call is right: from the output or the fault that its bytes are. The answers for lw_library's functions cite these
+-- lemmas.
 use Rattle.std.proofs.Common.{◌≡◌, ◌⊎◌, ℕ, refl, inl, inr, arith}
 use Rattle.lw_base.specs.Types.{Bytes}
 use Rattle.lw_bench.specs.declared.fault.BenchFault.{BenchFault}
@@ -17,12 +18,12 @@ use Rattle.lw_library.specs.declared.call_result.CallResult.{CallResult}
 use Rattle.lw_library.specs.CallResults.{ReturnsBytes, ReturnsFaultLine, TellsOneOf, IsAnswer, IsFault, IsCallResult}
 
 module _ (IsAnswer IsFault : ℕ → Bytes → Type 0) (told : CallResult) (before after : Bytes) where
-  -- If an answer is told as bytes of kind 0, what the call tells is right.
-  pub answer_told : (made : Bytes)
+  -- If a call returns the bytes of an answer with kind 0, its result satisfies TellsOneOf.
+  pub TellsOneOf-answer : (made : Bytes)
       → IsAnswer told.status made
       → ReturnsBytes 0 made told before after
       → TellsOneOf IsAnswer IsFault told before after
-  answer_told made is tells = elim tells [
+  TellsOneOf-answer made is tells = elim tells [
     | inl written ↦ record {
       kinds = omega (arith, written.0);
       answer = λ _. (made, is, written.1);
@@ -37,12 +38,12 @@ module _ (IsAnswer IsFault : ℕ → Bytes → Type 0) (told : CallResult) (befo
     }
   ]
 
-  -- If a fault is told as bytes of kind 1, what the call tells is right.
-  pub fault_told : (line : Bytes)
+  -- If a call returns the line of a fault with kind 1, its result satisfies TellsOneOf.
+  pub TellsOneOf-fault : (line : Bytes)
       → IsFault told.status line
       → ReturnsBytes 1 line told before after
       → TellsOneOf IsAnswer IsFault told before after
-  fault_told line is tells = elim tells [
+  TellsOneOf-fault line is tells = elim tells [
     | inl written ↦ record {
       kinds = omega (arith, written.0);
       answer = λ other. absurd (omega (arith, written.0, other));
@@ -59,55 +60,63 @@ module _ (IsAnswer IsFault : ℕ → Bytes → Type 0) (told : CallResult) (befo
 
 module _ (IsMade : LitmusTest → Bytes → ℕ → Type 0) (Tells : LitmusTest → BenchFault → Type 0) (text : Bytes) (told : CallResult)
     (before after : Bytes) where
-  abbrev Is : Type 0
-  Is = IsCallResult IsMade Tells text told before after
+  -- The result of the call is right for this task and text.
+  abbrev IsRightResult : Type 0
+  IsRightResult = IsCallResult IsMade Tells text told before after
 
-  -- where a task has answered and its bytes are told, what the call tells is right
-  pub answered : (made : Bytes) → IsAnswer IsMade Tells text told.status made → ReturnsBytes 0 made told before after → Is
-  answered = answer_told (IsAnswer IsMade Tells text) (IsFault IsMade Tells text) told before after
+  -- If a task succeeds and the call returns its output with kind 0, the result is right.
+  pub IsCallResult-answer : (made : Bytes)
+      → IsAnswer IsMade Tells text told.status made
+      → ReturnsBytes 0 made told before after
+      → IsRightResult
+  IsCallResult-answer = TellsOneOf-answer (IsAnswer IsMade Tells text) (IsFault IsMade Tells text) told before after
 
-  -- where the text has a fault that is no device's, and its line is told, what the call tells is right
-  pub line_told : (f : BenchFault) → RunFaultIsTrue Tells text f → IsNotDeviceFault f → ReturnsFaultLine f told before after → Is
-  line_told f so no_device tells =
-      fault_told (IsAnswer IsMade Tells text) (IsFault IsMade Tells text) told before after (fault_text f)
+  -- If a fault is true of the text and not a device's, and the call returns its line, the result is right.
+  pub IsCallResult-fault_line : (f : BenchFault)
+      → RunFaultIsTrue Tells text f
+      → IsNotDeviceFault f
+      → ReturnsFaultLine f told before after
+      → IsRightResult
+  IsCallResult-fault_line f so no_device tells =
+      TellsOneOf-fault (IsAnswer IsMade Tells text) (IsFault IsMade Tells text) told before after (fault_text f)
       (record { fault = f; tells = so; no_device = no_device; line_is = refl; status_is = tells.0 }) tells.1
 
-  -- where the text has a fault that is no device's, and its line is told or that memory ran out, what the call tells is right
-  pub refused : (f : BenchFault)
+  -- The same, if the call may instead return the line of Memory, since memory ran out for the fault's line.
+  pub IsCallResult-fault_line_or_Memory : (f : BenchFault)
       → RunFaultIsTrue Tells text f
       → IsNotDeviceFault f
       → ReturnsFaultLine f told before after ⊎ ReturnsFaultLine Memory told before after
-      → Is
-  refused f so no_device tells = elim tells [
-    | inl line ↦ line_told f so no_device line
-    | inr memory ↦ line_told Memory (inl tt) (λ same. cc, λ same. cc) memory
+      → IsRightResult
+  IsCallResult-fault_line_or_Memory f so no_device tells = elim tells [
+    | inl line ↦ IsCallResult-fault_line f so no_device line
+    | inr memory ↦ IsCallResult-fault_line Memory (inl tt) (λ same. cc, λ same. cc) memory
   ]
 
 -- ---- lists of any size
 
 module _ (request : Request) (text : Bytes) (told : CallResult) (before after : Bytes) where
-  -- If a list was answered and its bytes are told, what the call tells is right.
-  pub reached : (made : Bytes)
+  -- If a request is answered and the call returns the output with kind 0, the result satisfies IsReachTold.
+  pub IsReachTold-answer : (made : Bytes)
       → told.status ≡ 0
       → IsOutputOf (IsMadeFor request.output) text made
       → ReturnsBytes 0 made told before after
       → IsReachTold request text told before after
-  reached made status made_of tells =
-      answer_told (IsReached request text) (IsRefused request text) told before after made (status, made_of) tells
+  IsReachTold-answer made status made_of tells =
+      TellsOneOf-answer (IsReached request text) (IsRefused request text) told before after made (status, made_of) tells
 
-  -- If the request was refused and the fault's line is told, what the call tells is right.
-  pub reach_refused : (f : BeyondFault)
+  -- If a request is rejected and the call returns the fault's line with kind 1, the result satisfies IsReachTold.
+  pub IsReachTold-fault : (f : BeyondFault)
       → RefusesText request text f
       → IsNoDeviceFault f
       → told.status ≡ beyond.fault_status f
       → ReturnsBytes 1 (beyond.fault_text f) told before after
       → IsReachTold request text told before after
-  reach_refused f refuses no_device status tells =
-      fault_told (IsReached request text) (IsRefused request text) told before after (beyond.fault_text f)
+  IsReachTold-fault f refuses no_device status tells =
+      TellsOneOf-fault (IsReached request text) (IsRefused request text) told before after (beyond.fault_text f)
       (record { fault = f; refuses = refuses; no_device = no_device; line_is = refl; status_is = status }) tells
 
-  -- If it is told that memory ran out, what the call tells is right.
-  pub reach_out_of_memory : told.status ≡ beyond.fault_status (Bench Memory)
+  -- If memory runs out and the call returns the line of Memory, the result satisfies IsReachTold.
+  pub IsReachTold-Memory : told.status ≡ beyond.fault_status (Bench Memory)
       → ReturnsBytes 1 (beyond.fault_text (Bench Memory)) told before after
       → IsReachTold request text told before after
-  reach_out_of_memory = reach_refused (Bench Memory) tt (λ same. cc, λ same. cc)
+  IsReachTold-Memory = IsReachTold-fault (Bench Memory) tt (λ same. cc, λ same. cc)

@@ -25,16 +25,16 @@ pub record IsTooSmall (bytes : Bytes) (told : CallResult) (before after : Bytes)
   pub too_small : length before < told.length
   pub unchanged : after ≡ before
 
--- Bytes of this kind are returned; or kind 2, that they do not fit.
+-- These bytes are returned with this kind, or kind 2 is returned, since they do not fit.
 abbrev pub ReturnsBytes : ℕ → Bytes → CallResult → Bytes → Bytes → Type 0
 ReturnsBytes kind bytes told before after =
     ((told.kind ≡ kind) × IsWritten bytes told before after) ⊎ ((told.kind ≡ 2) × IsTooSmall bytes told before after)
 
--- The line of this fault is returned, which is kind 1, with its exit status.
+-- The line of this fault is returned, with kind 1 and the fault's exit status.
 abbrev pub ReturnsFaultLine : BenchFault → CallResult → Bytes → Bytes → Type 0
 ReturnsFaultLine fault told before after = (told.status ≡ status fault) × ReturnsBytes 1 (fault_text fault) told before after
 
--- The protocol of a caller's number: 0 is MESI, any other MOESI.
+-- The protocol of a caller's number: MESI for 0, and MOESI for any other number.
 abbrev pub replay_protocol : ℕ → Protocol
 replay_protocol number = if number == 0 then Mesi else Moesi
 
@@ -47,8 +47,7 @@ IsReplayed schedule protocol test made done =
 abbrev pub IsFilmed : Bytes → Protocol → LitmusTest → Bytes → ℕ → Type 0
 IsFilmed schedule protocol test made done = IsFilm protocol test schedule made × (done ≡ 0)
 
--- The result of a call, if answers and faults have this status and these bytes: an answer if the kind is 0; a fault if it is 1; and if it
--- is 2, that one of them does not fit.
+-- The result of a call: kind 0 with an answer, kind 1 with a fault's line, or kind 2 if the one or the other does not fit.
 pub record TellsOneOf (IsAnswer IsFault : ℕ → Bytes → Type 0) (told : CallResult) (before after : Bytes) : Type 0 where
   pub kinds : told.kind ≤ 2
   pub answer : told.kind ≡ 0 → (made : Bytes) × IsAnswer told.status made × IsWritten made told before after

@@ -10,7 +10,7 @@ use Rattle.lw_beyond.specs.declared.lists.Request.{Request}
 use Rattle.lw_library.specs.CallResults.{ReturnsBytes, TellsOneOf}
 use Rattle.lw_library.specs.declared.call_result.CallResult.{CallResult}
 
--- The line of this fault is returned, which is kind 1, with its exit status.
+-- The line of this fault is returned, with kind 1 and the fault's exit status.
 abbrev pub TellsFault : BeyondFault → CallResult → Bytes → Bytes → Type 0
 TellsFault fault told before after = (told.status ≡ fault_status fault) × ReturnsBytes 1 (fault_text fault) told before after
 

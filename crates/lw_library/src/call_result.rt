@@ -1,4 +1,4 @@
-//! The result of a call, and copying it into the caller's buffer.
+//! The result of a call, and the functions that copy it into the caller's buffer.
 ghost use Rattle.std.specs.Prelude.{◌≡◌, ◌⊎◌};
 ghost use Rattle.lw_bench.specs.declared.fault.BenchFault.TheVariants.{Memory};
 ghost use Rattle.lw_library.specs.CallResults.{ReturnsBytes, ReturnsFaultLine};
@@ -15,13 +15,15 @@ pub(crate) const FAULT: u32 = 1;
 /// The kind of a result whose bytes do not fit.
 const TOO_SMALL: u32 = 2;
 
-/// The result of a call: the exit status, the kind of its bytes, and their number. The bytes are at the start of the
-/// buffer, unless they do not fit.
+/// The result of a call. If the bytes fit, they are at the start of the buffer.
 #[repr(C)]
 #[derive(Clone, Copy)]
 pub struct CallResult {
+    /// The exit status.
     pub status: u32,
+    /// 0 for an answer, 1 for a fault's line, 2 if the bytes do not fit.
     pub kind: u32,
+    /// The number of the bytes.
     pub length: usize,
 }
 
@@ -45,7 +47,7 @@ pub(crate) fn write_result(kind: u32, status: u8, bytes: &[u8], room: &mut [u8])
     told
 }
 
-/// Returns a fault by its line. If memory runs out for the line, it returns that fault instead.
+/// Writes the line of a fault to the start of `room`. If memory runs out for the line, writes that of `Memory` instead.
 pub(crate) fn write_fault(arena: &Arena, fault: &BenchFault, room: &mut [u8]) -> CallResult
     ensures { ReturnsFaultLine fault.now result room.old room.new ⊎ ReturnsFaultLine Memory result room.old room.new }
 {

@@ -12,7 +12,7 @@ use crate::call_result::{ANSWER, CallResult, write_fault, write_result};
 use lw_arena::{Arena, Memory};
 use lw_bench::{BenchFault, Protocol, Task, answer};
 
-/// Runs `lw states`: returns the report of the test of the text.
+/// Writes the report of the test in `text` to the start of `room`, as `lw states` prints it, and the result of the call to `told`.
 #[unsafe(no_mangle)]
 pub extern "C" fn lw_states(memory: Memory, text: &[u8], room: &mut [u8], told: &mut CallResult)
     ensures told { IsCallResult (IsTaskOutput task.States) (TaskFaultIsTrue task.States) text.now told.new room.old room.new }
@@ -22,7 +22,7 @@ pub extern "C" fn lw_states(memory: Memory, text: &[u8], room: &mut [u8], told: 
     *told = run(memory, Task::States, text, room);
 }
 
-/// Runs `lw schedules`: returns the list of the test's final states, each with a schedule.
+/// Writes the test's final states, each with a schedule, to the start of `room`, as `lw schedules` prints them.
 #[unsafe(no_mangle)]
 pub extern "C" fn lw_schedules(memory: Memory, text: &[u8], room: &mut [u8], told: &mut CallResult)
     ensures told { IsCallResult (IsTaskOutput task.Schedules) (TaskFaultIsTrue task.Schedules) text.now told.new room.old room.new }
@@ -32,7 +32,7 @@ pub extern "C" fn lw_schedules(memory: Memory, text: &[u8], room: &mut [u8], tol
     *told = run(memory, Task::Schedules, text, room);
 }
 
-/// Runs `lw compile`: returns the canonical text of the test; a source test is compiled to x86 first.
+/// Writes the canonical text of the test to the start of `room`, as `lw compile` prints it. A source test is first compiled to x86.
 #[unsafe(no_mangle)]
 pub extern "C" fn lw_compile(memory: Memory, text: &[u8], room: &mut [u8], told: &mut CallResult)
     ensures told { IsCallResult (IsTaskOutput task.Compile) (TaskFaultIsTrue task.Compile) text.now told.new room.old room.new }
@@ -40,9 +40,9 @@ pub extern "C" fn lw_compile(memory: Memory, text: &[u8], room: &mut [u8], told:
     *told = run(memory, Task::Compile, text, room);
 }
 
-/// Runs `lw replay SCHEDULE`: returns the page of the test's replay by the schedule. An x86 test runs over caches of
-/// MESI if `protocol` is 0, and of MOESI otherwise. A schedule that is not UTF-8 fails as in the program, which
-/// cannot read such a word.
+/// Writes the page of the replay of `schedule` to the start of `room`, as `lw replay` prints it. An x86 test runs over MESI caches if
+/// `protocol` is 0, and over MOESI caches otherwise. Fails with `Read` if the schedule is not UTF-8, as the program does, which cannot
+/// read such a word.
 #[unsafe(no_mangle)]
 pub extern "C" fn lw_replay(
     memory: Memory,
@@ -64,7 +64,7 @@ pub extern "C" fn lw_replay(
     };
 }
 
-/// Returns the protocol of the number of a caller.
+/// Returns MESI for 0, and MOESI for any other number.
 pub(crate) fn protocol_of(number: u32) -> Protocol
     ensures { result ≡ replay_protocol number }
 {
@@ -75,7 +75,7 @@ pub(crate) fn protocol_of(number: u32) -> Protocol
     }
 }
 
-/// Carries a task out over the lent memory.
+/// Runs a task with an allocator over `memory`, and writes its output or a fault's line to the start of `room`.
 fn run(memory: Memory, task: Task<'_>, text: &[u8], room: &mut [u8]) -> CallResult
     ensures told { IsCallResult (IsTaskOutput task.entry) (TaskFaultIsTrue task.entry) text.now result room.old room.new }
     ensures machine { IsReachedOnMachine text.now }

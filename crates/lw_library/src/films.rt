@@ -10,8 +10,8 @@ use crate::exports::protocol_of;
 use lw_arena::{Arena, Memory};
 use lw_bench::{BenchFault, Protocol, film};
 
-/// Returns the pages of the test's replays by all prefixes of a schedule, as `lw_replay` returns them, the shortest first,
-/// each followed by an empty line. A schedule that is not UTF-8 fails as in `lw_replay`.
+/// Writes the pages of the replays of all prefixes of `schedule` to the start of `room`, the shortest first, each followed by an empty
+/// line. Pages and failures are those of `lw_replay`.
 #[unsafe(no_mangle)]
 pub extern "C" fn lw_film(
     memory: Memory,
@@ -33,7 +33,7 @@ pub extern "C" fn lw_film(
     };
 }
 
-/// Renders a film over the lent memory.
+/// Renders a film with an allocator over `memory`, and writes it or a fault's line to the start of `room`.
 fn run_film(
     memory: Memory,
     schedule: &str,

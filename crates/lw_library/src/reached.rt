@@ -11,8 +11,7 @@ use lw_arena::{Arena, Memory};
 use lw_bench::{BenchFault, memory_line};
 use lw_beyond::{BeyondFault, Output, Request, answer_request, fault_line, status_of};
 
-/// Runs `beyond --budget BUDGET states`: returns the report of the test of the text, within the limits of lists or
-/// past them.
+/// Writes the report of a test of any size to the start of `room`, as `beyond --budget BUDGET states` prints it.
 #[unsafe(no_mangle)]
 pub extern "C" fn lw_reach_states(
     memory: Memory,
@@ -28,8 +27,8 @@ pub extern "C" fn lw_reach_states(
     *told = run_request(memory, &request_of(Output::States, budget), text, room);
 }
 
-/// Runs `beyond --budget BUDGET schedules`: returns the list of the test's final states, each with a schedule, within
-/// the limits of lists or past them.
+/// Writes the final states of a test of any size, each with a schedule, to the start of `room`, as `beyond --budget BUDGET schedules`
+/// prints them.
 #[unsafe(no_mangle)]
 pub extern "C" fn lw_reach_schedules(
     memory: Memory,
@@ -45,8 +44,8 @@ pub extern "C" fn lw_reach_schedules(
     *told = run_request(memory, &request_of(Output::Schedules, budget), text, room);
 }
 
-/// Runs `beyond --budget BUDGET marks`: returns the test's final states, each marked by whether the proposition is true in
-/// it, within the limits of lists or past them.
+/// Writes the final states of a test of any size, each marked by the truth of the proposition in it, to the start of `room`, as
+/// `beyond --budget BUDGET marks` prints them.
 #[unsafe(no_mangle)]
 pub extern "C" fn lw_reach_marks(
     memory: Memory,
@@ -73,7 +72,7 @@ fn request_of(output: Output, budget: usize) -> Request
     }
 }
 
-/// Answers a request over the lent memory.
+/// Answers a request with an allocator over `memory`, and writes the output or a fault's line to the start of `room`.
 fn run_request(memory: Memory, request: &Request, text: &[u8], room: &mut [u8]) -> CallResult
     ensures told { IsReachTold request.now text.now result room.old room.new }
     ensures machine { IsReachedOnMachine text.now }
@@ -86,7 +85,7 @@ fn run_request(memory: Memory, request: &Request, text: &[u8], room: &mut [u8]) 
     }
 }
 
-/// Returns a fault by its line. If memory runs out for the line, it returns that fault instead.
+/// Writes the line of a fault to the start of `room`. If memory runs out for the line, writes that of `Memory` instead.
 fn refuse_request(arena: &Arena, fault: &BeyondFault, room: &mut [u8]) -> CallResult
     ensures { TellsFault fault.now result room.old room.new ⊎ TellsFault (beyond.Bench bench.Memory) result room.old room.new }
 {

@@ -1,3 +1,6 @@
+-- `answer_request` is the public call. That the output is right and a fault true is what `answer_text`
+-- ensures. The clauses on the machine and on caches are the law `every_test_has_its_program`, which holds of
+-- every text.
 use Rattle.lw_beyond.proofs.answers.answer_request.Goals as goal
 
 pub returns-clause-machine : goal.returns-clause-machine

@@ -1,4 +1,5 @@
--- The schedule that was read is the bytes, and the protocol is that of the number.
+-- `lw_replay` promises the page of the replay or a true fault, if the schedule is UTF-8. Then the schedule is
+-- read as its bytes, and the caller's number determines the protocol; both are put into what `run` ensures.
 use Rattle.std.proofs.Common.{subst}
 use Rattle.lw_base.specs.Types.{Bytes}
 use Rattle.lw_mesi.specs.declared.protocol.Protocol.{Protocol}

@@ -1,9 +1,11 @@
--- The result is the film, or the fault that prevents it.
+-- `run_film` promises a result that tells the film or the line of a true fault. The film is what `film`
+-- returned (`IsCallResult-answer`), with status 0. If memory runs out for a fault's line, the line of `Memory` is told
+-- (`IsCallResult-fault_line_or_Memory`).
 use Rattle.std.proofs.Common.{ℕ, sym, subst, ◌∙◌}
 use Rattle.lw_base.specs.Types.{Bytes}
 use Rattle.lw_bench.specs.FaultTruth.{ReplayFaultIsTrue}
 use Rattle.lw_library.specs.CallResults.{IsFilmed, IsAnswer}
-use Rattle.lw_library.proofs.Calls.{answered, refused}
+use Rattle.lw_library.proofs.Calls.{IsCallResult-answer, IsCallResult-fault_line_or_Memory}
 use Rattle.lw_library.proofs.films.run_film.Goals as goal
 
 pub returns-in-Ok : goal.returns-in-Ok
@@ -13,7 +15,7 @@ returns-in-Ok c =
     let protocol = c.args.protocol in
     let is : IsAnswer (IsFilmed schedule protocol) (ReplayFaultIsTrue schedule) c.args.text.now c.write_result.result.status
     c.in-Ok.film = record { test = made.test; has_test = made.has_test; is = (made.is, c.write_result.ensures.status) } in
-    answered (IsFilmed schedule protocol) (ReplayFaultIsTrue schedule) c.args.text.now c.write_result.result _ _
+    IsCallResult-answer (IsFilmed schedule protocol) (ReplayFaultIsTrue schedule) c.args.text.now c.write_result.result _ _
     c.as_bytes.result.now
     (subst (λ (t : Bytes).
     IsAnswer (IsFilmed schedule protocol) (ReplayFaultIsTrue schedule) c.args.text.now c.write_result.result.status t)
@@ -21,5 +23,5 @@ returns-in-Ok c =
 
 pub returns-in-Err : goal.returns-in-Err
 returns-in-Err c =
-    refused (IsFilmed c.args.schedule.now c.args.protocol) (ReplayFaultIsTrue c.args.schedule.now) c.args.text.now
-    c.write_fault.result _ _ c.in-Err.fault c.in-Err.ensures.told c.in-Err.ensures.device c.write_fault.ensures
+    IsCallResult-fault_line_or_Memory (IsFilmed c.args.schedule.now c.args.protocol) (ReplayFaultIsTrue c.args.schedule.now)
+    c.args.text.now c.write_fault.result _ _ c.in-Err.fault c.in-Err.ensures.told c.in-Err.ensures.device c.write_fault.ensures
